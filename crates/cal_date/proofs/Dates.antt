@@ -1,0 +1,70 @@
+-- Each number of the count has its ordinal date, and each ordinal date of the range its number.
+use Rattle.std.proofs.Common.{◌≡◌, ℕ, suc, ◌+◌, ◌-◌, ◌*◌, ◌/◌, ◌<◌, ◌≤◌, sym, ap, ◌∙◌, arith, ℤ, pos, ◌+ℤ◌, ◌-ℤ◌, ◌≤ℤ◌, unsigned_abs}
+use Rattle.std.proofs.lemmas.Int.{ints}
+use Rattle.cal_date.specs.Lengths.{days_in_year}
+use Rattle.cal_date.specs.Date.{first_year, last_day, year_at, ordinal_at, IsYear, IsDate, IsOrdinal, HasOrdinalDate, NoDate}
+use Rattle.cal_date.specs.CountLaws.{days_of_years, days_before, in_year, year_start}
+use Rattle.cal_date.specs.DateFields.{number_of, IsOrdinalDate, HasOrdinalDate-number_of}
+use Rattle.cal_date.specs.declared.date.Date.TheInside.{Inside}
+use Rattle.cal_date.proofs.Years.{year_of, days_of_years-closed, IsYear-days_before, days_before-IsYear}
+
+-- the number of an ordinal date
+abbrev pub ordinal_number : ℤ → ℕ → ℕ
+ordinal_number y o = days_before y + (o - 1)
+
+-- where a number stands
+pub record StandsAt (y : ℤ) (o n : ℕ) : Type 0 where
+  pub has : HasOrdinalDate y o n
+  pub year : first_year ≤ℤ y
+  pub ordinal : IsOrdinal y o
+  pub number_is : n ≡ ordinal_number y o
+
+stands_in : (n i j : ℕ) → j < days_in_year (first_year +ℤ pos i) → n ≡ days_of_years i + j → StandsAt (first_year +ℤ pos i) (j + 1) n
+stands_in n i j h e =
+    let here = in_year (days_of_years i) (first_year +ℤ pos i) j (year_start i) h in
+    let years : unsigned_abs ((first_year +ℤ pos i) -ℤ first_year) ≡ i = omega (arith, ints) in
+    record {
+      has = (ap year_at e ∙ here.0, ap ordinal_at e ∙ here.1);
+      year = omega (arith, ints);
+      ordinal = (omega arith, omega arith);
+      number_is = rw years (omega arith);
+    }
+
+stands : (n : ℕ) → StandsAt (year_at n) (ordinal_at n) n
+stands n =
+    let found = year_of (suc n) n (omega (arith, days_of_years-closed (suc n))) in
+    let at = stands_in n found.0 found.1 found.3 found.4 in
+    rw (← at.has.0, ← at.has.1) at at
+
+-- what a day of the range has: a year of the range, an ordinal of that year, and so one number
+pub record IsInRange (y : ℤ) (o n : ℕ) : Type 0 where
+  pub year : IsYear y
+  pub ordinal : IsOrdinal y o
+  pub number_is : n ≡ ordinal_number y o
+
+pub in_range : (n : ℕ) (y : ℤ) (o : ℕ) → IsDate n → HasOrdinalDate y o n → IsInRange y o n
+in_range n y o h has =
+    let at : StandsAt y o n = rw (has.0, has.1) at (stands n) in
+    record {
+      year = IsYear-days_before y at.year (omega (arith, at.number_is));
+      ordinal = at.ordinal;
+      number_is = at.number_is;
+    }
+
+-- the number of each ordinal date of the range is in the range, and has it
+pub IsDate-ordinal_number : (y : ℤ) (o : ℕ) → IsYear y → IsOrdinal y o → IsDate (ordinal_number y o)
+IsDate-ordinal_number y o h f = omega (arith, days_before-IsYear y h)
+
+pub HasOrdinalDate-ordinal_number : (y : ℤ) (o : ℕ) → IsYear y → IsOrdinal y o → HasOrdinalDate y o (ordinal_number y o)
+HasOrdinalDate-ordinal_number y o h f = HasOrdinalDate-number_of (record { year = y; ordinal = o }) (h, f)
+
+-- so there is no day for another ordinal date
+pub NoDate-ordinal_date : (y : ℤ) (o : ℕ) → ¬ (IsYear y × IsOrdinal y o) → NoDate (HasOrdinalDate y o)
+NoDate-ordinal_date y o none n h has = let is = in_range n y o h has in none (is.year, is.ordinal)
+
+-- dates of one number have the same fields
+pub same_fields : (a b : Inside) → IsOrdinalDate a → IsOrdinalDate b → number_of a ≡ number_of b → (a.year ≡ b.year) × (a.ordinal ≡ b.ordinal)
+same_fields a b h f e =
+    let p = HasOrdinalDate-number_of a h in
+    let q = HasOrdinalDate-number_of b f in
+    (sym p.0 ∙ ap year_at e ∙ q.0, sym p.1 ∙ ap ordinal_at e ∙ q.1)

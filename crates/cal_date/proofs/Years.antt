@@ -1,0 +1,63 @@
+-- How many days the first years of the range have, and in which year a day stands.
+use Rattle.std.proofs.Common.{◌≡◌, ℕ, zero, suc, ◌+◌, ◌-◌, ◌*◌, ◌/◌, ◌<◌, ◌≤◌, refl, sym, ap, ◌∙◌, arith, ℤ, pos, ◌+ℤ◌, ◌-ℤ◌, ◌≤ℤ◌, unsigned_abs, inl, inr}
+use Rattle.std.proofs.lemmas.Bool.{cases_lt}
+use Rattle.std.proofs.lemmas.Int.{ints}
+use Rattle.std.proofs.lemmas.Bool.Decides.{nat_tests}
+use Rattle.cal_date.specs.Lengths.{days_in_year}
+use Rattle.cal_date.specs.CalendarDay.{calendar_day}
+use Rattle.cal_date.specs.Date.{first_year, last_year, last_day, day_at, IsYear}
+use Rattle.cal_date.specs.CountLaws.{days_of_years, days_before, year_start, year_end}
+
+-- the leap years among the first k years of the range: one in four, but for the centuries of which 400 is no divisor
+leap_year-step : (k : ℕ) → days_in_year (first_year +ℤ pos k) + (k + 1) / 100 + k / 4 + k / 400 ≡ 365 + k / 100 + (k + 1) / 4 + (k + 1) / 400
+leap_year-step k = grind (arith, ints, nat_tests)
+
+closed-step : (k d d' l : ℕ) → d' ≡ d + l → l + (k + 1) / 100 + k / 4 + k / 400 ≡ 365 + k / 100 + (k + 1) / 4 + (k + 1) / 400 → d + k / 100 ≡ 365 * k + k / 4 + k / 400
+    → d' + suc k / 100 ≡ 365 * suc k + suc k / 4 + suc k / 400
+closed-step k d d' l e f g = let s : suc k ≡ k + 1 = omega arith in rw s (omega arith)
+
+pub days_of_years-suc : (k : ℕ) → days_of_years (suc k) ≡ days_of_years k + days_in_year (first_year +ℤ pos k)
+unfolding days_of_years
+days_of_years-suc k = refl
+
+pub days_of_years-closed : (k : ℕ) → days_of_years k + k / 100 ≡ 365 * k + k / 4 + k / 400
+days_of_years-closed zero = unfold days_of_years in refl
+days_of_years-closed (suc k) = closed-step k (days_of_years k) (days_of_years (suc k)) (days_in_year (first_year +ℤ pos k)) (days_of_years-suc k) (leap_year-step k) (days_of_years-closed k)
+
+-- each number stands in a year
+pub year_of : (k n : ℕ) → n < days_of_years k → (i : ℕ) × (j : ℕ) × (i < k) × (j < days_in_year (first_year +ℤ pos i)) × (n ≡ days_of_years i + j)
+year_of zero n h = absurd (unfold days_of_years in omega arith)
+year_of (suc k) n h =
+    elim (cases_lt n (days_of_years k)) [
+      | inl low ↦ let found = year_of k n low in (found.0, found.1, omega (arith, found.2), found.3, found.4)
+      | inr high ↦ (k, n - days_of_years k, omega arith, omega (arith, days_of_years-suc k), omega arith)
+    ]
+
+pub days_before-first : days_before first_year ≡ 0
+days_before-first = unfold days_of_years in refl
+
+-- the days before the next year
+pub days_before-next : (y : ℤ) → first_year ≤ℤ y → days_before (y +ℤ pos 1) ≡ days_before y + days_in_year y
+days_before-next y h =
+    let k = unsigned_abs (y -ℤ first_year) in
+    let next : unsigned_abs ((y +ℤ pos 1) -ℤ first_year) ≡ suc k = omega (arith, ints) in
+    let same : first_year +ℤ pos k ≡ y = omega (arith, ints) in
+    ap days_of_years next ∙ days_of_years-suc k ∙ ap (λ z. days_of_years k + days_in_year z) same
+
+-- a year is in the range exactly if its first day is
+pub IsYear-days_before : (y : ℤ) → first_year ≤ℤ y → days_before y ≤ last_day → IsYear y
+IsYear-days_before y h e = (h, omega (arith, ints, days_of_years-closed (unsigned_abs (y -ℤ first_year))))
+
+-- and all of it is in the range
+pub days_before-IsYear : (y : ℤ) → IsYear y → days_before y + days_in_year y ≤ last_day + 1
+days_before-IsYear y h =
+    let k = unsigned_abs (y -ℤ first_year) in
+    let next : unsigned_abs ((y +ℤ pos 1) -ℤ first_year) ≡ suc k = omega (arith, ints) in
+    omega (arith, ints, days_before-next y h.0, ap days_of_years next, days_of_years-closed (suc k))
+
+-- the last day of the range is the last of its last year
+pub day_at-last_day : day_at last_day ≡ calendar_day last_year 12 31
+day_at-last_day =
+    let end = year_end (days_of_years 19998) last_year (year_start 19998) in
+    let sums : days_of_years 19998 + 364 ≡ last_day = omega (arith, days_of_years-closed 19998) in
+    ap day_at (sym sums) ∙ end.day_is

@@ -1,0 +1,165 @@
+-- Laws of the count of days: where each month and each year begins, and how many days the first years have.
+use Rattle.std.proofs.Common.{◌≡◌, ℕ, zero, suc, ◌+◌, ◌-◌, ◌*◌, ◌/◌, ◌<◌, ◌≤◌, refl, sym, ap, ◌∙◌, arith, ℤ, pos, ◌+ℤ◌, ◌-ℤ◌, ◌≤ℤ◌, unsigned_abs, true, false, lit<, add-zero, inl, inr, add-one, add_assoc}
+use Rattle.std.proofs.lemmas.Bool.{cases_lt}
+use Rattle.std.proofs.lemmas.Int.{ints}
+use Rattle.std.proofs.lemmas.Bool.Decides.{nat_tests}
+use Rattle.cal_date.specs.Lengths.{is_leap_year, days_in_year, days_in_month}
+use Rattle.cal_date.specs.CalendarDay.{CalendarDay, calendar_day, day_after, is_first_of_january}
+use Rattle.cal_date.specs.Date.{first_year, day_at, year_at, ordinal_at, HasOrdinalDate}
+
+-- one step of each count
+pub day_at-suc : (n : ℕ) → day_at (suc n) ≡ day_after (day_at n)
+unfolding day_at
+day_at-suc n = refl
+
+ordinal_at-same_year : (n : ℕ) → is_first_of_january (day_at (suc n)) ≡ false → ordinal_at (suc n) ≡ ordinal_at n + 1
+unfolding ordinal_at
+ordinal_at-same_year n h = rw h refl
+
+ordinal_at-new_year : (n : ℕ) → is_first_of_january (day_at (suc n)) ≡ true → ordinal_at (suc n) ≡ 1
+unfolding ordinal_at
+ordinal_at-new_year n h = rw h refl
+
+-- the three cases of the day after
+day_after-in_month : (y : ℤ) (m d : ℕ) → d < days_in_month y m → day_after (calendar_day y m d) ≡ calendar_day y m (d + 1)
+unfolding day_after
+day_after-in_month y m d h = grind (arith, nat_tests)
+
+day_after-next_month : (y : ℤ) (m : ℕ) → m < 12 → day_after (calendar_day y m (days_in_month y m)) ≡ calendar_day y (m + 1) 1
+unfolding day_after
+day_after-next_month y m h = grind (arith, nat_tests)
+
+day_after-next_year : (y : ℤ) → day_after (calendar_day y 12 31) ≡ calendar_day (y +ℤ pos 1) 1 1
+unfolding day_after days_in_month
+day_after-next_year y = refl
+
+days_in_month-bound : (y : ℤ) (m : ℕ) → 0 < m → m ≤ 12 → 28 ≤ days_in_month y m
+unfolding days_in_month
+days_in_month-bound y m low high = grind (arith, nat_tests)
+
+-- day n is this day of the calendar, and has this ordinal
+pub record IsDayAt (n : ℕ) (y : ℤ) (m d o : ℕ) : Type 0 where
+  pub day_is : day_at n ≡ calendar_day y m d
+  pub ordinal_is : ordinal_at n ≡ o
+
+-- the days of one month follow one another
+in_month : (n j : ℕ) (y : ℤ) (m o : ℕ) → IsDayAt n y m 1 o → j < days_in_month y m → IsDayAt (n + j) y m (j + 1) (o + j)
+in_month n zero y m o e h = simp add-zero e
+in_month n (suc j) y m o e h =
+    let before : IsDayAt (n + j) y m (j + 1) (o + j) = in_month n j y m o e (omega arith) in
+    let room : j + 1 < days_in_month y m = omega arith in
+    let sums : suc (n + j) ≡ n + suc j = omega arith in
+    let day : day_at (suc (n + j)) ≡ calendar_day y m (suc j + 1) =
+    day_at-suc (n + j) ∙ ap day_after before.day_is ∙ day_after-in_month y m (j + 1) room ∙ ap (calendar_day y m) (omega arith) in
+    let same : is_first_of_january (day_at (suc (n + j))) ≡ false = rw day (grind (arith, nat_tests)) in
+    let ordinal : ordinal_at (suc (n + j)) ≡ o + suc j =
+    ordinal_at-same_year (n + j) same ∙ ap (λ k. k + 1) before.ordinal_is ∙ omega arith in
+    rw (← sums) (record { day_is = day; ordinal_is = ordinal })
+
+-- behind a month stands the first of the next month
+next_month : (n : ℕ) (y : ℤ) (m o : ℕ) → IsDayAt n y m 1 o → 0 < m → m < 12 → IsDayAt (n + days_in_month y m) y (m + 1) 1 (o + days_in_month y m)
+next_month n y m o e low high =
+    let some : 28 ≤ days_in_month y m = days_in_month-bound y m low (omega arith) in
+    let j = days_in_month y m - 1 in
+    let last : IsDayAt (n + j) y m (j + 1) (o + j) = in_month n j y m o e (omega arith) in
+    let sums : suc (n + j) ≡ n + days_in_month y m = omega arith in
+    let day : day_at (suc (n + j)) ≡ calendar_day y (m + 1) 1 =
+    day_at-suc (n + j) ∙ ap day_after (last.day_is ∙ ap (calendar_day y m) (omega arith)) ∙ day_after-next_month y m high in
+    let same : is_first_of_january (day_at (suc (n + j))) ≡ false = rw day (grind (arith, nat_tests)) in
+    let ordinal : ordinal_at (suc (n + j)) ≡ o + days_in_month y m =
+    ordinal_at-same_year (n + j) same ∙ ap (λ k. k + 1) last.ordinal_is ∙ omega arith in
+    rw (← sums) (record { day_is = day; ordinal_is = ordinal })
+
+-- the days of the first k months of a year
+unfoldable pub days_of_months : ℤ → ℕ → ℕ
+days_of_months y zero = 0
+days_of_months y (suc k) = days_of_months y k + days_in_month y (suc k)
+
+month_start : (n : ℕ) (y : ℤ) (k : ℕ) → IsDayAt n y 1 1 1 → k < 12 → IsDayAt (n + days_of_months y k) y (k + 1) 1 (1 + days_of_months y k)
+unfolding days_of_months
+month_start n y zero e h = simp add-zero e
+month_start n y (suc k) e h =
+    let before : IsDayAt (n + days_of_months y k) y (k + 1) 1 (1 + days_of_months y k) = month_start n y k e (omega arith) in
+    let after = next_month (n + days_of_months y k) y (k + 1) (1 + days_of_months y k) before (omega arith) (omega arith) in
+    record {
+      day_is = ap day_at (simp (add-one, add_assoc)) ∙ after.day_is ∙ ap (λ m. calendar_day y m 1) (omega arith);
+      ordinal_is = ap ordinal_at (simp (add-one, add_assoc)) ∙ after.ordinal_is ∙ simp (add-one, add_assoc);
+    }
+
+-- the months make up the year
+days_of_months-all : (y : ℤ) → days_of_months y 12 ≡ days_in_year y
+unfolding days_of_months days_in_month
+days_of_months-all y = grind (arith, nat_tests)
+
+days_of_months-december : (y : ℤ) → days_of_months y 11 + 31 ≡ days_in_year y
+unfolding days_of_months days_in_month
+days_of_months-december y = grind (arith, nat_tests)
+
+days_in_month-december : (y : ℤ) → 30 < days_in_month y 12
+unfolding days_in_month
+days_in_month-december y = lit< tt
+
+-- a place in the first k months lies in one of them
+month_of : (y : ℤ) (k j : ℕ) → j < days_of_months y k → (i : ℕ) × (d : ℕ) × (i < k) × (d < days_in_month y (i + 1)) × (j ≡ days_of_months y i + d)
+unfolding days_of_months
+month_of y zero j h = absurd (omega arith)
+month_of y (suc k) j h =
+    elim (cases_lt j (days_of_months y k)) [
+      | inl low ↦ let found = month_of y k j low in (found.0, found.1, omega (arith, found.2), found.3, found.4)
+      | inr high ↦ (k, j - days_of_months y k, omega arith, (let e : suc k ≡ k + 1 = omega arith in rw (← e) (omega arith)), omega arith)
+    ]
+
+-- the year begins on this day
+abbrev pub IsYearStart : ℕ → ℤ → Type 0
+IsYearStart n y = IsDayAt n y 1 1 1
+
+-- the days of one year follow one another
+pub in_year : (n : ℕ) (y : ℤ) (j : ℕ) → IsYearStart n y → j < days_in_year y → HasOrdinalDate y (j + 1) (n + j)
+in_year n y j e h =
+    let found = month_of y 12 j (rw (days_of_months-all y) h) in
+    let start = month_start n y found.0 e (omega arith) in
+    let here = in_month (n + days_of_months y found.0) found.1 y (found.0 + 1) (1 + days_of_months y found.0) start found.3 in
+    let sums : n + days_of_months y found.0 + found.1 ≡ n + j = omega arith in
+    (ap year_at (sym sums) ∙ ap (λ d. d.year) here.day_is, ap ordinal_at (sym sums) ∙ here.ordinal_is ∙ omega arith)
+
+-- 31 December is the last day of the year
+pub year_end : (n : ℕ) (y : ℤ) → IsYearStart n y → IsDayAt (n + (days_in_year y - 1)) y 12 31 (days_in_year y)
+year_end n y e =
+    let start = month_start n y 11 e (lit< tt) in
+    let last = in_month (n + days_of_months y 11) 30 y 12 (1 + days_of_months y 11) start (days_in_month-december y) in
+    let sums : n + days_of_months y 11 + 30 ≡ n + (days_in_year y - 1) = omega (arith, days_of_months-december y) in
+    rw (← sums) (record { day_is = last.day_is; ordinal_is = last.ordinal_is ∙ omega (arith, days_of_months-december y) })
+
+-- behind a year stands the first of the next year
+next_year : (n : ℕ) (y : ℤ) → IsYearStart n y → IsYearStart (n + days_in_year y) (y +ℤ pos 1)
+next_year n y e =
+    let last = year_end n y e in
+    let j = n + (days_in_year y - 1) in
+    let sums : suc j ≡ n + days_in_year y = omega (arith, days_of_months-december y) in
+    let day : day_at (suc j) ≡ calendar_day (y +ℤ pos 1) 1 1 =
+    day_at-suc j ∙ ap day_after last.day_is ∙ day_after-next_year y in
+    let new : is_first_of_january (day_at (suc j)) ≡ true = rw day refl in
+    rw (← sums) (record { day_is = day; ordinal_is = ordinal_at-new_year j new })
+
+-- the days of the first k years of the range
+unfoldable pub days_of_years : ℕ → ℕ
+days_of_years zero = 0
+days_of_years (suc k) = days_of_years k + days_in_year (first_year +ℤ pos k)
+
+pub year_start : (k : ℕ) → IsYearStart (days_of_years k) (first_year +ℤ pos k)
+unfolding days_of_years
+year_start zero = record { day_is = unfold day_at in refl; ordinal_is = unfold ordinal_at in refl }
+year_start (suc k) =
+    let next = next_year (days_of_years k) (first_year +ℤ pos k) (year_start k) in
+    let same : (first_year +ℤ pos k) +ℤ pos 1 ≡ first_year +ℤ pos (suc k) = omega (arith, ints) in
+    rw same at next
+
+-- the days of the range before a year
+abbrev pub days_before : ℤ → ℕ
+days_before y = days_of_years (unsigned_abs (y -ℤ first_year))
+
+pub year_start-days_before : (y : ℤ) → first_year ≤ℤ y → IsYearStart (days_before y) y
+year_start-days_before y h =
+    let k = unsigned_abs (y -ℤ first_year) in
+    let same : first_year +ℤ pos k ≡ y = omega (arith, ints) in
+    rw same at (year_start k)

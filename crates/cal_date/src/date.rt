@@ -1,0 +1,169 @@
+//! Dates.
+ghost use Rattle.std.specs.Prelude.{◌≡◌, ℕ, ◌<◌, ◌<ℤ◌, ◌↔◌, ◌==◌, IfOk, IfErr, IsErr, ◌⊎◌, Ok};
+ghost use Rattle.std.proofs.Common.{rules};
+ghost use Rattle.std.specs.Cmp.Rules.{comparing};
+ghost use Rattle.cal_date.specs.Date.{year_at, ordinal_at, julian_day_at, IsDate, IsYear, IsOrdinal, HasOrdinalDate, HasJulianDay, NoDate};
+ghost use Rattle.cal_date.specs.Refusal.{refusal, IsRefused};
+ghost use Rattle.cal_date.specs.Refusals.{year_out_of_range, ordinal_out_of_range, julian_day_out_of_range};
+
+use crate::error::ComponentRange;
+use crate::util::days_in_year;
+use std::alloc::AllocError;
+use std::marker::Model;
+
+const MIN_YEAR: i32 = -9999;
+
+const MAX_YEAR: i32 = 9999;
+
+const MIN_JULIAN_DAY: i32 = -1_930_999;
+
+const MAX_JULIAN_DAY: i32 = 5_373_484;
+
+/// A day of the proleptic Gregorian calendar, from -9999-01-01 to 9999-12-31.
+///
+/// Years are astronomical (ISO 8601): year 0 stands before year 1, and -1 before that.
+#[derive(Debug)]
+pub struct Date {
+    year: i32,
+    ordinal: u16,
+}
+
+impl Model for Date {
+    ghost use Rattle.std.specs.Prelude.{ℕ};
+
+    ghost Value = { ℕ };
+
+    ghost use Rattle.cal_date.specs.DateFields.{number_of, IsOrdinalDate, fields_at, fields_at-number_of};
+
+    ghost view = { number_of };
+
+    ghost invariant = { IsOrdinalDate };
+
+    ghost inverse = { fields_at };
+
+    ghost inverse_ok = { fields_at-number_of };
+}
+
+impl Clone for Date {
+    fn clone(&self) -> Result<Self, AllocError> {
+        Ok(*self)
+    }
+}
+
+impl Copy for Date {}
+
+impl PartialEq for Date {
+    ghost eq = { ◌==◌ };
+
+    ghost laws = { Prim.search (comparing, rules) };
+
+    fn eq(&self, other: &Date) -> bool {
+        other.year == self.year && other.ordinal == self.ordinal
+    }
+}
+
+impl Eq for Date {
+    ghost laws = { Prim.search (comparing, rules) };
+}
+
+impl Date {
+    /// The first day, -9999-01-01, whose Julian day is -1930999.
+    pub const MIN: Date = Date {
+        year: -9999,
+        ordinal: 1,
+    };
+
+    /// The last day, 9999-12-31, whose Julian day is 5373484.
+    pub const MAX: Date = Date {
+        year: 9999,
+        ordinal: 365,
+    };
+
+    /// The day of the year that has this ordinal.
+    pub fn from_ordinal_date(year: i32, ordinal: u16) -> Result<Self, ComponentRange>
+        ensures every { (n : ℕ) → IsDate n → HasOrdinalDate year ordinal n → result ≡ Ok n }
+        ensures has { IfOk result (λ n. IsDate n × HasOrdinalDate year ordinal n) }
+
+        // It is refused exactly where no day has it, for the first component that is out of range.
+        ensures refused { IsErr result ↔ NoDate (HasOrdinalDate year ordinal) }
+        ensures reason { IfErr result (λ e. (refusal e ≡ year_out_of_range) ⊎ (refusal e ≡ ordinal_out_of_range)) }
+        ensures year { IsRefused year_out_of_range result ↔ ¬ IsYear year }
+        ensures ordinal { IsRefused ordinal_out_of_range result ↔ IsYear year × ¬ IsOrdinal year ordinal }
+    {
+        if year < MIN_YEAR || year > MAX_YEAR {
+            return Err(ComponentRange::unconditional("year"));
+        }
+        if ordinal == 0 || ordinal > days_in_year(year) {
+            return Err(ComponentRange::conditional("ordinal"));
+        }
+        Ok(Date { year, ordinal })
+    }
+
+    /// The day that has this Julian day.
+    pub fn from_julian_day(julian_day: i32) -> Result<Self, ComponentRange>
+        ensures every { (n : ℕ) → IsDate n → HasJulianDay julian_day n → result ≡ Ok n }
+        ensures has { IfOk result (λ n. IsDate n × HasJulianDay julian_day n) }
+        ensures julian_day { IsRefused julian_day_out_of_range result ↔ NoDate (HasJulianDay julian_day) }
+    {
+        if julian_day < MIN_JULIAN_DAY || julian_day > MAX_JULIAN_DAY {
+            return Err(ComponentRange::unconditional("julian_day"));
+        }
+        Ok(Date::at_number((julian_day - MIN_JULIAN_DAY) as u32))
+    }
+
+    /// The year.
+    pub fn year(self) -> i32
+        ensures { result ≡ year_at self }
+    {
+        self.year
+    }
+
+    /// The ordinal.
+    pub fn ordinal(self) -> u16
+        ensures { result ≡ ordinal_at self }
+    {
+        self.ordinal
+    }
+
+    /// The Julian day.
+    pub fn to_julian_day(self) -> i32
+        ensures day { result ≡ julian_day_at self }
+        ensures order { (n : ℕ) → IsDate n → (n < self) ↔ (julian_day_at n <ℤ result) }
+        ensures in_range { IsDate self }
+    {
+        MIN_JULIAN_DAY + self.number() as i32
+    }
+
+    /// The day of that number, found from year to year, by taking away the length of one year at a time.
+    fn at_number(number: u32) -> Self
+        requires { IsDate number }
+        ensures { result ≡ number }
+    {
+        let mut year = MIN_YEAR;
+        let mut days = number;
+        loop {
+            let length = u32::from(days_in_year(year));
+            if days < length {
+                let ordinal = days as u16 + 1;
+                return Date { year, ordinal };
+            }
+            days -= length;
+            year += 1;
+        }
+    }
+
+    /// The number of the day: the days from the first one on that come before it.
+    fn number(self) -> u32
+        ensures number { result ≡ self }
+        ensures in_range { IsDate self }
+    {
+        let mut days = u32::from(self.ordinal) - 1;
+        for year in MIN_YEAR..self.year {
+            days += u32::from(days_in_year(year));
+        }
+        days
+    }
+}
+
+#[cfg(test)]
+mod tests;

@@ -1,0 +1,6 @@
+pub mod Known
+pub mod Numbers
+pub mod Parts
+pub mod Replies
+pub mod Days
+pub mod Texts

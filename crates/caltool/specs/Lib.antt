@@ -1,0 +1,6 @@
+pub mod Answers
+pub mod Commands
+pub mod Fault
+pub mod Lines
+pub mod Numbers
+pub mod Runs

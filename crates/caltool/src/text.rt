@@ -1,0 +1,58 @@
+//! Text of a fixed length at most, which lies in the value itself.
+ghost use Rattle.std.specs.Prelude.{◌≡◌, ◌++◌, []};
+
+use std::fmt;
+use std::marker::Model;
+
+/// The most bytes that a line of the output may have, its end among them. The longest answer has fewer.
+const CAPACITY: usize = 64;
+
+/// Some text, as its bytes.
+#[derive(Drop)]
+pub struct Text {
+    buffer: [u8; CAPACITY],
+    filled: usize,
+}
+
+impl Model for Text {
+    ghost use Rattle.std.specs.Prelude.{ℕ, ◌≤◌, List, take};
+
+    ghost Value = { List ℕ };
+
+    ghost view = { λ text. take text.filled text.buffer };
+
+    ghost invariant = { λ text. text.filled ≤ 64 };
+}
+
+impl Text {
+    /// No text.
+    pub fn new() -> Self
+        ensures { result ≡ [] }
+    {
+        Text {
+            buffer: [0; CAPACITY],
+            filled: 0,
+        }
+    }
+
+    /// The bytes of the text.
+    pub fn as_bytes(&self) -> &[u8]
+        ensures { result.now ≡ self.now }
+    {
+        &self.buffer[..self.filled]
+    }
+}
+
+impl fmt::Write for Text {
+    ghost write_str_gives = { λ old s new. new ≡ old ++ s };
+
+    fn write_str(&mut self, s: &str) -> fmt::Result {
+        let end = self.filled + s.len();
+        if end > CAPACITY {
+            return Err(fmt::Error);
+        }
+        self.buffer[self.filled..end].copy_from_slice(s.as_bytes());
+        self.filled = end;
+        Ok(())
+    }
+}
