@@ -1,10 +1,10 @@
 -- Laws of the count of days: where each month and each year begins, and how many days the first years have.
-use Rattle.std.proofs.Common.{◌≡◌, ℕ, zero, suc, ◌+◌, ◌-◌, ◌*◌, ◌/◌, ◌<◌, ◌≤◌, refl, sym, ap, ◌∙◌, arith, ℤ, pos, ◌+ℤ◌, ◌-ℤ◌, ◌≤ℤ◌, unsigned_abs, true, false, lit<, add-zero, inl, inr, add-one, add_assoc}
+use Rattle.std.proofs.Common.{◌≡◌, ℕ, zero, suc, ◌+◌, ◌-◌, ◌<◌, ◌≤◌, refl, sym, ap, ◌∙◌, arith, ℤ, pos, ◌+ℤ◌, ◌-ℤ◌, ◌≤ℤ◌, unsigned_abs, true, false, lit<, add-zero, inl, inr, add-one, add_assoc}
 use Rattle.std.proofs.lemmas.Bool.{cases_lt}
 use Rattle.std.proofs.lemmas.Int.{ints}
 use Rattle.std.proofs.lemmas.Bool.Decides.{nat_tests}
-use Rattle.cal_date.specs.Lengths.{is_leap_year, days_in_year, days_in_month}
-use Rattle.cal_date.specs.CalendarDay.{CalendarDay, calendar_day, day_after, is_first_of_january}
+use Rattle.cal_date.specs.Lengths.{days_in_year, days_in_month}
+use Rattle.cal_date.specs.CalendarDay.{calendar_day, day_after, is_first_of_january}
 use Rattle.cal_date.specs.Date.{first_year, day_at, year_at, ordinal_at, HasOrdinalDate}
 
 -- one step of each count

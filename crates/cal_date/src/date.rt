@@ -21,7 +21,8 @@ const MAX_JULIAN_DAY: i32 = 5_373_484;
 
 /// A day of the proleptic Gregorian calendar, from -9999-01-01 to 9999-12-31.
 ///
-/// Years are astronomical (ISO 8601): year 0 stands before year 1, and -1 before that.
+/// Years are astronomical, as in ISO 8601: the year 0 stands before the year 1, and -1 before that. Contracts see a date
+/// as its number in the count of days, from 0 at -9999-01-01 to 7304483 at 9999-12-31.
 #[derive(Debug)]
 pub struct Date {
     year: i32,
@@ -80,6 +81,12 @@ impl Date {
     };
 
     /// The day of the year that has this ordinal.
+    ///
+    /// The year is from -9999 to 9999, and the ordinal from 1 to 365, or 366 in a leap year: the ordinal date of
+    /// ISO 8601. The day with ordinal 60 of 1900 is its 1 March, and that of 2000 its 29 February.
+    ///
+    /// It is refused for the first component that is out of range: `year`, unconditionally, or `ordinal`, conditionally,
+    /// as its range hangs on the year.
     pub fn from_ordinal_date(year: i32, ordinal: u16) -> Result<Self, ComponentRange>
         ensures every { (n : ℕ) → IsDate n → HasOrdinalDate year ordinal n → result ≡ Ok n }
         ensures has { IfOk result (λ n. IsDate n × HasOrdinalDate year ordinal n) }
@@ -99,7 +106,11 @@ impl Date {
         Ok(Date { year, ordinal })
     }
 
-    /// The day that has this Julian day.
+    /// The day that has this Julian day, from -1930999 to 5373484.
+    ///
+    /// The Julian day is a whole number that rises by one from day to day: 0 is -4713-11-24, and 2451545 is 2000-01-01.
+    ///
+    /// It is refused as `julian_day`, unconditionally, where no day of the range has it.
     pub fn from_julian_day(julian_day: i32) -> Result<Self, ComponentRange>
         ensures every { (n : ℕ) → IsDate n → HasJulianDay julian_day n → result ≡ Ok n }
         ensures has { IfOk result (λ n. IsDate n × HasJulianDay julian_day n) }
@@ -111,21 +122,21 @@ impl Date {
         Ok(Date::at_number((julian_day - MIN_JULIAN_DAY) as u32))
     }
 
-    /// The year.
+    /// The year, from -9999 to 9999.
     pub fn year(self) -> i32
         ensures { result ≡ year_at self }
     {
         self.year
     }
 
-    /// The ordinal.
+    /// The place of the day in its year, from 1 to 365, or 366 in a leap year.
     pub fn ordinal(self) -> u16
         ensures { result ≡ ordinal_at self }
     {
         self.ordinal
     }
 
-    /// The Julian day.
+    /// The Julian day, from -1930999 to 5373484. That of 2000-01-01 is 2451545.
     pub fn to_julian_day(self) -> i32
         ensures day { result ≡ julian_day_at self }
         ensures order { (n : ℕ) → IsDate n → (n < self) ↔ (julian_day_at n <ℤ result) }

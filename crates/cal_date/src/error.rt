@@ -1,7 +1,10 @@
-//! Errors.
+//! The errors of dates.
 ghost use Rattle.std.specs.Prelude.{◌≡◌};
 
-/// A component was outside its range.
+/// A component, such as a year or an ordinal, was outside its range.
+///
+/// It carries the name of the component, and whether the range hangs on other components: that of an ordinal hangs on the
+/// year, that of a year on nothing.
 #[derive(Clone, Copy, Debug, PartialEq, Eq)]
 pub struct ComponentRange {
     name: &'static str,
@@ -31,14 +34,14 @@ impl ComponentRange {
         }
     }
 
-    /// The name of the component.
+    /// The name of the component, such as `ordinal`.
     pub fn name(self) -> &'static str
         ensures { result.now ≡ (refusal self).name }
     {
         self.name
     }
 
-    /// Whether other components could have made the value valid.
+    /// Whether the range of the component hangs on other components.
     pub fn is_conditional(self) -> bool
         ensures { result ≡ (refusal self).is_conditional }
     {

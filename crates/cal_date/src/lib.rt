@@ -1,8 +1,12 @@
-//! Dates of the proleptic Gregorian calendar.
+//! Dates of the proleptic Gregorian calendar, counted one day at a time.
+//!
+//! Every conversion is proved to equal that count, and every refusal to come exactly where no day of the range has what
+//! was asked for.
 #![tactic(auto)]
 
 mod date;
 pub mod error;
+mod laws;
 mod util;
 
 pub use date::Date;

@@ -1,5 +1,5 @@
 -- The day of the range that passes a test, where a constructor of dates has found it, or found that there is none.
-use Rattle.std.proofs.Common.{◌≡◌, ℕ, zero, suc, ◌+◌, ◌<◌, ◌≤◌, Bool, true, false, Some, None, Option, refl, sym, ap, ◌∙◌, arith, inl, inr, ℤ, Decides}
+use Rattle.std.proofs.Common.{◌≡◌, ℕ, zero, suc, ◌+◌, ◌<◌, Bool, true, false, Some, None, refl, arith, inl, inr, ℤ, Decides}
 use Rattle.std.proofs.lemmas.Bool.{cases_Bool, cases_lt, false_from_ne_true}
 use Rattle.std.proofs.lemmas.Int.{ints}
 use Rattle.cal_date.specs.Date.{IsDate, last_day, IsYear, NoDate, HasJulianDay, HasOrdinalDate}

@@ -1,25 +1,6 @@
 //! The ends of the range, and days that are known from elsewhere.
-ghost use Rattle.std.specs.Prelude.{◌≡◌};
-ghost use Rattle.cal_date.specs.CalendarDay.{calendar_day};
-ghost use Rattle.cal_date.specs.Date.{first_year, last_year, last_day, day_at};
-
 use super::*;
-
-/// The first day of the range.
-fn first() -> Date
-    ensures number { result ≡ 0 }
-    ensures day { day_at result ≡ calendar_day first_year 1 1 }
-{
-    Date::MIN
-}
-
-/// The last day of the range.
-fn last() -> Date
-    ensures number { result ≡ last_day }
-    ensures day { day_at result ≡ calendar_day last_year 12 31 }
-{
-    Date::MAX
-}
+use crate::laws::{final_day, first_day};
 
 #[test]
 fn knows_days_by_julian_day_and_ordinal_date(rt: HostRuntime) {
@@ -44,8 +25,8 @@ fn knows_days_by_julian_day_and_ordinal_date(rt: HostRuntime) {
         assert_eq!(rt; date.ordinal(), ordinal, "at {julian_day}");
         assert_eq!(rt; date.to_julian_day(), julian_day, "at {julian_day}");
     }
-    assert_eq!(rt; first().to_julian_day(), -1930999);
-    assert_eq!(rt; last().to_julian_day(), 5373484);
+    assert_eq!(rt; first_day().to_julian_day(), -1930999);
+    assert_eq!(rt; final_day().to_julian_day(), 5373484);
 }
 
 #[test]

@@ -1,4 +1,4 @@
-use Rattle.std.proofs.Common.{◌+ℤ◌, ◌≡◌, arith, pos, to_z, of_z, w32, FitsSigned}
+use Rattle.std.proofs.Common.{◌+ℤ◌, ◌≡◌, arith, pos, to_z, of_z, w32}
 use Rattle.std.proofs.lemmas.Int.{ints, to_z-of_z}
 use Rattle.cal_date.specs.Date.{IsYear}
 use Rattle.cal_date.proofs.Years.{days_before-first, days_before-next, IsYear-days_before}

@@ -1,8 +1,8 @@
-use Rattle.std.proofs.Common.{ap, sym, ◌∙◌, arith, refl, Ok, ◌≡◌, to_z, of_z, w32}
+use Rattle.std.proofs.Common.{ap, sym, arith, refl, Ok, ◌≡◌, to_z, of_z, w32}
 use Rattle.std.proofs.lemmas.Int.{ints, to_z-of_z}
 use Rattle.std.proofs.lemmas.Bool.{false≢true}
 use Rattle.cal_date.specs.Date.{IsYear, IsOrdinal}
-use Rattle.cal_date.proofs.Dates.{in_range, ordinal_number, IsDate-ordinal_number, HasOrdinalDate-ordinal_number, NoDate-ordinal_date}
+use Rattle.cal_date.proofs.Dates.{in_range, IsDate-ordinal_number, HasOrdinalDate-ordinal_number, NoDate-ordinal_date}
 use Rattle.cal_date.proofs.date.Date.from_ordinal_date.Goals as goal
 use Rattle.cal_date.proofs.date.Date.from_ordinal_date.Goals.{then-ordinal-eq0-via-then-ordinal-eq0, then-ordinal-eq0-via-else-ordinal-eq0+then-ordinal-days_in_year, then-year-lt-MIN_YEAR-via-then-year-lt-MIN_YEAR, then-year-lt-MIN_YEAR-via-else-year-lt-MIN_YEAR+then-year-gt-MAX_YEAR}
 

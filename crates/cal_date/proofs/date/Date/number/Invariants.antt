@@ -1,4 +1,4 @@
-use Rattle.std.proofs.Common.{◌≡◌, ◌+◌, ◌-◌, ◌≤ℤ◌}
+use Rattle.std.proofs.Common.{◌≡◌, ◌+◌, ◌≤ℤ◌}
 use Rattle.cal_date.specs.Date.{first_year}
 use Rattle.cal_date.specs.CountLaws.{days_before}
 use Rattle.cal_date.proofs.date.Date.number.Given as goal
