@@ -1,7 +1,7 @@
 -- Each number of the count has its ordinal date, and each ordinal date of the range its number.
 use Rattle.std.proofs.Common.{◌≡◌, ℕ, suc, ◌+◌, ◌-◌, ◌<◌, sym, ap, ◌∙◌, arith, ℤ, pos, ◌+ℤ◌, ◌-ℤ◌, ◌≤ℤ◌, unsigned_abs}
 use Rattle.std.proofs.lemmas.Int.{ints}
-use Rattle.cal_date.specs.Lengths.{days_in_year}
+use Rattle.cal_units.specs.Lengths.{days_in_year}
 use Rattle.cal_date.specs.Date.{first_year, year_at, ordinal_at, IsYear, IsDate, IsOrdinal, HasOrdinalDate, NoDate}
 use Rattle.cal_date.specs.CountLaws.{days_of_years, days_before, in_year, year_start}
 use Rattle.cal_date.specs.DateFields.{number_of, IsOrdinalDate, HasOrdinalDate-number_of}

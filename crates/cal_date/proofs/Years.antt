@@ -3,7 +3,7 @@ use Rattle.std.proofs.Common.{◌≡◌, ℕ, zero, suc, ◌+◌, ◌-◌, ◌*�
 use Rattle.std.proofs.lemmas.Bool.{cases_lt}
 use Rattle.std.proofs.lemmas.Int.{ints}
 use Rattle.std.proofs.lemmas.Bool.Decides.{nat_tests}
-use Rattle.cal_date.specs.Lengths.{days_in_year}
+use Rattle.cal_units.specs.Lengths.{days_in_year}
 use Rattle.cal_date.specs.CalendarDay.{calendar_day}
 use Rattle.cal_date.specs.Date.{first_year, last_year, last_day, day_at, IsYear}
 use Rattle.cal_date.specs.CountLaws.{days_of_years, days_before, year_start, year_end}

@@ -1,6 +1,6 @@
 -- A day of the calendar as its year, its month from 1 to 12 and its day from 1, and the day after it.
 use Rattle.std.specs.Prelude.{ℕ, ◌+◌, Bool, ◌&&◌, ◌==◌, if◌then◌else◌, nat_lt, ℤ, pos, ◌+ℤ◌}
-use Rattle.cal_date.specs.Lengths.{days_in_month}
+use Rattle.cal_units.specs.Lengths.{days_in_month}
 
 pub record CalendarDay : Type 0 where
   pub year : ℤ

@@ -3,7 +3,7 @@ use Rattle.std.proofs.Common.{◌≡◌, ℕ, zero, suc, ◌+◌, ◌-◌, ◌<�
 use Rattle.std.proofs.lemmas.Bool.{cases_lt}
 use Rattle.std.proofs.lemmas.Int.{ints}
 use Rattle.std.proofs.lemmas.Bool.Decides.{nat_tests}
-use Rattle.cal_date.specs.Lengths.{days_in_year, days_in_month}
+use Rattle.cal_units.specs.Lengths.{days_in_year, days_in_month}
 use Rattle.cal_date.specs.CalendarDay.{calendar_day, day_after, is_first_of_january}
 use Rattle.cal_date.specs.Date.{first_year, day_at, year_at, ordinal_at, HasOrdinalDate}
 

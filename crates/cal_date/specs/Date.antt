@@ -1,6 +1,6 @@
 -- A date is its number in the count of days, which goes one day at a time from the first day of the range on.
 use Rattle.std.specs.Prelude.{◌≡◌, ℕ, zero, suc, ◌+◌, ◌%◌, ◌≤◌, if◌then◌else◌, ℤ, pos, neg_ℤ, ◌+ℤ◌, ◌≤ℤ◌}
-use Rattle.cal_date.specs.Lengths.{days_in_year}
+use Rattle.cal_units.specs.Lengths.{days_in_year}
 use Rattle.cal_date.specs.CalendarDay.{CalendarDay, calendar_day, day_after, is_first_of_january}
 
 -- The range: the years -9999 to 9999. Day 0 is 1 January of its first year, and has this Julian day;

@@ -1,6 +1,6 @@
 -- Why the constructors of dates refuse: each by the name of its parameter.
 use Rattle.std.specs.Prelude.{codes}
-use Rattle.cal_date.specs.Refusal.{Refusal, unconditional, conditional}
+use Rattle.cal_units.specs.Refusal.{Refusal, unconditional, conditional}
 
 abbrev pub year_out_of_range : Refusal
 year_out_of_range = unconditional (codes "year")

@@ -3,11 +3,11 @@ ghost use Rattle.std.specs.Prelude.{◌≡◌, ℕ, ◌<◌, ◌<ℤ◌, ◌↔�
 ghost use Rattle.std.proofs.Common.{rules};
 ghost use Rattle.std.specs.Cmp.Rules.{comparing};
 ghost use Rattle.cal_date.specs.Date.{year_at, ordinal_at, julian_day_at, IsDate, IsYear, IsOrdinal, HasOrdinalDate, HasJulianDay, NoDate};
-ghost use Rattle.cal_date.specs.Refusal.{refusal, IsRefused};
+ghost use Rattle.cal_units.specs.Refusal.{refusal, IsRefused};
 ghost use Rattle.cal_date.specs.Refusals.{year_out_of_range, ordinal_out_of_range, julian_day_out_of_range};
 
 use crate::error::ComponentRange;
-use crate::util::days_in_year;
+use cal_units::util::days_in_year;
 use std::alloc::AllocError;
 use std::marker::Model;
 

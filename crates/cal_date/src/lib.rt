@@ -7,6 +7,5 @@
 mod date;
 pub mod error;
 mod laws;
-mod util;
 
 pub use date::Date;

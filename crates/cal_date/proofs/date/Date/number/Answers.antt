@@ -1,7 +1,7 @@
 use Rattle.std.proofs.Common.{◌≤◌, ◌+◌, ◌+ℤ◌, ◌≡◌, arith, pos, to_z, of_z, w32, FitsSigned}
 use Rattle.std.proofs.lemmas.Int.{ints, to_z-of_z}
 use Rattle.cal_date.specs.Date.{last_day}
-use Rattle.cal_date.specs.Lengths.{days_in_year}
+use Rattle.cal_units.specs.Lengths.{days_in_year}
 use Rattle.cal_date.specs.CountLaws.{days_before}
 use Rattle.cal_date.proofs.Years.{days_before-first, days_before-next, days_before-IsYear}
 use Rattle.cal_date.proofs.Dates.{IsDate-ordinal_number}

@@ -1,11 +1,9 @@
--- The lengths of the years and months of the proleptic Gregorian calendar (ISO 8601-1:2019, 4.2.1), for every whole year.
--- Years are astronomical: the year 0 stands before the year 1.
+-- The lengths of years and months of the proleptic Gregorian calendar, for every whole year (ISO 8601: year 0 stands before year 1).
 use Rattle.std.specs.Prelude.{ℕ, ◌%◌, Bool, not, ◌&&◌, ◌||◌, ◌==◌, if◌then◌else◌, ℤ, unsigned_abs}
 
 -- every fourth year is a leap year, but of the centuries only every fourth
 abbrev pub is_leap_year : ℤ → Bool
-is_leap_year y =
-    (unsigned_abs y % 4 == 0) && (not (unsigned_abs y % 100 == 0) || (unsigned_abs y % 400 == 0))
+is_leap_year y = (unsigned_abs y % 4 == 0) && (not (unsigned_abs y % 100 == 0) || (unsigned_abs y % 400 == 0))
 
 abbrev pub days_in_year : ℤ → ℕ
 days_in_year y = if is_leap_year y then 366 else 365

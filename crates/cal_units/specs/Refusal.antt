@@ -1,7 +1,6 @@
--- What an error of a component says: the name of the first component that is out of range, and whether that range
--- hangs on the other components.
+-- What an error of a component says: the name of the first component out of range, and whether the range hangs on other components.
 use Rattle.std.specs.Prelude.{◌≡◌, ℕ, List, Bool, true, false, Result, IsErrAnd}
-use Rattle.cal_date.specs.declared.error.ComponentRange.{ComponentRange}
+use Rattle.cal_units.specs.declared.error.ComponentRange.{ComponentRange}
 
 -- the bytes of the name, and the mark 'conditional'
 pub record Refusal : Type 0 where

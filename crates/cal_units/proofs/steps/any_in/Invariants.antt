@@ -1,0 +1,9 @@
+use Rattle.std.proofs.Common.{Bool, false}
+use Rattle.cal_units.specs.Walk.{Asked}
+use Rattle.cal_units.proofs.steps.any_in.Given as goal
+
+-- what the answers from here on give is what all of them give
+abbrev pub invariant-loop-place : goal.invariant-loop-place
+invariant-loop-place g l =
+    goal.F-IsAlwaysCallable g l.f
+    × ((r : Bool) → Asked g.C.Cycle (goal.F-step g) false l.place l.f r → Asked g.C.Cycle (goal.F-step g) false 0 l.fn.f r)

@@ -1,0 +1,10 @@
+pub mod Lengths
+pub mod Month
+pub mod MonthCycle
+pub mod Name
+pub mod Places
+pub mod Refusal
+pub mod Walk
+pub mod Weekday
+pub mod WeekdayCycle
+pub mod Weeks

@@ -1,0 +1,51 @@
+-- The months by their places, numbers and names.
+use Rattle.std.specs.Prelude.{◌≡◌, ◌<◌, ◌+◌, ◌⊎◌, ℕ, List, [], ◌∷◌, codes, Result, MatchResult, slice_index_or}
+use Rattle.cal_units.specs.declared.error.ComponentRange.{ComponentRange}
+use Rattle.cal_units.specs.declared.month.Month.{Month}
+use Rattle.cal_units.specs.declared.month.Month.TheVariants.{January, February, March, April, May, June, July, August, September, October, November, December}
+use Rattle.cal_units.specs.Refusal.{Refusal, refusal, unconditional}
+
+-- the place on the cycle of the months
+abbrev pub place : Month → ℕ
+place January = 0
+place February = 1
+place March = 2
+place April = 3
+place May = 4
+place June = 5
+place July = 6
+place August = 7
+place September = 8
+place October = 9
+place November = 10
+place December = 11
+
+-- the number of the month: January is 1
+abbrev pub number : Month → ℕ
+number m = place m + 1
+
+-- the month at a place below 12, and December at each place past them
+abbrev pub month_at : ℕ → Month
+month_at i = slice_index_or (January ∷ February ∷ March ∷ April ∷ May ∷ June ∷ July ∷ August ∷ September ∷ October ∷ November ∷ December ∷ []) i December
+
+-- the English name
+abbrev pub name : Month → List ℕ
+name January = codes "January"
+name February = codes "February"
+name March = codes "March"
+name April = codes "April"
+name May = codes "May"
+name June = codes "June"
+name July = codes "July"
+name August = codes "August"
+name September = codes "September"
+name October = codes "October"
+name November = codes "November"
+name December = codes "December"
+
+abbrev pub month_out_of_range : Refusal
+month_out_of_range = unconditional (codes "month")
+
+-- r is what a number gives: the month that has it, or the refusal of 0 and of each number above 12
+abbrev pub FromNumber : ℕ → Result Month ComponentRange → Type 0
+FromNumber n r = MatchResult r (λ m. number m ≡ n) (λ e. (refusal e ≡ month_out_of_range) × ((n ≡ 0) ⊎ (12 < n)))

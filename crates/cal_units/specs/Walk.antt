@@ -1,0 +1,19 @@
+-- Steps along a cycle, and the questions that are asked once of each of its values.
+use Rattle.std.specs.Prelude.{◌≡◌, ◌<◌, ℕ, ◌+◌, ◌%◌, Bool, not}
+use Rattle.cal_units.specs.declared.cycle.Cycle.{Ghosts}
+
+-- y is n places on from x, modulo the length of the cycle
+abbrev pub IsAhead : {C : Type 0} → Ghosts C → ℕ → C → C → Type 0
+IsAhead cycle n x y = cycle.place_of y ≡ (cycle.place_of x + n) % cycle.LENGTH
+
+-- y is n places back from x: x is n places on from y
+abbrev pub IsBack : {C : Type 0} → Ghosts C → ℕ → C → C → Type 0
+IsBack cycle n x y = (cycle.place_of y + n) % cycle.LENGTH ≡ cycle.place_of x
+
+module _ {F C : Type 0} (cycle : Ghosts C) (calls : F → C → Bool → F → Type 0) (go : Bool) where
+  -- The closure f is asked of the value at place i and of each later one, for as long as it answers `go`; `calls f x b f'` is a call
+  -- of f on x that answers b and leaves f'. The outcome is `go` where all the answers are.
+  pub data Asked : ℕ → F → Bool → Type 0 where
+    at_end : (f : F) → Asked cycle.LENGTH f go
+    stops : (i : ℕ) (f f' : F) → i < cycle.LENGTH → calls f (cycle.value_at i) (not go) f' → Asked i f (not go)
+    goes_on : (i : ℕ) (f f' : F) (r : Bool) → i < cycle.LENGTH → calls f (cycle.value_at i) go f' → Asked (i + 1) f' r → Asked i f r

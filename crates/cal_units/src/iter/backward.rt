@@ -1,0 +1,128 @@
+//! The walk backwards.
+ghost use Rattle.std.specs.Prelude.{◌≡◌, true, false, Some, IfSome, IsSomeAnd};
+ghost use Rattle.std.specs.Iterator.{UpTo, endless};
+ghost use Rattle.std.specs.Iterator.SizeHint.{IsWithinCount};
+ghost use Rattle.cal_units.specs.Walk.{IsBack, Asked};
+
+use crate::cycle::Cycle;
+use crate::iter::forward::CycleIter;
+use crate::month::Month;
+use crate::steps::{all_in, any_in, nth_back_in};
+use std::marker::Model;
+
+/// An endless walk turned round: the start, then each value before it, round and round.
+///
+/// It never answers `None`, so use it through a limit, as `MonthIter::new(Month::June).rev().take(3)`. Two walks are equal where they
+/// would go on with the same value.
+#[derive(Debug, PartialEq, Eq, Drop)]
+pub struct Rev<I> {
+    forward: I,
+}
+
+impl<I> Model for Rev<I> {
+    ghost Value = { I };
+
+    ghost view = { λ walk. walk.forward };
+
+    ghost inverse = { λ forward. record { forward = forward } };
+}
+
+impl<C: Cycle> Rev<CycleIter<C>> {
+    /// The walk turned round, from the value where it stands.
+    pub(super) fn new(forward: CycleIter<C>) -> Self
+        ensures { result ≡ forward }
+    {
+        Rev { forward }
+    }
+
+    /// A walk of its own that goes on as this one does.
+    pub fn clone(&self) -> Self
+        ensures { result ≡ self.now }
+    {
+        Rev {
+            forward: self.forward.clone(),
+        }
+    }
+
+    /// The value `n` places back, always `Some`. The walk goes on before it.
+    ///
+    /// `nth(0)` is `next()`.
+    pub fn nth(&mut self, n: usize) -> Option<C>
+        ensures { IsSomeAnd result (λ x. IsBack C.Cycle n self.old x × IsBack C.Cycle 1 x self.new) }
+    {
+        let value = nth_back_in(self.forward.next, n);
+        self.forward.next = nth_back_in(value, 1);
+        Some(value)
+    }
+
+    /// Whether `f` answers true at every value of the cycle.
+    ///
+    /// It asks at January or Monday first, wherever the walk stands, then at each value after it, and nothing after the first false.
+    /// The walk stays where it is.
+    pub fn all_once<F: FnMut(C) -> bool>(&mut self, f: F) -> bool
+        requires { F.IsAlwaysCallable f }
+        ensures asked { Asked C.Cycle F.step true 0 f result }
+        ensures unmoved { self.new ≡ self.old }
+    {
+        all_in(f)
+    }
+
+    /// Whether `f` answers true at some value of the cycle.
+    ///
+    /// It asks at January or Monday first, wherever the walk stands, then at each value after it, and nothing after the first true.
+    /// The walk stays where it is.
+    pub fn any_once<F: FnMut(C) -> bool>(&mut self, f: F) -> bool
+        requires { F.IsAlwaysCallable f }
+        ensures asked { Asked C.Cycle F.step false 0 f result }
+        ensures unmoved { self.new ≡ self.old }
+    {
+        any_in(f)
+    }
+}
+
+impl Rev<CycleIter<Month>> {
+    ghost use Rattle.cal_units.specs.declared.month.Month.TheVariants.{January, December};
+
+    /// The least month of the walk, January, always `Some`.
+    pub fn min(self) -> Option<Month>
+        ensures { result ≡ Some January }
+    {
+        Some(Month::January)
+    }
+
+    /// The greatest month of the walk, December, always `Some`.
+    pub fn max(self) -> Option<Month>
+        ensures { result ≡ Some December }
+    {
+        Some(Month::December)
+    }
+
+    /// Whether each month is at most the one that follows it: never, as December follows January.
+    pub fn is_sorted(self) -> bool
+        ensures { result ≡ false }
+    {
+        false
+    }
+}
+
+impl<C: Cycle> Iterator for Rev<CycleIter<C>> {
+    type Item = C;
+
+    ghost next_gives = { λ old r new. (r ≡ Some old) × IsBack C.Cycle 1 old new };
+
+    /// The value where the walk stands, always `Some`. The walk goes on before it.
+    fn next(&mut self) -> Option<C> {
+        let item = self.forward.next;
+        self.forward.next = nth_back_in(item, 1);
+        Some(item)
+    }
+
+    /// At least `usize::MAX`, with no upper bound.
+    fn size_hint(&self) -> (usize, Option<usize>)
+        ensures lower { IsWithinCount result.0 endless }
+        ensures upper { IfSome result.1 (UpTo endless) }
+        ensures value { result ≡ (usize.MAX, None) }
+    {
+        (usize::MAX, None)
+    }
+}

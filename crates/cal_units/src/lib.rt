@@ -1,0 +1,21 @@
+//! The lowest layer of the calendar: its errors, the lengths of years and months, the months and weekdays, and endless walks over them.
+//!
+//! Years are those of the proleptic Gregorian calendar, counted as astronomers do: year 0 stands before year 1.
+//! Weeks are those of ISO 8601.
+#![tactic(auto)]
+
+mod cycle;
+pub mod error;
+pub mod iter;
+mod month;
+mod steps;
+pub mod util;
+mod weekday;
+
+pub use cycle::Cycle;
+pub use month::Month;
+pub use steps::nth_in;
+pub use weekday::Weekday;
+
+#[cfg(test)]
+mod tests;

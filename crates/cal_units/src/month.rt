@@ -1,0 +1,252 @@
+//! The months.
+ghost use Rattle.std.specs.Prelude.{◌≡◌, ◌+◌, ◌%◌, ◌==◌, Some};
+ghost use Rattle.std.specs.Cmp.{partial_order_from_own_ties};
+ghost use Rattle.std.specs.Cmp.Rules.{comparing};
+ghost use Rattle.std.specs.Fmt.{padded};
+ghost use Rattle.std.specs.Ordering.{nat_cmp, on, as_partial_cmp};
+ghost use Rattle.std.proofs.Common.{rules};
+ghost use Rattle.cal_units.specs.Lengths.{days_in_month};
+ghost use Rattle.cal_units.specs.Month.{number, place, month_at, name, FromNumber};
+ghost use Rattle.cal_units.specs.MonthCycle.{place-below, month_at-place, place-month_at};
+ghost use Rattle.cal_units.specs.Name.{Reads};
+
+use crate::cycle::Cycle;
+use crate::error::{ComponentRange, InvalidVariant};
+use crate::iter::MonthIter;
+use crate::steps::{nth_back_in, nth_in};
+use crate::util::days_in_month;
+use std::cmp::Ordering;
+use std::fmt;
+use std::str::FromStr;
+
+/// A month of the year.
+///
+/// `Month::May as u8` is its number, 5; months are ordered by their numbers. A month prints its English name, as `May`.
+#[derive(Clone, Copy, Debug, Hash)]
+pub enum Month {
+    January = 1,
+    February,
+    March,
+    April,
+    May,
+    June,
+    July,
+    August,
+    September,
+    October,
+    November,
+    December,
+}
+
+impl Month {
+    /// The number of days of the month in this year, from 28 to 31.
+    pub fn length(self, year: i32) -> u8
+        ensures { result ≡ days_in_month year (number self) }
+    {
+        days_in_month(self, year)
+    }
+
+    /// The month before. That of January is December.
+    pub fn previous(self) -> Self
+        ensures { (place result + 1) % 12 ≡ place self }
+    {
+        nth_back_in(self, 1)
+    }
+
+    /// The month after. That of December is January.
+    pub fn next(self) -> Self
+        ensures { place result ≡ (place self + 1) % 12 }
+    {
+        nth_in(self, 1)
+    }
+
+    /// The month `n` months after, round the year as often as it takes.
+    ///
+    /// `Month::January.nth_next(4)` is May, `Month::July.nth_next(9)` is April.
+    pub fn nth_next(self, n: u8) -> Self
+        ensures { place result ≡ (place self + n) % 12 }
+    {
+        nth_in(self, n as usize)
+    }
+
+    /// The month `n` months before, round the year as often as it takes.
+    ///
+    /// `Month::January.nth_prev(4)` is September, `Month::July.nth_prev(9)` is October.
+    pub fn nth_prev(self, n: u8) -> Self
+        ensures { (place result + n) % 12 ≡ place self }
+    {
+        nth_back_in(self, n as usize)
+    }
+
+    /// An endless walk over the months from `start` on.
+    pub fn iter_from(start: Month) -> MonthIter
+        ensures { result ≡ start }
+    {
+        MonthIter::new(start)
+    }
+
+    fn as_str(self) -> &'static str
+        ensures { result.now ≡ name self }
+    {
+        match self {
+            Month::January => "January",
+            Month::February => "February",
+            Month::March => "March",
+            Month::April => "April",
+            Month::May => "May",
+            Month::June => "June",
+            Month::July => "July",
+            Month::August => "August",
+            Month::September => "September",
+            Month::October => "October",
+            Month::November => "November",
+            Month::December => "December",
+        }
+    }
+}
+
+impl PartialEq for Month {
+    ghost eq = { on number ◌==◌ };
+
+    ghost laws = { Prim.search (comparing, rules) };
+
+    fn eq(&self, other: &Month) -> bool {
+        *self as u8 == *other as u8
+    }
+}
+
+impl Eq for Month {
+    ghost laws = { Prim.search (comparing, rules) };
+}
+
+impl PartialOrd for Month {
+    ghost partial_cmp = { as_partial_cmp (on number nat_cmp) };
+
+    ghost laws = { partial_order_from_own_ties (Prim.search (comparing, rules)) (Prim.search (comparing, rules)) };
+
+    fn partial_cmp(&self, other: &Month) -> Option<Ordering> {
+        Some(self.cmp(other))
+    }
+}
+
+impl Ord for Month {
+    ghost cmp = { on number nat_cmp };
+
+    ghost total = { Prim.search (comparing, rules) };
+
+    ghost matches_partial_cmp = { Prim.search (comparing, rules) };
+
+    ghost matches_eq = { Prim.search (comparing, rules) };
+
+    fn cmp(&self, other: &Month) -> Ordering {
+        (*self as u8).cmp(&(*other as u8))
+    }
+}
+
+impl Cycle for Month {
+    const LENGTH: u8 = 12;
+
+    ghost LENGTH = { 12 };
+
+    ghost place_of = { place };
+
+    ghost value_at = { month_at };
+
+    ghost place_below = { place-below };
+
+    ghost value_at_place = { month_at-place };
+
+    ghost place_of_value = { place-month_at };
+
+    fn place(self) -> u8 {
+        self as u8 - 1
+    }
+
+    fn at(place: u8) -> Self {
+        match place {
+            0 => Month::January,
+            1 => Month::February,
+            2 => Month::March,
+            3 => Month::April,
+            4 => Month::May,
+            5 => Month::June,
+            6 => Month::July,
+            7 => Month::August,
+            8 => Month::September,
+            9 => Month::October,
+            10 => Month::November,
+            _ => Month::December,
+        }
+    }
+}
+
+impl fmt::Display for Month {
+    ghost output = { λ m. Some (name m) };
+
+    ghost styled_output = { λ m spec. Some (padded spec (name m)) };
+
+    fn fmt<W: fmt::Write>(&self, f: &mut fmt::Formatter<W>) -> fmt::Result {
+        f.pad(self.as_str())
+    }
+}
+
+impl FromStr for Month {
+    type Err = InvalidVariant;
+
+    ghost from_str_gives = { Reads name };
+
+    /// The month of exactly this English name, as `March`; `InvalidVariant` for every other text, as `march` or `Mar`.
+    fn from_str(s: &str) -> Result<Self, InvalidVariant> {
+        match s {
+            "January" => Ok(Month::January),
+            "February" => Ok(Month::February),
+            "March" => Ok(Month::March),
+            "April" => Ok(Month::April),
+            "May" => Ok(Month::May),
+            "June" => Ok(Month::June),
+            "July" => Ok(Month::July),
+            "August" => Ok(Month::August),
+            "September" => Ok(Month::September),
+            "October" => Ok(Month::October),
+            "November" => Ok(Month::November),
+            "December" => Ok(Month::December),
+            _ => Err(InvalidVariant),
+        }
+    }
+}
+
+impl From<Month> for u8 {
+    ghost from_gives = { λ m n. n ≡ number m };
+
+    /// The number of the month, from January, 1, to December, 12.
+    fn from(month: Month) -> u8 {
+        month as u8
+    }
+}
+
+impl TryFrom<u8> for Month {
+    type Error = ComponentRange;
+
+    ghost try_from_gives = { FromNumber };
+
+    /// The month with this number, from January, 1, to December, 12.
+    ///
+    /// Every other number is refused with `month`, unconditional.
+    fn try_from(number: u8) -> Result<Self, ComponentRange> {
+        match number {
+            1 => Ok(Month::January),
+            2 => Ok(Month::February),
+            3 => Ok(Month::March),
+            4 => Ok(Month::April),
+            5 => Ok(Month::May),
+            6 => Ok(Month::June),
+            7 => Ok(Month::July),
+            8 => Ok(Month::August),
+            9 => Ok(Month::September),
+            10 => Ok(Month::October),
+            11 => Ok(Month::November),
+            12 => Ok(Month::December),
+            _ => Err(ComponentRange::unconditional("month")),
+        }
+    }
+}

@@ -1,0 +1,176 @@
+//! The weekdays.
+ghost use Rattle.std.specs.Prelude.{◌≡◌, ◌+◌, ◌%◌, Some};
+ghost use Rattle.std.specs.Fmt.{padded};
+ghost use Rattle.cal_units.specs.Name.{Reads};
+ghost use Rattle.cal_units.specs.Weekday.{place, days_from_sunday, weekday_at, name};
+ghost use Rattle.cal_units.specs.WeekdayCycle.{place-below, weekday_at-place, place-weekday_at};
+
+use crate::cycle::Cycle;
+use crate::error::InvalidVariant;
+use crate::iter::WeekdayIter;
+use crate::steps::{nth_back_in, nth_in};
+use std::fmt;
+use std::str::FromStr;
+
+/// A day of the week.
+///
+/// `Weekday::Friday as u8` is the number of days since Monday, 4. As a week may be taken to begin on Monday or on Sunday, weekdays
+/// have no order. A weekday prints its English name, as `Friday`.
+#[derive(Clone, Copy, Debug, PartialEq, Eq, Hash)]
+pub enum Weekday {
+    Monday,
+    Tuesday,
+    Wednesday,
+    Thursday,
+    Friday,
+    Saturday,
+    Sunday,
+}
+
+impl Weekday {
+    /// The weekday before. That of Monday is Sunday.
+    pub fn previous(self) -> Self
+        ensures { (place result + 1) % 7 ≡ place self }
+    {
+        nth_back_in(self, 1)
+    }
+
+    /// The weekday after. That of Sunday is Monday.
+    pub fn next(self) -> Self
+        ensures { place result ≡ (place self + 1) % 7 }
+    {
+        nth_in(self, 1)
+    }
+
+    /// The weekday `n` days after, round the week as often as it takes.
+    ///
+    /// `Weekday::Sunday.nth_next(10)` is Wednesday.
+    pub fn nth_next(self, n: u8) -> Self
+        ensures { place result ≡ (place self + n) % 7 }
+    {
+        nth_in(self, n as usize)
+    }
+
+    /// The weekday `n` days before, round the week as often as it takes.
+    ///
+    /// `Weekday::Sunday.nth_prev(10)` is Thursday.
+    pub fn nth_prev(self, n: u8) -> Self
+        ensures { (place result + n) % 7 ≡ place self }
+    {
+        nth_back_in(self, n as usize)
+    }
+
+    /// The number of the weekday from Monday, 1, to Sunday, 7, as in ISO 8601.
+    pub fn number_from_monday(self) -> u8
+        ensures { result ≡ place self + 1 }
+    {
+        self.number_days_from_monday() + 1
+    }
+
+    /// The number of the weekday from Sunday, 1, to Saturday, 7.
+    pub fn number_from_sunday(self) -> u8
+        ensures { result ≡ days_from_sunday self + 1 }
+    {
+        self.number_days_from_sunday() + 1
+    }
+
+    /// The number of days since Monday, from Monday, 0, to Sunday, 6.
+    pub fn number_days_from_monday(self) -> u8
+        ensures { result ≡ place self }
+    {
+        self.place()
+    }
+
+    /// The number of days since Sunday, from Sunday, 0, to Saturday, 6.
+    pub fn number_days_from_sunday(self) -> u8
+        ensures { result ≡ days_from_sunday self }
+    {
+        match self {
+            Weekday::Sunday => 0,
+            other => other as u8 + 1,
+        }
+    }
+
+    /// An endless walk over the weekdays from `start` on.
+    pub fn iter_from(start: Weekday) -> WeekdayIter
+        ensures { result ≡ start }
+    {
+        WeekdayIter::new(start)
+    }
+
+    fn as_str(self) -> &'static str
+        ensures { result.now ≡ name self }
+    {
+        match self {
+            Weekday::Monday => "Monday",
+            Weekday::Tuesday => "Tuesday",
+            Weekday::Wednesday => "Wednesday",
+            Weekday::Thursday => "Thursday",
+            Weekday::Friday => "Friday",
+            Weekday::Saturday => "Saturday",
+            Weekday::Sunday => "Sunday",
+        }
+    }
+}
+
+impl Cycle for Weekday {
+    const LENGTH: u8 = 7;
+
+    ghost LENGTH = { 7 };
+
+    ghost place_of = { place };
+
+    ghost value_at = { weekday_at };
+
+    ghost place_below = { place-below };
+
+    ghost value_at_place = { weekday_at-place };
+
+    ghost place_of_value = { place-weekday_at };
+
+    fn place(self) -> u8 {
+        self as u8
+    }
+
+    fn at(place: u8) -> Self {
+        match place {
+            0 => Weekday::Monday,
+            1 => Weekday::Tuesday,
+            2 => Weekday::Wednesday,
+            3 => Weekday::Thursday,
+            4 => Weekday::Friday,
+            5 => Weekday::Saturday,
+            _ => Weekday::Sunday,
+        }
+    }
+}
+
+impl fmt::Display for Weekday {
+    ghost output = { λ w. Some (name w) };
+
+    ghost styled_output = { λ w spec. Some (padded spec (name w)) };
+
+    fn fmt<W: fmt::Write>(&self, f: &mut fmt::Formatter<W>) -> fmt::Result {
+        f.pad(self.as_str())
+    }
+}
+
+impl FromStr for Weekday {
+    type Err = InvalidVariant;
+
+    ghost from_str_gives = { Reads name };
+
+    /// The weekday of exactly this English name, as `Friday`; `InvalidVariant` for every other text, as `friday` or `Fri`.
+    fn from_str(s: &str) -> Result<Self, InvalidVariant> {
+        match s {
+            "Monday" => Ok(Weekday::Monday),
+            "Tuesday" => Ok(Weekday::Tuesday),
+            "Wednesday" => Ok(Weekday::Wednesday),
+            "Thursday" => Ok(Weekday::Thursday),
+            "Friday" => Ok(Weekday::Friday),
+            "Saturday" => Ok(Weekday::Saturday),
+            "Sunday" => Ok(Weekday::Sunday),
+            _ => Err(InvalidVariant),
+        }
+    }
+}
