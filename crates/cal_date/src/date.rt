@@ -8,7 +8,6 @@ ghost use Rattle.cal_date.specs.Refusals.{year_out_of_range, ordinal_out_of_rang
 
 use crate::error::ComponentRange;
 use cal_units::util::days_in_year;
-use std::alloc::AllocError;
 use std::marker::Model;
 
 const MIN_YEAR: i32 = -9999;
@@ -23,7 +22,7 @@ const MAX_JULIAN_DAY: i32 = 5_373_484;
 ///
 /// Years are astronomical, as in ISO 8601: the year 0 stands before the year 1, and -1 before that. Contracts see a date
 /// as its number in the count of days, from 0 at -9999-01-01 to 7304483 at 9999-12-31.
-#[derive(Debug)]
+#[derive(Clone, Copy, Debug)]
 pub struct Date {
     year: i32,
     ordinal: u16,
@@ -44,14 +43,6 @@ impl Model for Date {
 
     ghost inverse_ok = { fields_at-number_of };
 }
-
-impl Clone for Date {
-    fn clone(&self) -> Result<Self, AllocError> {
-        Ok(*self)
-    }
-}
-
-impl Copy for Date {}
 
 impl PartialEq for Date {
     ghost eq = { ◌==◌ };
