@@ -1,5 +1,6 @@
 -- The answers to the lines of an input.
 use Rattle.std.specs.Prelude.{ℕ, zero, suc, ◌+◌, ◌==◌, ◌&&◌, Bool, ℤ, int_le, List, [], ◌∷◌, ◌++◌, codes, flat_map, if◌then◌else◌, Option, Some, None, decimal}
+use Rattle.std.specs.Option.{option_or}
 use Rattle.std.specs.Ordering.{int_eq}
 use Rattle.std.specs.Fmt.{signed_decimal}
 use Rattle.cal_date.specs.Date.{first_year, last_year, last_day, year_at, ordinal_at, julian_day_at}
@@ -13,7 +14,7 @@ use Rattle.caltool.specs.declared.command.Command.TheVariants.{Julian, Ordinal}
 -- the first of the days 0 to n - 1 that passes the test
 unfoldable pub first_below : (ℕ → Bool) → ℕ → Option ℕ
 first_below test zero = None
-first_below test (suc n) = elim (first_below test n) [ Some day ↦ Some day | None ↦ if test n then Some n else None ]
+first_below test (suc n) = option_or (first_below test n) (if test n then Some n else None)
 
 -- the day of the range that passes the test
 abbrev pub day_with : (ℕ → Bool) → Option ℕ
