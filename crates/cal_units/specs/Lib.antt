@@ -1,3 +1,4 @@
+pub mod Counted
 pub mod Lengths
 pub mod Month
 pub mod MonthCycle

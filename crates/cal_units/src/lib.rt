@@ -4,6 +4,7 @@
 //! Weeks are those of ISO 8601.
 #![tactic(auto)]
 
+mod counted;
 mod cycle;
 pub mod error;
 pub mod iter;
@@ -12,6 +13,7 @@ mod steps;
 pub mod util;
 mod weekday;
 
+pub use counted::{Counted, extent, is_rising};
 pub use cycle::Cycle;
 pub use month::Month;
 pub use steps::nth_in;

@@ -1,3 +1,4 @@
+//! Worked values of lengths, cycles, walks and errors.
 use crate::error::{ComponentRange, ConversionRange, InvalidVariant};
 use crate::iter::{MonthIter, WeekdayIter};
 use crate::util::{days_in_month, days_in_year, days_in_year_month, is_leap_year, weeks_in_year};

@@ -1,0 +1,45 @@
+-- What the clamp of a number is, inside the range and past either end.
+use Rattle.std.proofs.Common.{◌≡◌, ℤ, pos, neg_ℤ, ◌+ℤ◌, ◌≤ℤ◌, ◌<ℤ◌, FitsSigned, arith}
+use Rattle.std.specs.Int.{int_min, w64}
+use Rattle.std.proofs.lemmas.Int.{ints, clamps, by_lt_z}
+use Rattle.cal_span.specs.SignedDuration.{second, IsDuration, clamp, least, greatest}
+use Rattle.cal_span.specs.Fields.{nanoseconds_in, IsNormal, times-second}
+use Rattle.cal_span.specs.declared.signed_duration.SignedDuration.TheInside.{Inside}
+
+pub clamp-inside : (v : ℤ) → IsDuration v → clamp v ≡ v
+clamp-inside v d =
+    let low = d.at_least in
+    let high = d.at_most in
+    omega (arith, ints, clamps)
+
+pub clamp-below : (v : ℤ) → v ≤ℤ greatest → ¬ IsDuration v → clamp v ≡ least
+clamp-below v high outside =
+    by_lt_z v least
+    (λ below. omega (arith, ints, clamps))
+    (λ low. absurd (outside (record { at_least = low; at_most = high })))
+
+pub clamp-above : (v : ℤ) → least ≤ℤ v → ¬ IsDuration v → clamp v ≡ greatest
+clamp-above v low outside =
+    by_lt_z greatest v
+    (λ above. omega (arith, ints, clamps))
+    (λ high. absurd (outside (record { at_least = low; at_most = high })))
+
+-- a sum with a side below 0 is not past the greatest duration, and one with no side below 0 not before the least
+module _ (a b : Inside) (v w : ℤ) (h : IsNormal a) (k : IsNormal b) (f : FitsSigned w64 a.seconds) (g : FitsSigned w64 b.seconds) (is_v : nanoseconds_in a ≡ v) (is_w : nanoseconds_in b ≡ w) where
+  pub sum-at_most : int_min a.seconds b.seconds <ℤ pos 0 → (v +ℤ w) ≤ℤ greatest
+  sum-at_most side =
+      let p = times-second a.seconds in
+      let q = times-second b.seconds in
+      by_lt_z a.seconds (pos 0)
+      (λ left. grind (arith, ints))
+      (λ not_left. let right : b.seconds <ℤ pos 0 = omega (arith, ints, clamps) in grind (arith, ints))
+
+  pub sum-at_least : pos 0 ≤ℤ int_min a.seconds b.seconds → least ≤ℤ (v +ℤ w)
+  sum-at_least neither =
+      let p = times-second a.seconds in
+      let q = times-second b.seconds in
+      let left : pos 0 ≤ℤ a.seconds = omega (arith, ints, clamps) in
+      let right : pos 0 ≤ℤ b.seconds = omega (arith, ints, clamps) in
+      let low_v : neg_ℤ (pos second) <ℤ v = omega (arith, ints) in
+      let low_w : neg_ℤ (pos second) <ℤ w = omega (arith, ints) in
+      omega (arith, ints)

@@ -1,0 +1,26 @@
+-- The positive and the negative part of a duration's number are those of its fields.
+use Rattle.std.proofs.Common.{◌≡◌, zero, suc, ℤ, pos, negsuc, ◌+ℤ◌, ◌*ℤ◌, ◌≤ℤ◌, ◌<ℤ◌, ◌+◌, ◌*◌, arith}
+use borrow.Author.Differences.{up, down}
+use Rattle.std.proofs.lemmas.Int.{ints}
+use Rattle.cal_span.specs.SignedDuration.{second}
+use Rattle.cal_span.specs.Fields.{nanoseconds_in, IsNormal, times-second}
+use Rattle.cal_span.specs.declared.signed_duration.SignedDuration.TheInside.{Inside}
+
+-- numbers that are not of opposite signs add up part by part
+pub sum-parts : (x y : ℤ) → (pos 0 <ℤ x → pos 0 ≤ℤ y) → (x <ℤ pos 0 → y ≤ℤ pos 0) → (up (x +ℤ y) ≡ up x + up y) × (down (x +ℤ y) ≡ down x + down y)
+sum-parts (pos m) (pos n) p q = (omega (arith, ints), omega (arith, ints))
+sum-parts (pos zero) (negsuc n) p q =
+    let e : pos zero +ℤ negsuc n ≡ negsuc n = omega (arith, ints) in
+    (omega (arith, ints), omega (arith, ints))
+sum-parts (pos (suc m)) (negsuc n) p q = absurd (omega (arith, ints, p (omega (arith, ints))))
+sum-parts (negsuc m) (pos zero) p q =
+    let e : negsuc m +ℤ pos zero ≡ negsuc m = omega (arith, ints) in
+    (omega (arith, ints), omega (arith, ints))
+sum-parts (negsuc m) (pos (suc n)) p q = absurd (omega (arith, ints, q (omega (arith, ints))))
+sum-parts (negsuc m) (negsuc n) p q = (omega (arith, ints), omega (arith, ints))
+
+pub parts : (fields : Inside) → IsNormal fields → (up (nanoseconds_in fields) ≡ second * up fields.seconds + up fields.nanoseconds) × (down (nanoseconds_in fields) ≡ second * down fields.seconds + down fields.nanoseconds)
+parts fields h =
+    let t = times-second fields.seconds in
+    let s = sum-parts (fields.seconds *ℤ pos second) fields.nanoseconds (λ x. h.positive (omega (arith, ints))) (λ x. h.negative (omega (arith, ints))) in
+    (omega arith, omega arith)

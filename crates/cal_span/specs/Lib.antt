@@ -1,0 +1,2 @@
+pub mod SignedDuration
+pub mod Fields

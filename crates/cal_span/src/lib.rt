@@ -1,0 +1,10 @@
+//! Signed lengths of time, to the nanosecond.
+#![tactic(auto)]
+
+mod laws;
+mod signed_duration;
+
+pub use signed_duration::SignedDuration;
+
+#[cfg(test)]
+mod tests;

@@ -1,0 +1,375 @@
+//! Durations: their making and their parts.
+ghost use Rattle.std.specs.Prelude.{◌≡◌, ◌↔◌, pos, ◌+ℤ◌, ◌*ℤ◌, ◌<ℤ◌, ◌/◌, ◌%◌, unsigned_abs, FitsSigned, IsTrue};
+ghost use Rattle.std.specs.Int.{w64};
+ghost use Rattle.cal_span.specs.SignedDuration.{microsecond, millisecond, second, minute, hour, day, week, IsDuration, IsWithin, clamp, cut, past_second};
+
+use std::marker::Model;
+
+mod arithmetic;
+mod display;
+mod operators;
+mod order;
+
+const NANOSECONDS_PER_SECOND: i32 = 1_000_000_000;
+
+const NANOSECONDS_PER_MILLISECOND: i32 = 1_000_000;
+
+const NANOSECONDS_PER_MICROSECOND: i32 = 1_000;
+
+const MILLISECONDS_PER_SECOND: i64 = 1_000;
+
+const MICROSECONDS_PER_SECOND: i64 = 1_000_000;
+
+const SECONDS_PER_MINUTE: i64 = 60;
+
+const SECONDS_PER_HOUR: i64 = 3_600;
+
+const SECONDS_PER_DAY: i64 = 86_400;
+
+const SECONDS_PER_WEEK: i64 = 604_800;
+
+/// A signed length of time, exact to the nanosecond.
+///
+/// It is one whole number of nanoseconds, from that of [`Self::MIN`] to that of [`Self::MAX`], some 292 billion years either
+/// way. Contracts see it as that number; it is kept as seconds and nanoseconds of one sign. A day has 86400 seconds here.
+#[derive(Clone, Copy, Debug)]
+pub struct SignedDuration {
+    seconds: i64,
+    nanoseconds: i32,
+}
+
+impl Model for SignedDuration {
+    ghost use Rattle.std.specs.Prelude.{ℤ};
+
+    ghost Value = { ℤ };
+
+    ghost use Rattle.cal_span.specs.Fields.{nanoseconds_in, IsNormal, fields_of, fields_of-nanoseconds_in};
+
+    ghost view = { nanoseconds_in };
+
+    ghost invariant = { IsNormal };
+
+    ghost inverse = { fields_of };
+
+    ghost inverse_ok = { fields_of-nanoseconds_in };
+}
+
+impl SignedDuration {
+    /// No time.
+    pub const ZERO: Self = Self {
+        seconds: 0,
+        nanoseconds: 0,
+    };
+
+    /// One nanosecond.
+    pub const NANOSECOND: Self = Self {
+        seconds: 0,
+        nanoseconds: 1,
+    };
+
+    /// One microsecond, 1000 nanoseconds.
+    pub const MICROSECOND: Self = Self {
+        seconds: 0,
+        nanoseconds: 1_000,
+    };
+
+    /// One millisecond, 1000 microseconds.
+    pub const MILLISECOND: Self = Self {
+        seconds: 0,
+        nanoseconds: 1_000_000,
+    };
+
+    /// One second.
+    pub const SECOND: Self = Self {
+        seconds: 1,
+        nanoseconds: 0,
+    };
+
+    /// One minute, 60 seconds.
+    pub const MINUTE: Self = Self {
+        seconds: 60,
+        nanoseconds: 0,
+    };
+
+    /// One hour, 3600 seconds.
+    pub const HOUR: Self = Self {
+        seconds: 3_600,
+        nanoseconds: 0,
+    };
+
+    /// One day of 24 hours, 86400 seconds.
+    pub const DAY: Self = Self {
+        seconds: 86_400,
+        nanoseconds: 0,
+    };
+
+    /// One week, 7 days.
+    pub const WEEK: Self = Self {
+        seconds: 604_800,
+        nanoseconds: 0,
+    };
+
+    /// The least duration, -9223372036854775808.999999999 seconds.
+    pub const MIN: Self = Self {
+        seconds: -9_223_372_036_854_775_808,
+        nanoseconds: -999_999_999,
+    };
+
+    /// The greatest duration, 9223372036854775807.999999999 seconds.
+    pub const MAX: Self = Self {
+        seconds: 9_223_372_036_854_775_807,
+        nanoseconds: 999_999_999,
+    };
+
+    /// That many seconds and nanoseconds, which may be of opposite signs, and of which the
+    /// nanoseconds may be more than a second.
+    ///
+    /// The seconds and the whole seconds among the nanoseconds are together to be an `i64`: `new(1, 2_000_000_000)` is
+    /// 3 seconds, and `new(-1, 1)` is -999999999 nanoseconds.
+    pub fn new(seconds: i64, nanoseconds: i32) -> Self
+        requires { FitsSigned w64 (seconds +ℤ cut nanoseconds (pos second)) }
+        ensures { result ≡ seconds *ℤ pos second +ℤ nanoseconds }
+    {
+        let carry = nanoseconds / NANOSECONDS_PER_SECOND;
+        Self::of_one_sign(seconds + carry as i64, nanoseconds % NANOSECONDS_PER_SECOND)
+    }
+
+    /// That many seconds and nanoseconds, of which the nanoseconds are less than a second.
+    fn of_one_sign(seconds: i64, nanoseconds: i32) -> Self
+        requires { IsWithin 999_999_999 nanoseconds }
+        ensures { result ≡ seconds *ℤ pos second +ℤ nanoseconds }
+    {
+        if seconds > 0 && nanoseconds < 0 {
+            return Self {
+                seconds: seconds - 1,
+                nanoseconds: nanoseconds + NANOSECONDS_PER_SECOND,
+            };
+        }
+        if seconds < 0 && nanoseconds > 0 {
+            return Self {
+                seconds: seconds + 1,
+                nanoseconds: nanoseconds - NANOSECONDS_PER_SECOND,
+            };
+        }
+        Self {
+            seconds,
+            nanoseconds,
+        }
+    }
+
+    /// That many weeks, from -15250284452471 to 15250284452471.
+    pub fn weeks(weeks: i64) -> Self
+        requires { IsWithin 15_250_284_452_471 weeks }
+        ensures { result ≡ weeks *ℤ pos week }
+    {
+        Self::seconds(weeks * SECONDS_PER_WEEK)
+    }
+
+    /// That many days of 24 hours, from -106751991167300 to 106751991167300.
+    pub fn days(days: i64) -> Self
+        requires { IsWithin 106_751_991_167_300 days }
+        ensures { result ≡ days *ℤ pos day }
+    {
+        Self::seconds(days * SECONDS_PER_DAY)
+    }
+
+    /// That many hours, from -2562047788015215 to 2562047788015215.
+    pub fn hours(hours: i64) -> Self
+        requires { IsWithin 2_562_047_788_015_215 hours }
+        ensures { result ≡ hours *ℤ pos hour }
+    {
+        Self::seconds(hours * SECONDS_PER_HOUR)
+    }
+
+    /// That many minutes, from -153722867280912930 to 153722867280912930.
+    pub fn minutes(minutes: i64) -> Self
+        requires { IsWithin 153_722_867_280_912_930 minutes }
+        ensures { result ≡ minutes *ℤ pos minute }
+    {
+        Self::seconds(minutes * SECONDS_PER_MINUTE)
+    }
+
+    /// That many seconds.
+    pub fn seconds(seconds: i64) -> Self
+        ensures { result ≡ seconds *ℤ pos second }
+    {
+        Self {
+            seconds,
+            nanoseconds: 0,
+        }
+    }
+
+    /// That many milliseconds.
+    pub fn milliseconds(milliseconds: i64) -> Self
+        ensures { result ≡ milliseconds *ℤ pos millisecond }
+    {
+        let past = (milliseconds % MILLISECONDS_PER_SECOND) as i32;
+        Self {
+            seconds: milliseconds / MILLISECONDS_PER_SECOND,
+            nanoseconds: past * NANOSECONDS_PER_MILLISECOND,
+        }
+    }
+
+    /// That many microseconds.
+    pub fn microseconds(microseconds: i64) -> Self
+        ensures { result ≡ microseconds *ℤ pos microsecond }
+    {
+        let past = (microseconds % MICROSECONDS_PER_SECOND) as i32;
+        Self {
+            seconds: microseconds / MICROSECONDS_PER_SECOND,
+            nanoseconds: past * NANOSECONDS_PER_MICROSECOND,
+        }
+    }
+
+    /// That many nanoseconds.
+    pub fn nanoseconds(nanoseconds: i64) -> Self
+        ensures { result ≡ nanoseconds }
+    {
+        Self {
+            seconds: nanoseconds / NANOSECONDS_PER_SECOND as i64,
+            nanoseconds: (nanoseconds % NANOSECONDS_PER_SECOND as i64) as i32,
+        }
+    }
+
+    /// That many nanoseconds, from those of [`Self::MIN`] to those of [`Self::MAX`].
+    pub fn nanoseconds_i128(nanoseconds: i128) -> Self
+        requires { IsDuration nanoseconds }
+        ensures { result ≡ nanoseconds }
+    {
+        Self {
+            seconds: (nanoseconds / NANOSECONDS_PER_SECOND as i128) as i64,
+            nanoseconds: (nanoseconds % NANOSECONDS_PER_SECOND as i128) as i32,
+        }
+    }
+
+    /// Whether the duration is zero.
+    pub fn is_zero(self) -> bool
+        ensures { IsTrue result ↔ (self ≡ pos 0) }
+    {
+        self.seconds == 0 && self.nanoseconds == 0
+    }
+
+    /// Whether the duration is below zero.
+    pub fn is_negative(self) -> bool
+        ensures { IsTrue result ↔ (self <ℤ pos 0) }
+    {
+        self.seconds < 0 || self.nanoseconds < 0
+    }
+
+    /// Whether the duration is above zero.
+    pub fn is_positive(self) -> bool
+        ensures { IsTrue result ↔ (pos 0 <ℤ self) }
+    {
+        self.seconds > 0 || self.nanoseconds > 0
+    }
+
+    /// The magnitude, or [`Self::MAX`] where it is no duration, as that of [`Self::MIN`].
+    pub fn abs(self) -> Self
+        ensures { result ≡ clamp (pos (unsigned_abs self)) }
+    {
+        match self.seconds.checked_abs() {
+            Some(seconds) => Self {
+                seconds,
+                nanoseconds: self.nanoseconds.abs(),
+            },
+            None => Self::MAX,
+        }
+    }
+
+    /// The magnitude, as its whole seconds and the nanoseconds past them.
+    pub fn unsigned_abs(self) -> (u64, u32)
+        ensures seconds { result.0 ≡ unsigned_abs self / second }
+        ensures nanoseconds { result.1 ≡ unsigned_abs self % second }
+    {
+        (self.seconds.unsigned_abs(), self.nanoseconds.unsigned_abs())
+    }
+
+    /// The whole weeks, cut toward zero: those of -6 days are 0.
+    pub fn whole_weeks(self) -> i64
+        ensures { result ≡ cut self (pos week) }
+    {
+        self.seconds / SECONDS_PER_WEEK
+    }
+
+    /// The whole days, cut toward zero.
+    pub fn whole_days(self) -> i64
+        ensures { result ≡ cut self (pos day) }
+    {
+        self.seconds / SECONDS_PER_DAY
+    }
+
+    /// The whole hours, cut toward zero.
+    pub fn whole_hours(self) -> i64
+        ensures { result ≡ cut self (pos hour) }
+    {
+        self.seconds / SECONDS_PER_HOUR
+    }
+
+    /// The whole minutes, cut toward zero.
+    pub fn whole_minutes(self) -> i64
+        ensures { result ≡ cut self (pos minute) }
+    {
+        self.seconds / SECONDS_PER_MINUTE
+    }
+
+    /// The whole seconds, cut toward zero.
+    pub fn whole_seconds(self) -> i64
+        ensures { result ≡ cut self (pos second) }
+    {
+        self.seconds
+    }
+
+    /// The whole milliseconds, cut toward zero.
+    pub fn whole_milliseconds(self) -> i128
+        ensures { result ≡ cut self (pos millisecond) }
+    {
+        let past = self.nanoseconds / NANOSECONDS_PER_MILLISECOND;
+        self.seconds as i128 * MILLISECONDS_PER_SECOND as i128 + past as i128
+    }
+
+    /// The whole microseconds, cut toward zero.
+    pub fn whole_microseconds(self) -> i128
+        ensures { result ≡ cut self (pos microsecond) }
+    {
+        let past = self.nanoseconds / NANOSECONDS_PER_MICROSECOND;
+        self.seconds as i128 * MICROSECONDS_PER_SECOND as i128 + past as i128
+    }
+
+    /// The nanoseconds.
+    pub fn whole_nanoseconds(self) -> i128
+        ensures value { result ≡ self }
+        ensures range { IsDuration self }
+    {
+        self.seconds as i128 * NANOSECONDS_PER_SECOND as i128 + self.nanoseconds as i128
+    }
+
+    /// The milliseconds past the whole seconds, cut toward zero: from -999 to 999.
+    pub fn subsec_milliseconds(self) -> i16
+        ensures { result ≡ cut (past_second self) (pos millisecond) }
+    {
+        (self.nanoseconds / NANOSECONDS_PER_MILLISECOND) as i16
+    }
+
+    /// The microseconds past the whole seconds, cut toward zero: from -999999 to 999999.
+    pub fn subsec_microseconds(self) -> i32
+        ensures { result ≡ cut (past_second self) (pos microsecond) }
+    {
+        self.nanoseconds / NANOSECONDS_PER_MICROSECOND
+    }
+
+    /// The nanoseconds past the whole seconds: from -999999999 to 999999999.
+    pub fn subsec_nanoseconds(self) -> i32
+        ensures { result ≡ past_second self }
+    {
+        self.nanoseconds
+    }
+}
+
+impl Default for SignedDuration {
+    ghost is_default = { λ duration. duration ≡ pos 0 };
+
+    /// [`Self::ZERO`]
+    fn default() -> Self {
+        Self::ZERO
+    }
+}

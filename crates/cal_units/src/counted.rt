@@ -1,0 +1,74 @@
+//! Values that are known by a whole number, and what that tells of a slice of them.
+ghost use Rattle.std.specs.Prelude.{◌≡◌, ◌↔◌, ◌⊎◌, ℤ, ◌<ℤ◌, ◌≤ℤ◌, [], MatchOption, IsTrue};
+ghost use Rattle.std.specs.Ordering.{int_cmp};
+ghost use Rattle.cal_units.specs.Counted.{IsExtent, IsRising};
+
+use std::hash::Hash;
+
+/// A value that is known by one whole number: its order, its equality and its hash are those of the
+/// number.
+pub trait Counted: Copy + Ord + Hash {
+    ghost number_of: { Self → ℤ };
+
+    /// The number.
+    fn number(self) -> i128
+        ensures { result ≡ number_of self };
+
+    /// The order is that of the numbers.
+    ghost ordered: { (x y : Self) → Self.cmp x y ≡ int_cmp (number_of x) (number_of y) };
+
+    /// Values are equal exactly if their numbers are.
+    ghost alike: { (x y : Self) → IsTrue (Self.eq x y) ↔ (number_of x ≡ number_of y) };
+
+    /// Values of one number give a hasher the same input.
+    ghost hashed: { (x y : Self) → number_of x ≡ number_of y → Self.hash_input x ≡ Self.hash_input y };
+}
+
+/// The value with the lesser number.
+fn lesser<T: Counted>(a: T, b: T) -> T
+    ensures one_of { (result ≡ a) ⊎ (result ≡ b) }
+    ensures upto_a { T.number_of result ≤ℤ T.number_of a }
+    ensures upto_b { T.number_of result ≤ℤ T.number_of b }
+{
+    if b < a { b } else { a }
+}
+
+/// The value with the greater number.
+fn greater<T: Counted>(a: T, b: T) -> T
+    ensures one_of { (result ≡ a) ⊎ (result ≡ b) }
+    ensures from_a { T.number_of a ≤ℤ T.number_of result }
+    ensures from_b { T.number_of b ≤ℤ T.number_of result }
+{
+    if a < b { b } else { a }
+}
+
+/// The least and the greatest item of the slice, or `None` if it has no items.
+pub fn extent<T: Counted>(items: &[T]) -> Option<(T, T)>
+    ensures { MatchOption result (items.now ≡ []) (IsExtent T.number_of items.now) }
+{
+    if items.is_empty() {
+        return None;
+    }
+    let mut least = items[0];
+    let mut greatest = items[0];
+    for item in items {
+        least = lesser(least, *item);
+        greatest = greater(greatest, *item);
+    }
+    Some((least, greatest))
+}
+
+/// Whether each item of the slice is less than the one after it. A slice of one item or none rises.
+pub fn is_rising<T: Counted>(items: &[T]) -> bool
+    ensures { IsTrue result ↔ IsRising T.number_of items.now }
+{
+    for i in 1..items.len() {
+        if !(items[i - 1] < items[i]) {
+            return false;
+        }
+    }
+    true
+}
+
+#[cfg(test)]
+mod tests;

@@ -1,0 +1,96 @@
+//! The bound at a type of the tests.
+ghost use Rattle.std.specs.Prelude.{◌≡◌, ◌↔◌, ◌<ℤ◌, IsTrue};
+ghost use Rattle.std.specs.List.{fold};
+ghost use Rattle.std.specs.Hash.DefaultHasher as hasher;
+
+use super::*;
+use std::hash::{DefaultHasher, Hash, Hasher};
+use std::test::Fail;
+
+/// A floor of a house, counted from the street.
+#[derive(Clone, Copy, PartialEq, Eq, PartialOrd, Ord, Hash, Debug)]
+struct Floor(i8);
+
+impl Counted for Floor {
+    ghost use Rattle.std.proofs.Common.{rules, refl};
+
+    ghost number_of = { λ floor. floor.0 };
+
+    ghost ordered = { λ x y. Prim.search rules };
+
+    ghost alike = { λ x y. Prim.search rules };
+
+    ghost hashed = { λ x y e. Prim.search rules };
+
+    fn number(self) -> i128 {
+        self.0 as i128
+    }
+}
+
+fn is_below<T: Counted>(a: T, b: T) -> bool
+    ensures { IsTrue result ↔ (T.number_of a <ℤ T.number_of b) }
+{
+    a < b
+}
+
+fn is_same<T: Counted>(a: T, b: T) -> bool
+    ensures { IsTrue result ↔ (T.number_of a ≡ T.number_of b) }
+{
+    a == b
+}
+
+fn hash_of<T: Hash>(value: &T) -> u64
+    ensures { result ≡ hasher.finish (fold hasher.write hasher.initial (T.hash_input value.now)) }
+{
+    let mut state = DefaultHasher::new();
+    value.hash(&mut state);
+    state.finish()
+}
+
+fn hashes<T: Counted>(a: T, b: T) -> (u64, u64)
+    ensures { T.number_of a ≡ T.number_of b → result.0 ≡ result.1 }
+{
+    (hash_of(&a), hash_of(&b))
+}
+
+#[test]
+fn the_laws_of_counted_values(rt: HostRuntime) -> Result<(), Fail> {
+    let (cellar, street) = (Floor(-1), Floor(0));
+    assert_eq!(rt; cellar.number(), -1);
+    assert!(rt; is_below(cellar, street) && !is_below(street, street));
+    assert!(rt; is_same(street, Floor(0)) && !is_same(cellar, street));
+    let (one, other) = hashes(cellar, Floor(-1));
+    assert_eq!(rt; one, other);
+    Ok(())
+}
+
+#[test]
+fn the_extent_of_a_slice(rt: HostRuntime) -> Result<(), Fail> {
+    let rows: [(&[Floor], Option<(Floor, Floor)>); 3] = [
+        (&[], None),
+        (&[Floor(4)], Some((Floor(4), Floor(4)))),
+        (
+            &[Floor(1), Floor(-3), Floor(7), Floor(0)],
+            Some((Floor(-3), Floor(7))),
+        ),
+    ];
+    for (floors, ends) in rows {
+        assert_eq!(rt; extent(floors), ends);
+    }
+    Ok(())
+}
+
+#[test]
+fn slices_that_rise(rt: HostRuntime) -> Result<(), Fail> {
+    let rows: [(&[Floor], bool); 5] = [
+        (&[], true),
+        (&[Floor(2)], true),
+        (&[Floor(-1), Floor(0), Floor(5)], true),
+        (&[Floor(-1), Floor(0), Floor(0)], false),
+        (&[Floor(-1), Floor(5), Floor(0)], false),
+    ];
+    for (floors, rises) in rows {
+        assert_eq!(rt; is_rising(floors), rises);
+    }
+    Ok(())
+}
