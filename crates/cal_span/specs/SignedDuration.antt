@@ -1,4 +1,5 @@
--- A duration is one whole number of nanoseconds. Here stands what its calls answer, as functions of that number.
+-- A duration is one whole number of nanoseconds: that of the documentation of `SignedDuration` in the crate `time`, a signed span of
+-- whole seconds (an i64) and the nanoseconds past them. Here stands what its calls answer, as functions of that number.
 use Rattle.std.specs.Prelude.{◌≢◌, ℕ, zero, suc, ◌/◌, ◌%◌, ℤ, pos, negsuc, neg_ℤ, ◌+ℤ◌, ◌-ℤ◌, ◌*ℤ◌, ◌≤ℤ◌, int_div, List, [], ◌∷◌, ◌++◌, take, codes, ◌==◌, if◌then◌else◌}
 use Rattle.std.specs.Int.{int_min, int_max}
 use Rattle.std.specs.List.{fold}
@@ -6,7 +7,7 @@ use Rattle.std.specs.Fmt.{decimal}
 use Rattle.std.specs.Hash as fed
 use Rattle.std.specs.Hash.{HashWrites}
 
--- ---- the units, in nanoseconds
+-- ---- the units, in nanoseconds (the decimal prefixes of the SI; a day has 24 hours, and a week 7 days)
 abbrev pub microsecond : ℕ
 microsecond = 1_000
 
@@ -28,7 +29,7 @@ day = 86_400_000_000_000
 abbrev pub week : ℕ
 week = 604_800_000_000_000
 
--- ---- the range
+-- ---- the range, which is that of whole seconds in an i64 and nanoseconds below a second (`MIN` and `MAX`)
 -- -(2^63 seconds and 999999999 nanoseconds)
 abbrev pub least : ℤ
 least = neg_ℤ (pos 9_223_372_036_854_775_808_999_999_999)
@@ -42,7 +43,7 @@ pub record IsDuration (v : ℤ) : Type 0 where
   pub at_least : least ≤ℤ v
   pub at_most : v ≤ℤ greatest
 
--- the duration nearest to a number of nanoseconds
+-- the duration nearest to a number of nanoseconds (`saturating_add` and its kin)
 abbrev pub clamp : ℤ → ℤ
 clamp v = int_max least (int_min v greatest)
 
@@ -51,7 +52,7 @@ abbrev pub IsWithin : ℕ → ℤ → Type 0
 IsWithin bound n = (neg_ℤ (pos bound) ≤ℤ n) × (n ≤ℤ pos bound)
 
 -- ---- parts
--- the quotient of a by b, cut toward zero
+-- the quotient of a by b, cut toward zero, as Rust's `/` has it
 abbrev pub cut : ℤ → ℤ → ℤ
 cut a b = int_div a b
 
@@ -63,7 +64,7 @@ past_second v = v -ℤ cut v (pos second) *ℤ pos second
 abbrev pub hash_input_of : ℤ → HashWrites
 hash_input_of v = fed.i64 (cut v (pos second)) ++ fed.i32 (past_second v)
 
--- ---- the text
+-- ---- the text, as `Display` has it without a precision
 -- a number and its unit, or nothing where the number is 0
 abbrev pub part : ℕ → List ℕ → List ℕ
 part n unit = if n == 0 then [] else decimal n ++ unit

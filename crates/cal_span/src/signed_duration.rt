@@ -30,8 +30,10 @@ const SECONDS_PER_WEEK: i64 = 604_800;
 
 /// A signed length of time, exact to the nanosecond.
 ///
-/// It is one whole number of nanoseconds, from that of [`Self::MIN`] to that of [`Self::MAX`], some 292 billion years either
-/// way. Contracts see it as that number; it is kept as seconds and nanoseconds of one sign. A day has 86400 seconds here.
+/// It is one whole number of nanoseconds, from those of [`Self::MIN`] to those of [`Self::MAX`], and
+/// each number between them is a duration. Order, equality and hash are those of the number. It is
+/// kept as whole seconds and the nanoseconds past them, which are never of opposite signs. A day has
+/// 24 hours, and a week 7 days.
 #[derive(Clone, Copy, Debug)]
 pub struct SignedDuration {
     seconds: i64,
@@ -124,8 +126,9 @@ impl SignedDuration {
     /// That many seconds and nanoseconds, which may be of opposite signs, and of which the
     /// nanoseconds may be more than a second.
     ///
-    /// The seconds and the whole seconds among the nanoseconds are together to be an `i64`: `new(1, 2_000_000_000)` is
-    /// 3 seconds, and `new(-1, 1)` is -999999999 nanoseconds.
+    /// The seconds and the whole seconds among the nanoseconds are together to be an `i64`, which
+    /// holds exactly if the sum is a duration. So `new(-1, 1)` is 0 s and -999999999 ns, and
+    /// `new(1, 2_000_000_000)` is 3 s.
     pub fn new(seconds: i64, nanoseconds: i32) -> Self
         requires { FitsSigned w64 (seconds +ℤ cut nanoseconds (pos second)) }
         ensures { result ≡ seconds *ℤ pos second +ℤ nanoseconds }
@@ -157,7 +160,7 @@ impl SignedDuration {
         }
     }
 
-    /// That many weeks, from -15250284452471 to 15250284452471.
+    /// That many weeks of 7 days, from -15250284452471 to 15250284452471.
     pub fn weeks(weeks: i64) -> Self
         requires { IsWithin 15_250_284_452_471 weeks }
         ensures { result ≡ weeks *ℤ pos week }
@@ -189,7 +192,7 @@ impl SignedDuration {
         Self::seconds(minutes * SECONDS_PER_MINUTE)
     }
 
-    /// That many seconds.
+    /// That many seconds, of which every `i64` is a duration.
     pub fn seconds(seconds: i64) -> Self
         ensures { result ≡ seconds *ℤ pos second }
     {
@@ -199,7 +202,7 @@ impl SignedDuration {
         }
     }
 
-    /// That many milliseconds.
+    /// That many milliseconds, of which every `i64` is a duration.
     pub fn milliseconds(milliseconds: i64) -> Self
         ensures { result ≡ milliseconds *ℤ pos millisecond }
     {
@@ -210,7 +213,7 @@ impl SignedDuration {
         }
     }
 
-    /// That many microseconds.
+    /// That many microseconds, of which every `i64` is a duration.
     pub fn microseconds(microseconds: i64) -> Self
         ensures { result ≡ microseconds *ℤ pos microsecond }
     {
@@ -221,7 +224,7 @@ impl SignedDuration {
         }
     }
 
-    /// That many nanoseconds.
+    /// That many nanoseconds, of which every `i64` is a duration.
     pub fn nanoseconds(nanoseconds: i64) -> Self
         ensures { result ≡ nanoseconds }
     {
@@ -263,7 +266,7 @@ impl SignedDuration {
         self.seconds > 0 || self.nanoseconds > 0
     }
 
-    /// The magnitude, or [`Self::MAX`] where it is no duration, as that of [`Self::MIN`].
+    /// The magnitude, or [`Self::MAX`] where it is past that: `MIN.abs()` is `MAX`.
     pub fn abs(self) -> Self
         ensures { result ≡ clamp (pos (unsigned_abs self)) }
     {
@@ -276,7 +279,8 @@ impl SignedDuration {
         }
     }
 
-    /// The magnitude, as its whole seconds and the nanoseconds past them.
+    /// The magnitude, as its whole seconds and the nanoseconds past them: for [`Self::MIN`]
+    /// 9223372036854775808 and 999999999.
     pub fn unsigned_abs(self) -> (u64, u32)
         ensures seconds { result.0 ≡ unsigned_abs self / second }
         ensures nanoseconds { result.1 ≡ unsigned_abs self % second }
@@ -335,7 +339,7 @@ impl SignedDuration {
         self.seconds as i128 * MICROSECONDS_PER_SECOND as i128 + past as i128
     }
 
-    /// The nanoseconds.
+    /// The duration in nanoseconds.
     pub fn whole_nanoseconds(self) -> i128
         ensures value { result ≡ self }
         ensures range { IsDuration self }

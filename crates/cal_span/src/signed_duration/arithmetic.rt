@@ -17,7 +17,8 @@ impl SignedDuration {
         }
     }
 
-    /// The difference, or `None` where it is no duration. -1 nanosecond less `seconds(i64::MIN)` is [`Self::MAX`].
+    /// The difference, or `None` where it is no duration. So `nanoseconds(-1)` less
+    /// `seconds(i64::MIN)` is [`Self::MAX`].
     pub fn checked_sub(self, rhs: Self) -> Option<Self>
         ensures { SomeIff result (IsDuration (self -ℤ rhs)) (self -ℤ rhs) }
     {
@@ -65,8 +66,8 @@ impl SignedDuration {
         }
     }
 
-    /// The quotient, cut toward zero, or `None` where the divisor is zero or the quotient is no duration. -1 nanosecond
-    /// by 2 is zero.
+    /// The quotient, cut toward zero, or `None` where the divisor is zero or the quotient is no
+    /// duration. So -7.5 s by 2 are -3.75 s, and -1 ns by 2 is zero.
     pub fn checked_div(self, rhs: i32) -> Option<Self>
         ensures { SomeIff result (HasQuotient self rhs) (cut self rhs) }
     {
@@ -139,8 +140,11 @@ impl SignedDuration {
         }
     }
 
-    /// The sum of the durations, [`Self::ZERO`] where there are none, or `None` where the sum of the first few of them,
-    /// however few, is no duration: of `MAX`, 1 and -1 nanoseconds it is `None`, of `MAX`, -1 and 1 it is `MAX`.
+    /// The sum of the durations, [`Self::ZERO`] where there are none, or `None` where the sum of the
+    /// first few of them, however few, is no duration.
+    ///
+    /// So the order matters at the ends: with `MAX`, 1 ns and -1 ns there is none, and with `MAX`,
+    /// -1 ns and 1 ns it is `MAX`.
     pub fn try_sum(durations: &[Self]) -> Option<Self>
         ensures { SomeIff result (HasSum durations.now) (sum_of durations.now) }
     {
