@@ -1,10 +1,14 @@
-//! Lengths of years and months in days and weeks, for every year.
+//! Lengths of years and months in days and weeks, for every year, and the carry of a clock into the day.
 ghost use Rattle.std.specs.Prelude.{◌≡◌, ◌^◌, ◌≤ℤ◌, neg_ℤ, pos};
 ghost use Rattle.cal_units.specs.Lengths.{is_leap_year, days_in_year, days_in_month};
 ghost use Rattle.cal_units.specs.Month.{number};
 ghost use Rattle.cal_units.specs.Weeks.{first_weekday, weeks_in_year};
 
 use crate::month::Month;
+
+mod date_adjustment;
+
+pub use date_adjustment::DateAdjustment;
 
 /// Whether the year is a leap year of the proleptic Gregorian calendar: every fourth year is one, but of the centuries only every
 /// fourth. Year 0 stands before year 1.

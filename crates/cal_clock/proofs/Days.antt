@@ -1,0 +1,93 @@
+-- Numbers of nanoseconds cut into days.
+use Rattle.std.proofs.Common.{◌≡◌, ℕ, zero, suc, ◌*◌, ◌/◌, ◌%◌, ◌<◌, ℤ, pos, negsuc, neg_ℤ, ◌+ℤ◌, ◌-ℤ◌, ◌*ℤ◌, ◌≤ℤ◌, int_rem, unsigned_abs, FitsSigned, to_z, of_z, lit<, refl, sym, subst, ◌∙◌, arith}
+use Rattle.std.specs.Int.{w64}
+use borrow.Author.Differences.{up, down}
+use Rattle.std.proofs.lemmas.Int.{ints, quot-rem, rem_below, to_z-of_z, fits_signed_from_abs, fits_signed_mul}
+use Rattle.cal_span.specs.SignedDuration.{second, day, cut, past_second}
+use Rattle.cal_span.specs.Fields.{times-second}
+use Rattle.cal_clock.specs.Time.{whole_days, modulo_day}
+
+-- a day times a number
+times-day : (s : ℤ) → (up (s *ℤ pos day) ≡ day * up s) × (down (s *ℤ pos day) ≡ day * down s)
+times-day (pos n) = (omega (arith, ints), omega (arith, ints))
+times-day (negsuc n) = (omega (arith, ints), omega (arith, ints))
+
+-- the remainder of a negated number
+int_rem-neg : (q : ℕ) → int_rem (neg_ℤ (pos q)) (pos 86_400) ≡ neg_ℤ (pos (q % 86_400))
+int_rem-neg zero = refl
+int_rem-neg (suc q) = refl
+
+-- what is left of the seconds past the whole days, with the nanoseconds past them, is what is left past the days
+pub past_days-is : (v : ℤ) → int_rem (cut v (pos second)) (pos 86_400) *ℤ pos second +ℤ past_second v ≡ int_rem v (pos day)
+past_days-is (pos n) = omega (arith, ints)
+past_days-is (negsuc n) =
+    let q = suc n / second in
+    let rest = int_rem-neg q in
+    let seconds = times-second (int_rem (neg_ℤ (pos q)) (pos 86_400)) in
+    let whole = times-second (neg_ℤ (pos q)) in
+    omega (arith, ints)
+
+-- r is what is left of v past its whole days
+pub record IsPastDays (v r : ℤ) : Type 0 where
+  pub value : v ≡ whole_days v *ℤ pos day +ℤ r
+  pub below_day : unsigned_abs r < day
+  pub positive : pos 0 ≤ℤ v → pos 0 ≤ℤ r
+  pub negative : v ≤ℤ pos 0 → r ≤ℤ pos 0
+
+rem-sign : (v : ℤ) → (pos 0 ≤ℤ v → pos 0 ≤ℤ int_rem v (pos day)) × (v ≤ℤ pos 0 → int_rem v (pos day) ≤ℤ pos 0)
+rem-sign (pos n) = (λ h. omega (arith, ints), λ h. omega (arith, ints))
+rem-sign (negsuc n) = (λ h. omega (arith, ints), λ h. omega (arith, ints))
+
+pub IsPastDays-rem : (v : ℤ) → IsPastDays v (int_rem v (pos day))
+IsPastDays-rem v = record {
+  value = sym (quot-rem v (pos day));
+  below_day = rem_below v (pos day) (omega arith);
+  positive = (rem-sign v).0;
+  negative = (rem-sign v).1;
+}
+
+-- what is computed on the way fits
+pub record HasRest (v s n : ℤ) : Type 0 where
+  pub rem_fits : FitsSigned w64 (int_rem s (pos 86_400))
+  pub product_fits : FitsSigned w64 (int_rem s (pos 86_400) *ℤ pos second)
+  pub rest_fits : FitsSigned w64 (int_rem s (pos 86_400) *ℤ pos second +ℤ n)
+  pub past : IsPastDays v (int_rem s (pos 86_400) *ℤ pos second +ℤ n)
+
+pub rest-of : (v s n : ℤ) → s ≡ cut v (pos second) → n ≡ past_second v → HasRest v s n
+rest-of v s n whole past =
+    let small = rem_below s (pos 86_400) (omega arith) in
+    let rest : int_rem s (pos 86_400) *ℤ pos second +ℤ n ≡ int_rem v (pos day) = (λ i. int_rem (whole i) (pos 86_400) *ℤ pos second +ℤ past i) ∙ past_days-is v in
+    let is_past : IsPastDays v (int_rem s (pos 86_400) *ℤ pos second +ℤ n) = subst (IsPastDays v) (sym rest) (IsPastDays-rem v) in
+    let below = is_past.below_day in
+    record {
+      rem_fits = fits_signed_from_abs w64 (int_rem s (pos 86_400)) (omega arith);
+      product_fits = fits_signed_mul w64 (int_rem s (pos 86_400)) (pos second) 86_400 second (omega arith) (omega arith) (lit< tt);
+      rest_fits = fits_signed_from_abs w64 (int_rem s (pos 86_400) *ℤ pos second +ℤ n) (omega arith);
+      past = is_past;
+    }
+
+-- a number in 64 bits and back
+abbrev pub kept : ℤ → ℤ
+kept z = to_z w64 (of_z w64 z)
+
+pub computed-rest : (v s n : ℤ) → FitsSigned w64 s → FitsSigned w64 n → HasRest v s n → kept (kept (kept (int_rem (kept s) (pos 86_400)) *ℤ pos second) +ℤ kept n) ≡ int_rem s (pos 86_400) *ℤ pos second +ℤ n
+computed-rest v s n fits_s fits_n h =
+    let rem = h.rem_fits in
+    let product = h.product_fits in
+    let rest = h.rest_fits in
+    simp to_z-of_z
+
+-- a step back within the days, and then whole days back
+pub moved-back : (t v w r c u : ℤ) → v ≡ w *ℤ pos day +ℤ r → t -ℤ r ≡ c *ℤ pos day +ℤ u → t -ℤ v ≡ (c -ℤ w) *ℤ pos day +ℤ u
+moved-back t v w r c u p q =
+    let x = times-day w in
+    let y = times-day c in
+    let z = times-day (c -ℤ w) in
+    omega (arith, ints)
+
+-- a number is known modulo a day once it is cut into days and less than a day
+pub modulo_day-is : (v k : ℤ) (u : ℕ) → v ≡ k *ℤ pos day +ℤ pos u → u < day → modulo_day v ≡ u
+modulo_day-is (pos n) (pos j) u e h = let x = times-day (pos j) in omega (arith, ints)
+modulo_day-is (pos n) (negsuc j) u e h = let x = times-day (negsuc j) in absurd (omega (arith, ints))
+modulo_day-is (negsuc n) (pos j) u e h = let x = times-day (pos j) in absurd (omega (arith, ints))
+modulo_day-is (negsuc n) (negsuc j) u e h = let x = times-day (negsuc j) in omega (arith, ints)

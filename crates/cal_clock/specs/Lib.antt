@@ -1,0 +1,4 @@
+pub mod Digits
+pub mod Order
+pub mod Time
+pub mod UtcOffset

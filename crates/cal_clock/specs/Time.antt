@@ -1,0 +1,79 @@
+-- A time of day is one whole number of nanoseconds since midnight, below a day of 24 hours (a local time of day of ISO 8601, without
+-- leap seconds). Here stands what its calls answer, as functions of that number.
+use Rattle.std.specs.Prelude.{ℕ, ◌+◌, ◌*◌, ◌/◌, ◌%◌, ◌<◌, ℤ, pos, negsuc, unsigned_abs, List, ◌++◌, codes}
+use Rattle.std.specs.Int.{int_rem_euclid}
+use Rattle.std.specs.Fmt.{decimal}
+use Rattle.cal_units.specs.Refusal.{Refusal, unconditional}
+use Rattle.cal_units.specs.declared.util.date_adjustment.DateAdjustment.{DateAdjustment}
+use Rattle.cal_units.specs.declared.util.date_adjustment.DateAdjustment.TheVariants.{Previous, Next, None}
+use Rattle.cal_span.specs.SignedDuration.{microsecond, millisecond, second, minute, hour, day, cut}
+use Rattle.cal_clock.specs.Digits.{two_digits, decimals}
+
+-- a number of nanoseconds that is a time of day
+pub record IsTime (t : ℕ) : Type 0 where
+  pub below_day : t < day
+
+-- ---- refusals
+abbrev pub hour_out_of_range : Refusal
+hour_out_of_range = unconditional (codes "hour")
+
+abbrev pub minute_out_of_range : Refusal
+minute_out_of_range = unconditional (codes "minute")
+
+abbrev pub second_out_of_range : Refusal
+second_out_of_range = unconditional (codes "second")
+
+abbrev pub millisecond_out_of_range : Refusal
+millisecond_out_of_range = unconditional (codes "millisecond")
+
+abbrev pub microsecond_out_of_range : Refusal
+microsecond_out_of_range = unconditional (codes "microsecond")
+
+abbrev pub nanosecond_out_of_range : Refusal
+nanosecond_out_of_range = unconditional (codes "nanosecond")
+
+-- ---- components
+-- the time of hours, minutes, seconds and nanoseconds
+abbrev pub time_of : ℕ → ℕ → ℕ → ℕ → ℕ
+time_of hours minutes seconds nanoseconds = hours * hour + minutes * minute + seconds * second + nanoseconds
+
+-- the parts of a time; each of the last three is all that lies below the second, in its unit
+abbrev pub hour_of : ℕ → ℕ
+hour_of t = t / hour
+
+abbrev pub minute_of : ℕ → ℕ
+minute_of t = t / minute % 60
+
+abbrev pub second_of : ℕ → ℕ
+second_of t = t / second % 60
+
+abbrev pub millisecond_of : ℕ → ℕ
+millisecond_of t = t / millisecond % 1_000
+
+abbrev pub microsecond_of : ℕ → ℕ
+microsecond_of t = t / microsecond % 1_000_000
+
+abbrev pub nanosecond_of : ℕ → ℕ
+nanosecond_of t = t % second
+
+-- ---- days
+-- the whole days of a duration, cut toward zero
+abbrev pub whole_days : ℤ → ℤ
+whole_days v = cut v (pos day)
+
+-- the remainder of a number of nanoseconds by a day, from 0 to below a day
+abbrev pub modulo_day : ℤ → ℕ
+modulo_day v = unsigned_abs (int_rem_euclid v (pos day))
+
+-- how many days a step of the clock adds to those that were asked for
+abbrev pub carry : DateAdjustment → ℤ
+carry Previous = negsuc 0
+carry None = pos 0
+carry Next = pos 1
+
+-- ---- the text
+-- the hour without padding, two digits each of the minute and the second, and the decimals
+abbrev pub text : ℕ → List ℕ
+text t =
+    decimal (hour_of t) ++ codes ":" ++ two_digits (minute_of t) ++ codes ":" ++ two_digits (second_of t)
+    ++ codes "." ++ decimals (nanosecond_of t)

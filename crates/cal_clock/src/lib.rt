@@ -1,0 +1,13 @@
+//! Times of day, to the nanosecond, and offsets from UTC.
+#![tactic(auto)]
+
+mod digits;
+mod laws;
+mod time;
+mod utc_offset;
+
+pub use time::Time;
+pub use utc_offset::UtcOffset;
+
+#[cfg(test)]
+mod tests;

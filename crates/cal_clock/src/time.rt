@@ -1,0 +1,152 @@
+ghost use Rattle.std.specs.Prelude.{◌≡◌, ◌↔◌, ◌*◌, ◌<◌, ◌≤◌};
+ghost use Rattle.cal_units.specs.Refusal.{IsRefused};
+ghost use Rattle.cal_clock.specs.Time.{hour_out_of_range, minute_out_of_range, second_out_of_range, millisecond_out_of_range, microsecond_out_of_range, nanosecond_out_of_range, time_of};
+
+use cal_units::error::ComponentRange;
+use std::marker::Model;
+
+mod arithmetic;
+mod display;
+mod order;
+mod parts;
+
+const NANOSECONDS_PER_MICROSECOND: u64 = 1_000;
+
+const NANOSECONDS_PER_MILLISECOND: u64 = 1_000_000;
+
+const NANOSECONDS_PER_SECOND: u64 = 1_000_000_000;
+
+const NANOSECONDS_PER_MINUTE: u64 = 60_000_000_000;
+
+const NANOSECONDS_PER_HOUR: u64 = 3_600_000_000_000;
+
+const NANOSECONDS_PER_DAY: u64 = 86_400_000_000_000;
+
+/// A time of day, exact to the nanosecond, from 0:00:00.0 to 23:59:59.999999999, without leap seconds.
+///
+/// It prints the hour without padding, two digits each of the minute and the second, and the decimals without trailing
+/// zeros, but at least one, as `9:05:00.12`. Under a width the whole text is padded. `Debug` prints the same.
+#[derive(Clone, Copy)]
+pub struct Time {
+    nanoseconds: u64,
+}
+
+impl Model for Time {
+    ghost use Rattle.std.specs.Prelude.{ℕ};
+    ghost use Rattle.cal_clock.specs.Time.{IsTime};
+
+    ghost Value = { ℕ };
+
+    ghost view = { λ time. time.nanoseconds };
+
+    ghost invariant = { λ time. IsTime time.nanoseconds };
+
+    ghost inverse = { λ t. record { nanoseconds = t } };
+}
+
+impl Time {
+    /// 0:00:00.0, the least time.
+    pub const MIDNIGHT: Self = Self { nanoseconds: 0 };
+
+    /// 23:59:59.999999999, the greatest time.
+    pub const MAX: Self = Self {
+        nanoseconds: 86_399_999_999_999,
+    };
+
+    /// The time of that hour, minute and second.
+    ///
+    /// Refused with the first component out of range, unconditional: `hour` above 23, `minute` and then `second` above 59.
+    pub fn from_hms(hour: u8, minute: u8, second: u8) -> Result<Self, ComponentRange>
+        ensures hour { IsRefused hour_out_of_range result ↔ (23 < hour) }
+        ensures minute { IsRefused minute_out_of_range result ↔ (hour ≤ 23) × (59 < minute) }
+        ensures second { IsRefused second_out_of_range result ↔ (hour ≤ 23) × (minute ≤ 59) × (59 < second) }
+        ensures value { hour ≤ 23 → minute ≤ 59 → second ≤ 59 → result ≡ Ok (time_of hour minute second 0) }
+    {
+        if hour > 23 {
+            return Err(ComponentRange::unconditional("hour"));
+        }
+        if minute > 59 {
+            return Err(ComponentRange::unconditional("minute"));
+        }
+        if second > 59 {
+            return Err(ComponentRange::unconditional("second"));
+        }
+        Ok(Self {
+            nanoseconds: u64::from(hour) * NANOSECONDS_PER_HOUR
+                + u64::from(minute) * NANOSECONDS_PER_MINUTE
+                + u64::from(second) * NANOSECONDS_PER_SECOND,
+        })
+    }
+
+    /// The time of that hour, minute, second and millisecond.
+    ///
+    /// Refused with the first component out of range, unconditional: as [`Self::from_hms`], and then `millisecond` above
+    /// 999.
+    pub fn from_hms_milli(
+        hour: u8,
+        minute: u8,
+        second: u8,
+        millisecond: u16,
+    ) -> Result<Self, ComponentRange>
+        ensures hour { IsRefused hour_out_of_range result ↔ (23 < hour) }
+        ensures minute { IsRefused minute_out_of_range result ↔ (hour ≤ 23) × (59 < minute) }
+        ensures second { IsRefused second_out_of_range result ↔ (hour ≤ 23) × (minute ≤ 59) × (59 < second) }
+        ensures millisecond { IsRefused millisecond_out_of_range result
+            ↔ (hour ≤ 23) × (minute ≤ 59) × (second ≤ 59) × (999 < millisecond) }
+        ensures value { hour ≤ 23 → minute ≤ 59 → second ≤ 59 → millisecond ≤ 999
+            → result ≡ Ok (time_of hour minute second (millisecond * 1_000_000)) }
+    {
+        match Self::from_hms(hour, minute, second) {
+            Ok(time) => time.replace_millisecond(millisecond),
+            Err(error) => Err(error),
+        }
+    }
+
+    /// The time of that hour, minute, second and microsecond.
+    ///
+    /// Refused with the first component out of range, unconditional: as [`Self::from_hms`], and then `microsecond` above
+    /// 999999.
+    pub fn from_hms_micro(
+        hour: u8,
+        minute: u8,
+        second: u8,
+        microsecond: u32,
+    ) -> Result<Self, ComponentRange>
+        ensures hour { IsRefused hour_out_of_range result ↔ (23 < hour) }
+        ensures minute { IsRefused minute_out_of_range result ↔ (hour ≤ 23) × (59 < minute) }
+        ensures second { IsRefused second_out_of_range result ↔ (hour ≤ 23) × (minute ≤ 59) × (59 < second) }
+        ensures microsecond { IsRefused microsecond_out_of_range result
+            ↔ (hour ≤ 23) × (minute ≤ 59) × (second ≤ 59) × (999_999 < microsecond) }
+        ensures value { hour ≤ 23 → minute ≤ 59 → second ≤ 59 → microsecond ≤ 999_999
+            → result ≡ Ok (time_of hour minute second (microsecond * 1_000)) }
+    {
+        match Self::from_hms(hour, minute, second) {
+            Ok(time) => time.replace_microsecond(microsecond),
+            Err(error) => Err(error),
+        }
+    }
+
+    /// The time of that hour, minute, second and nanosecond.
+    ///
+    /// Refused with the first component out of range, unconditional: as [`Self::from_hms`], and then `nanosecond` above
+    /// 999999999.
+    pub fn from_hms_nano(
+        hour: u8,
+        minute: u8,
+        second: u8,
+        nanosecond: u32,
+    ) -> Result<Self, ComponentRange>
+        ensures hour { IsRefused hour_out_of_range result ↔ (23 < hour) }
+        ensures minute { IsRefused minute_out_of_range result ↔ (hour ≤ 23) × (59 < minute) }
+        ensures second { IsRefused second_out_of_range result ↔ (hour ≤ 23) × (minute ≤ 59) × (59 < second) }
+        ensures nanosecond { IsRefused nanosecond_out_of_range result
+            ↔ (hour ≤ 23) × (minute ≤ 59) × (second ≤ 59) × (999_999_999 < nanosecond) }
+        ensures value { hour ≤ 23 → minute ≤ 59 → second ≤ 59 → nanosecond ≤ 999_999_999
+            → result ≡ Ok (time_of hour minute second nanosecond) }
+    {
+        match Self::from_hms(hour, minute, second) {
+            Ok(time) => time.replace_nanosecond(nanosecond),
+            Err(error) => Err(error),
+        }
+    }
+}

@@ -1,0 +1,79 @@
+//! The text of times.
+
+ghost use Rattle.std.specs.Prelude.{◌≡◌, ◌≤◌, Some, ◌++◌, codes, length, take};
+ghost use Rattle.std.specs.Fmt.{padded};
+ghost use Rattle.cal_clock.specs.Digits.{two_digits, nine_digits, without_last_zeros};
+ghost use Rattle.cal_clock.specs.Time.{hour_of, minute_of, second_of, nanosecond_of, text};
+
+use super::Time;
+use crate::digits::{ascii_text, digit, two_digits};
+use std::fmt;
+
+impl Time {
+    /// The text with two digits of the hour, and nine decimals.
+    fn longest_text(self) -> [u8; 18]
+        ensures { result ≡ two_digits (hour_of self) ++ codes ":" ++ two_digits (minute_of self)
+            ++ codes ":" ++ two_digits (second_of self) ++ codes "." ++ nine_digits (nanosecond_of self) }
+    {
+        let [hour_tens, hour_units] = two_digits(u32::from(self.hour()));
+        let [minute_tens, minute_units] = two_digits(u32::from(self.minute()));
+        let [second_tens, second_units] = two_digits(u32::from(self.second()));
+        let nanosecond = self.nanosecond();
+        [
+            hour_tens,
+            hour_units,
+            b':',
+            minute_tens,
+            minute_units,
+            b':',
+            second_tens,
+            second_units,
+            b'.',
+            digit(nanosecond / 100_000_000),
+            digit(nanosecond / 10_000_000 % 10),
+            digit(nanosecond / 1_000_000 % 10),
+            digit(nanosecond / 100_000 % 10),
+            digit(nanosecond / 10_000 % 10),
+            digit(nanosecond / 1_000 % 10),
+            digit(nanosecond / 100 % 10),
+            digit(nanosecond / 10 % 10),
+            digit(nanosecond % 10),
+        ]
+    }
+}
+
+/// How many of the digits are left without the zeros that they end in.
+fn length_without_last_zeros(digits: &[u8]) -> usize
+    ensures within { result ≤ length digits.now }
+    ensures value { take result digits.now ≡ without_last_zeros digits.now }
+{
+    let mut end = digits.len();
+    while end > 0 && digits[end - 1] == b'0' {
+        end -= 1;
+    }
+    end
+}
+
+impl fmt::Display for Time {
+    ghost output = { λ t. Some (text t) };
+
+    ghost styled_output = { λ t spec. Some (padded spec (text t)) };
+
+    fn fmt<W: fmt::Write>(&self, f: &mut fmt::Formatter<W>) -> fmt::Result {
+        let bytes = self.longest_text();
+        let end = 10 + length_without_last_zeros(&bytes[10..]);
+        if self.hour() < 10 {
+            f.pad(ascii_text(&bytes[1..end]))
+        } else {
+            f.pad(ascii_text(&bytes[0..end]))
+        }
+    }
+}
+
+impl fmt::Debug for Time {
+    ghost debug_output = { λ t. Some (text t) };
+
+    fn fmt<W: fmt::Write>(&self, f: &mut fmt::Formatter<W>) -> fmt::Result {
+        fmt::Display::fmt(self, f)
+    }
+}

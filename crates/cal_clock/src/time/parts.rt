@@ -1,0 +1,241 @@
+//! The parts of times, read, replaced and cut off.
+
+ghost use Rattle.std.specs.Prelude.{◌≡◌, ◌↔◌, ◌*◌, ◌<◌, ◌≤◌};
+ghost use Rattle.cal_units.specs.Refusal.{IsRefused};
+ghost use Rattle.cal_clock.specs.Time.{hour_out_of_range, minute_out_of_range, second_out_of_range, millisecond_out_of_range, microsecond_out_of_range, nanosecond_out_of_range, time_of, hour_of, minute_of, second_of, millisecond_of, microsecond_of, nanosecond_of};
+
+use super::{
+    NANOSECONDS_PER_HOUR, NANOSECONDS_PER_MICROSECOND, NANOSECONDS_PER_MILLISECOND,
+    NANOSECONDS_PER_MINUTE, NANOSECONDS_PER_SECOND, Time,
+};
+use cal_units::error::ComponentRange;
+
+impl Time {
+    /// The hour, minute and second.
+    pub fn as_hms(self) -> (u8, u8, u8)
+        ensures { result ≡ (hour_of self, minute_of self, second_of self) }
+    {
+        (self.hour(), self.minute(), self.second())
+    }
+
+    /// The hour, minute, second and millisecond.
+    pub fn as_hms_milli(self) -> (u8, u8, u8, u16)
+        ensures { result ≡ (hour_of self, minute_of self, second_of self, millisecond_of self) }
+    {
+        (
+            self.hour(),
+            self.minute(),
+            self.second(),
+            self.millisecond(),
+        )
+    }
+
+    /// The hour, minute, second and microsecond.
+    pub fn as_hms_micro(self) -> (u8, u8, u8, u32)
+        ensures { result ≡ (hour_of self, minute_of self, second_of self, microsecond_of self) }
+    {
+        (
+            self.hour(),
+            self.minute(),
+            self.second(),
+            self.microsecond(),
+        )
+    }
+
+    /// The hour, minute, second and nanosecond.
+    pub fn as_hms_nano(self) -> (u8, u8, u8, u32)
+        ensures { result ≡ (hour_of self, minute_of self, second_of self, nanosecond_of self) }
+    {
+        (self.hour(), self.minute(), self.second(), self.nanosecond())
+    }
+
+    /// The hour, from 0 to 23.
+    pub fn hour(self) -> u8
+        ensures value { result ≡ hour_of self }
+        ensures range { result ≤ 23 }
+    {
+        (self.nanoseconds / NANOSECONDS_PER_HOUR) as u8
+    }
+
+    /// The minute of the hour, from 0 to 59.
+    pub fn minute(self) -> u8
+        ensures { result ≡ minute_of self }
+    {
+        (self.nanoseconds / NANOSECONDS_PER_MINUTE % 60) as u8
+    }
+
+    /// The second of the minute, from 0 to 59.
+    pub fn second(self) -> u8
+        ensures { result ≡ second_of self }
+    {
+        (self.nanoseconds / NANOSECONDS_PER_SECOND % 60) as u8
+    }
+
+    /// The whole milliseconds of the second, from 0 to 999.
+    pub fn millisecond(self) -> u16
+        ensures { result ≡ millisecond_of self }
+    {
+        (self.nanoseconds / NANOSECONDS_PER_MILLISECOND % 1_000) as u16
+    }
+
+    /// The whole microseconds of the second, from 0 to 999999.
+    pub fn microsecond(self) -> u32
+        ensures { result ≡ microsecond_of self }
+    {
+        (self.nanoseconds / NANOSECONDS_PER_MICROSECOND % 1_000_000) as u32
+    }
+
+    /// The nanoseconds of the second, from 0 to 999999999.
+    pub fn nanosecond(self) -> u32
+        ensures { result ≡ nanosecond_of self }
+    {
+        (self.nanoseconds % NANOSECONDS_PER_SECOND) as u32
+    }
+
+    /// The time with another hour and everything else the same.
+    ///
+    /// Refused with `hour`, unconditional, above 23.
+    pub fn replace_hour(self, hour: u8) -> Result<Self, ComponentRange>
+        ensures refused { IsRefused hour_out_of_range result ↔ (23 < hour) }
+        ensures value { hour ≤ 23 → result ≡ Ok (time_of hour (minute_of self) (second_of self) (nanosecond_of self)) }
+    {
+        if hour > 23 {
+            return Err(ComponentRange::unconditional("hour"));
+        }
+        let past_hour = self.nanoseconds % NANOSECONDS_PER_HOUR;
+        Ok(Self {
+            nanoseconds: u64::from(hour) * NANOSECONDS_PER_HOUR + past_hour,
+        })
+    }
+
+    /// The time with another minute and everything else the same.
+    ///
+    /// Refused with `minute`, unconditional, above 59.
+    pub fn replace_minute(self, minute: u8) -> Result<Self, ComponentRange>
+        ensures refused { IsRefused minute_out_of_range result ↔ (59 < minute) }
+        ensures value { minute ≤ 59 → result ≡ Ok (time_of (hour_of self) minute (second_of self) (nanosecond_of self)) }
+    {
+        if minute > 59 {
+            return Err(ComponentRange::unconditional("minute"));
+        }
+        let hours = self.truncate_to_hour().nanoseconds;
+        let past_minute = self.nanoseconds % NANOSECONDS_PER_MINUTE;
+        Ok(Self {
+            nanoseconds: hours + u64::from(minute) * NANOSECONDS_PER_MINUTE + past_minute,
+        })
+    }
+
+    /// The time with another second and everything else the same.
+    ///
+    /// Refused with `second`, unconditional, above 59.
+    pub fn replace_second(self, second: u8) -> Result<Self, ComponentRange>
+        ensures refused { IsRefused second_out_of_range result ↔ (59 < second) }
+        ensures value { second ≤ 59 → result ≡ Ok (time_of (hour_of self) (minute_of self) second (nanosecond_of self)) }
+    {
+        if second > 59 {
+            return Err(ComponentRange::unconditional("second"));
+        }
+        let minutes = self.truncate_to_minute().nanoseconds;
+        let past_second = self.nanoseconds % NANOSECONDS_PER_SECOND;
+        Ok(Self {
+            nanoseconds: minutes + u64::from(second) * NANOSECONDS_PER_SECOND + past_second,
+        })
+    }
+
+    /// The time with all that lies below its second replaced by that many milliseconds.
+    ///
+    /// Refused with `millisecond`, unconditional, above 999.
+    pub fn replace_millisecond(self, millisecond: u16) -> Result<Self, ComponentRange>
+        ensures refused { IsRefused millisecond_out_of_range result ↔ (999 < millisecond) }
+        ensures value { millisecond ≤ 999
+            → result ≡ Ok (time_of (hour_of self) (minute_of self) (second_of self) (millisecond * 1_000_000)) }
+    {
+        if millisecond > 999 {
+            return Err(ComponentRange::unconditional("millisecond"));
+        }
+        let seconds = self.truncate_to_second().nanoseconds;
+        Ok(Self {
+            nanoseconds: seconds + u64::from(millisecond) * NANOSECONDS_PER_MILLISECOND,
+        })
+    }
+
+    /// The time with all that lies below its second replaced by that many microseconds:
+    /// 1:02:03.004005006 with 7008 of them is 1:02:03.007008.
+    ///
+    /// Refused with `microsecond`, unconditional, above 999999.
+    pub fn replace_microsecond(self, microsecond: u32) -> Result<Self, ComponentRange>
+        ensures refused { IsRefused microsecond_out_of_range result ↔ (999_999 < microsecond) }
+        ensures value { microsecond ≤ 999_999
+            → result ≡ Ok (time_of (hour_of self) (minute_of self) (second_of self) (microsecond * 1_000)) }
+    {
+        if microsecond > 999_999 {
+            return Err(ComponentRange::unconditional("microsecond"));
+        }
+        let seconds = self.truncate_to_second().nanoseconds;
+        Ok(Self {
+            nanoseconds: seconds + u64::from(microsecond) * NANOSECONDS_PER_MICROSECOND,
+        })
+    }
+
+    /// The time with all that lies below its second replaced by that many nanoseconds.
+    ///
+    /// Refused with `nanosecond`, unconditional, above 999999999.
+    pub fn replace_nanosecond(self, nanosecond: u32) -> Result<Self, ComponentRange>
+        ensures refused { IsRefused nanosecond_out_of_range result ↔ (999_999_999 < nanosecond) }
+        ensures value { nanosecond ≤ 999_999_999
+            → result ≡ Ok (time_of (hour_of self) (minute_of self) (second_of self) nanosecond) }
+    {
+        if nanosecond > 999_999_999 {
+            return Err(ComponentRange::unconditional("nanosecond"));
+        }
+        let seconds = self.truncate_to_second().nanoseconds;
+        Ok(Self {
+            nanoseconds: seconds + u64::from(nanosecond),
+        })
+    }
+
+    /// The whole hours of the time, with all that lies below them zero.
+    pub fn truncate_to_hour(self) -> Self
+        ensures { result ≡ time_of (hour_of self) 0 0 0 }
+    {
+        Self {
+            nanoseconds: self.nanoseconds - self.nanoseconds % NANOSECONDS_PER_HOUR,
+        }
+    }
+
+    /// The whole minutes of the time, with all that lies below them zero.
+    pub fn truncate_to_minute(self) -> Self
+        ensures { result ≡ time_of (hour_of self) (minute_of self) 0 0 }
+    {
+        Self {
+            nanoseconds: self.nanoseconds - self.nanoseconds % NANOSECONDS_PER_MINUTE,
+        }
+    }
+
+    /// The whole seconds of the time, with all that lies below them zero.
+    pub fn truncate_to_second(self) -> Self
+        ensures { result ≡ time_of (hour_of self) (minute_of self) (second_of self) 0 }
+    {
+        Self {
+            nanoseconds: self.nanoseconds - self.nanoseconds % NANOSECONDS_PER_SECOND,
+        }
+    }
+
+    /// The whole milliseconds of the time, with all that lies below them zero: 1:02:03.004005006 becomes 1:02:03.004.
+    pub fn truncate_to_millisecond(self) -> Self
+        ensures { result ≡ time_of (hour_of self) (minute_of self) (second_of self) (millisecond_of self * 1_000_000) }
+    {
+        Self {
+            nanoseconds: self.nanoseconds - self.nanoseconds % NANOSECONDS_PER_MILLISECOND,
+        }
+    }
+
+    /// The whole microseconds of the time, with all that lies below them zero.
+    pub fn truncate_to_microsecond(self) -> Self
+        ensures { result ≡ time_of (hour_of self) (minute_of self) (second_of self) (microsecond_of self * 1_000) }
+    {
+        Self {
+            nanoseconds: self.nanoseconds - self.nanoseconds % NANOSECONDS_PER_MICROSECOND,
+        }
+    }
+}

@@ -1,0 +1,310 @@
+ghost use Rattle.std.specs.Prelude.{◌≡◌, ◌↔◌, ◌<◌, ◌≤◌, pos, neg_ℤ, ◌<ℤ◌, unsigned_abs, Some, IsTrue};
+ghost use Rattle.std.specs.Fmt.{padded};
+ghost use Rattle.std.specs.Ordering.{int_cmp, int_eq, as_partial_cmp};
+ghost use Rattle.std.specs.Cmp.{partial_order_from_own_ties};
+ghost use Rattle.std.specs.Cmp.Rules.{comparing, hashing};
+ghost use Rattle.std.specs.Hash as fed;
+ghost use Rattle.std.proofs.Common.{rules};
+ghost use Rattle.cal_units.specs.Refusal.{IsRefused};
+ghost use Rattle.cal_clock.specs.UtcOffset.{IsOffset, greatest, offset_hour_out_of_range, offset_minute_out_of_range, offset_second_out_of_range, seconds_out_of_range, leading, offset_of, whole_hours, whole_minutes, minutes_past_hour, seconds_past_minute, text};
+
+use crate::digits::{ascii_text, two_digits};
+use cal_units::Counted;
+use cal_units::error::ComponentRange;
+use std::cmp::Ordering;
+use std::fmt;
+use std::hash::{Hash, Hasher};
+use std::marker::Model;
+use std::ops::Neg;
+
+const SECONDS_PER_MINUTE: u32 = 60;
+
+const SECONDS_PER_HOUR: u32 = 3_600;
+
+/// An offset from UTC, exact to the second, from -25:59:59 to +25:59:59.
+///
+/// East of Greenwich it is positive. Offsets are ordered by their seconds, so the order goes from west to east.
+///
+/// It prints its sign, `+` for zero too, and two digits each of hours, minutes and seconds, as `-05:30:00`. Under a width
+/// the whole text is padded. `Debug` prints the same.
+#[derive(Clone, Copy)]
+pub struct UtcOffset {
+    seconds: i32,
+}
+
+impl Model for UtcOffset {
+    ghost use Rattle.std.specs.Prelude.{ℤ};
+    ghost use Rattle.cal_clock.specs.UtcOffset.{IsOffset};
+
+    ghost Value = { ℤ };
+
+    ghost view = { λ o. o.seconds };
+
+    ghost invariant = { λ o. IsOffset o.seconds };
+
+    ghost inverse = { λ seconds. record { seconds = seconds } };
+}
+
+impl UtcOffset {
+    /// UTC itself, the offset zero.
+    pub const UTC: Self = Self { seconds: 0 };
+
+    /// The offset of that many hours, minutes and seconds.
+    ///
+    /// The first of them that is not zero gives the sign, and the magnitudes are added up under it, whatever signs the
+    /// others have: `from_hms(1, -2, -3)` is one hour, two minutes and three seconds, and `from_hms(0, -30, 15)` is thirty
+    /// minutes and fifteen seconds below zero.
+    ///
+    /// Refused with the first component out of range, unconditional: `offset hour` outside -25 to 25, `offset minute` and
+    /// then `offset second` outside -59 to 59.
+    pub fn from_hms(hours: i8, minutes: i8, seconds: i8) -> Result<Self, ComponentRange>
+        ensures hour { IsRefused offset_hour_out_of_range result ↔ (25 < unsigned_abs hours) }
+        ensures minute { IsRefused offset_minute_out_of_range result
+            ↔ (unsigned_abs hours ≤ 25) × (59 < unsigned_abs minutes) }
+        ensures second { IsRefused offset_second_out_of_range result
+            ↔ (unsigned_abs hours ≤ 25) × (unsigned_abs minutes ≤ 59) × (59 < unsigned_abs seconds) }
+        ensures value { unsigned_abs hours ≤ 25 → unsigned_abs minutes ≤ 59 → unsigned_abs seconds ≤ 59
+            → result ≡ Ok (offset_of hours minutes seconds) }
+    {
+        if hours.unsigned_abs() > 25 {
+            return Err(ComponentRange::unconditional("offset hour"));
+        }
+        if minutes.unsigned_abs() > 59 {
+            return Err(ComponentRange::unconditional("offset minute"));
+        }
+        if seconds.unsigned_abs() > 59 {
+            return Err(ComponentRange::unconditional("offset second"));
+        }
+        Ok(Self::of_components(hours, minutes, seconds))
+    }
+
+    /// The offset of components that are in range.
+    fn of_components(hours: i8, minutes: i8, seconds: i8) -> Self
+        requires hour { unsigned_abs hours ≤ 25 }
+        requires minute { unsigned_abs minutes ≤ 59 }
+        requires second { unsigned_abs seconds ≤ 59 }
+        ensures { result ≡ offset_of hours minutes seconds }
+    {
+        let magnitude = u32::from(hours.unsigned_abs()) * SECONDS_PER_HOUR
+            + u32::from(minutes.unsigned_abs()) * SECONDS_PER_MINUTE
+            + u32::from(seconds.unsigned_abs());
+        let magnitude = magnitude as i32;
+        if leading(hours, minutes, seconds) < 0 {
+            Self {
+                seconds: -magnitude,
+            }
+        } else {
+            Self { seconds: magnitude }
+        }
+    }
+
+    /// The offset of that many seconds.
+    ///
+    /// Refused with `seconds`, unconditional, outside -93599 to 93599.
+    pub fn from_whole_seconds(seconds: i32) -> Result<Self, ComponentRange>
+        ensures refused { IsRefused seconds_out_of_range result ↔ (greatest < unsigned_abs seconds) }
+        ensures value { unsigned_abs seconds ≤ greatest → result ≡ Ok seconds }
+    {
+        if seconds.unsigned_abs() > 93_599 {
+            return Err(ComponentRange::unconditional("seconds"));
+        }
+        Ok(Self { seconds })
+    }
+
+    /// The whole hours, the minutes past them and the seconds past these, all of one sign.
+    pub fn as_hms(self) -> (i8, i8, i8)
+        ensures hours { result.0 ≡ whole_hours self }
+        ensures minutes { result.1 ≡ minutes_past_hour self }
+        ensures seconds { result.2 ≡ seconds_past_minute self }
+    {
+        (
+            self.whole_hours(),
+            self.minutes_past_hour(),
+            self.seconds_past_minute(),
+        )
+    }
+
+    /// The whole hours, cut toward zero: from -25 to 25.
+    pub fn whole_hours(self) -> i8
+        ensures { result ≡ whole_hours self }
+    {
+        (self.seconds / SECONDS_PER_HOUR as i32) as i8
+    }
+
+    /// The whole minutes, cut toward zero: from -1559 to 1559.
+    pub fn whole_minutes(self) -> i16
+        ensures { result ≡ whole_minutes self }
+    {
+        (self.seconds / SECONDS_PER_MINUTE as i32) as i16
+    }
+
+    /// The whole minutes past the whole hours, with the sign of the offset: from -59 to 59.
+    pub fn minutes_past_hour(self) -> i8
+        ensures { result ≡ minutes_past_hour self }
+    {
+        (self.seconds % SECONDS_PER_HOUR as i32 / SECONDS_PER_MINUTE as i32) as i8
+    }
+
+    /// The seconds, from -93599 to 93599.
+    pub fn whole_seconds(self) -> i32
+        ensures value { result ≡ self }
+        ensures range { IsOffset self }
+    {
+        self.seconds
+    }
+
+    /// The seconds past the whole minutes, with the sign of the offset: from -59 to 59.
+    pub fn seconds_past_minute(self) -> i8
+        ensures { result ≡ seconds_past_minute self }
+    {
+        (self.seconds % SECONDS_PER_MINUTE as i32) as i8
+    }
+
+    /// Whether the offset is zero.
+    pub fn is_utc(self) -> bool
+        ensures { IsTrue result ↔ (self ≡ pos 0) }
+    {
+        self == Self::UTC
+    }
+
+    /// Whether the offset is above zero, east of UTC.
+    pub fn is_positive(self) -> bool
+        ensures { IsTrue result ↔ (pos 0 <ℤ self) }
+    {
+        self.seconds > 0
+    }
+
+    /// Whether the offset is below zero, west of UTC.
+    pub fn is_negative(self) -> bool
+        ensures { IsTrue result ↔ (self <ℤ pos 0) }
+    {
+        self.seconds < 0
+    }
+}
+
+/// The first component that is not zero, or zero.
+fn leading(hours: i8, minutes: i8, seconds: i8) -> i8
+    ensures { result ≡ leading hours minutes seconds }
+{
+    if hours != 0 {
+        hours
+    } else if minutes != 0 {
+        minutes
+    } else {
+        seconds
+    }
+}
+
+impl Neg for UtcOffset {
+    type Output = Self;
+
+    ghost neg_gives = { λ o opposite. opposite ≡ neg_ℤ o };
+
+    fn neg(self) -> Self {
+        Self {
+            seconds: -self.seconds,
+        }
+    }
+}
+
+impl PartialEq for UtcOffset {
+    ghost eq = { int_eq };
+
+    ghost laws = { Prim.search (comparing, rules) };
+
+    fn eq(&self, other: &Self) -> bool {
+        self.seconds == other.seconds
+    }
+}
+
+impl Eq for UtcOffset {
+    ghost laws = { Prim.search (comparing, rules) };
+}
+
+impl Ord for UtcOffset {
+    ghost cmp = { int_cmp };
+
+    ghost total = { Prim.search (comparing, rules) };
+
+    ghost matches_partial_cmp = { Prim.search (comparing, rules) };
+
+    ghost matches_eq = { Prim.search (comparing, rules) };
+
+    fn cmp(&self, other: &Self) -> Ordering {
+        self.seconds.cmp(&other.seconds)
+    }
+}
+
+impl PartialOrd for UtcOffset {
+    ghost partial_cmp = { as_partial_cmp int_cmp };
+
+    ghost laws = { partial_order_from_own_ties (Prim.search (comparing, rules)) (Prim.search (comparing, rules)) };
+
+    fn partial_cmp(&self, other: &Self) -> Option<Ordering> {
+        Some(self.cmp(other))
+    }
+}
+
+impl Hash for UtcOffset {
+    ghost hash_input = { fed.i32 };
+
+    ghost respects_eq = { Prim.search (hashing, rules) };
+
+    fn hash<H: Hasher>(&self, state: &mut H) {
+        self.seconds.hash(state);
+    }
+}
+
+impl Counted for UtcOffset {
+    ghost use Rattle.std.specs.Prelude.{refl};
+    ghost use Rattle.std.specs.Hash as fed;
+    ghost use Rattle.std.proofs.Common.{rules, ap};
+
+    ghost number_of = { λ o. o };
+
+    ghost ordered = { λ x y. refl };
+
+    ghost alike = { λ x y. Prim.search rules };
+
+    ghost hashed = { λ x y e. ap fed.i32 e };
+
+    /// The seconds.
+    fn number(self) -> i128 {
+        self.seconds as i128
+    }
+}
+
+impl fmt::Display for UtcOffset {
+    ghost output = { λ o. Some (text o) };
+
+    ghost styled_output = { λ o spec. Some (padded spec (text o)) };
+
+    fn fmt<W: fmt::Write>(&self, f: &mut fmt::Formatter<W>) -> fmt::Result {
+        let seconds = self.seconds.unsigned_abs();
+        let sign = if self.seconds < 0 { b'-' } else { b'+' };
+        let [hour_tens, hour_units] = two_digits(seconds / SECONDS_PER_HOUR);
+        let [minute_tens, minute_units] = two_digits(
+            seconds % SECONDS_PER_HOUR / SECONDS_PER_MINUTE,
+        );
+        let [second_tens, second_units] = two_digits(seconds % SECONDS_PER_MINUTE);
+        f.pad(ascii_text(&[
+            sign,
+            hour_tens,
+            hour_units,
+            b':',
+            minute_tens,
+            minute_units,
+            b':',
+            second_tens,
+            second_units,
+        ]))
+    }
+}
+
+impl fmt::Debug for UtcOffset {
+    ghost debug_output = { λ o. Some (text o) };
+
+    fn fmt<W: fmt::Write>(&self, f: &mut fmt::Formatter<W>) -> fmt::Result {
+        fmt::Display::fmt(self, f)
+    }
+}
