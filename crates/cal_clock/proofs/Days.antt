@@ -3,9 +3,9 @@ use Rattle.std.proofs.Common.{◌≡◌, ℕ, zero, suc, ◌*◌, ◌/◌, ◌%�
 use Rattle.std.specs.Int.{w64}
 use borrow.Author.Differences.{up, down}
 use Rattle.std.proofs.lemmas.Int.{ints, quot-rem, rem_below, to_z-of_z, fits_signed_from_abs, fits_signed_mul}
-use Rattle.cal_span.specs.SignedDuration.{second, day, cut, past_second}
-use Rattle.cal_span.specs.Fields.{times-second}
-use Rattle.cal_clock.specs.Time.{whole_days, modulo_day}
+use Rattle.cal_span.specs.SignedDuration.{second, day, cut, past_second, whole_days}
+use Rattle.cal_span.specs.FieldsLaws.{times-second}
+use Rattle.cal_clock.specs.Time.{modulo_day}
 
 -- a day times a number
 times-day : (s : ℤ) → (up (s *ℤ pos day) ≡ day * up s) × (down (s *ℤ pos day) ≡ day * down s)

@@ -7,7 +7,8 @@ use Rattle.std.proofs.lemmas.Fmt.{decimal_digit, decimal_step}
 use Rattle.std.proofs.lemmas.List.Elements.{All-take, All-drop, All-from_recursion}
 use Rattle.std.proofs.lemmas.Str.Ascii.{IsAscii-from_all}
 use Rattle.std.proofs.Math.Seq.{take-add}
-use Rattle.cal_clock.specs.Digits.{digit, two_digits, nine_digits, without_last_zeros, decimals}
+use Rattle.cal_units.specs.Digits.{digit, two_digits}
+use Rattle.cal_clock.specs.Digits.{nine_digits, without_last_zeros, decimals}
 use Rattle.cal_clock.specs.Time.{hour_of, minute_of, second_of, nanosecond_of, text}
 
 -- hour, minute, second and nanosecond with all their digits

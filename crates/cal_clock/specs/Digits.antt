@@ -1,13 +1,6 @@
--- The decimal digits of printed clocks, in ASCII.
-use Rattle.std.specs.Prelude.{ℕ, ◌+◌, ◌/◌, ◌%◌, ◌==◌, List, [], ◌∷◌, ◌++◌, take, drop, reverse, if◌then◌else◌}
-
--- the digit of a number below 10
-abbrev pub digit : ℕ → ℕ
-digit n = 48 + n
-
--- the two digits of a number below 100
-abbrev pub two_digits : ℕ → List ℕ
-two_digits n = digit (n / 10) ∷ digit (n % 10) ∷ []
+-- The decimals of a time, in ASCII.
+use Rattle.std.specs.Prelude.{ℕ, ◌/◌, ◌%◌, ◌==◌, List, [], ◌∷◌, ◌++◌, take, drop, reverse, if◌then◌else◌}
+use Rattle.cal_units.specs.Digits.{digit}
 
 -- the nine digits of a number below 1000000000
 abbrev pub nine_digits : ℕ → List ℕ

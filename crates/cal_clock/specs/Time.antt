@@ -6,8 +6,9 @@ use Rattle.std.specs.Fmt.{decimal}
 use Rattle.cal_units.specs.Refusal.{Refusal, unconditional}
 use Rattle.cal_units.specs.declared.util.date_adjustment.DateAdjustment.{DateAdjustment}
 use Rattle.cal_units.specs.declared.util.date_adjustment.DateAdjustment.TheVariants.{Previous, Next, None}
-use Rattle.cal_span.specs.SignedDuration.{microsecond, millisecond, second, minute, hour, day, cut}
-use Rattle.cal_clock.specs.Digits.{two_digits, decimals}
+use Rattle.cal_span.specs.SignedDuration.{microsecond, millisecond, second, minute, hour, day}
+use Rattle.cal_units.specs.Digits.{two_digits}
+use Rattle.cal_clock.specs.Digits.{decimals}
 
 -- a number of nanoseconds that is a time of day
 pub record IsTime (t : ℕ) : Type 0 where
@@ -57,10 +58,6 @@ abbrev pub nanosecond_of : ℕ → ℕ
 nanosecond_of t = t % second
 
 -- ---- days
--- the whole days of a duration, cut toward zero
-abbrev pub whole_days : ℤ → ℤ
-whole_days v = cut v (pos day)
-
 -- the remainder of a number of nanoseconds by a day, from 0 to below a day
 abbrev pub modulo_day : ℤ → ℕ
 modulo_day v = unsigned_abs (int_rem_euclid v (pos day))

@@ -3,7 +3,7 @@
 use Rattle.std.specs.Prelude.{ℕ, zero, suc, ◌+◌, ◌*◌, ◌/◌, ◌%◌, ◌≤◌, ℤ, pos, negsuc, neg_ℤ, ◌-ℤ◌, ◌*ℤ◌, unsigned_abs, List, ◌++◌, codes}
 use Rattle.cal_span.specs.SignedDuration.{cut}
 use Rattle.cal_units.specs.Refusal.{Refusal, unconditional}
-use Rattle.cal_clock.specs.Digits.{two_digits}
+use Rattle.cal_units.specs.Digits.{two_digits}
 
 -- 25 hours, 59 minutes and 59 seconds
 abbrev pub greatest : ℕ

@@ -1,7 +1,6 @@
 //! Times of day, to the nanosecond, and offsets from UTC.
 #![tactic(auto)]
 
-mod digits;
 mod laws;
 mod time;
 mod utc_offset;

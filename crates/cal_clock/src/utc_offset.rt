@@ -8,8 +8,8 @@ ghost use Rattle.std.proofs.Common.{rules};
 ghost use Rattle.cal_units.specs.Refusal.{IsRefused};
 ghost use Rattle.cal_clock.specs.UtcOffset.{IsOffset, greatest, offset_hour_out_of_range, offset_minute_out_of_range, offset_second_out_of_range, seconds_out_of_range, leading, offset_of, whole_hours, whole_minutes, minutes_past_hour, seconds_past_minute, text};
 
-use crate::digits::{ascii_text, two_digits};
 use cal_units::Counted;
+use cal_units::digits::{ascii_text, two_digits};
 use cal_units::error::ComponentRange;
 use std::cmp::Ordering;
 use std::fmt;

@@ -1,10 +1,62 @@
 -- Seconds and nanoseconds with a carry between them: when they are a duration, and which.
-use Rattle.std.proofs.Common.{◌≡◌, ℤ, pos, negsuc, ◌+ℤ◌, ◌-ℤ◌, ◌*ℤ◌, ◌≤ℤ◌, ◌<ℤ◌, Option, SomeIff, FitsSigned, subst, arith}
-use Rattle.std.specs.Int.{w64}
-use Rattle.std.proofs.lemmas.Int.{ints, by_lt_z}
+use Rattle.std.proofs.Common.{◌≡◌, true, false, ℤ, pos, negsuc, neg_ℤ, ◌+ℤ◌, ◌-ℤ◌, ◌*ℤ◌, ◌≤ℤ◌, ◌<ℤ◌, Option, SomeIff, FitsSigned, int_rem, sym, ap, ◌∙◌, subst, arith}
+use Rattle.std.specs.Int.{w64, from_bool}
+use Rattle.std.specs.Int.Signed.{lt_z}
+use Rattle.std.proofs.lemmas.Int.{ints, by_lt_z, quot-rem, rem_below}
 use Rattle.cal_span.specs.SignedDuration.{second, IsDuration, IsWithin, cut}
-use Rattle.cal_span.specs.Fields.{nanoseconds_in, IsNormal, times-second}
+use Rattle.cal_span.specs.Fields.{nanoseconds_in, IsNormal, CanCarry, IsCarry}
+use Rattle.cal_span.specs.FieldsLaws.{times-second}
 use Rattle.cal_span.specs.declared.signed_duration.SignedDuration.TheInside.{Inside}
+
+-- what a comparison counts
+pub record Counts (a b x : ℤ) : Type 0 where
+  pub one : a <ℤ b → x ≡ pos 1
+  pub none : b ≤ℤ a → x ≡ pos 0
+
+pub counted : (a b x : ℤ) → x ≡ pos (from_bool (lt_z a b)) → Counts a b x
+counted a b x e = record {
+  one = λ lt. let test : lt_z a b ≡ true = grind (arith, ints) in e ∙ ap (λ t. pos (from_bool t)) test;
+  none = λ ge. let test : lt_z a b ≡ false = grind (arith, ints) in e ∙ ap (λ t. pos (from_bool t)) test;
+}
+
+-- the most and the least nanoseconds that stay where they are
+pub record AreBounds (s most least : ℤ) : Type 0 where
+  pub against_after : s <ℤ pos 0 → most ≡ pos 0
+  pub along_after : pos 0 ≤ℤ s → most ≡ pos 999_999_999
+  pub against_before : pos 0 <ℤ s → least ≡ pos 0
+  pub along_before : s ≤ℤ pos 0 → least ≡ negsuc 999_999_998
+
+IsCarry-up : (s n : ℤ) → CanCarry s n → pos 0 <ℤ n → (pos 0 ≤ℤ s → pos second ≤ℤ n) → IsCarry s n (pos 1)
+IsCarry-up s n can side enough =
+    record { at_least = omega (arith, ints); at_most = omega (arith, ints); normal = record { above = omega (arith, ints); below = omega (arith, ints, can.below); positive = λ h. omega (arith, ints); negative = λ h. grind (arith, ints, can.over) } }
+
+IsCarry-down : (s n : ℤ) → CanCarry s n → n <ℤ pos 0 → (s ≤ℤ pos 0 → n ≤ℤ neg_ℤ (pos second)) → IsCarry s n (negsuc 0)
+IsCarry-down s n can side enough =
+    record { at_least = omega (arith, ints); at_most = omega (arith, ints); normal = record { above = omega (arith, ints, can.above); below = omega (arith, ints); positive = λ h. grind (arith, ints, can.under); negative = λ h. omega (arith, ints) } }
+
+-- the carry is the difference of the two counts
+pub IsCarry-counted : (s n most least x y : ℤ) → CanCarry s n → AreBounds s most least → Counts most n x → Counts n least y → IsCarry s n (x -ℤ y)
+IsCarry-counted s n most least x y can bounds above below =
+    let P : ℤ → Type 0 = λ carry. IsCarry s n carry in
+    let least_side : least ≤ℤ pos 0 = by_lt_z (pos 0) s (λ h. omega (arith, ints, bounds.against_before h)) (λ h. omega (arith, ints, bounds.along_before h)) in
+    let most_side : pos 0 ≤ℤ most = by_lt_z s (pos 0) (λ h. omega (arith, ints, bounds.against_after h)) (λ h. omega (arith, ints, bounds.along_after h)) in
+    by_lt_z most n
+    (λ over. let e : pos 1 ≡ x -ℤ y = omega (arith, ints, above.one over, below.none (omega (arith, ints))) in
+    subst P e (IsCarry-up s n can (omega (arith, ints)) (λ h. omega (arith, ints, bounds.along_after h))))
+    (λ not_over. by_lt_z n least
+    (λ under. let e : negsuc 0 ≡ x -ℤ y = omega (arith, ints, above.none not_over, below.one under) in
+    subst P e (IsCarry-down s n can (omega (arith, ints)) (λ h. omega (arith, ints, bounds.along_before h))))
+    (λ not_under. let e : pos 0 ≡ x -ℤ y = omega (arith, ints, above.none not_over, below.none not_under) in
+    subst P e (record {
+      at_least = omega (arith, ints);
+      at_most = omega (arith, ints);
+      normal = record {
+        above = by_lt_z (pos 0) s (λ h. omega (arith, ints, bounds.against_before h)) (λ h. omega (arith, ints, bounds.along_before h));
+        below = by_lt_z s (pos 0) (λ h. omega (arith, ints, bounds.against_after h)) (λ h. omega (arith, ints, bounds.along_after h));
+        positive = λ h. omega (arith, ints, bounds.against_before (omega (arith, ints)));
+        negative = λ h. omega (arith, ints, bounds.against_after (omega (arith, ints)));
+      };
+    })))
 
 -- seconds that are an i64 and less than a second more are a duration
 pub IsDuration-sum : (s n : ℤ) → FitsSigned w64 s → IsWithin 999_999_999 n → IsDuration (s *ℤ pos second +ℤ n)
@@ -43,6 +95,23 @@ IsDuration-fields a h f =
     let t = times-second a.seconds in
     record { at_least = omega (arith, ints); at_most = omega (arith, ints) }
 
+-- what is carried is not lost
+pub carry-whole : (s n carry : ℤ) → (s +ℤ carry) *ℤ pos second +ℤ (n -ℤ carry *ℤ pos second) ≡ s *ℤ pos second +ℤ n
+carry-whole s n carry =
+    let a = times-second s in
+    let b = times-second carry in
+    let c = times-second (s +ℤ carry) in
+    omega (arith, ints)
+
+-- seconds that hold the carry are those of a duration, and the other way round
+pub IsDuration-carried : (s n carry : ℤ) → IsCarry s n carry → FitsSigned w64 (s +ℤ carry) → IsDuration (s *ℤ pos second +ℤ n)
+IsDuration-carried s n carry is fits =
+    subst IsDuration (carry-whole s n carry) (IsDuration-fields (record { seconds = s +ℤ carry; nanoseconds = n -ℤ carry *ℤ pos second }) is.normal fits)
+
+pub carried-fits : (s n carry : ℤ) → IsCarry s n carry → IsDuration (s *ℤ pos second +ℤ n) → FitsSigned w64 (s +ℤ carry)
+carried-fits s n carry is d =
+    seconds-fit (s +ℤ carry) (n -ℤ carry *ℤ pos second) is.normal.positive is.normal.negative (subst IsDuration (sym (carry-whole s n carry)) d)
+
 -- the seconds of a sum that is a duration fit
 pub add-fits : (a b : Inside) (v w : ℤ) → IsNormal a → IsNormal b → FitsSigned w64 a.seconds → FitsSigned w64 b.seconds → nanoseconds_in a ≡ v → nanoseconds_in b ≡ w → IsDuration (v +ℤ w) → FitsSigned w64 (a.seconds +ℤ b.seconds)
 add-fits a b v w h k f g is_v is_w d =
@@ -75,3 +144,59 @@ sub-overflow s t f is_zero not_fits =
     by_lt_z (negsuc 9_223_372_036_854_775_807) t
     (λ above. absurd (not_fits (omega (arith, ints))))
     (λ at_most. omega (arith, ints))
+
+-- nanoseconds that are not against the seconds, cut into whole seconds and the rest
+abbrev pub along : ℤ → ℤ → Inside
+along s n = record { seconds = s +ℤ cut n (pos second); nanoseconds = int_rem n (pos second) }
+
+pub nanoseconds_in-along : (s n : ℤ) → nanoseconds_in (along s n) ≡ s *ℤ pos second +ℤ n
+nanoseconds_in-along s n =
+    let parts = quot-rem n (pos second) in
+    let a = times-second s in
+    let b = times-second (cut n (pos second)) in
+    let c = times-second (s +ℤ cut n (pos second)) in
+    omega (arith, ints)
+
+pub IsNormal-along : (s n : ℤ) → (pos 0 <ℤ s → pos 0 ≤ℤ n) → (s <ℤ pos 0 → n ≤ℤ pos 0) → IsNormal (along s n)
+IsNormal-along s (pos n) p q =
+    let small = rem_below (pos n) (pos second) (omega arith) in
+    record { above = omega (arith, ints); below = omega (arith, ints); positive = λ h. omega (arith, ints); negative = λ h. by_lt_z s (pos 0) (λ below. omega (arith, ints, q below)) (λ from. omega (arith, ints)) }
+IsNormal-along s (negsuc n) p q =
+    let small = rem_below (negsuc n) (pos second) (omega arith) in
+    record { above = omega (arith, ints); below = omega (arith, ints); positive = λ h. by_lt_z (pos 0) s (λ above. absurd (omega (arith, ints, p above))) (λ upto. omega (arith, ints)); negative = λ h. omega (arith, ints) }
+
+-- sums and differences of fields can carry: nanoseconds of a second or more come of two that are along their seconds
+pub CanCarry-sum : (a b : Inside) → IsNormal a → IsNormal b → CanCarry (a.seconds +ℤ b.seconds) (a.nanoseconds +ℤ b.nanoseconds)
+CanCarry-sum a b h k = record {
+  above = omega (arith, ints, h.above, k.above);
+  below = omega (arith, ints, h.below, k.below);
+  over = λ over.
+      let left : pos 0 ≤ℤ a.seconds = by_lt_z a.seconds (pos 0) (λ lt. absurd (omega (arith, ints, h.negative lt, k.below))) (λ ge. ge) in
+      let right : pos 0 ≤ℤ b.seconds = by_lt_z b.seconds (pos 0) (λ lt. absurd (omega (arith, ints, k.negative lt, h.below))) (λ ge. ge) in
+      omega (arith, ints);
+  under = λ under.
+      let left : a.seconds ≤ℤ pos 0 = by_lt_z (pos 0) a.seconds (λ gt. absurd (omega (arith, ints, h.positive gt, k.above))) (λ le. le) in
+      let right : b.seconds ≤ℤ pos 0 = by_lt_z (pos 0) b.seconds (λ gt. absurd (omega (arith, ints, k.positive gt, h.above))) (λ le. le) in
+      omega (arith, ints);
+}
+
+pub CanCarry-difference : (a b : Inside) → IsNormal a → IsNormal b → CanCarry (a.seconds -ℤ b.seconds) (a.nanoseconds -ℤ b.nanoseconds)
+CanCarry-difference a b h k = record {
+  above = omega (arith, ints, h.above, k.below);
+  below = omega (arith, ints, h.below, k.above);
+  over = λ over.
+      let left : pos 0 ≤ℤ a.seconds = by_lt_z a.seconds (pos 0) (λ lt. absurd (omega (arith, ints, h.negative lt, k.above))) (λ ge. ge) in
+      let right : b.seconds ≤ℤ pos 0 = by_lt_z (pos 0) b.seconds (λ gt. absurd (omega (arith, ints, k.positive gt, h.below))) (λ le. le) in
+      omega (arith, ints);
+  under = λ under.
+      let left : a.seconds ≤ℤ pos 0 = by_lt_z (pos 0) a.seconds (λ gt. absurd (omega (arith, ints, h.positive gt, k.below))) (λ le. le) in
+      let right : pos 0 ≤ℤ b.seconds = by_lt_z b.seconds (pos 0) (λ lt. absurd (omega (arith, ints, k.negative lt, h.above))) (λ ge. ge) in
+      omega (arith, ints);
+}
+
+-- the sum and the difference of two numbers, from those of their fields
+pub sum-fields : (a b : Inside) (v w : ℤ) → nanoseconds_in a ≡ v → nanoseconds_in b ≡ w → (a.seconds +ℤ b.seconds) *ℤ pos second +ℤ (a.nanoseconds +ℤ b.nanoseconds) ≡ v +ℤ w
+sum-fields a b v w is_v is_w = omega (arith, ints)
+
+pub difference-fields : (a b : Inside) (v w : ℤ) → nanoseconds_in a ≡ v → nanoseconds_in b ≡ w → (a.seconds -ℤ b.seconds) *ℤ pos second +ℤ (a.nanoseconds -ℤ b.nanoseconds) ≡ v -ℤ w
+difference-fields a b v w is_v is_w = omega (arith, ints)

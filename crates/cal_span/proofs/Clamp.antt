@@ -3,7 +3,8 @@ use Rattle.std.proofs.Common.{◌≡◌, ℤ, pos, neg_ℤ, ◌+ℤ◌, ◌≤�
 use Rattle.std.specs.Int.{int_min, w64}
 use Rattle.std.proofs.lemmas.Int.{ints, clamps, by_lt_z}
 use Rattle.cal_span.specs.SignedDuration.{second, IsDuration, clamp, least, greatest}
-use Rattle.cal_span.specs.Fields.{nanoseconds_in, IsNormal, times-second}
+use Rattle.cal_span.specs.Fields.{nanoseconds_in, IsNormal}
+use Rattle.cal_span.specs.FieldsLaws.{times-second}
 use Rattle.cal_span.specs.declared.signed_duration.SignedDuration.TheInside.{Inside}
 
 pub clamp-inside : (v : ℤ) → IsDuration v → clamp v ≡ v

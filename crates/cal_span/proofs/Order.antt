@@ -2,7 +2,8 @@
 use Rattle.std.proofs.Common.{◌≡◌, ℤ, ◌<ℤ◌, arith, sym, Less, Equal, Greater}
 use Rattle.std.specs.Ordering.{int_cmp, ordering_then}
 use Rattle.std.proofs.lemmas.Int.{ints, by_lt_z}
-use Rattle.cal_span.specs.Fields.{nanoseconds_in, IsNormal, times-second}
+use Rattle.cal_span.specs.Fields.{nanoseconds_in, IsNormal}
+use Rattle.cal_span.specs.FieldsLaws.{times-second}
 use Rattle.cal_span.specs.declared.signed_duration.SignedDuration.TheInside.{Inside}
 
 -- what `int_cmp` answers

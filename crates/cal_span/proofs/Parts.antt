@@ -3,7 +3,8 @@ use Rattle.std.proofs.Common.{◌≡◌, zero, suc, ℤ, pos, negsuc, ◌+ℤ◌
 use borrow.Author.Differences.{up, down}
 use Rattle.std.proofs.lemmas.Int.{ints}
 use Rattle.cal_span.specs.SignedDuration.{second}
-use Rattle.cal_span.specs.Fields.{nanoseconds_in, IsNormal, times-second}
+use Rattle.cal_span.specs.Fields.{nanoseconds_in, IsNormal}
+use Rattle.cal_span.specs.FieldsLaws.{times-second}
 use Rattle.cal_span.specs.declared.signed_duration.SignedDuration.TheInside.{Inside}
 
 -- numbers that are not of opposite signs add up part by part

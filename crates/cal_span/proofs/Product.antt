@@ -4,7 +4,8 @@ use Rattle.std.specs.Int.{w64}
 use borrow.Author.Differences.{up, down, same_in, sum_is_lem, product_is}
 use Rattle.std.proofs.lemmas.Int.{ints, fits_signed_mul}
 use Rattle.cal_span.specs.SignedDuration.{second, IsWithin}
-use Rattle.cal_span.specs.Fields.{nanoseconds_in, IsNormal, times-second}
+use Rattle.cal_span.specs.Fields.{nanoseconds_in, IsNormal}
+use Rattle.cal_span.specs.FieldsLaws.{times-second}
 use Rattle.cal_span.specs.declared.signed_duration.SignedDuration.TheInside.{Inside}
 
 -- the product of the nanoseconds and a factor of 33 bits fits

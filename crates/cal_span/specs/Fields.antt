@@ -1,8 +1,5 @@
 -- How a duration is kept: whole seconds, and nanoseconds of the same sign.
-use Rattle.std.specs.Prelude.{◌≡◌, ℤ, pos, negsuc, neg_ℤ, ◌+ℤ◌, ◌*ℤ◌, ◌≤ℤ◌, ◌<ℤ◌, ◌*◌, int_div, int_rem}
-use Rattle.std.proofs.Common.{arith}
-use borrow.Author.Differences.{up, down}
-use Rattle.std.proofs.lemmas.Int.{ints, quot-rem, rem_below}
+use Rattle.std.specs.Prelude.{ℤ, pos, neg_ℤ, ◌+ℤ◌, ◌-ℤ◌, ◌*ℤ◌, ◌≤ℤ◌, ◌<ℤ◌, int_div, int_rem}
 use Rattle.cal_span.specs.SignedDuration.{second}
 use Rattle.cal_span.specs.declared.signed_duration.SignedDuration.TheInside.{Inside}
 
@@ -21,37 +18,16 @@ pub record IsNormal (fields : Inside) : Type 0 where
 abbrev pub fields_of : ℤ → Inside
 fields_of v = record { seconds = int_div v (pos second); nanoseconds = int_rem v (pos second) }
 
--- a remainder has the sign of what was divided
-rem-sign : (v : ℤ) → (pos 0 ≤ℤ v → pos 0 ≤ℤ int_rem v (pos second)) × (v ≤ℤ pos 0 → int_rem v (pos second) ≤ℤ pos 0)
-rem-sign (pos n) = (λ h. omega (arith, ints), λ h. omega (arith, ints))
-rem-sign (negsuc n) = (λ h. omega (arith, ints), λ h. omega (arith, ints))
+-- one second at most is carried between seconds and nanoseconds: these are less than two seconds, and not against the seconds
+-- where they are a second or more
+pub record CanCarry (seconds nanoseconds : ℤ) : Type 0 where
+  pub above : neg_ℤ (pos 2_000_000_000) <ℤ nanoseconds
+  pub below : nanoseconds <ℤ pos 2_000_000_000
+  pub over : pos second ≤ℤ nanoseconds → pos 0 ≤ℤ seconds
+  pub under : nanoseconds ≤ℤ neg_ℤ (pos second) → seconds ≤ℤ pos 0
 
--- the fields of any number are normal
-pub IsNormal-fields_of : (v : ℤ) → IsNormal (fields_of v)
-IsNormal-fields_of v =
-    let parts = quot-rem v (pos second) in
-    let small = rem_below v (pos second) (omega arith) in
-    let sign = rem-sign v in
-    record { above = omega (arith, ints); below = omega (arith, ints); positive = λ h. omega (arith, ints); negative = λ h. omega (arith, ints) }
-
--- a second times a number
-pub times-second : (s : ℤ) → (up (s *ℤ pos second) ≡ second * up s) × (down (s *ℤ pos second) ≡ second * down s)
-times-second (pos n) = (omega (arith, ints), omega (arith, ints))
-times-second (negsuc n) = (omega (arith, ints), omega (arith, ints))
-
--- a number has one pair of normal fields
-one-pair : (a b : Inside) → IsNormal a → IsNormal b → nanoseconds_in a ≡ nanoseconds_in b → (a.seconds ≡ b.seconds) × (a.nanoseconds ≡ b.nanoseconds)
-one-pair a b h k e =
-    let p = times-second a.seconds in
-    let q = times-second b.seconds in
-    (grind (arith, ints), grind (arith, ints))
-
--- the fields give the number, and the number the fields
-pub nanoseconds_in-fields_of : (v : ℤ) → nanoseconds_in (fields_of v) ≡ v
-nanoseconds_in-fields_of v = quot-rem v (pos second)
-
-pub fields_of-nanoseconds_in : (fields : Inside) → IsNormal fields → fields_of (nanoseconds_in fields) ≡ fields
-fields_of-nanoseconds_in fields h =
-    let v = nanoseconds_in fields in
-    let same = one-pair (fields_of v) fields (IsNormal-fields_of v) h (nanoseconds_in-fields_of v) in
-    λ i. record { seconds = same.0 i; nanoseconds = same.1 i }
+-- so many seconds go over from the nanoseconds to the seconds
+pub record IsCarry (seconds nanoseconds carry : ℤ) : Type 0 where
+  pub at_least : neg_ℤ (pos 1) ≤ℤ carry
+  pub at_most : carry ≤ℤ pos 1
+  pub normal : IsNormal (record { seconds = seconds +ℤ carry; nanoseconds = nanoseconds -ℤ carry *ℤ pos second })

@@ -1,2 +1,3 @@
 pub mod SignedDuration
 pub mod Fields
+pub mod FieldsLaws

@@ -1,6 +1,6 @@
 -- A duration is one whole number of nanoseconds: that of the documentation of `SignedDuration` in the crate `time`, a signed span of
 -- whole seconds (an i64) and the nanoseconds past them. Here stands what its calls answer, as functions of that number.
-use Rattle.std.specs.Prelude.{◌≢◌, ℕ, zero, suc, ◌/◌, ◌%◌, ℤ, pos, negsuc, neg_ℤ, ◌+ℤ◌, ◌-ℤ◌, ◌*ℤ◌, ◌≤ℤ◌, int_div, List, [], ◌∷◌, ◌++◌, take, codes, ◌==◌, if◌then◌else◌}
+use Rattle.std.specs.Prelude.{◌≢◌, Bool, true, false, ℕ, zero, suc, ◌/◌, ◌%◌, ℤ, pos, negsuc, neg_ℤ, ◌+ℤ◌, ◌-ℤ◌, ◌*ℤ◌, ◌≤ℤ◌, int_div, List, [], ◌∷◌, ◌++◌, take, codes, ◌==◌, if◌then◌else◌}
 use Rattle.std.specs.Int.{int_min, int_max}
 use Rattle.std.specs.List.{fold}
 use Rattle.std.specs.Fmt.{decimal}
@@ -52,9 +52,18 @@ abbrev pub IsWithin : ℕ → ℤ → Type 0
 IsWithin bound n = (neg_ℤ (pos bound) ≤ℤ n) × (n ≤ℤ pos bound)
 
 -- ---- parts
+-- a magnitude, below 0 or not
+abbrev pub with_sign : Bool → ℕ → ℤ
+with_sign true n = neg_ℤ (pos n)
+with_sign false n = pos n
+
 -- the quotient of a by b, cut toward zero, as Rust's `/` has it
 abbrev pub cut : ℤ → ℤ → ℤ
 cut a b = int_div a b
+
+-- the whole days of a duration, cut toward zero
+abbrev pub whole_days : ℤ → ℤ
+whole_days v = cut v (pos day)
 
 -- what is past the whole seconds
 abbrev pub past_second : ℤ → ℤ

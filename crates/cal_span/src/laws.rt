@@ -1,12 +1,20 @@
-//! The constants. A constant has no clauses, so a function that gives it back says what it is.
-ghost use Rattle.std.specs.Prelude.{◌≡◌, pos, [], ◌∷◌};
+//! What no clause of a constant or of a derived trait can say: functions that give them back.
+ghost use Rattle.std.specs.Prelude.{◌≡◌, pos, Some, Ok, slice_get};
 ghost use Rattle.cal_span.specs.SignedDuration.{microsecond, millisecond, second, minute, hour, day, week, least, greatest};
 
 use crate::signed_duration::SignedDuration;
+use std::alloc::AllocError;
 
 /// The units, from the nanosecond to the week, each by its number.
 pub(crate) fn units() -> [SignedDuration; 8]
-    ensures { result ≡ pos 1 ∷ pos microsecond ∷ pos millisecond ∷ pos second ∷ pos minute ∷ pos hour ∷ pos day ∷ pos week ∷ [] }
+    ensures nanosecond_is { slice_get result 0 ≡ Some (pos 1) }
+    ensures microsecond_is { slice_get result 1 ≡ Some (pos microsecond) }
+    ensures millisecond_is { slice_get result 2 ≡ Some (pos millisecond) }
+    ensures second_is { slice_get result 3 ≡ Some (pos second) }
+    ensures minute_is { slice_get result 4 ≡ Some (pos minute) }
+    ensures hour_is { slice_get result 5 ≡ Some (pos hour) }
+    ensures day_is { slice_get result 6 ≡ Some (pos day) }
+    ensures week_is { slice_get result 7 ≡ Some (pos week) }
 {
     [
         SignedDuration::NANOSECOND,
@@ -22,11 +30,20 @@ pub(crate) fn units() -> [SignedDuration; 8]
 
 /// Zero and the two limits, each by its number.
 pub(crate) fn limits() -> [SignedDuration; 3]
-    ensures { result ≡ pos 0 ∷ least ∷ greatest ∷ [] }
+    ensures zero_is { slice_get result 0 ≡ Some (pos 0) }
+    ensures min_is { slice_get result 1 ≡ Some least }
+    ensures max_is { slice_get result 2 ≡ Some greatest }
 {
     [
         SignedDuration::ZERO,
         SignedDuration::MIN,
         SignedDuration::MAX,
     ]
+}
+
+/// A clone, which equals what it is made from.
+pub(crate) fn cloned(duration: SignedDuration) -> Result<SignedDuration, AllocError>
+    ensures { result ≡ Ok duration }
+{
+    duration.clone()
 }

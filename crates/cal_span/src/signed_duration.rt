@@ -1,7 +1,7 @@
 //! Durations: their making and their parts.
 ghost use Rattle.std.specs.Prelude.{◌≡◌, ◌↔◌, pos, ◌+ℤ◌, ◌*ℤ◌, ◌<ℤ◌, ◌/◌, ◌%◌, unsigned_abs, FitsSigned, IsTrue};
 ghost use Rattle.std.specs.Int.{w64};
-ghost use Rattle.cal_span.specs.SignedDuration.{microsecond, millisecond, second, minute, hour, day, week, IsDuration, IsWithin, clamp, cut, past_second};
+ghost use Rattle.cal_span.specs.SignedDuration.{microsecond, millisecond, second, minute, hour, day, week, IsDuration, clamp, cut, past_second};
 
 use std::marker::Model;
 
@@ -45,7 +45,8 @@ impl Model for SignedDuration {
 
     ghost Value = { ℤ };
 
-    ghost use Rattle.cal_span.specs.Fields.{nanoseconds_in, IsNormal, fields_of, fields_of-nanoseconds_in};
+    ghost use Rattle.cal_span.specs.Fields.{nanoseconds_in, IsNormal, fields_of};
+    ghost use Rattle.cal_span.specs.FieldsLaws.{fields_of-nanoseconds_in};
 
     ghost view = { nanoseconds_in };
 
@@ -133,36 +134,13 @@ impl SignedDuration {
         requires { FitsSigned w64 (seconds +ℤ cut nanoseconds (pos second)) }
         ensures { result ≡ seconds *ℤ pos second +ℤ nanoseconds }
     {
-        let carry = nanoseconds / NANOSECONDS_PER_SECOND;
-        Self::of_one_sign(seconds + carry as i64, nanoseconds % NANOSECONDS_PER_SECOND)
-    }
-
-    /// That many seconds and nanoseconds, of which the nanoseconds are less than a second.
-    fn of_one_sign(seconds: i64, nanoseconds: i32) -> Self
-        requires { IsWithin 999_999_999 nanoseconds }
-        ensures { result ≡ seconds *ℤ pos second +ℤ nanoseconds }
-    {
-        if seconds > 0 && nanoseconds < 0 {
-            return Self {
-                seconds: seconds - 1,
-                nanoseconds: nanoseconds + NANOSECONDS_PER_SECOND,
-            };
-        }
-        if seconds < 0 && nanoseconds > 0 {
-            return Self {
-                seconds: seconds + 1,
-                nanoseconds: nanoseconds - NANOSECONDS_PER_SECOND,
-            };
-        }
-        Self {
-            seconds,
-            nanoseconds,
-        }
+        let carry = i64::from(nanoseconds / NANOSECONDS_PER_SECOND);
+        Self::checked_new(seconds + carry, nanoseconds % NANOSECONDS_PER_SECOND).unwrap()
     }
 
     /// That many weeks of 7 days, from -15250284452471 to 15250284452471.
     pub fn weeks(weeks: i64) -> Self
-        requires { IsWithin 15_250_284_452_471 weeks }
+        requires { IsDuration (weeks *ℤ pos week) }
         ensures { result ≡ weeks *ℤ pos week }
     {
         Self::seconds(weeks * SECONDS_PER_WEEK)
@@ -170,7 +148,7 @@ impl SignedDuration {
 
     /// That many days of 24 hours, from -106751991167300 to 106751991167300.
     pub fn days(days: i64) -> Self
-        requires { IsWithin 106_751_991_167_300 days }
+        requires { IsDuration (days *ℤ pos day) }
         ensures { result ≡ days *ℤ pos day }
     {
         Self::seconds(days * SECONDS_PER_DAY)
@@ -178,7 +156,7 @@ impl SignedDuration {
 
     /// That many hours, from -2562047788015215 to 2562047788015215.
     pub fn hours(hours: i64) -> Self
-        requires { IsWithin 2_562_047_788_015_215 hours }
+        requires { IsDuration (hours *ℤ pos hour) }
         ensures { result ≡ hours *ℤ pos hour }
     {
         Self::seconds(hours * SECONDS_PER_HOUR)
@@ -186,7 +164,7 @@ impl SignedDuration {
 
     /// That many minutes, from -153722867280912930 to 153722867280912930.
     pub fn minutes(minutes: i64) -> Self
-        requires { IsWithin 153_722_867_280_912_930 minutes }
+        requires { IsDuration (minutes *ℤ pos minute) }
         ensures { result ≡ minutes *ℤ pos minute }
     {
         Self::seconds(minutes * SECONDS_PER_MINUTE)
@@ -328,7 +306,7 @@ impl SignedDuration {
         ensures { result ≡ cut self (pos millisecond) }
     {
         let past = self.nanoseconds / NANOSECONDS_PER_MILLISECOND;
-        self.seconds as i128 * MILLISECONDS_PER_SECOND as i128 + past as i128
+        i128::from(self.seconds) * MILLISECONDS_PER_SECOND as i128 + i128::from(past)
     }
 
     /// The whole microseconds, cut toward zero.
@@ -336,7 +314,7 @@ impl SignedDuration {
         ensures { result ≡ cut self (pos microsecond) }
     {
         let past = self.nanoseconds / NANOSECONDS_PER_MICROSECOND;
-        self.seconds as i128 * MICROSECONDS_PER_SECOND as i128 + past as i128
+        i128::from(self.seconds) * MICROSECONDS_PER_SECOND as i128 + i128::from(past)
     }
 
     /// The duration in nanoseconds.
@@ -344,7 +322,7 @@ impl SignedDuration {
         ensures value { result ≡ self }
         ensures range { IsDuration self }
     {
-        self.seconds as i128 * NANOSECONDS_PER_SECOND as i128 + self.nanoseconds as i128
+        i128::from(self.seconds) * NANOSECONDS_PER_SECOND as i128 + i128::from(self.nanoseconds)
     }
 
     /// The milliseconds past the whole seconds, cut toward zero: from -999 to 999.

@@ -111,6 +111,9 @@ weeks_in_year-is y =
     let count = thursdays-is (first_weekday y) (days_in_year y) in
     grind (arith, nat_tests)
 
+-- what shows the weeks of a year from the weekdays that it and the next one begin on
+pub ruleset weeks = (weeks_in_year-is, ints, nat_tests)
+
 -- the leap days of the years from 1 to z, or those from z + 1 to 0 counted below zero
 abbrev pub leap_days : ℤ → ℤ
 leap_days z = int_div_euclid z (pos 4) -ℤ int_div_euclid z (pos 100) +ℤ int_div_euclid z (pos 400)

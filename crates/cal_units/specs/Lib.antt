@@ -1,4 +1,5 @@
 pub mod Counted
+pub mod Digits
 pub mod Lengths
 pub mod Month
 pub mod MonthCycle

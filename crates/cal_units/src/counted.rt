@@ -24,24 +24,6 @@ pub trait Counted: Copy + Ord + Hash {
     ghost hashed: { (x y : Self) → number_of x ≡ number_of y → Self.hash_input x ≡ Self.hash_input y };
 }
 
-/// The value with the lesser number.
-fn lesser<T: Counted>(a: T, b: T) -> T
-    ensures one_of { (result ≡ a) ⊎ (result ≡ b) }
-    ensures upto_a { T.number_of result ≤ℤ T.number_of a }
-    ensures upto_b { T.number_of result ≤ℤ T.number_of b }
-{
-    if b < a { b } else { a }
-}
-
-/// The value with the greater number.
-fn greater<T: Counted>(a: T, b: T) -> T
-    ensures one_of { (result ≡ a) ⊎ (result ≡ b) }
-    ensures from_a { T.number_of a ≤ℤ T.number_of result }
-    ensures from_b { T.number_of b ≤ℤ T.number_of result }
-{
-    if a < b { b } else { a }
-}
-
 /// The least and the greatest item of the slice, or `None` if it has no items.
 pub fn extent<T: Counted>(items: &[T]) -> Option<(T, T)>
     ensures { MatchOption result (items.now ≡ []) (IsExtent T.number_of items.now) }
@@ -52,8 +34,8 @@ pub fn extent<T: Counted>(items: &[T]) -> Option<(T, T)>
     let mut least = items[0];
     let mut greatest = items[0];
     for item in items {
-        least = lesser(least, *item);
-        greatest = greater(greatest, *item);
+        least = least.min(*item);
+        greatest = greatest.max(*item);
     }
     Some((least, greatest))
 }

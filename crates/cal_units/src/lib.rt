@@ -6,8 +6,10 @@
 
 mod counted;
 mod cycle;
+pub mod digits;
 pub mod error;
 pub mod iter;
+mod laws;
 mod month;
 mod steps;
 pub mod util;

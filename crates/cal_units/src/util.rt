@@ -30,6 +30,7 @@ pub fn days_in_year(year: i32) -> u16
 /// The number of weeks of the year, 52 or 53.
 ///
 /// ISO 8601 gives each week to the year that holds its Thursday, so these are the Thursdays of the year: 53 for 2020, 52 for 2019.
+#[tactic(auto, using(crate::proofs::Weeks::weeks))]
 pub fn weeks_in_year(year: i32) -> u8
     ensures { result ≡ weeks_in_year year }
 {

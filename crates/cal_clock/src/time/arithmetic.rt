@@ -1,8 +1,8 @@
 //! Times moved on and back by durations, and the durations between times.
 
-ghost use Rattle.std.specs.Prelude.{◌≡◌, ◌*◌, ◌<◌, pos, neg_ℤ, ◌+ℤ◌, ◌-ℤ◌, ◌*ℤ◌, ◌<ℤ◌, ◌≤ℤ◌, unsigned_abs};
-ghost use Rattle.cal_span.specs.SignedDuration.{day};
-ghost use Rattle.cal_clock.specs.Time.{whole_days, modulo_day, carry};
+ghost use Rattle.std.specs.Prelude.{◌≡◌, ◌*◌, ◌<◌, pos, negsuc, neg_ℤ, ◌+ℤ◌, ◌-ℤ◌, ◌*ℤ◌, ◌<ℤ◌, ◌≤ℤ◌, unsigned_abs};
+ghost use Rattle.cal_span.specs.SignedDuration.{day, whole_days};
+ghost use Rattle.cal_clock.specs.Time.{modulo_day, carry};
 
 use super::{NANOSECONDS_PER_DAY, NANOSECONDS_PER_SECOND, Time};
 use cal_span::SignedDuration;
@@ -69,6 +69,17 @@ fn past_days(duration: SignedDuration) -> i64
     seconds * NANOSECONDS_PER_SECOND as i64 + i64::from(duration.subsec_nanoseconds())
 }
 
+/// The days from today to the day that the nanoseconds since midnight lie in: -1, 0 or 1.
+///
+/// As the sign of a step is often random, the tests are added up and not branched on.
+fn days_past(nanoseconds: i64) -> i64
+    ensures before { nanoseconds <ℤ pos 0 → result ≡ negsuc 0 }
+    ensures same { pos 0 ≤ℤ nanoseconds → nanoseconds <ℤ pos day → result ≡ pos 0 }
+    ensures after { pos day ≤ℤ nanoseconds → result ≡ pos 1 }
+{
+    i64::from(nanoseconds >= NANOSECONDS_PER_DAY as i64) - i64::from(nanoseconds < 0)
+}
+
 /// The time of nanoseconds since midnight that may lie in the day before or the day after, and which day it is.
 fn carried(nanoseconds: i64) -> (DateAdjustment, Time)
     requires low { neg_ℤ (pos day) <ℤ nanoseconds }
@@ -76,16 +87,13 @@ fn carried(nanoseconds: i64) -> (DateAdjustment, Time)
     ensures equation { nanoseconds ≡ carry result.0 *ℤ pos day +ℤ pos result.1 }
     ensures below_day { result.1 < day }
 {
-    if nanoseconds < 0 {
-        let nanoseconds = (nanoseconds + NANOSECONDS_PER_DAY as i64) as u64;
-        return (DateAdjustment::Previous, Time { nanoseconds });
-    }
-    let nanoseconds = nanoseconds as u64;
-    if nanoseconds < NANOSECONDS_PER_DAY {
-        return (DateAdjustment::None, Time { nanoseconds });
-    }
-    let nanoseconds = nanoseconds - NANOSECONDS_PER_DAY;
-    (DateAdjustment::Next, Time { nanoseconds })
+    let (adjustment, midnight) = match days_past(nanoseconds) {
+        0 => (DateAdjustment::None, 0),
+        1 => (DateAdjustment::Next, NANOSECONDS_PER_DAY as i64),
+        _ => (DateAdjustment::Previous, -(NANOSECONDS_PER_DAY as i64)),
+    };
+    let nanoseconds = (nanoseconds - midnight) as u64;
+    (adjustment, Time { nanoseconds })
 }
 
 impl Add<SignedDuration> for Time {

@@ -2,11 +2,12 @@
 
 ghost use Rattle.std.specs.Prelude.{◌≡◌, ◌≤◌, Some, ◌++◌, codes, length, take};
 ghost use Rattle.std.specs.Fmt.{padded};
-ghost use Rattle.cal_clock.specs.Digits.{two_digits, nine_digits, without_last_zeros};
+ghost use Rattle.cal_clock.specs.Digits.{nine_digits, without_last_zeros};
+ghost use Rattle.cal_units.specs.Digits.{two_digits};
 ghost use Rattle.cal_clock.specs.Time.{hour_of, minute_of, second_of, nanosecond_of, text};
 
 use super::Time;
-use crate::digits::{ascii_text, digit, two_digits};
+use cal_units::digits::{ascii_text, digit, two_digits};
 use std::fmt;
 
 impl Time {

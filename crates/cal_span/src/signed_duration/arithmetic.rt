@@ -1,20 +1,22 @@
 //! Sums, differences, products and quotients of durations, exact to the nanosecond.
 
-ghost use Rattle.std.specs.Prelude.{◌≡◌, pos, neg_ℤ, ◌+ℤ◌, ◌-ℤ◌, ◌*ℤ◌, SomeIff};
-ghost use Rattle.cal_span.specs.SignedDuration.{second, IsDuration, IsWithin, HasQuotient, HasSum, clamp, cut, sum_of};
+ghost use Rattle.std.specs.Prelude.{◌≡◌, ◌+◌, ◌*◌, ◌<◌, pos, neg_ℤ, ◌+ℤ◌, ◌-ℤ◌, ◌*ℤ◌, ◌≤ℤ◌, ◌<ℤ◌, FitsSigned, SomeIff};
+ghost use Rattle.std.specs.Int.{w64};
+ghost use Rattle.cal_span.specs.SignedDuration.{second, IsDuration, IsWithin, HasQuotient, HasSum, clamp, cut, sum_of, with_sign};
+ghost use Rattle.cal_span.specs.Fields.{CanCarry, IsCarry};
 
 use super::{NANOSECONDS_PER_SECOND, SignedDuration};
+
+/// The greatest magnitude of a factor or a divisor, which is that of a `u32`.
+pub(super) const GREATEST_OPERAND: u64 = 4_294_967_295;
 
 impl SignedDuration {
     /// The sum, or `None` where it is no duration. `MAX.checked_add(MIN)` is -1 second.
     pub fn checked_add(self, rhs: Self) -> Option<Self>
         ensures { SomeIff result (IsDuration (self +ℤ rhs)) (self +ℤ rhs) }
     {
-        let nanoseconds = self.nanoseconds + rhs.nanoseconds;
-        match self.seconds.checked_add(rhs.seconds) {
-            Some(seconds) => Self::checked_new(seconds, nanoseconds as i64),
-            None => None,
-        }
+        let seconds = self.seconds.checked_add(rhs.seconds)?;
+        Self::checked_new(seconds, self.nanoseconds + rhs.nanoseconds)
     }
 
     /// The difference, or `None` where it is no duration. So `nanoseconds(-1)` less
@@ -24,7 +26,7 @@ impl SignedDuration {
     {
         let nanoseconds = self.nanoseconds - rhs.nanoseconds;
         match self.seconds.checked_sub(rhs.seconds) {
-            Some(seconds) => Self::checked_new(seconds, nanoseconds as i64),
+            Some(seconds) => Self::checked_new(seconds, nanoseconds),
             // The seconds are one too many, and the nanoseconds take that one back.
             None if self.seconds == 0 && nanoseconds < 0 => Some(Self {
                 seconds: i64::MAX,
@@ -34,36 +36,50 @@ impl SignedDuration {
         }
     }
 
-    /// That many seconds and nanoseconds, which may be of opposite signs, or `None` where their sum
-    /// is no duration.
-    fn checked_new(seconds: i64, nanoseconds: i64) -> Option<Self>
+    /// That many seconds and nanoseconds, or `None` where their sum is no duration.
+    ///
+    /// The nanoseconds are less than two seconds, and against the seconds only where they are less
+    /// than one.
+    pub(super) fn checked_new(seconds: i64, nanoseconds: i32) -> Option<Self>
+        requires { CanCarry seconds nanoseconds }
         ensures { SomeIff result (IsDuration (seconds *ℤ pos second +ℤ nanoseconds)) (seconds *ℤ pos second +ℤ nanoseconds) }
     {
-        let carry = nanoseconds / NANOSECONDS_PER_SECOND as i64;
-        let past = nanoseconds % NANOSECONDS_PER_SECOND as i64;
-        match seconds.checked_add(carry) {
-            Some(seconds) => Some(Self::of_one_sign(seconds, past as i32)),
-            None => None,
-        }
+        let carry = carry_of(seconds, nanoseconds);
+        Some(Self {
+            seconds: seconds.checked_add(i64::from(carry))?,
+            nanoseconds: nanoseconds - carry * NANOSECONDS_PER_SECOND,
+        })
     }
 
     /// The product, or `None` where it is no duration, as that of [`Self::MIN`] and -1.
     pub fn checked_mul(self, rhs: i32) -> Option<Self>
         ensures { SomeIff result (IsDuration (self *ℤ rhs)) (self *ℤ rhs) }
     {
-        self.checked_product(rhs as i64)
+        self.checked_product(i64::from(rhs))
     }
 
     /// The product with a factor of 33 bits, or `None` where it is no duration.
     pub(super) fn checked_product(self, factor: i64) -> Option<Self>
-        requires { IsWithin 4_294_967_295 factor }
+        requires { IsWithin GREATEST_OPERAND factor }
         ensures { SomeIff result (IsDuration (self *ℤ factor)) (self *ℤ factor) }
     {
-        let nanoseconds = self.nanoseconds as i64 * factor;
-        match self.seconds.checked_mul(factor) {
-            Some(seconds) => Self::checked_new(seconds, nanoseconds),
-            None => None,
-        }
+        let nanoseconds = i64::from(self.nanoseconds) * factor;
+        Self::checked_of_one_sign(checked_times(self.seconds, factor)?, nanoseconds)
+    }
+
+    /// That many seconds and nanoseconds, which are not of opposite signs, or `None` where their sum
+    /// is no duration.
+    fn checked_of_one_sign(seconds: i64, nanoseconds: i64) -> Option<Self>
+        requires positive { pos 0 <ℤ seconds → pos 0 ≤ℤ nanoseconds }
+        requires negative { seconds <ℤ pos 0 → nanoseconds ≤ℤ pos 0 }
+        ensures { SomeIff result (IsDuration (seconds *ℤ pos second +ℤ nanoseconds)) (seconds *ℤ pos second +ℤ nanoseconds) }
+    {
+        let carry = nanoseconds / NANOSECONDS_PER_SECOND as i64;
+        let past = nanoseconds % NANOSECONDS_PER_SECOND as i64;
+        Some(Self {
+            seconds: seconds.checked_add(carry)?,
+            nanoseconds: past as i32,
+        })
     }
 
     /// The quotient, cut toward zero, or `None` where the divisor is zero or the quotient is no
@@ -71,40 +87,56 @@ impl SignedDuration {
     pub fn checked_div(self, rhs: i32) -> Option<Self>
         ensures { SomeIff result (HasQuotient self rhs) (cut self rhs) }
     {
-        self.checked_quotient(rhs as i64)
+        self.checked_quotient(i64::from(rhs))
     }
 
     /// The quotient by a divisor of 33 bits, cut toward zero, or `None` where the divisor is zero or
     /// the quotient is no duration.
     pub(super) fn checked_quotient(self, divisor: i64) -> Option<Self>
-        requires { IsWithin 4_294_967_295 divisor }
+        requires { IsWithin GREATEST_OPERAND divisor }
         ensures { SomeIff result (HasQuotient self divisor) (cut self divisor) }
     {
-        match self.seconds.checked_div(divisor) {
-            Some(seconds) => {
-                let rest = self.seconds % divisor;
-                let nanoseconds = (rest * NANOSECONDS_PER_SECOND as i64 + self.nanoseconds as i64)
-                    / divisor;
-                Some(Self {
-                    seconds,
-                    nanoseconds: nanoseconds as i32,
-                })
-            }
-            None => None,
+        if divisor == 0 {
+            return None;
         }
+        let size = divisor.unsigned_abs();
+        let (seconds, nanoseconds) = self.unsigned_abs();
+        let rest = seconds % size * NANOSECONDS_PER_SECOND as u64 + u64::from(nanoseconds);
+        let is_negative = self.is_negative() != (divisor < 0);
+        Self::checked_of_magnitude(is_negative, seconds / size, (rest / size) as u32)
+    }
+
+    /// The duration of that sign and magnitude, or `None` where there is none.
+    fn checked_of_magnitude(is_negative: bool, seconds: u64, nanoseconds: u32) -> Option<Self>
+        requires { nanoseconds < second }
+        ensures { SomeIff result (IsDuration (with_sign is_negative (seconds * second + nanoseconds))) (with_sign is_negative (seconds * second + nanoseconds)) }
+    {
+        if seconds > i64::MAX as u64 + u64::from(is_negative) {
+            return None;
+        }
+        let seconds = seconds.cast_signed();
+        let nanoseconds = nanoseconds as i32;
+        Some(if is_negative {
+            Self {
+                seconds: seconds.wrapping_neg(),
+                nanoseconds: -nanoseconds,
+            }
+        } else {
+            Self {
+                seconds,
+                nanoseconds,
+            }
+        })
     }
 
     /// The duration of the other sign, or `None` where it is no duration, as for [`Self::MIN`].
     pub fn checked_neg(self) -> Option<Self>
         ensures { SomeIff result (IsDuration (neg_ℤ self)) (neg_ℤ self) }
     {
-        match self.seconds.checked_neg() {
-            Some(seconds) => Some(Self {
-                seconds,
-                nanoseconds: -self.nanoseconds,
-            }),
-            None => None,
-        }
+        Some(Self {
+            seconds: self.seconds.checked_neg()?,
+            nanoseconds: -self.nanoseconds,
+        })
     }
 
     /// The sum, or the limit nearest to it where it is no duration.
@@ -122,11 +154,10 @@ impl SignedDuration {
     pub fn saturating_sub(self, rhs: Self) -> Self
         ensures { result ≡ clamp (self -ℤ rhs) }
     {
-        match self.checked_sub(rhs) {
-            Some(difference) => difference,
-            None if self < rhs => Self::MIN,
-            None => Self::MAX,
+        if let Some(difference) = self.checked_sub(rhs) {
+            return difference;
         }
+        if self < rhs { Self::MIN } else { Self::MAX }
     }
 
     /// The product, or the limit nearest to it where it is no duration.
@@ -150,11 +181,36 @@ impl SignedDuration {
     {
         let mut total = Self::ZERO;
         for duration in durations {
-            match total.checked_add(*duration) {
-                Some(sum) => total = sum,
-                None => return None,
-            }
+            total = total.checked_add(*duration)?;
         }
         Some(total)
+    }
+}
+
+/// The seconds to carry over from the nanoseconds: what is left of these is then less than a second,
+/// and not against the seconds.
+///
+/// It is counted from two comparisons. A branch on a sign that the data decide is mispredicted half
+/// of the time.
+fn carry_of(seconds: i64, nanoseconds: i32) -> i32
+    requires { CanCarry seconds nanoseconds }
+    ensures { IsCarry seconds nanoseconds result }
+{
+    let most = if seconds < 0 { 0 } else { 999_999_999 };
+    let least = if seconds > 0 { 0 } else { -999_999_999 };
+    i32::from(nanoseconds > most) - i32::from(nanoseconds < least)
+}
+
+/// The product with a factor of 33 bits, or `None` where it is no `i64`.
+///
+/// Two factors of 32 bits cannot overflow, and the test for that is cheaper than the checked product.
+fn checked_times(seconds: i64, factor: i64) -> Option<i64>
+    requires { IsWithin GREATEST_OPERAND factor }
+    ensures { SomeIff result (FitsSigned w64 (seconds *ℤ factor)) (seconds *ℤ factor) }
+{
+    if seconds.unsigned_abs() <= GREATEST_OPERAND && factor.unsigned_abs() <= 1 << 31 {
+        Some(seconds * factor)
+    } else {
+        seconds.checked_mul(factor)
     }
 }

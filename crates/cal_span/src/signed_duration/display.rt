@@ -3,7 +3,10 @@
 ghost use Rattle.std.specs.Prelude.{Some, ◌+◌, ◌*◌, ◌<◌};
 ghost use Rattle.cal_span.specs.SignedDuration.{second, part, parts_text, text};
 
-use super::SignedDuration;
+use super::{
+    NANOSECONDS_PER_MICROSECOND, NANOSECONDS_PER_MILLISECOND, SECONDS_PER_DAY, SECONDS_PER_HOUR,
+    SECONDS_PER_MINUTE, SignedDuration,
+};
 use std::fmt;
 
 /// A number and its unit, which print nothing where the number is zero.
@@ -37,13 +40,16 @@ impl fmt::Display for Magnitude {
     fn fmt<W: fmt::Write>(&self, f: &mut fmt::Formatter<W>) -> fmt::Result {
         let seconds = self.seconds;
         let nanoseconds = self.nanoseconds as u64;
-        let days = Part(seconds / 86_400, "d");
-        let hours = Part(seconds / 3_600 % 24, "h");
-        let minutes = Part(seconds / 60 % 60, "m");
-        let past_minute = Part(seconds % 60, "s");
-        let milliseconds = Part(nanoseconds / 1_000_000, "ms");
-        let microseconds = Part(nanoseconds / 1_000 % 1_000, "µs");
-        let past_microsecond = Part(nanoseconds % 1_000, "ns");
+        let days = Part(seconds / SECONDS_PER_DAY as u64, "d");
+        let hours = Part(seconds / SECONDS_PER_HOUR as u64 % 24, "h");
+        let minutes = Part(seconds / SECONDS_PER_MINUTE as u64 % 60, "m");
+        let past_minute = Part(seconds % SECONDS_PER_MINUTE as u64, "s");
+        let milliseconds = Part(nanoseconds / NANOSECONDS_PER_MILLISECOND as u64, "ms");
+        let microseconds = Part(
+            nanoseconds / NANOSECONDS_PER_MICROSECOND as u64 % 1_000,
+            "µs",
+        );
+        let past_microsecond = Part(nanoseconds % NANOSECONDS_PER_MICROSECOND as u64, "ns");
         write!(
             f,
             "{days}{hours}{minutes}{past_minute}{milliseconds}{microseconds}{past_microsecond}"

@@ -4,12 +4,13 @@ ghost use Rattle.std.specs.Prelude.{◌≡◌, pos, neg_ℤ, ◌+ℤ◌, ◌-ℤ
 ghost use Rattle.cal_span.specs.SignedDuration.{IsDuration, IsWithin, HasQuotient, cut};
 
 use super::SignedDuration;
+use super::arithmetic::GREATEST_OPERAND;
 use std::ops::{Add, AddAssign, Div, DivAssign, Mul, MulAssign, Neg, Sub, SubAssign};
 
 impl SignedDuration {
     /// The product with a factor of 33 bits.
     fn product(self, factor: i64) -> Self
-        requires small { IsWithin 4_294_967_295 factor }
+        requires small { IsWithin GREATEST_OPERAND factor }
         requires exact { IsDuration (self *ℤ factor) }
         ensures { result ≡ self *ℤ factor }
     {
@@ -18,7 +19,7 @@ impl SignedDuration {
 
     /// The quotient by a divisor of 33 bits, cut toward zero.
     fn quotient(self, divisor: i64) -> Self
-        requires small { IsWithin 4_294_967_295 divisor }
+        requires small { IsWithin GREATEST_OPERAND divisor }
         requires exact { HasQuotient self divisor }
         ensures { result ≡ cut self divisor }
     {

@@ -8,8 +8,3 @@ pub returns-then-next_begins_on-eq4 : goal.returns-then-next_begins_on-eq4
 returns-then-next_begins_on-eq4 c =
     let is = weeks_in_year-is c.args.year in
     grind (arith, ints, nat_tests)
-
-pub returns-else-next_begins_on-eq4 : goal.returns-else-next_begins_on-eq4
-returns-else-next_begins_on-eq4 c =
-    let is = weeks_in_year-is c.args.year in
-    grind (arith, ints, nat_tests)

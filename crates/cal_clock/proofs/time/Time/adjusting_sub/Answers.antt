@@ -1,7 +1,7 @@
 use Rattle.std.proofs.Common.{◌≡◌, pos, ◌+ℤ◌, ◌-ℤ◌, ◌*ℤ◌, arith}
 use Rattle.std.proofs.lemmas.Int.{ints}
-use Rattle.cal_span.specs.SignedDuration.{day}
-use Rattle.cal_clock.specs.Time.{whole_days, carry}
+use Rattle.cal_span.specs.SignedDuration.{day, whole_days}
+use Rattle.cal_clock.specs.Time.{carry}
 use Rattle.cal_clock.proofs.Days.{moved-back}
 use Rattle.cal_clock.proofs.time.Time.adjusting_sub.Goals as goal
 

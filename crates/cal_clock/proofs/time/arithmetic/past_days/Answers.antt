@@ -1,8 +1,7 @@
 use Rattle.std.proofs.Common.{◌≡◌, pos, ◌+ℤ◌, ◌*ℤ◌, ◌<◌, ◌≤ℤ◌, ℤ, FitsSigned, unsigned_abs, sym, subst, ap, ◌∙◌, rules}
 use Rattle.std.specs.Int.{w32, w64}
 use Rattle.std.proofs.lemmas.Int.{to_z-of_z}
-use Rattle.cal_span.specs.SignedDuration.{day, past_second}
-use Rattle.cal_clock.specs.Time.{whole_days}
+use Rattle.cal_span.specs.SignedDuration.{day, past_second, whole_days}
 use Rattle.cal_clock.proofs.Days.{rest-of, computed-rest}
 use Rattle.cal_clock.proofs.time.arithmetic.past_days.Goals as goal
 

@@ -1,17 +1,31 @@
-use Rattle.std.proofs.Common.{◌≡◌, pos, ◌+ℤ◌, ◌*ℤ◌, FitsSigned, int_rem, subst, rules, arith}
-use Rattle.std.specs.Int.{w64}
-use Rattle.std.proofs.lemmas.Int.{ints, quot-rem, rem_below}
-use Rattle.cal_span.specs.SignedDuration.{second, IsDuration, IsWithin}
-use Rattle.cal_span.proofs.Carry.{IsDuration-sum}
+use Rattle.std.proofs.Common.{◌≡◌, pos, ◌+ℤ◌, ◌-ℤ◌, ◌*ℤ◌, FitsSigned, subst, rules, arith}
+use Rattle.std.specs.Int.{w32, w64}
+use Rattle.std.proofs.lemmas.Int.{ints, to_z-of_z}
+use Rattle.cal_span.specs.SignedDuration.{second}
+use Rattle.cal_span.proofs.Carry.{carry-whole, IsDuration-carried}
 use Rattle.cal_span.proofs.signed_duration.SignedDuration.checked_new.Goals as goal
 
-pub returns-in-Some : goal.returns-in-Some
-returns-in-Some c =
-    let parts = quot-rem c.args.nanoseconds (pos second) in
-    let small = rem_below c.args.nanoseconds (pos second) (omega arith) in
-    let fits : FitsSigned w64 c.in-Some.seconds = search rules in
-    let within : IsWithin 999_999_999 (int_rem c.args.nanoseconds (pos second)) = (omega (arith, ints), omega (arith, ints)) in
-    let whole : c.in-Some.seconds *ℤ pos second +ℤ int_rem c.args.nanoseconds (pos second) ≡ c.args.seconds *ℤ pos second +ℤ c.args.nanoseconds = omega (arith, ints, c.in-Some.ensures) in (
-      subst IsDuration whole (IsDuration-sum c.in-Some.seconds (int_rem c.args.nanoseconds (pos second)) fits within),
-      omega (arith, ints, c.of_one_sign.ensures),
+pub invariant_of-result : goal.invariant_of-result
+invariant_of-result c =
+    let s = c.ranges.seconds in
+    let n = c.ranges.nanoseconds in
+    let r : FitsSigned w32 c.carry_of-carry.result = search rules in
+    let carry = simp to_z-of_z at c.carry_of-carry.ensures in
+    let fits : FitsSigned w64 c.in_ok-checked_add.field-0 = search rules in
+    let product : FitsSigned w32 (c.carry_of-carry.result *ℤ pos second) = omega (arith, ints, carry.at_least, carry.at_most) in
+    let past : FitsSigned w32 (c.args.nanoseconds -ℤ c.carry_of-carry.result *ℤ pos second) = omega (arith, ints, carry.normal.above, carry.normal.below) in
+    let sum : c.in_ok-checked_add.field-0 ≡ c.args.seconds +ℤ c.carry_of-carry.result = omega (arith, ints, c.in_ok-checked_add.ensures) in
+    simp to_z-of_z (rw sum carry.normal)
+
+pub returns : goal.returns
+returns c =
+    let s = c.ranges.seconds in
+    let n = c.ranges.nanoseconds in
+    let r : FitsSigned w32 c.carry_of-carry.result = search rules in
+    let carry = simp to_z-of_z at c.carry_of-carry.ensures in
+    let fits : FitsSigned w64 c.in_ok-checked_add.field-0 = search rules in
+    let sum : c.in_ok-checked_add.field-0 ≡ c.args.seconds +ℤ c.carry_of-carry.result = omega (arith, ints, c.in_ok-checked_add.ensures) in
+    let whole = carry-whole c.args.seconds c.args.nanoseconds c.carry_of-carry.result in (
+      IsDuration-carried c.args.seconds c.args.nanoseconds c.carry_of-carry.result carry (subst (FitsSigned w64) sum fits),
+      omega (arith, ints, carry.at_least, carry.at_most),
     )

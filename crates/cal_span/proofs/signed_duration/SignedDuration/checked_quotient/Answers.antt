@@ -1,112 +1,32 @@
-use Rattle.std.proofs.Common.{FitsSigned, int_div, subst, sym, rules, arith}
-use Rattle.std.specs.Int.{w32, w64}
-use Rattle.std.proofs.lemmas.Int.{ints, to_z-of_z}
-use Rattle.cal_span.specs.SignedDuration.{IsDuration}
-use Rattle.cal_span.proofs.Carry.{IsDuration-fields, seconds-fit}
-use Rattle.cal_span.proofs.Quotient.{divided, quotient-fits, quotient_of, rest_of, bits-above, not-zero}
+use Rattle.std.proofs.Common.{◌≡◌, ◌≢◌, ◌+◌, ◌*◌, ◌/◌, ◌%◌, ◌<◌, ℕ, pos, unsigned_abs, of_z, ap, ◌∙◌, subst, sym, arith}
+use Rattle.std.specs.Int.{w64}
+use Rattle.std.proofs.lemmas.Int.{to_z-of_z}
+use Rattle.cal_span.specs.SignedDuration.{second, with_sign}
+use Rattle.cal_span.proofs.Quotient.{long-division, rest-below, cut-signs, size-above, quotient-along}
 use Rattle.cal_span.proofs.signed_duration.SignedDuration.checked_quotient.Goals as goal
 
-pub overflow_mul-nanoseconds : goal.overflow_mul-nanoseconds
-overflow_mul-nanoseconds c =
-    let s : FitsSigned w64 c.self.inside.seconds = search rules in
-    let k = c.ranges.divisor in
-    let can = simp to_z-of_z at c.in-Some.ensures in
-    let apart = not-zero c.args.divisor can.0.0 in
-    let d = divided c.self.inside c.args.self c.args.divisor c.self.invariant c.self.view_is apart in
-    let fits = quotient-fits c.self.inside c.args.self c.args.divisor d apart c.requires in
-    let rem = fits.rem_fits in
-    simp to_z-of_z fits.product_fits
+-- the second quotient in the code, by the magnitudes
+past-below : (s n size v k : ℕ) → 0 < k → s ≡ v / second → n ≡ v % second → size ≡ k → (s % size * second + n) / size < second
+past-below s n size v k above is_s is_n is_size =
+    subst (λ x. x < second) (sym (λ t. (is_s t % is_size t * second + is_n t) / is_size t)) (rest-below v k above)
 
-pub overflow_add-nanoseconds : goal.overflow_add-nanoseconds
-overflow_add-nanoseconds c =
-    let s : FitsSigned w64 c.self.inside.seconds = search rules in
+pub checked_of_magnitude-requires : goal.checked_of_magnitude-requires
+checked_of_magnitude-requires c =
     let k = c.ranges.divisor in
-    let can = simp to_z-of_z at c.in-Some.ensures in
-    let apart = not-zero c.args.divisor can.0.0 in
-    let d = divided c.self.inside c.args.self c.args.divisor c.self.invariant c.self.view_is apart in
-    let fits = quotient-fits c.self.inside c.args.self c.args.divisor d apart c.requires in
-    let rem = fits.rem_fits in
-    let product = fits.product_fits in
-    let n : FitsSigned w32 c.self.inside.nanoseconds = search rules in
-    let wide : FitsSigned w64 c.self.inside.nanoseconds = omega (arith, ints) in
-    simp to_z-of_z fits.rest_fits
+    let apart : c.args.divisor ≢ pos 0 = λ e. c.if-divisor-eq0.false (ap (of_z w64) e) in
+    let magnitude = c.unsigned_abs-seconds.ensures in
+    past-below _ _ _ (unsigned_abs c.args.self) (unsigned_abs c.args.divisor) (size-above c.args.divisor apart) magnitude.seconds (c.from.ensures ∙ magnitude.nanoseconds) (simp to_z-of_z at c.unsigned_abs-size.ensures.value)
 
-pub nonzero_div-nanoseconds : goal.nonzero_div-nanoseconds
-nonzero_div-nanoseconds c =
-    let s : FitsSigned w64 c.self.inside.seconds = search rules in
-    let k = c.ranges.divisor in
-    let can = simp to_z-of_z at c.in-Some.ensures in
-    let apart = not-zero c.args.divisor can.0.0 in
-    let d = divided c.self.inside c.args.self c.args.divisor c.self.invariant c.self.view_is apart in
-    let fits = quotient-fits c.self.inside c.args.self c.args.divisor d apart c.requires in
-    let rem = fits.rem_fits in
-    let product = fits.product_fits in
-    let n : FitsSigned w32 c.self.inside.nanoseconds = search rules in
-    let wide : FitsSigned w64 c.self.inside.nanoseconds = omega (arith, ints) in
-    let rest = fits.rest_fits in
-    let past = fits.past_fits in
-    let past_wide : FitsSigned w64 (int_div (rest_of c.self.inside c.args.divisor) c.args.divisor) = omega (arith, ints) in
-    (can.0.0, simp to_z-of_z past_wide)
+pub overflow_cast-rest-2 : goal.overflow_cast-rest-2
+overflow_cast-rest-2 c = omega (arith, checked_of_magnitude-requires c)
 
-pub overflow_cast-result : goal.overflow_cast-result
-overflow_cast-result c =
-    let s : FitsSigned w64 c.self.inside.seconds = search rules in
+pub returns : goal.returns
+returns c =
     let k = c.ranges.divisor in
-    let can = simp to_z-of_z at c.in-Some.ensures in
-    let apart = not-zero c.args.divisor can.0.0 in
-    let d = divided c.self.inside c.args.self c.args.divisor c.self.invariant c.self.view_is apart in
-    let fits = quotient-fits c.self.inside c.args.self c.args.divisor d apart c.requires in
-    let rem = fits.rem_fits in
-    let product = fits.product_fits in
-    let n : FitsSigned w32 c.self.inside.nanoseconds = search rules in
-    let wide : FitsSigned w64 c.self.inside.nanoseconds = omega (arith, ints) in
-    let rest = fits.rest_fits in
-    let past = fits.past_fits in
-    let past_wide : FitsSigned w64 (int_div (rest_of c.self.inside c.args.divisor) c.args.divisor) = omega (arith, ints) in
-    simp to_z-of_z past
-
-pub invariant_of-result : goal.invariant_of-result
-invariant_of-result c =
-    let s : FitsSigned w64 c.self.inside.seconds = search rules in
-    let k = c.ranges.divisor in
-    let can = simp to_z-of_z at c.in-Some.ensures in
-    let apart = not-zero c.args.divisor can.0.0 in
-    let d = divided c.self.inside c.args.self c.args.divisor c.self.invariant c.self.view_is apart in
-    let fits = quotient-fits c.self.inside c.args.self c.args.divisor d apart c.requires in
-    let rem = fits.rem_fits in
-    let product = fits.product_fits in
-    let n : FitsSigned w32 c.self.inside.nanoseconds = search rules in
-    let wide : FitsSigned w64 c.self.inside.nanoseconds = omega (arith, ints) in
-    let rest = fits.rest_fits in
-    let past = fits.past_fits in
-    let past_wide : FitsSigned w64 (int_div (rest_of c.self.inside c.args.divisor) c.args.divisor) = omega (arith, ints) in
-    let seconds : FitsSigned w64 c.in-Some.seconds = search rules in
-    simp to_z-of_z (rw can.1 d.normal)
-
-pub returns-in-Some : goal.returns-in-Some
-returns-in-Some c =
-    let s : FitsSigned w64 c.self.inside.seconds = search rules in
-    let k = c.ranges.divisor in
-    let can = simp to_z-of_z at c.in-Some.ensures in
-    let apart = not-zero c.args.divisor can.0.0 in
-    let d = divided c.self.inside c.args.self c.args.divisor c.self.invariant c.self.view_is apart in
-    let fits = quotient-fits c.self.inside c.args.self c.args.divisor d apart c.requires in
-    let rem = fits.rem_fits in
-    let product = fits.product_fits in
-    let n : FitsSigned w32 c.self.inside.nanoseconds = search rules in
-    let wide : FitsSigned w64 c.self.inside.nanoseconds = omega (arith, ints) in
-    let rest = fits.rest_fits in
-    let past = fits.past_fits in
-    let past_wide : FitsSigned w64 (int_div (rest_of c.self.inside c.args.divisor) c.args.divisor) = omega (arith, ints) in
-    let seconds : FitsSigned w64 c.in-Some.seconds = search rules in
-    let whole = IsDuration-fields (quotient_of c.self.inside c.args.divisor) d.normal can.0.1 in
-    (record { divisor = apart; quotient = subst IsDuration d.number whole }, simp to_z-of_z (rw can.1 d.number))
-
-pub returns-in-None : goal.returns-in-None
-returns-in-None c = λ q.
-    let s : FitsSigned w64 c.self.inside.seconds = search rules in
-    let k = c.ranges.divisor in
-    let h = simp to_z-of_z at c.in-None.ensures in
-    let d = divided c.self.inside c.args.self c.args.divisor c.self.invariant c.self.view_is q.divisor in
-    let parts = quotient_of c.self.inside c.args.divisor in
-    h (bits-above c.args.divisor k q.divisor, seconds-fit parts.seconds parts.nanoseconds d.normal.positive d.normal.negative (subst IsDuration (sym d.number) q.quotient))
+    let apart : c.args.divisor ≢ pos 0 = λ e. c.if-divisor-eq0.false (ap (of_z w64) e) in
+    let size = simp to_z-of_z at c.unsigned_abs-size.ensures.value in
+    let seconds = c.unsigned_abs-seconds.ensures.seconds in
+    let past = c.from.ensures ∙ c.unsigned_abs-seconds.ensures.nanoseconds in
+    let whole = (λ t. seconds t / size t * second + (seconds t % size t * second + past t) / size t) ∙ long-division (unsigned_abs c.args.self) (unsigned_abs c.args.divisor) (size-above c.args.divisor apart) in
+    let signs = cut-signs c.args.self c.args.divisor c.is_negative.result c.is_negative.ensures apart in
+    quotient-along c.checked_of_magnitude.result _ c.args.self c.args.divisor apart (ap (with_sign _) whole ∙ signs) (simp to_z-of_z at c.checked_of_magnitude.ensures)

@@ -2,7 +2,7 @@ use Rattle.std.proofs.Common.{◌≡◌, pos, ◌+ℤ◌, ◌-ℤ◌, ◌*ℤ◌
 use Rattle.std.specs.Int.{w32, w64}
 use Rattle.std.proofs.lemmas.Int.{ints, to_z-of_z}
 use Rattle.cal_span.specs.SignedDuration.{second, IsDuration}
-use Rattle.cal_span.proofs.Carry.{sub-fits-apart, sub-fits-over, sub-overflow, exact-along}
+use Rattle.cal_span.proofs.Carry.{CanCarry-difference, difference-fields, sub-fits-apart, sub-fits-over, sub-overflow, exact-along}
 use Rattle.cal_span.proofs.signed_duration.SignedDuration.checked_sub.Goals as goal
 use Rattle.cal_span.proofs.signed_duration.SignedDuration.checked_sub.Goals.{then-self-eq0+else-nanoseconds-lt0, else-self-eq0}
 
@@ -27,18 +27,29 @@ invariant_of-result c =
     let right : c.rhs.inside.nanoseconds ≤ℤ pos 0 = c.rhs.invariant.negative (omega (arith, ints)) in
     simp to_z-of_z (record { above = omega (arith, ints); below = omega (arith, ints); positive = λ h. omega (arith, ints); negative = λ h. omega (arith, ints) })
 
-pub returns-in-Some : goal.returns-in-Some
-returns-in-Some c =
+pub checked_new-requires : goal.checked_new-requires
+checked_new-requires c =
+    let can = CanCarry-difference c.self.inside c.rhs.inside c.self.invariant c.rhs.invariant in
     let a : FitsSigned w64 c.self.inside.seconds = search rules in
     let b : FitsSigned w64 c.rhs.inside.seconds = search rules in
     let m : FitsSigned w32 c.self.inside.nanoseconds = search rules in
     let n : FitsSigned w32 c.rhs.inside.nanoseconds = search rules in
-    let mn : FitsSigned w32 (c.self.inside.nanoseconds -ℤ c.rhs.inside.nanoseconds) = omega (arith, ints) in
-    let wide : FitsSigned w64 (c.self.inside.nanoseconds -ℤ c.rhs.inside.nanoseconds) = omega (arith, ints) in
+    let mn : FitsSigned w32 (c.self.inside.nanoseconds -ℤ c.rhs.inside.nanoseconds) = omega (arith, ints, can.above, can.below) in
     let s : FitsSigned w64 c.in-Some.seconds = search rules in
-    let h = simp to_z-of_z at c.checked_new.ensures in
     let k = simp to_z-of_z at c.in-Some.ensures in
-    exact-along c.checked_new.result (c.in-Some.seconds *ℤ pos second +ℤ (c.self.inside.nanoseconds -ℤ c.rhs.inside.nanoseconds)) (c.args.self -ℤ c.args.rhs) (omega (arith, ints)) h
+    simp to_z-of_z (rw k.1 can)
+
+pub returns-in-Some : goal.returns-in-Some
+returns-in-Some c =
+    let can = CanCarry-difference c.self.inside c.rhs.inside c.self.invariant c.rhs.invariant in
+    let a : FitsSigned w64 c.self.inside.seconds = search rules in
+    let b : FitsSigned w64 c.rhs.inside.seconds = search rules in
+    let m : FitsSigned w32 c.self.inside.nanoseconds = search rules in
+    let n : FitsSigned w32 c.rhs.inside.nanoseconds = search rules in
+    let mn : FitsSigned w32 (c.self.inside.nanoseconds -ℤ c.rhs.inside.nanoseconds) = omega (arith, ints, can.above, can.below) in
+    let s : FitsSigned w64 c.in-Some.seconds = search rules in
+    let k = simp to_z-of_z at c.in-Some.ensures in
+    exact-along c.checked_new.result (c.in-Some.seconds *ℤ pos second +ℤ (c.self.inside.nanoseconds -ℤ c.rhs.inside.nanoseconds)) (c.args.self -ℤ c.args.rhs) (rw k.1 (difference-fields c.self.inside c.rhs.inside c.args.self c.args.rhs c.self.view_is c.rhs.view_is)) (simp to_z-of_z at c.checked_new.ensures)
 
 pub returns-in-None : goal.returns-in-None
 returns-in-None c =

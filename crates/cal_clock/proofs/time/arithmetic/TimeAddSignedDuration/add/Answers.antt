@@ -1,5 +1,6 @@
 use Rattle.std.proofs.Common.{pos, ◌+ℤ◌, sym}
-use Rattle.cal_clock.specs.Time.{whole_days, carry}
+use Rattle.cal_clock.specs.Time.{carry}
+use Rattle.cal_span.specs.SignedDuration.{whole_days}
 use Rattle.cal_clock.proofs.Days.{modulo_day-is}
 use Rattle.cal_clock.proofs.time.arithmetic.TimeAddSignedDuration.add.Goals as goal
 

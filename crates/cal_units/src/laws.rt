@@ -1,0 +1,61 @@
+//! What callers rest on and no clause of a call says: a clone is the value itself, `as u8` gives the number, and a walk asks of a
+//! closure no more than that it may always be called.
+//!
+//! Derives and discriminants have no clauses, so a function that clones or casts says what comes of it.
+ghost use Rattle.std.specs.Prelude.{◌≡◌, Ok};
+ghost use Rattle.cal_units.specs.Month.{number};
+ghost use Rattle.cal_units.specs.Weekday.{place};
+
+use crate::cycle::Cycle;
+use crate::error::{ComponentRange, ConversionRange, InvalidVariant};
+use crate::iter::CycleIter;
+use crate::month::Month;
+use crate::util::DateAdjustment;
+use crate::weekday::Weekday;
+use std::alloc::AllocError;
+
+/// A clone of a month, a weekday or a step into another day is the value itself.
+pub(crate) fn clones_of_units(
+    month: Month,
+    weekday: Weekday,
+    adjustment: DateAdjustment,
+) -> Result<(Month, Weekday, DateAdjustment), AllocError>
+    ensures { result ≡ Ok (month, weekday, adjustment) }
+{
+    Ok((month.clone()?, weekday.clone()?, adjustment.clone()?))
+}
+
+/// A clone of an error is the error itself.
+pub(crate) fn clones_of_errors(
+    component: ComponentRange,
+    conversion: ConversionRange,
+    variant: InvalidVariant,
+) -> Result<(ComponentRange, ConversionRange, InvalidVariant), AllocError>
+    ensures { result ≡ Ok (component, conversion, variant) }
+{
+    Ok((component.clone()?, conversion.clone()?, variant.clone()?))
+}
+
+/// A month as a number is its number in the year: January is 1.
+pub(crate) fn month_as_number(month: Month) -> u8
+    ensures { result ≡ number month }
+{
+    month as u8
+}
+
+/// A weekday as a number is the number of days since Monday.
+pub(crate) fn weekday_as_number(weekday: Weekday) -> u8
+    ensures { result ≡ place weekday }
+{
+    weekday as u8
+}
+
+/// What all and any answer, forwards and backwards, for a caller that knows no more than that `f` may always be called.
+pub(crate) fn questions<C: Cycle, F: FnMut(C) -> bool + Copy>(start: C, f: F) -> [bool; 4]
+    requires { F.IsAlwaysCallable f }
+{
+    let mut walk = CycleIter::new(start);
+    let (all, any) = (walk.all_once(f), walk.any_once(f));
+    let mut back = walk.rev();
+    [all, any, back.all_once(f), back.any_once(f)]
+}
