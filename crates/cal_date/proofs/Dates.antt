@@ -1,6 +1,6 @@
 -- Each number of the count has its ordinal date, and each ordinal date of the range its number.
-use Rattle.std.proofs.Common.{◌≡◌, ℕ, suc, ◌+◌, ◌-◌, ◌<◌, sym, ap, ◌∙◌, arith, ℤ, pos, ◌+ℤ◌, ◌-ℤ◌, ◌≤ℤ◌, unsigned_abs}
-use Rattle.std.proofs.lemmas.Int.{ints}
+use Rattle.std.proofs.Common.{◌≡◌, ℕ, suc, ◌+◌, ◌-◌, ◌<◌, sym, ap, ◌∙◌, arith, ℤ, pos, ◌+ℤ◌, ◌-ℤ◌, ◌≤ℤ◌, unsigned_abs, to_z, of_z, w32, FitsSigned}
+use Rattle.std.proofs.lemmas.Int.{ints, to_z-of_z}
 use Rattle.cal_units.specs.Lengths.{days_in_year}
 use Rattle.cal_date.specs.Date.{first_year, year_at, ordinal_at, IsYear, IsDate, IsOrdinal, HasOrdinalDate, NoDate}
 use Rattle.cal_date.specs.CountLaws.{days_of_years, days_before, in_year, year_start}
@@ -30,7 +30,7 @@ stands_in n i j h e =
       number_is = rw years (omega arith);
     }
 
-stands : (n : ℕ) → StandsAt (year_at n) (ordinal_at n) n
+pub stands : (n : ℕ) → StandsAt (year_at n) (ordinal_at n) n
 stands n =
     let found = year_of (suc n) n (omega (arith, days_of_years-closed (suc n))) in
     let at = stands_in n found.0 found.1 found.3 found.4 in
@@ -57,6 +57,10 @@ IsDate-ordinal_number y o h f = omega (arith, days_before-IsYear y h)
 
 pub HasOrdinalDate-ordinal_number : (y : ℤ) (o : ℕ) → IsYear y → IsOrdinal y o → HasOrdinalDate y o (ordinal_number y o)
 HasOrdinalDate-ordinal_number y o h f = HasOrdinalDate-number_of (record { year = y; ordinal = o }) (h, f)
+
+-- a year of the range is an i32
+pub IsYear-i32 : (y : ℤ) → IsYear y → to_z w32 (of_z w32 y) ≡ y
+IsYear-i32 y h = let fits : FitsSigned w32 y = grind (arith, ints) in to_z-of_z w32 y fits
 
 -- so there is no day for another ordinal date
 pub NoDate-ordinal_date : (y : ℤ) (o : ℕ) → ¬ (IsYear y × IsOrdinal y o) → NoDate (HasOrdinalDate y o)

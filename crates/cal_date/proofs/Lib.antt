@@ -1,2 +1,13 @@
-pub mod Years
+pub mod Calendar
+pub mod DateIters
+pub mod DateOrder
+pub mod DateTexts
 pub mod Dates
+pub mod IsoWeeks
+pub mod Moves
+pub mod Neighbours
+pub mod Occurrences
+pub mod Order
+pub mod Rising
+pub mod Weekdays
+pub mod Years

@@ -55,6 +55,10 @@ days_before-IsYear y h =
     let next : unsigned_abs ((y +ℤ pos 1) -ℤ first_year) ≡ suc k = omega (arith, ints) in
     omega (arith, ints, days_before-next y h.0, ap days_of_years next, days_of_years-closed (suc k))
 
+-- the last year ends with the last day of the range
+pub days_before-last : days_before last_year + days_in_year last_year ≡ last_day + 1
+days_before-last = omega (arith, days_of_years-closed 19998)
+
 -- the last day of the range is the last of its last year
 pub day_at-last_day : day_at last_day ≡ calendar_day last_year 12 31
 day_at-last_day =

@@ -1,5 +1,5 @@
 -- Laws of the count of days: where each month and each year begins, and how many days the first years have.
-use Rattle.std.proofs.Common.{◌≡◌, ℕ, zero, suc, ◌+◌, ◌-◌, ◌<◌, ◌≤◌, refl, sym, ap, ◌∙◌, arith, ℤ, pos, ◌+ℤ◌, ◌-ℤ◌, ◌≤ℤ◌, unsigned_abs, true, false, lit<, add-zero, inl, inr, add-one, add_assoc}
+use Rattle.std.proofs.Common.{◌≡◌, ℕ, zero, suc, ◌+◌, ◌-◌, ◌<◌, ◌≤◌, refl, ap, ◌∙◌, arith, ℤ, pos, ◌+ℤ◌, ◌-ℤ◌, ◌≤ℤ◌, unsigned_abs, true, false, lit<, add-zero, inl, inr, add-one, add_assoc}
 use Rattle.std.proofs.lemmas.Bool.{cases_lt}
 use Rattle.std.proofs.lemmas.Int.{ints}
 use Rattle.std.proofs.lemmas.Bool.Decides.{nat_tests}
@@ -33,7 +33,7 @@ day_after-next_year : (y : ℤ) → day_after (calendar_day y 12 31) ≡ calenda
 unfolding day_after days_in_month
 day_after-next_year y = refl
 
-days_in_month-bound : (y : ℤ) (m : ℕ) → 0 < m → m ≤ 12 → 28 ≤ days_in_month y m
+pub days_in_month-bound : (y : ℤ) (m : ℕ) → 0 < m → m ≤ 12 → 28 ≤ days_in_month y m
 unfolding days_in_month
 days_in_month-bound y m low high = grind (arith, nat_tests)
 
@@ -87,7 +87,7 @@ month_start n y (suc k) e h =
     }
 
 -- the months make up the year
-days_of_months-all : (y : ℤ) → days_of_months y 12 ≡ days_in_year y
+pub days_of_months-all : (y : ℤ) → days_of_months y 12 ≡ days_in_year y
 unfolding days_of_months days_in_month
 days_of_months-all y = grind (arith, nat_tests)
 
@@ -113,14 +113,33 @@ month_of y (suc k) j h =
 abbrev pub IsYearStart : ℕ → ℤ → Type 0
 IsYearStart n y = IsDayAt n y 1 1 1
 
+-- so many months and days into a year stands this day
+pub in_months : (n : ℕ) (y : ℤ) (i d : ℕ) → IsYearStart n y → i < 12 → d < days_in_month y (i + 1)
+    → IsDayAt (n + (days_of_months y i + d)) y (i + 1) (d + 1) (days_of_months y i + d + 1)
+in_months n y i d e low h =
+    let here = in_month (n + days_of_months y i) d y (i + 1) (1 + days_of_months y i) (month_start n y i e low) h in
+    let sums : n + days_of_months y i + d ≡ n + (days_of_months y i + d) = omega arith in
+    rw (← sums) (record { day_is = here.day_is; ordinal_is = here.ordinal_is ∙ omega arith })
+
+-- each place in a year is so many months and days into it
+pub record IsInMonth (y : ℤ) (j : ℕ) : Type 0 where
+  pub months : ℕ
+  pub days : ℕ
+  pub months_below : months < 12
+  pub days_below : days < days_in_month y (months + 1)
+  pub place_is : j ≡ days_of_months y months + days
+
+pub place_in_year : (y : ℤ) (j : ℕ) → j < days_in_year y → IsInMonth y j
+place_in_year y j h =
+    let found = month_of y 12 j (rw (days_of_months-all y) h) in
+    record { months = found.0; days = found.1; months_below = found.2; days_below = found.3; place_is = found.4 }
+
 -- the days of one year follow one another
 pub in_year : (n : ℕ) (y : ℤ) (j : ℕ) → IsYearStart n y → j < days_in_year y → HasOrdinalDate y (j + 1) (n + j)
 in_year n y j e h =
-    let found = month_of y 12 j (rw (days_of_months-all y) h) in
-    let start = month_start n y found.0 e (omega arith) in
-    let here = in_month (n + days_of_months y found.0) found.1 y (found.0 + 1) (1 + days_of_months y found.0) start found.3 in
-    let sums : n + days_of_months y found.0 + found.1 ≡ n + j = omega arith in
-    (ap year_at (sym sums) ∙ ap (λ d. d.year) here.day_is, ap ordinal_at (sym sums) ∙ here.ordinal_is ∙ omega arith)
+    let at = place_in_year y j h in
+    let here = in_months n y at.months at.days e at.months_below at.days_below in
+    (ap year_at (ap (λ k. n + k) at.place_is) ∙ ap (λ d. d.year) here.day_is, ap ordinal_at (ap (λ k. n + k) at.place_is) ∙ here.ordinal_is ∙ omega (arith, at.place_is))
 
 -- 31 December is the last day of the year
 pub year_end : (n : ℕ) (y : ℤ) → IsYearStart n y → IsDayAt (n + (days_in_year y - 1)) y 12 31 (days_in_year y)

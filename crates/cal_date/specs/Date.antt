@@ -1,6 +1,6 @@
 -- A date is its number in the count of days, which goes one day at a time from the first day of the range on.
 use Rattle.std.specs.Prelude.{◌≡◌, ℕ, zero, suc, ◌+◌, ◌%◌, ◌≤◌, if◌then◌else◌, ℤ, pos, neg_ℤ, ◌+ℤ◌, ◌≤ℤ◌}
-use Rattle.cal_units.specs.Lengths.{days_in_year}
+use Rattle.cal_units.specs.Lengths.{days_in_year, days_in_month}
 use Rattle.cal_date.specs.CalendarDay.{CalendarDay, calendar_day, day_after, is_first_of_january}
 
 -- The range: the years -9999 to 9999. Day 0 is 1 January of its first year, and has this Julian day;
@@ -33,6 +33,12 @@ day_at (suc n) = day_after (day_at n)
 abbrev pub year_at : ℕ → ℤ
 year_at n = (day_at n).year
 
+abbrev pub month_at : ℕ → ℕ
+month_at n = (day_at n).month
+
+abbrev pub day_of_month_at : ℕ → ℕ
+day_of_month_at n = (day_at n).day
+
 -- the ordinal: 1 on each 1 January, and one more from day to day
 unfoldable pub ordinal_at : ℕ → ℕ
 ordinal_at zero = 1
@@ -47,9 +53,17 @@ weekday_at (suc n) = (weekday_at n + 1) % 7
 abbrev pub julian_day_at : ℕ → ℤ
 julian_day_at n = first_julian_day +ℤ pos n
 
+-- a day that the month of the year has
+abbrev pub IsDayOfMonth : ℤ → ℕ → ℕ → Type 0
+IsDayOfMonth y m d = (1 ≤ d) × (d ≤ days_in_month y m)
+
 -- an ordinal that the year has
 abbrev pub IsOrdinal : ℤ → ℕ → Type 0
 IsOrdinal y o = (1 ≤ o) × (o ≤ days_in_year y)
+
+-- day n has this calendar date
+abbrev pub HasCalendarDate : ℤ → ℕ → ℕ → ℕ → Type 0
+HasCalendarDate y m d n = day_at n ≡ calendar_day y m d
 
 -- day n has this ordinal date
 abbrev pub HasOrdinalDate : ℤ → ℕ → ℕ → Type 0

@@ -2,6 +2,12 @@ pub mod CalendarDay
 pub mod CountLaws
 pub mod Date
 pub mod DateFields
+pub mod DateIter
+pub mod DateText
+pub mod IsoWeekDate
+pub mod Move
+pub mod Occurrence
+pub mod Order
 pub mod Refusals
 -- what an error says, for the crates above
 pub use Rattle.cal_units.specs.Refusal

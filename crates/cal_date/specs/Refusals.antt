@@ -5,6 +5,15 @@ use Rattle.cal_units.specs.Refusal.{Refusal, unconditional, conditional}
 abbrev pub year_out_of_range : Refusal
 year_out_of_range = unconditional (codes "year")
 
+abbrev pub day_out_of_range : Refusal
+day_out_of_range = conditional (codes "day")
+
+abbrev pub week_out_of_range : Refusal
+week_out_of_range = conditional (codes "week")
+
+abbrev pub weekday_out_of_range : Refusal
+weekday_out_of_range = conditional (codes "weekday")
+
 abbrev pub ordinal_out_of_range : Refusal
 ordinal_out_of_range = conditional (codes "ordinal")
 

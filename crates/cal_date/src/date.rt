@@ -1,14 +1,21 @@
 //! Dates.
-ghost use Rattle.std.specs.Prelude.{◌≡◌, ℕ, ◌<◌, ◌<ℤ◌, ◌↔◌, ◌==◌, IfOk, IfErr, IsErr, ◌⊎◌, Ok};
-ghost use Rattle.std.proofs.Common.{rules};
-ghost use Rattle.std.specs.Cmp.Rules.{comparing};
-ghost use Rattle.cal_date.specs.Date.{year_at, ordinal_at, julian_day_at, IsDate, IsYear, IsOrdinal, HasOrdinalDate, HasJulianDay, NoDate};
+ghost use Rattle.std.specs.Prelude.{◌≡◌, ℕ, ◌+◌, ◌-◌, ◌<◌, pos, ◌<ℤ◌, ◌↔◌, IfOk, IfErr, IsErr, SomeIff, ◌⊎◌, Ok, [], ◌∷◌};
+ghost use Rattle.cal_date.specs.Date.{last_day, year_at, ordinal_at, julian_day_at, IsDate, IsYear, IsOrdinal, HasOrdinalDate, HasJulianDay, NoDate};
+ghost use Rattle.cal_date.specs.Order.{IsBefore, ordinal_date_at};
 ghost use Rattle.cal_units.specs.Refusal.{refusal, IsRefused};
 ghost use Rattle.cal_date.specs.Refusals.{year_out_of_range, ordinal_out_of_range, julian_day_out_of_range};
 
 use crate::error::ComponentRange;
 use cal_units::util::days_in_year;
 use std::marker::Model;
+
+mod arithmetic;
+mod calendar;
+mod display;
+mod iso_week;
+mod occurrences;
+mod order;
+mod replacement;
 
 const MIN_YEAR: i32 = -9999;
 
@@ -18,11 +25,13 @@ const MIN_JULIAN_DAY: i32 = -1_930_999;
 
 const MAX_JULIAN_DAY: i32 = 5_373_484;
 
+const LAST_NUMBER: u32 = 7_304_483;
+
 /// A day of the proleptic Gregorian calendar, from -9999-01-01 to 9999-12-31.
 ///
 /// Years are astronomical, as in ISO 8601: the year 0 stands before the year 1, and -1 before that. Contracts see a date
 /// as its number in the count of days, from 0 at -9999-01-01 to 7304483 at 9999-12-31.
-#[derive(Clone, Copy, Debug)]
+#[derive(Clone, Copy)]
 pub struct Date {
     year: i32,
     ordinal: u16,
@@ -42,20 +51,6 @@ impl Model for Date {
     ghost inverse = { fields_at };
 
     ghost inverse_ok = { fields_at-number_of };
-}
-
-impl PartialEq for Date {
-    ghost eq = { ◌==◌ };
-
-    ghost laws = { Prim.search (comparing, rules) };
-
-    fn eq(&self, other: &Date) -> bool {
-        other.year == self.year && other.ordinal == self.ordinal
-    }
-}
-
-impl Eq for Date {
-    ghost laws = { Prim.search (comparing, rules) };
 }
 
 impl Date {
@@ -127,6 +122,14 @@ impl Date {
         self.ordinal
     }
 
+    /// The year and the ordinal, as [`Self::year`] and [`Self::ordinal`] return them: the ordinal date of ISO 8601.
+    pub fn to_ordinal_date(self) -> (i32, u16)
+        ensures date { HasOrdinalDate result.0 result.1 self }
+        ensures order { (n : ℕ) → IsDate n → (n < self) ↔ IsBefore (ordinal_date_at n) (result.0 ∷ pos result.1 ∷ []) }
+    {
+        (self.year(), self.ordinal())
+    }
+
     /// The Julian day, from -1930999 to 5373484. That of 2000-01-01 is 2451545.
     pub fn to_julian_day(self) -> i32
         ensures day { result ≡ julian_day_at self }
@@ -134,6 +137,44 @@ impl Date {
         ensures in_range { IsDate self }
     {
         MIN_JULIAN_DAY + self.number() as i32
+    }
+
+    /// The day after, or `None` after [`Self::MAX`] alone. That of 2019-12-31 is 2020-01-01.
+    pub fn next_day(self) -> Option<Self>
+        ensures { SomeIff result (self < last_day) (self + 1) }
+    {
+        if self.ordinal < days_in_year(self.year) {
+            return Some(Date {
+                year: self.year,
+                ordinal: self.ordinal + 1,
+            });
+        }
+        if self.year == MAX_YEAR {
+            return None;
+        }
+        Some(Date {
+            year: self.year + 1,
+            ordinal: 1,
+        })
+    }
+
+    /// The day before, or `None` before [`Self::MIN`] alone. That of 2020-01-01 is 2019-12-31.
+    pub fn previous_day(self) -> Option<Self>
+        ensures { SomeIff result (0 < self) (self - 1) }
+    {
+        if self.ordinal > 1 {
+            return Some(Date {
+                year: self.year,
+                ordinal: self.ordinal - 1,
+            });
+        }
+        if self.year == MIN_YEAR {
+            return None;
+        }
+        Some(Date {
+            year: self.year - 1,
+            ordinal: days_in_year(self.year - 1),
+        })
     }
 
     /// The day of that number, found from year to year, by taking away the length of one year at a time.
@@ -166,6 +207,3 @@ impl Date {
         days
     }
 }
-
-#[cfg(test)]
-mod tests;

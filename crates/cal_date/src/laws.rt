@@ -1,9 +1,12 @@
-//! The ends of the range. A constant has no clauses, so a function that gives it back says what it is.
-ghost use Rattle.std.specs.Prelude.{◌≡◌};
+//! What no clause of a constant or of a derived trait can say: functions that give them back. And the two ways to weeks.
+ghost use Rattle.std.specs.Prelude.{◌≡◌, ◌+◌, Ok};
 ghost use Rattle.cal_date.specs.CalendarDay.{calendar_day};
-ghost use Rattle.cal_date.specs.Date.{first_year, last_year, last_day, day_at};
+ghost use Rattle.cal_date.specs.Date.{first_year, last_year, last_day, day_at, IsYear};
+ghost use Rattle.cal_date.specs.IsoWeekDate.{count_before, is_weekday_of_year};
 
 use crate::date::Date;
+use cal_units::util::weeks_in_year;
+use std::alloc::AllocError;
 
 /// The first day of the range is day 0, and that is 1 January of the first year.
 pub(crate) fn first_day() -> Date
@@ -19,4 +22,19 @@ pub(crate) fn final_day() -> Date
     ensures day { day_at last_day ≡ calendar_day last_year 12 31 }
 {
     Date::MAX
+}
+
+/// A clone, which equals what it is made from.
+pub(crate) fn cloned(date: Date) -> Result<Date, AllocError>
+    ensures { result ≡ Ok date }
+{
+    date.clone()
+}
+
+/// The weeks of a year, which `cal_units` counts within that year alone, are its Thursdays in the count of all days.
+pub(crate) fn weeks_of(year: i32) -> u8
+    requires { IsYear year }
+    ensures { result ≡ count_before (is_weekday_of_year 3 year) (last_day + 1) }
+{
+    weeks_in_year(year)
 }

@@ -6,6 +6,11 @@
 
 mod date;
 pub mod error;
+pub mod iter;
 mod laws;
 
 pub use date::Date;
+pub use iter::DateIter;
+
+#[cfg(test)]
+mod tests;

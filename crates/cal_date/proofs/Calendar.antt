@@ -1,0 +1,125 @@
+-- Each number of the count has its calendar date, and each calendar date of the range its number.
+use Rattle.std.proofs.Common.{◌≡◌, refl, ℕ, ◌+◌, inl, inr, add-one, ◌-◌, ◌<◌, ◌≤◌, sym, ap, ◌∙◌, subst, arith, ℤ, ◌≤ℤ◌}
+use Rattle.std.proofs.lemmas.Bool.{cases_lt}
+use Rattle.std.proofs.lemmas.Bool.Decides.{nat_tests}
+use Rattle.cal_units.specs.Lengths.{days_in_month}
+use Rattle.cal_date.specs.CalendarDay.{calendar_day}
+use Rattle.cal_date.specs.Date.{first_year, day_at, year_at, month_at, day_of_month_at, ordinal_at, IsYear, IsDate, IsOrdinal, IsDayOfMonth, HasCalendarDate, NoDate}
+use Rattle.cal_date.specs.CountLaws.{days_of_months, days_before, in_months, place_in_year, days_of_months-all, year_start-days_before}
+use Rattle.cal_date.specs.DateFields.{number_of, IsOrdinalDate}
+use Rattle.cal_date.specs.declared.date.Date.TheInside.{Inside}
+use Rattle.cal_date.proofs.Dates.{ordinal_number, stands, in_range}
+
+-- the ordinal of so many months and days into a year, and its number
+abbrev pub ordinal_in : ℤ → ℕ → ℕ → ℕ
+ordinal_in y i d = days_of_months y i + d
+
+-- day n is so many months into a year of the count, and has that day of the month
+pub record StandsInMonth (y : ℤ) (i d n : ℕ) : Type 0 where
+  pub has : HasCalendarDate y (i + 1) d n
+  pub year : first_year ≤ℤ y
+  pub month : i < 12
+  pub day : IsDayOfMonth y (i + 1) d
+  pub ordinal_is : ordinal_at n ≡ ordinal_in y i d
+  pub number_is : n ≡ ordinal_number y (ordinal_in y i d)
+
+-- each calendar date stands in the count
+pub stands_at : (y : ℤ) (i d : ℕ) → first_year ≤ℤ y → i < 12 → IsDayOfMonth y (i + 1) d → StandsInMonth y i d (ordinal_number y (ordinal_in y i d))
+stands_at y i d late low h =
+    let here = in_months (days_before y) y i (d - 1) (year_start-days_before y late) low (omega (arith, h.0, h.1)) in
+    let number : days_before y + (days_of_months y i + (d - 1)) ≡ ordinal_number y (ordinal_in y i d) = omega (arith, h.0) in
+    let day : d - 1 + 1 ≡ d = omega (arith, h.0) in
+    record {
+      has = ap day_at (sym number) ∙ here.day_is ∙ ap (calendar_day y (i + 1)) day;
+      year = late;
+      month = low;
+      day = h;
+      ordinal_is = ap ordinal_at (sym number) ∙ here.ordinal_is ∙ omega (arith, h.0);
+      number_is = omega arith;
+    }
+
+-- and each number has its calendar date
+pub record IsInMonthOf (n : ℕ) : Type 0 where
+  pub months : ℕ
+  pub stands : StandsInMonth (year_at n) months (day_of_month_at n) n
+  pub month_is : month_at n ≡ months + 1
+
+pub in_month_of : (n : ℕ) → IsInMonthOf n
+in_month_of n =
+    let at = stands n in
+    let place = place_in_year (year_at n) (ordinal_at n - 1) (omega (arith, at.ordinal.0, at.ordinal.1)) in
+    let found = stands_at (year_at n) place.months (place.days + 1) at.year place.months_below (omega arith, omega (arith, place.days_below)) in
+    let number : ordinal_number (year_at n) (ordinal_in (year_at n) place.months (place.days + 1)) ≡ n = omega (arith, place.place_is, at.number_is) in
+    let here : StandsInMonth (year_at n) place.months (place.days + 1) n = subst (StandsInMonth (year_at n) place.months (place.days + 1)) number found in
+    let day : place.days + 1 ≡ day_of_month_at n = sym (ap (λ d. d.day) here.has) in
+    record {
+      months = place.months;
+      stands = subst (λ d. StandsInMonth (year_at n) place.months d n) day here;
+      month_is = ap (λ d. d.month) here.has;
+    }
+
+-- what a day of the range has: a year of the range, a day of that month, and so one number
+pub record IsCalendarInRange (y : ℤ) (i d n : ℕ) : Type 0 where
+  pub year : IsYear y
+  pub day : IsDayOfMonth y (i + 1) d
+  pub number_is : n ≡ ordinal_number y (ordinal_in y i d)
+
+pub calendar_in_range : (n : ℕ) (y : ℤ) (i d : ℕ) → IsDate n → HasCalendarDate y (i + 1) d n → IsCalendarInRange y i d n
+calendar_in_range n y i d h has =
+    let at = in_month_of n in
+    let year : year_at n ≡ y = ap (λ day. day.year) has in
+    let month : at.months ≡ i = omega (arith, at.month_is, ap (λ day. day.month) has) in
+    let day : day_of_month_at n ≡ d = ap (λ day. day.day) has in
+    let is : StandsInMonth y i d n = subst (λ k. StandsInMonth y k d n) month (subst (λ k. StandsInMonth y at.months k n) day (subst (λ z. StandsInMonth z at.months (day_of_month_at n) n) year at.stands)) in
+    record {
+      year = (in_range n y (ordinal_in y i d) h (year, is.ordinal_is)).year;
+      day = is.day;
+      number_is = is.number_is;
+    }
+
+-- the ordinal of a calendar date is one that the year has
+pub IsOrdinal-ordinal_in : (y : ℤ) (i d : ℕ) → first_year ≤ℤ y → i < 12 → IsDayOfMonth y (i + 1) d → IsOrdinal y (ordinal_in y i d)
+IsOrdinal-ordinal_in y i d late low h =
+    let at = stands_at y i d late low h in
+    let n = ordinal_number y (ordinal_in y i d) in
+    let year : year_at n ≡ y = ap (λ day. day.year) at.has in
+    subst (λ o. IsOrdinal y o) at.ordinal_is (subst (λ z. IsOrdinal z (ordinal_at n)) year (stands n).ordinal)
+
+-- so there is no day for another calendar date
+pub NoDate-calendar_date : (y : ℤ) (i d : ℕ) → ¬ (IsYear y × IsDayOfMonth y (i + 1) d) → NoDate (HasCalendarDate y (i + 1) d)
+NoDate-calendar_date y i d none n h has = let is = calendar_in_range n y i d h has in none (is.year, is.day)
+
+-- ---- a walk over the months of a year
+pub days_of_months-next : (y : ℤ) (i : ℕ) → days_of_months y (i + 1) ≡ days_of_months y i + days_in_month y (i + 1)
+unfolding days_of_months
+days_of_months-next y i = rw (add-one i) refl
+
+-- past the end of a month that is not the last one stands the next month
+pub record IsPastMonth (y : ℤ) (i d o : ℕ) : Type 0 where
+  pub month : i + 1 < 12
+  pub ordinal_is : ordinal_in y (i + 1) (d - days_in_month y (i + 1)) ≡ o
+
+pub past_month : (y : ℤ) (i d o : ℕ) → i < 12 → days_in_month y (i + 1) < d → ordinal_in y i d ≡ o → IsOrdinal y o → IsPastMonth y i d o
+past_month y i d o low past e h =
+    let next = days_of_months-next y i in
+    let month : i + 1 < 12 =
+    elim (cases_lt (i + 1) 12) as (λ _. i + 1 < 12) [
+      | inl less ↦ less
+      | inr most ↦ let last : i + 1 ≡ 12 = omega arith in absurd (omega (arith, days_of_months-all y, ap (days_of_months y) last, h.1))
+    ] in
+    record { month = month; ordinal_is = omega arith }
+
+-- the fields of a date that stand so many months and days into its year
+pub HasCalendarDate-number_of : (f : Inside) (i d : ℕ) → IsOrdinalDate f → i < 12 → IsDayOfMonth f.year (i + 1) d → ordinal_in f.year i d ≡ f.ordinal → HasCalendarDate f.year (i + 1) d (number_of f)
+HasCalendarDate-number_of f i d h low day e =
+    let at = stands_at f.year i d h.0.0 low day in
+    let same : ordinal_number f.year (ordinal_in f.year i d) ≡ number_of f = ap (λ o. ordinal_number f.year o) e in
+    ap day_at (sym same) ∙ at.has
+
+-- no month has more than 31 days
+pub day_of_month-most : (n : ℕ) → day_of_month_at n ≤ 31
+unfolding days_in_month
+day_of_month-most n =
+    let at = in_month_of n in
+    let most : days_in_month (year_at n) (at.months + 1) ≤ 31 = grind (arith, nat_tests) in
+    omega (arith, at.stands.day.1)

@@ -1,0 +1,147 @@
+-- The weekday of each day by a remainder, and how often a weekday comes in the first days of a year.
+use Rattle.std.proofs.Common.{◌≡◌, ℕ, zero, suc, ◌+◌, ◌-◌, ◌/◌, ◌%◌, ◌<◌, ◌≤◌, refl, sym, ap, ◌∙◌, arith, ℤ, pos, ◌+ℤ◌, ◌-ℤ◌, ◌≤ℤ◌, unsigned_abs, Bool, false, add-zero, inl, inr, lit<}
+use Rattle.std.specs.Prelude.{if◌then◌else◌, ◌==◌}
+use Rattle.std.specs.Ordering.{int_eq}
+use Rattle.std.proofs.lemmas.Bool.{cases_Bool}
+use Rattle.std.proofs.lemmas.Int.{ints}
+use Rattle.std.proofs.lemmas.Bool.Decides.{nat_tests, Decides-int_eq}
+use Rattle.cal_units.specs.Lengths.{days_in_year}
+use Rattle.cal_units.specs.Weekday.{place, days_from_sunday}
+use Rattle.cal_units.specs.declared.weekday.Weekday.{Weekday}
+use Rattle.cal_units.specs.declared.weekday.Weekday.TheVariants.{Monday, Tuesday, Wednesday, Thursday, Friday, Saturday, Sunday}
+use Rattle.cal_units.specs.Weeks.{first_weekday, weeks_in_year}
+use Rattle.cal_units.proofs.Weeks.{first_weekday-next, first_weekday-is, weeks_in_year-is}
+use Rattle.cal_date.specs.Date.{first_year, last_day, year_at, ordinal_at, weekday_at, IsYear}
+use Rattle.cal_date.specs.CountLaws.{days_of_years, days_before, in_year, year_start-days_before}
+use Rattle.cal_date.specs.IsoWeekDate.{count_before, is_weekday_of_year, weekdays_upto}
+use Rattle.cal_date.specs.DateFields.{number_of, IsOrdinalDate, HasOrdinalDate-number_of}
+use Rattle.cal_date.specs.declared.date.Date.TheInside.{Inside}
+use Rattle.cal_date.proofs.Years.{days_of_years-suc, days_before-IsYear}
+use Rattle.cal_date.proofs.Dates.{StandsAt, stands}
+
+pub weekday_at-is : (n : ℕ) → weekday_at n ≡ n % 7
+unfolding weekday_at
+weekday_at-is zero = refl
+weekday_at-is (suc n) = let before : weekday_at n ≡ n % 7 = weekday_at-is n in omega arith
+
+-- the first of January of each year of the range, by both counts
+first_weekday-count : (k : ℕ) → first_weekday (first_year +ℤ pos k) ≡ days_of_years k % 7
+first_weekday-count zero = first_weekday-is (first_year +ℤ pos 0) 26 400 (omega (arith, ints)) ∙ (unfold days_of_years in refl)
+first_weekday-count (suc k) =
+    let before = first_weekday-count k in
+    let next = first_weekday-next (first_year +ℤ pos k) in
+    let same : (first_year +ℤ pos k) +ℤ pos 1 ≡ first_year +ℤ pos (suc k) = omega (arith, ints) in
+    let step = days_of_years-suc k in
+    ap first_weekday (sym same) ∙ next ∙ omega arith
+
+pub first_weekday-days_before : (y : ℤ) → first_year ≤ℤ y → first_weekday y ≡ days_before y % 7
+first_weekday-days_before y h =
+    let k = unsigned_abs (y -ℤ first_year) in
+    let same : first_year +ℤ pos k ≡ y = omega (arith, ints) in
+    ap first_weekday (sym same) ∙ first_weekday-count k
+
+-- counts
+count_before-suc : (test : ℕ → Bool) (n : ℕ) → count_before test (suc n) ≡ count_before test n + (if test n then 1 else 0)
+unfolding count_before
+count_before-suc test n = refl
+
+count_before-none : (test : ℕ → Bool) (n : ℕ) → ((k : ℕ) → k < n → test k ≡ false) → count_before test n ≡ 0
+unfolding count_before
+count_before-none test zero none = refl
+count_before-none test (suc n) none =
+    let before : count_before test n ≡ 0 = count_before-none test n (λ k h. none k (omega arith)) in
+    rw (none n (omega arith)) (omega arith)
+
+-- where no further day passes the test, the count stays
+count_before-same : (test : ℕ → Bool) (n j : ℕ) → ((k : ℕ) → n ≤ k → test k ≡ false) → count_before test (n + j) ≡ count_before test n
+count_before-same test n zero none = simp add-zero
+count_before-same test n (suc j) none =
+    let sums : n + suc j ≡ suc (n + j) = omega arith in
+    let step : count_before test (suc (n + j)) ≡ count_before test (n + j) + 0 = count_before-suc test (n + j) ∙ rw (none (n + j) (omega arith)) refl in
+    ap (count_before test) sums ∙ step ∙ omega (arith, count_before-same test n j none)
+
+-- days of other years do not count
+other_year : (w : ℕ) (y : ℤ) (n : ℕ) → ¬ (year_at n ≡ y) → is_weekday_of_year w y n ≡ false
+other_year w y n other =
+    elim (cases_Bool (int_eq (year_at n) y)) [
+      | inl same ↦ absurd (other ((Decides-int_eq (year_at n) y).0 same))
+      | inr not ↦ rw not refl
+    ]
+
+this_year : (w : ℕ) (y : ℤ) (n : ℕ) → year_at n ≡ y → is_weekday_of_year w y n ≡ (n % 7 == w)
+this_year w y n same = rw ((Decides-int_eq (year_at n) y).1 same, weekday_at-is n) refl
+
+before_year : (w : ℕ) (y : ℤ) (n : ℕ) → n < days_before y → is_weekday_of_year w y n ≡ false
+before_year w y n h = other_year w y n (λ same. let at : StandsAt y (ordinal_at n) n = rw same at (stands n) in omega (arith, at.number_is))
+
+behind_year : (w : ℕ) (y : ℤ) (n : ℕ) → days_before y + days_in_year y ≤ n → is_weekday_of_year w y n ≡ false
+behind_year w y n h = other_year w y n (λ same. let at : StandsAt y (ordinal_at n) n = rw same at (stands n) in omega (arith, at.number_is, at.ordinal))
+
+one_more : (c' c d j w : ℕ) → w < 7 → c' ≡ c + (if (d + j) % 7 == w then 1 else 0) → c + (d + 6 - w) / 7 ≡ (d + j + 6 - w) / 7 → c' + (d + 6 - w) / 7 ≡ (d + suc j + 6 - w) / 7
+one_more c' c d j w below e f = grind (arith, nat_tests)
+
+-- the days of the year with the weekday, among its first ones
+pub count_in_year : (y : ℤ) (w j : ℕ) → first_year ≤ℤ y → w < 7 → j ≤ days_in_year y
+    → count_before (is_weekday_of_year w y) (days_before y + j) + (days_before y + 6 - w) / 7 ≡ (days_before y + j + 6 - w) / 7
+count_in_year y w zero h below within =
+    let none : count_before (is_weekday_of_year w y) (days_before y) ≡ 0 = count_before-none (is_weekday_of_year w y) (days_before y) (before_year w y) in
+    simp add-zero (omega arith)
+count_in_year y w (suc j) h below within =
+    let d = days_before y in
+    let test = is_weekday_of_year w y in
+    let before : count_before test (d + j) + (d + 6 - w) / 7 ≡ (d + j + 6 - w) / 7 = count_in_year y w j h below (omega arith) in
+    let here = in_year d y j (year_start-days_before y h) (omega arith) in
+    let step : count_before test (suc (d + j)) ≡ count_before test (d + j) + (if (d + j) % 7 == w then 1 else 0) =
+    count_before-suc test (d + j) ∙ rw (this_year w y (d + j) here.0) refl in
+    let sums : d + suc j ≡ suc (d + j) = omega arith in
+    ap (λ n. count_before test n + (d + 6 - w) / 7) sums ∙ one_more (count_before test (suc (d + j))) (count_before test (d + j)) d j w below step before
+
+-- the days with that weekday up to a day
+pub weekdays_upto-is : (w n : ℕ) → w < 7 → weekdays_upto w n + (days_before (year_at n) + 6 - w) / 7 ≡ (n + 7 - w) / 7
+weekdays_upto-is w n below =
+    let at = stands n in
+    let d = days_before (year_at n) in
+    let count = count_in_year (year_at n) w (ordinal_at n) at.year below at.ordinal.1 in
+    let sums : d + ordinal_at n ≡ n + 1 = omega (arith, at.number_is, at.ordinal.0) in
+    rw sums at count ∙ ap (λ k. k / 7) (omega arith)
+
+-- the same by the ordinal, and the days since the last one
+pub weekdays_upto-ordinal : (w since n : ℕ) (d : Inside) → IsOrdinalDate d → number_of d ≡ n → w < 7 → since < 7 → (since + w) % 7 ≡ n % 7
+    → (d.ordinal + 6 - since) / 7 ≡ weekdays_upto w n
+weekdays_upto-ordinal w since n d h is below small place =
+    let year : year_at n ≡ d.year = ap year_at (sym is) ∙ (HasOrdinalDate-number_of d h).0 in
+    let count = weekdays_upto-is w n below in
+    let same : days_before (year_at n) ≡ days_before d.year = ap days_before year in
+    let low : 1 ≤ d.ordinal = h.1.0 in
+    omega arith
+
+pub days_from_sunday-place : (w : Weekday) → days_from_sunday w ≡ (place w + 1) % 7
+days_from_sunday-place Monday = refl
+days_from_sunday-place Tuesday = refl
+days_from_sunday-place Wednesday = refl
+days_from_sunday-place Thursday = refl
+days_from_sunday-place Friday = refl
+days_from_sunday-place Saturday = refl
+days_from_sunday-place Sunday = refl
+
+-- the weeks of a year, from the days before it
+pub weeks_in_year-days_before : (y : ℤ) → first_year ≤ℤ y → weeks_in_year y + (days_before y + 3) / 7 ≡ (days_before y + days_in_year y + 3) / 7
+weeks_in_year-days_before y h =
+    let first = first_weekday-days_before y h in
+    let next = first_weekday-next y in
+    let weeks = weeks_in_year-is y in
+    grind (arith, nat_tests)
+
+-- they are the Thursdays of the year, in the count of all days
+pub weeks_in_year-count : (y : ℤ) → IsYear y → weeks_in_year y ≡ count_before (is_weekday_of_year 3 y) (last_day + 1)
+weeks_in_year-count y h =
+    let d = days_before y in
+    let test = is_weekday_of_year 3 y in
+    let most : d + days_in_year y ≤ last_day + 1 = days_before-IsYear y h in
+    let rest = last_day + 1 - (d + days_in_year y) in
+    let sums : d + days_in_year y + rest ≡ last_day + 1 = omega arith in
+    let all : count_before test (d + days_in_year y + rest) ≡ count_before test (d + days_in_year y) =
+    count_before-same test (d + days_in_year y) rest (behind_year 3 y) in
+    let count = count_in_year y 3 (days_in_year y) h.0 (lit< tt) (omega arith) in
+    let weeks = weeks_in_year-days_before y h.0 in
+    omega arith ∙ sym all ∙ ap (count_before test) sums

@@ -1,0 +1,17 @@
+use Rattle.std.proofs.Common.{◌≡◌, Some, arith}
+use Rattle.cal_date.specs.DateIter.{walk}
+use Rattle.cal_date.proofs.DateIters.{HasEnds, ends, length-days_of}
+use Rattle.cal_date.proofs.iter.date_iter.DateIter.len.Goals as goal
+
+at : (c : goal.After-days_until) → HasEnds c.self.inside.front c.in-Some.back
+at c =
+    let back : c.self.inside.back ≡ Some c.in-Some.back = c.in-Some.is in
+    ends (walk c.self.inside.front c.self.inside.back) c.in-Some.back c.self.invariant back
+
+pub returns-clause-count : goal.returns-clause-count
+returns-clause-count c =
+    let back : c.self.inside.back ≡ Some c.in-Some.back = c.in-Some.is in
+    rw (← c.self.view_is) (omega (arith, at c, length-days_of (walk c.self.inside.front c.self.inside.back) c.in-Some.back back))
+
+pub returns-clause-bound : goal.returns-clause-bound
+returns-clause-bound c = omega (arith, at c)

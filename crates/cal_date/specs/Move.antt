@@ -1,0 +1,13 @@
+-- A date moved by days, and by a duration, of which only the whole days count.
+use Rattle.std.specs.Prelude.{ℕ, ℤ, pos, ◌≤ℤ◌, unsigned_abs}
+use Rattle.std.specs.Int.{int_min, int_max}
+use Rattle.cal_date.specs.Date.{last_day}
+
+-- the number of a day of the range, as a whole number
+pub record IsDateNumber (z : ℤ) : Type 0 where
+  pub not_before : pos 0 ≤ℤ z
+  pub not_after : z ≤ℤ pos last_day
+
+-- the day of that number; of the range the day nearest to it
+abbrev pub date_nearest : ℤ → ℕ
+date_nearest z = unsigned_abs (int_max (pos 0) (int_min z (pos last_day)))

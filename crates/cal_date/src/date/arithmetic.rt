@@ -1,0 +1,142 @@
+//! Dates moved on and back by durations, and the durations between dates.
+ghost use Rattle.std.specs.Prelude.{◌≡◌, pos, ◌+ℤ◌, ◌-ℤ◌, ◌*ℤ◌, SomeIff};
+ghost use Rattle.cal_span.specs.SignedDuration.{day, whole_days};
+ghost use Rattle.cal_date.specs.Date.{first_julian_day, IsDate};
+ghost use Rattle.cal_date.specs.Move.{IsDateNumber, date_nearest};
+
+use super::Date;
+use cal_span::SignedDuration;
+use std::ops::{Add, AddAssign, Sub, SubAssign};
+
+impl Date {
+    /// The day that many whole days later, or `None` where it is no day of the range.
+    ///
+    /// Only the whole days of the duration count, cut toward zero: 2020-12-31 and 47 hours more are 2021-01-01, and
+    /// [`Self::MIN`] less 23 hours is still [`Self::MIN`].
+    pub fn checked_add(self, duration: SignedDuration) -> Option<Self>
+        ensures day { SomeIff result (IsDateNumber (pos self +ℤ whole_days duration)) (date_nearest (pos self +ℤ whole_days duration)) }
+        ensures in_range { IsDate self }
+    {
+        let julian_day = i64::from(self.to_julian_day());
+        match julian_day.checked_add(duration.whole_days()) {
+            Some(moved) => Self::at_julian_day(moved),
+            None => None,
+        }
+    }
+
+    /// The day that many whole days earlier, or `None` where it is no day of the range.
+    ///
+    /// Only the whole days of the duration count, cut toward zero: 2020-12-31 less 47 hours is 2020-12-30.
+    pub fn checked_sub(self, duration: SignedDuration) -> Option<Self>
+        ensures day { SomeIff result (IsDateNumber (pos self -ℤ whole_days duration)) (date_nearest (pos self -ℤ whole_days duration)) }
+        ensures in_range { IsDate self }
+    {
+        let julian_day = i64::from(self.to_julian_day());
+        match julian_day.checked_sub(duration.whole_days()) {
+            Some(moved) => Self::at_julian_day(moved),
+            None => None,
+        }
+    }
+
+    /// The day that many whole days later, or the end of the range that is nearest to it.
+    ///
+    /// [`Self::MAX`] and one day more are [`Self::MAX`].
+    pub fn saturating_add(self, duration: SignedDuration) -> Self
+        ensures { result ≡ date_nearest (pos self +ℤ whole_days duration) }
+    {
+        let julian_day = i64::from(self.to_julian_day());
+        Self::nearest_to(julian_day.saturating_add(duration.whole_days()))
+    }
+
+    /// The day that many whole days earlier, or the end of the range that is nearest to it.
+    ///
+    /// [`Self::MIN`] less one day is [`Self::MIN`].
+    pub fn saturating_sub(self, duration: SignedDuration) -> Self
+        ensures { result ≡ date_nearest (pos self -ℤ whole_days duration) }
+    {
+        let julian_day = i64::from(self.to_julian_day());
+        Self::nearest_to(julian_day.saturating_sub(duration.whole_days()))
+    }
+
+    /// The day that has this Julian day, or `None` where it is no day of the range.
+    fn at_julian_day(julian_day: i64) -> Option<Self>
+        ensures { SomeIff result (IsDateNumber (julian_day -ℤ first_julian_day)) (date_nearest (julian_day -ℤ first_julian_day)) }
+    {
+        let Ok(julian_day) = i32::try_from(julian_day) else {
+            return None;
+        };
+        match Self::from_julian_day(julian_day) {
+            Ok(date) => Some(date),
+            Err(_) => None,
+        }
+    }
+
+    /// The day of the range that is nearest to this Julian day.
+    fn nearest_to(julian_day: i64) -> Self
+        ensures { result ≡ date_nearest (julian_day -ℤ first_julian_day) }
+    {
+        match Self::at_julian_day(julian_day) {
+            Some(date) => date,
+            None if julian_day < 0 => Self::MIN,
+            None => Self::MAX,
+        }
+    }
+}
+
+impl Add<SignedDuration> for Date {
+    type Output = Self;
+
+    ghost can_add = { λ n v. IsDateNumber (pos n +ℤ whole_days v) };
+
+    ghost add_gives = { λ n v moved. pos moved ≡ pos n +ℤ whole_days v };
+
+    /// The day that many whole days later, for a caller who knows that it is in the range.
+    fn add(self, duration: SignedDuration) -> Self {
+        self.checked_add(duration).unwrap()
+    }
+}
+
+impl AddAssign<SignedDuration> for Date {
+    ghost can_add_assign = { λ n v. IsDateNumber (pos n +ℤ whole_days v) };
+
+    ghost add_assign_gives = { λ n v moved. pos moved ≡ pos n +ℤ whole_days v };
+
+    fn add_assign(&mut self, duration: SignedDuration) {
+        *self = *self + duration;
+    }
+}
+
+impl Sub<SignedDuration> for Date {
+    type Output = Self;
+
+    ghost can_sub = { λ n v. IsDateNumber (pos n -ℤ whole_days v) };
+
+    ghost sub_gives = { λ n v moved. pos moved ≡ pos n -ℤ whole_days v };
+
+    /// The day that many whole days earlier, for a caller who knows that it is in the range.
+    fn sub(self, duration: SignedDuration) -> Self {
+        self.checked_sub(duration).unwrap()
+    }
+}
+
+impl SubAssign<SignedDuration> for Date {
+    ghost can_sub_assign = { λ n v. IsDateNumber (pos n -ℤ whole_days v) };
+
+    ghost sub_assign_gives = { λ n v moved. pos moved ≡ pos n -ℤ whole_days v };
+
+    fn sub_assign(&mut self, duration: SignedDuration) {
+        *self = *self - duration;
+    }
+}
+
+impl Sub for Date {
+    type Output = SignedDuration;
+
+    ghost sub_gives = { λ m n v. v ≡ (pos m -ℤ pos n) *ℤ pos day };
+
+    /// The days between, below zero where the other day is later: 2020-01-01 less 2019-12-31 is one day.
+    fn sub(self, other: Self) -> SignedDuration {
+        let days = self.to_julian_day() - other.to_julian_day();
+        SignedDuration::days(i64::from(days))
+    }
+}

@@ -1,0 +1,74 @@
+//! Dates with one component replaced.
+ghost use Rattle.std.specs.Prelude.{◌≡◌, ℕ, ◌↔◌, ◌⊎◌, IfOk, IfErr, IsErr, Ok};
+ghost use Rattle.cal_units.specs.Month.{number};
+ghost use Rattle.cal_units.specs.Refusal.{refusal, IsRefused};
+ghost use Rattle.cal_date.specs.Date.{year_at, month_at, day_of_month_at, IsDate, IsYear, IsDayOfMonth, IsOrdinal, HasCalendarDate, HasOrdinalDate, NoDate};
+ghost use Rattle.cal_date.specs.Refusals.{year_out_of_range, day_out_of_range, ordinal_out_of_range};
+
+use super::Date;
+use crate::error::ComponentRange;
+use cal_units::Month;
+
+impl Date {
+    /// The day of that year that has the same month and day of the month.
+    ///
+    /// The year is from -9999 to 9999. So 2022-02-18 leads to 2019-02-18, and 2024-03-01 to 2023-03-01, whose ordinal is one
+    /// less.
+    ///
+    /// It is refused as `year`, unconditionally, where the year is out of range, or else as `day`, conditionally, where the
+    /// month is shorter in that year: on 29 February, for a common year.
+    pub fn replace_year(self, year: i32) -> Result<Self, ComponentRange>
+        ensures every { (n : ℕ) → IsDate n → HasCalendarDate year (month_at self) (day_of_month_at self) n → result ≡ Ok n }
+        ensures has { IfOk result (λ n. IsDate n × HasCalendarDate year (month_at self) (day_of_month_at self) n) }
+
+        // It is refused exactly where no day has it.
+        ensures refused { IsErr result ↔ NoDate (HasCalendarDate year (month_at self) (day_of_month_at self)) }
+        ensures reason { IfErr result (λ e. (refusal e ≡ year_out_of_range) ⊎ (refusal e ≡ day_out_of_range)) }
+        ensures year { IsRefused year_out_of_range result ↔ ¬ IsYear year }
+        ensures day { IsRefused day_out_of_range result ↔ IsYear year × ¬ IsDayOfMonth year (month_at self) (day_of_month_at self) }
+    {
+        Self::from_calendar_date(year, self.month(), self.day())
+    }
+
+    /// The day of that month that has the same year and day of the month.
+    ///
+    /// It is refused as `day`, conditionally, where the month has no such day: 2022-01-30 leads to no day of February.
+    pub fn replace_month(self, month: Month) -> Result<Self, ComponentRange>
+        ensures every { (n : ℕ) → IsDate n → HasCalendarDate (year_at self) (number month) (day_of_month_at self) n → result ≡ Ok n }
+        ensures has { IfOk result (λ n. IsDate n × HasCalendarDate (year_at self) (number month) (day_of_month_at self) n) }
+
+        // It is refused exactly where no day has it.
+        ensures refused { IsErr result ↔ NoDate (HasCalendarDate (year_at self) (number month) (day_of_month_at self)) }
+        ensures day { IsRefused day_out_of_range result ↔ ¬ IsDayOfMonth (year_at self) (number month) (day_of_month_at self) }
+    {
+        Self::from_calendar_date(self.year(), month, self.day())
+    }
+
+    /// The day of the same month of the same year that has this day of the month, from 1 to the length of the month.
+    ///
+    /// It is refused as `day`, conditionally, where the month has no such day, as 0 and 30 in February.
+    pub fn replace_day(self, day: u8) -> Result<Self, ComponentRange>
+        ensures every { (n : ℕ) → IsDate n → HasCalendarDate (year_at self) (month_at self) day n → result ≡ Ok n }
+        ensures has { IfOk result (λ n. IsDate n × HasCalendarDate (year_at self) (month_at self) day n) }
+
+        // It is refused exactly where no day has it.
+        ensures refused { IsErr result ↔ NoDate (HasCalendarDate (year_at self) (month_at self) day) }
+        ensures day { IsRefused day_out_of_range result ↔ ¬ IsDayOfMonth (year_at self) (month_at self) day }
+    {
+        Self::from_calendar_date(self.year(), self.month(), day)
+    }
+
+    /// The day of the same year that has this ordinal, from 1 to 365, or 366 in a leap year.
+    ///
+    /// It is refused as `ordinal`, conditionally, where the year has no such ordinal, as 366 in 2022.
+    pub fn replace_ordinal(self, ordinal: u16) -> Result<Self, ComponentRange>
+        ensures every { (n : ℕ) → IsDate n → HasOrdinalDate (year_at self) ordinal n → result ≡ Ok n }
+        ensures has { IfOk result (λ n. IsDate n × HasOrdinalDate (year_at self) ordinal n) }
+
+        // It is refused exactly where no day has it.
+        ensures refused { IsErr result ↔ NoDate (HasOrdinalDate (year_at self) ordinal) }
+        ensures ordinal { IsRefused ordinal_out_of_range result ↔ ¬ IsOrdinal (year_at self) ordinal }
+    {
+        Self::from_ordinal_date(self.year(), ordinal)
+    }
+}

@@ -1,0 +1,4 @@
+//! Walks over days.
+mod date_iter;
+
+pub use date_iter::DateIter;

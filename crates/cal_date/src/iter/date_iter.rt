@@ -1,0 +1,244 @@
+//! The walk over days from both ends.
+ghost use Rattle.std.specs.Prelude.{◌≡◌, ◌+◌, ◌-◌, ◌≤◌, IfSome, true, ⊤, slice_get, reverse, length};
+ghost use Rattle.std.specs.Iterator.{YieldsFirst, YieldsLast, MakesProgress, UpTo, item_count};
+ghost use Rattle.std.specs.Iterator.SizeHint.{IsWithinCount};
+ghost use Rattle.std.specs.List.Sorted.{IsSorted};
+ghost use Rattle.std.specs.Ordering.{nat_cmp};
+ghost use Rattle.std.proofs.Common.{rules};
+ghost use Rattle.std.specs.Cmp.Rules.{comparing};
+ghost use Rattle.cal_date.specs.Date.{last_day};
+ghost use Rattle.cal_date.specs.DateIter.{walk_between, walk_eq, days_of, without_first, without_last};
+
+use crate::date::Date;
+use std::marker::Model;
+
+/// A walk over the days from one to another, from both ends.
+///
+/// It has a front day and a back day, and gives the days from the one to the other, both included, in order from the front or in
+/// reverse from the back. A walk with no days left keeps its front day, has no back day, and answers `None` for ever.
+///
+/// Two walks are equal where their front days are, and their back days. So two walks with no days left are unequal where their
+/// front days are.
+#[derive(Debug, Drop)]
+pub struct DateIter {
+    front: Date,
+    back: Option<Date>,
+}
+
+impl Model for DateIter {
+    ghost use Rattle.cal_date.specs.DateIter.{Walk, IsWalk, walk};
+
+    ghost Value = { Walk };
+
+    ghost view = { λ a. walk a.front a.back };
+
+    ghost invariant = { λ a. IsWalk (walk a.front a.back) };
+}
+
+impl Date {
+    /// The walk from this day to `end`, both included; it has no days where this day comes after `end`.
+    ///
+    /// From 2019-12-30 to 2020-01-02 it gives four days.
+    pub fn iter_to(self, end: Self) -> DateIter
+        ensures { result ≡ walk_between self end }
+    {
+        DateIter::new(self, end)
+    }
+}
+
+impl DateIter {
+    /// The walk from `start` to `end`, both included; it has no days where `start` comes after `end`.
+    ///
+    /// Its front day is `start`. Its back day is `end`, or none where it has no days.
+    pub fn new(start: Date, end: Date) -> Self
+        ensures { result ≡ walk_between start end }
+    {
+        end.is_in_range();
+        DateIter {
+            front: start,
+            back: if start <= end { Some(end) } else { None },
+        }
+    }
+
+    /// The day `n` places on from the front, or `None` where fewer than `n + 1` days are left.
+    ///
+    /// That day and those before it are taken from the walk. `nth(0)` is `next()`.
+    pub fn nth(&mut self, n: usize) -> Option<Date>
+        ensures item { result ≡ slice_get (days_of self.old) n }
+        ensures left { self.new ≡ without_first (n + 1) self.old }
+    {
+        let back = self.back?;
+        if n >= self.len() {
+            self.back = None;
+            return None;
+        }
+        let item = self.front.days_later(n as u32);
+        self.leave_after(item, back);
+        Some(item)
+    }
+
+    /// The day `n` places back from the back, or `None` where fewer than `n + 1` days are left.
+    ///
+    /// That day and those after it are taken from the walk. `nth_back(0)` is `next_back()`.
+    pub fn nth_back(&mut self, n: usize) -> Option<Date>
+        ensures item { result ≡ slice_get (reverse (days_of self.old)) n }
+        ensures left { self.new ≡ without_last (n + 1) self.old }
+    {
+        let back = self.back?;
+        if self.len() <= n {
+            self.back = None;
+            return None;
+        }
+        let item = back.days_earlier(n as u32);
+        self.leave_before(item, back);
+        Some(item)
+    }
+
+    /// How many days are left, from 0 to 7304484.
+    pub fn len(&self) -> usize
+        ensures count { result ≡ length (days_of self.now) }
+        ensures bound { result ≤ last_day + 1 }
+    {
+        let Some(back) = self.back else {
+            return 0;
+        };
+        self.front.days_until(back) as usize + 1
+    }
+
+    /// How many days are left: what [`Self::len`] returns.
+    pub fn count(self) -> usize
+        ensures { result ≡ length (days_of self) }
+    {
+        self.len()
+    }
+
+    /// The last day, or `None` where no days are left.
+    pub fn last(self) -> Option<Date>
+        ensures { result ≡ slice_get (reverse (days_of self)) 0 }
+    {
+        self.back
+    }
+
+    /// The greatest day, which is the last, or `None` where no days are left.
+    pub fn max(self) -> Option<Date>
+        ensures { result ≡ slice_get (reverse (days_of self)) 0 }
+    {
+        self.back
+    }
+
+    /// The least day, which is the first, or `None` where no days are left.
+    pub fn min(self) -> Option<Date>
+        ensures { result ≡ slice_get (days_of self) 0 }
+    {
+        match self.back {
+            Some(_) => Some(self.front),
+            None => None,
+        }
+    }
+
+    /// Whether no day comes before the one that it follows: always true, as the days go on one by one.
+    pub fn is_sorted(self) -> bool
+        ensures value { result ≡ true }
+        ensures sorted { IsSorted nat_cmp (days_of self) }
+    {
+        true
+    }
+
+    /// A walk of its own over the same days.
+    pub fn clone(&self) -> Self
+        ensures { result ≡ self.now }
+    {
+        DateIter {
+            front: self.front,
+            back: self.back,
+        }
+    }
+
+    /// Takes the days up to `item`, one of those up to `back`, the back day.
+    fn leave_after(&mut self, item: Date, back: Date)
+        requires back { self.old.back ≡ Some back }
+        requires from_front { self.old.front ≤ item }
+        requires to_back { item ≤ back }
+        ensures { self.new ≡ without_first (item + 1 - self.old.front) self.old }
+    {
+        match item.next_day() {
+            Some(day) if item < back => self.front = day,
+            _ => self.back = None,
+        }
+    }
+
+    /// Takes the days from `item` on, one of those up to `back`, the back day.
+    fn leave_before(&mut self, item: Date, back: Date)
+        requires back { self.old.back ≡ Some back }
+        requires from_front { self.old.front ≤ item }
+        requires to_back { item ≤ back }
+        ensures { self.new ≡ without_last (back + 1 - item) self.old }
+    {
+        self.back = if self.front < item {
+            item.previous_day()
+        } else {
+            None
+        };
+    }
+}
+
+impl PartialEq for DateIter {
+    ghost eq = { walk_eq };
+
+    ghost laws = { Prim.search (comparing, rules) };
+
+    fn eq(&self, other: &Self) -> bool {
+        self.front == other.front && self.back == other.back
+    }
+}
+
+impl Eq for DateIter {
+    ghost laws = { Prim.search (comparing, rules) };
+}
+
+impl Iterator for DateIter {
+    type Item = Date;
+
+    ghost next_gives = { YieldsFirst days_of };
+
+    ghost remaining = { item_count days_of };
+
+    /// The first of the days that are left, which is taken from the walk, or `None`.
+    fn next(&mut self) -> Option<Date>
+        ensures steps { YieldsFirst days_of self.old result self.new }
+        ensures goes { MakesProgress (λ _. ⊤) (item_count days_of) self.old result self.new }
+        ensures item { result ≡ slice_get (days_of self.old) 0 }
+        ensures left { self.new ≡ without_first 1 self.old }
+    {
+        let back = self.back?;
+        let item = self.front;
+        self.leave_after(item, back);
+        Some(item)
+    }
+
+    /// How many days are left, as both bounds.
+    fn size_hint(&self) -> (usize, Option<usize>)
+        ensures lower { IsWithinCount result.0 (item_count days_of self.now) }
+        ensures upper { IfSome result.1 (UpTo (item_count days_of self.now)) }
+        ensures value { let n = length (days_of self.now) in result ≡ (n, Some n) }
+    {
+        let length = self.len();
+        (length, Some(length))
+    }
+}
+
+impl DoubleEndedIterator for DateIter {
+    ghost next_back_gives = { YieldsLast days_of };
+
+    /// The last of the days that are left, which is taken from the walk, or `None`.
+    fn next_back(&mut self) -> Option<Date>
+        ensures steps { YieldsLast days_of self.old result self.new }
+        ensures goes { MakesProgress (λ _. ⊤) (item_count days_of) self.old result self.new }
+        ensures item { result ≡ slice_get (reverse (days_of self.old)) 0 }
+        ensures left { self.new ≡ without_last 1 self.old }
+    {
+        let item = self.back?;
+        self.leave_before(item, item);
+        Some(item)
+    }
+}

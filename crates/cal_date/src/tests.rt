@@ -1,0 +1,65 @@
+//! Callers that know no more than a stated condition, and the laws. The worked values stand in the crate of the facade.
+ghost use Rattle.std.specs.Prelude.{◌≡◌, pos, ◌+ℤ◌, ◌-ℤ◌, IsSome};
+ghost use Rattle.cal_span.specs.SignedDuration.{whole_days};
+ghost use Rattle.cal_units.specs.Weekday.{place};
+ghost use Rattle.cal_date.specs.Move.{IsDateNumber};
+ghost use Rattle.cal_date.specs.Occurrence.{next_occurrences, prev_occurrences, kth};
+
+use crate::Date;
+use crate::laws::{cloned, final_day, first_day, weeks_of};
+use cal_span::SignedDuration;
+use cal_units::Weekday;
+use std::test::Fail;
+
+fn later(date: Date, duration: SignedDuration) -> [Date; 2]
+    requires { IsDateNumber (pos date +ℤ whole_days duration) }
+{
+    let mut moved = date;
+    moved += duration;
+    [date + duration, moved]
+}
+
+fn earlier(date: Date, duration: SignedDuration) -> [Date; 2]
+    requires { IsDateNumber (pos date -ℤ whole_days duration) }
+{
+    let mut moved = date;
+    moved -= duration;
+    [date - duration, moved]
+}
+
+fn occurrences(date: Date, weekday: Weekday, n: u8) -> [Date; 4]
+    requires next { IsSome (kth 1 (next_occurrences (place weekday) date)) }
+    requires prev { IsSome (kth 1 (prev_occurrences (place weekday) date)) }
+    requires nth_next { IsSome (kth n (next_occurrences (place weekday) date)) }
+    requires nth_prev { IsSome (kth n (prev_occurrences (place weekday) date)) }
+{
+    [
+        date.next_occurrence(weekday),
+        date.prev_occurrence(weekday),
+        date.nth_next_occurrence(weekday, n),
+        date.nth_prev_occurrence(weekday, n),
+    ]
+}
+
+#[test]
+fn moves_within_the_range(rt: HostRuntime) {
+    for duration in [SignedDuration::ZERO, SignedDuration::DAY] {
+        let Some(moved) = Date::MIN.checked_add(duration) else {
+            panic!(rt; "{duration}");
+        };
+        assert_eq!(rt; later(Date::MIN, duration), [moved, moved]);
+        let Some(moved) = Date::MAX.checked_sub(duration) else {
+            panic!(rt; "{duration}");
+        };
+        assert_eq!(rt; earlier(Date::MAX, duration), [moved, moved]);
+    }
+}
+
+#[test]
+fn the_laws(rt: HostRuntime) -> Result<(), Fail> {
+    assert_eq!(rt; first_day().to_julian_day(), -1930999);
+    assert_eq!(rt; final_day().to_julian_day(), 5373484);
+    assert_eq!(rt; cloned(Date::MAX)?, Date::MAX);
+    assert_eq!(rt; (weeks_of(2020), weeks_of(9999)), (53, 52));
+    Ok(())
+}
