@@ -1,0 +1,23 @@
+pub mod Pair
+-- what the contracts of the calls are said in, for the crates above
+pub use Rattle.cal_units.specs.Counted
+pub use Rattle.cal_units.specs.Lengths
+pub use Rattle.cal_units.specs.Month
+pub use Rattle.cal_units.specs.MonthCycle
+pub use Rattle.cal_units.specs.Refusal
+pub use Rattle.cal_units.specs.Walk
+pub use Rattle.cal_units.specs.Weekday
+pub use Rattle.cal_units.specs.WeekdayCycle
+pub use Rattle.cal_units.specs.Weeks
+pub use Rattle.cal_span.specs.SignedDuration
+pub use Rattle.cal_clock.specs.Time
+pub use Rattle.cal_clock.specs.UtcOffset
+pub use Rattle.cal_date.specs.CalendarDay
+pub use Rattle.cal_date.specs.Date
+pub use Rattle.cal_date.specs.DateIter
+pub use Rattle.cal_date.specs.DateText
+pub use Rattle.cal_date.specs.IsoWeekDate
+pub use Rattle.cal_date.specs.Move
+pub use Rattle.cal_date.specs.Occurrence
+pub use Rattle.cal_date.specs.Order
+pub use Rattle.cal_date.specs.Refusals

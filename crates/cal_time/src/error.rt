@@ -1,0 +1,3 @@
+//! The errors of the calendar.
+
+pub use cal_units::error::{ComponentRange, ConversionRange, InvalidVariant};

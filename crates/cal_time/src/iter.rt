@@ -1,0 +1,4 @@
+//! Walks over days, and endless walks over months and weekdays.
+
+pub use cal_date::iter::DateIter;
+pub use cal_units::iter::{CycleIter, MonthIter, Rev, WeekdayIter};

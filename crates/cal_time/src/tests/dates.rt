@@ -1,0 +1,167 @@
+//! Dates in their four forms, their parts and their neighbours.
+use super::{check, date};
+use crate::{Date, Month, Weekday};
+
+#[test]
+fn days_have_julian_days_calendar_and_ordinal_dates(rt: HostRuntime) {
+    for (julian_day, (year, month, day), ordinal, weekday) in [
+        (-1930999, (-9999, 1, 1), 1, Weekday::Monday),
+        (0, (-4713, 11, 24), 328, Weekday::Monday),
+        (1721060, (0, 1, 1), 1, Weekday::Saturday),
+        (2415021, (1900, 1, 1), 1, Weekday::Monday),
+        (2415080, (1900, 3, 1), 60, Weekday::Thursday),
+        (2451545, (2000, 1, 1), 1, Weekday::Saturday),
+        (2451546, (2000, 1, 2), 2, Weekday::Sunday),
+        (2451604, (2000, 2, 29), 60, Weekday::Tuesday),
+        (2458485, (2019, 1, 1), 1, Weekday::Tuesday),
+        (2458849, (2019, 12, 31), 365, Weekday::Tuesday),
+        (2459215, (2020, 12, 31), 366, Weekday::Thursday),
+        (2459216, (2021, 1, 1), 1, Weekday::Friday),
+        (5373484, (9999, 12, 31), 365, Weekday::Friday),
+    ] {
+        let Ok(found) = Date::from_julian_day(julian_day) else {
+            panic!(rt; "{julian_day} is refused");
+        };
+        let Ok(same) = Date::from_ordinal_date(year, ordinal) else {
+            panic!(rt; "{year} {ordinal} is refused");
+        };
+        assert_eq!(rt; found, date(&rt, year, month, day), "at {julian_day}");
+        assert_eq!(rt; found, same, "at {julian_day}");
+        assert_eq!(rt; found.to_julian_day(), julian_day);
+        assert_eq!(rt; found.to_ordinal_date(), (year, ordinal));
+        assert_eq!(rt; found.weekday(), weekday, "at {julian_day}");
+    }
+}
+
+#[test]
+fn the_ends_of_the_range(rt: HostRuntime) {
+    assert_eq!(rt; Date::MIN, date(&rt, -9999, 1, 1));
+    assert_eq!(rt; Date::MAX, date(&rt, 9999, 12, 31));
+    assert_eq!(rt; Date::MIN.to_julian_day(), -1930999);
+    assert_eq!(rt; Date::MAX.to_julian_day(), 5373484);
+}
+
+#[test]
+fn parts(rt: HostRuntime) {
+    let leap_day = date(&rt, 2000, 2, 29);
+    assert_eq!(rt; leap_day.year(), 2000);
+    assert_eq!(rt; leap_day.month(), Month::February);
+    assert_eq!(rt; leap_day.day(), 29);
+    assert_eq!(rt; leap_day.ordinal(), 60);
+    assert_eq!(rt; leap_day.to_calendar_date(), (2000, Month::February, 29));
+}
+
+#[test]
+fn days_have_iso_week_dates(rt: HostRuntime) {
+    for ((year, ordinal), (iso_year, week, weekday)) in [
+        ((-9999, 1), (-9999, 1, Weekday::Monday)),
+        ((2000, 1), (1999, 52, Weekday::Saturday)),
+        ((2019, 1), (2019, 1, Weekday::Tuesday)),
+        ((2019, 277), (2019, 40, Weekday::Friday)),
+        ((2019, 364), (2020, 1, Weekday::Monday)),
+        ((2020, 1), (2020, 1, Weekday::Wednesday)),
+        ((2020, 366), (2020, 53, Weekday::Thursday)),
+        ((2021, 1), (2020, 53, Weekday::Friday)),
+        ((9999, 365), (9999, 52, Weekday::Friday)),
+    ] {
+        let Ok(date) = Date::from_ordinal_date(year, ordinal) else {
+            panic!(rt; "{year} {ordinal} is refused");
+        };
+        let Ok(same) = Date::from_iso_week_date(iso_year, week, weekday) else {
+            panic!(rt; "{iso_year} {week} {weekday} is refused");
+        };
+        assert_eq!(rt; same, date, "{iso_year} {week} {weekday}");
+        assert_eq!(rt;
+            date.to_iso_week_date(),
+            (iso_year, week, weekday),
+            "{date}"
+        );
+        assert_eq!(rt; date.iso_week(), week, "{date}");
+    }
+}
+
+#[test]
+fn weeks_of_the_year_from_sunday_and_from_monday_on(rt: HostRuntime) {
+    for ((year, month, day), weeks) in [((2019, 1, 1), (0, 0)), ((2020, 12, 31), (52, 52))] {
+        let date = date(&rt, year, month, day);
+        assert_eq!(rt;
+            (date.sunday_based_week(), date.monday_based_week()),
+            weeks,
+            "{date}"
+        );
+    }
+}
+
+#[test]
+fn neighbours(rt: HostRuntime) {
+    for ((year, month, day), (next_year, next_month, next_day)) in [
+        ((-1, 12, 31), (0, 1, 1)),
+        ((2019, 12, 31), (2020, 1, 1)),
+        ((2020, 12, 30), (2020, 12, 31)),
+        ((2020, 12, 31), (2021, 1, 1)),
+    ] {
+        let day = date(&rt, year, month, day);
+        let next = date(&rt, next_year, next_month, next_day);
+        assert_eq!(rt; day.next_day(), Some(next));
+        assert_eq!(rt; next.previous_day(), Some(day));
+    }
+    assert_eq!(rt; Date::MAX.next_day(), None);
+    assert_eq!(rt; Date::MIN.previous_day(), None);
+}
+
+#[test]
+fn julian_days_and_ordinals_out_of_range(rt: HostRuntime) {
+    for julian_day in [i32::MIN, -1931000, 5373485, i32::MAX] {
+        let Err(error) = Date::from_julian_day(julian_day) else {
+            panic!(rt; "{julian_day} is let through");
+        };
+        check(&rt, error, "julian_day", false);
+    }
+    for (year, ordinal, name, is_conditional) in [
+        (10000000, 1, "year", false),
+        (10000, 0, "year", false),
+        (1900, 366, "ordinal", true),
+        (2000, 0, "ordinal", true),
+        (2000, 367, "ordinal", true),
+    ] {
+        let Err(error) = Date::from_ordinal_date(year, ordinal) else {
+            panic!(rt; "{year} {ordinal} is let through");
+        };
+        check(&rt, error, name, is_conditional);
+    }
+}
+
+#[test]
+fn calendar_dates_out_of_range(rt: HostRuntime) {
+    for (year, month, day, name, is_conditional) in [
+        (1900, Month::February, 29, "day", true),
+        (2000, Month::February, 0, "day", true),
+        (2000, Month::February, 30, "day", true),
+        (2000, Month::January, 32, "day", true),
+        (10000, Month::January, 0, "year", false),
+        (-10000, Month::December, 31, "year", false),
+    ] {
+        let Err(error) = Date::from_calendar_date(year, month, day) else {
+            panic!(rt; "{year} {month} {day} is let through");
+        };
+        check(&rt, error, name, is_conditional);
+    }
+}
+
+#[test]
+fn iso_week_dates_out_of_range(rt: HostRuntime) {
+    for (year, week, weekday, name, is_conditional) in [
+        (10000, 53, Weekday::Monday, "year", false),
+        (9999, 53, Weekday::Monday, "week", true),
+        (2019, 53, Weekday::Monday, "week", true),
+        (2020, 54, Weekday::Monday, "week", true),
+        (2020, 0, Weekday::Monday, "week", true),
+        (9999, 52, Weekday::Saturday, "weekday", true),
+        (9999, 52, Weekday::Sunday, "weekday", true),
+    ] {
+        let Err(error) = Date::from_iso_week_date(year, week, weekday) else {
+            panic!(rt; "{year} {week} {weekday} is let through");
+        };
+        check(&rt, error, name, is_conditional);
+    }
+}

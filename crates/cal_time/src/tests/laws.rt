@@ -1,0 +1,248 @@
+//! Laws that hold between calls, each shown at a few values.
+use super::{date, hash_of, offset, time};
+use crate::{Counted, Date, Month, SignedDuration, Time, UtcOffset, Weekday};
+use std::process::Abort;
+
+fn days(rt: &impl Abort) -> [Date; 4] {
+    [
+        Date::MIN,
+        date(rt, 2000, 2, 29),
+        date(rt, 2021, 1, 1),
+        Date::MAX,
+    ]
+}
+
+#[test]
+fn julian_days_lead_back(rt: HostRuntime) {
+    for day in days(&rt) {
+        let Ok(same) = Date::from_julian_day(day.to_julian_day()) else {
+            panic!(rt; "that of {day} is refused");
+        };
+        assert_eq!(rt; same, day);
+    }
+    for julian_day in [-1930999, 0, 5373484] {
+        let Ok(date) = Date::from_julian_day(julian_day) else {
+            panic!(rt; "{julian_day} is refused");
+        };
+        assert_eq!(rt; date.to_julian_day(), julian_day);
+    }
+}
+
+#[test]
+fn ordinal_calendar_and_iso_week_dates_lead_back(rt: HostRuntime) {
+    for day in days(&rt) {
+        let (year, ordinal) = day.to_ordinal_date();
+        let Ok(by_ordinal) = Date::from_ordinal_date(year, ordinal) else {
+            panic!(rt; "the ordinal date of {day} is refused");
+        };
+        let (year, month, day_of_month) = day.to_calendar_date();
+        let Ok(by_month) = Date::from_calendar_date(year, month, day_of_month) else {
+            panic!(rt; "the calendar date of {day} is refused");
+        };
+        let (year, week, weekday) = day.to_iso_week_date();
+        let Ok(by_week) = Date::from_iso_week_date(year, week, weekday) else {
+            panic!(rt; "the ISO week date of {day} is refused");
+        };
+        assert_eq!(rt; (by_ordinal, by_month, by_week), (day, day, day));
+    }
+}
+
+#[test]
+fn dates_have_what_they_were_made_of(rt: HostRuntime) {
+    for (year, ordinal) in [(-9999, 1), (2000, 60), (2020, 366)] {
+        let Ok(date) = Date::from_ordinal_date(year, ordinal) else {
+            panic!(rt; "{year} {ordinal} is refused");
+        };
+        assert_eq!(rt; date.to_ordinal_date(), (year, ordinal));
+    }
+    for (year, month, day) in [
+        (-1, Month::December, 31),
+        (2000, Month::February, 29),
+        (9999, Month::December, 31),
+    ] {
+        let Ok(date) = Date::from_calendar_date(year, month, day) else {
+            panic!(rt; "{year} {month} {day} is refused");
+        };
+        assert_eq!(rt; date.to_calendar_date(), (year, month, day));
+    }
+    for (year, week, weekday) in [
+        (2019, 40, Weekday::Friday),
+        (2020, 1, Weekday::Monday),
+        (2020, 53, Weekday::Sunday),
+    ] {
+        let Ok(date) = Date::from_iso_week_date(year, week, weekday) else {
+            panic!(rt; "{year} {week} {weekday} is refused");
+        };
+        assert_eq!(rt; date.to_iso_week_date(), (year, week, weekday));
+    }
+}
+
+#[test]
+fn neighbours_have_neighbouring_julian_days(rt: HostRuntime) {
+    for julian_day in [-1930999, -1, 2451544, 5373483] {
+        let Ok(day) = Date::from_julian_day(julian_day) else {
+            panic!(rt; "{julian_day} is refused");
+        };
+        let Some(next) = day.next_day() else {
+            panic!(rt; "{day} is the last");
+        };
+        assert_eq!(rt; next.to_julian_day(), julian_day.wrapping_add(1));
+        assert_eq!(rt; next.previous_day(), Some(day));
+    }
+}
+
+/// Whether order, equality and hash are those of the numbers, for each value with each.
+fn are_told_by_their_numbers<T: Counted>(values: &[T]) -> bool {
+    for one in values {
+        for other in values {
+            let (a, b) = (one.number(), other.number());
+            if (*one < *other) != (a < b) || (*one == *other) != (a == b) {
+                return false;
+            }
+            if a == b && hash_of(one) != hash_of(other) {
+                return false;
+            }
+        }
+    }
+    true
+}
+
+#[test]
+fn values_are_ordered_and_hashed_by_their_numbers(rt: HostRuntime) {
+    assert!(rt; are_told_by_their_numbers(&days(&rt)));
+    assert!(rt;
+        are_told_by_their_numbers(&[
+            SignedDuration::MIN,
+            SignedDuration::nanoseconds(-1),
+            SignedDuration::new(-1, 999_999_999),
+            SignedDuration::MAX,
+        ])
+    );
+    let noon = time(&rt, 12, 0, 0, 0);
+    assert!(rt;
+        are_told_by_their_numbers(&[Time::MIDNIGHT, noon, noon + SignedDuration::DAY, Time::MAX,])
+    );
+    let west = offset(&rt, -5, -30, 0);
+    assert!(rt;
+        are_told_by_their_numbers(&[west, offset(&rt, -4, -30, 0), -(-west), UtcOffset::UTC,])
+    );
+}
+
+#[test]
+fn a_move_is_undone(rt: HostRuntime) {
+    for (date, duration) in [
+        (Date::MIN, SignedDuration::days(7_304_483)),
+        (date(&rt, 2020, 12, 31), SignedDuration::hours(47)),
+        (Date::MAX, SignedDuration::hours(-49)),
+    ] {
+        let Some(moved) = date.checked_add(duration) else {
+            panic!(rt; "{date} and {duration} is no day");
+        };
+        assert_eq!(rt; moved.checked_sub(duration), Some(date));
+    }
+    for (duration, other) in [
+        (SignedDuration::MAX, SignedDuration::MIN),
+        (SignedDuration::nanoseconds(-1), SignedDuration::SECOND),
+        (
+            SignedDuration::seconds(i64::MIN),
+            SignedDuration::nanoseconds(-999_999_999),
+        ),
+    ] {
+        let Some(sum) = duration.checked_add(other) else {
+            panic!(rt; "{duration} and {other} is no duration");
+        };
+        assert_eq!(rt; sum.checked_sub(other), Some(duration));
+    }
+}
+
+#[test]
+fn the_days_between_lead_from_one_day_to_the_other(rt: HostRuntime) {
+    let days = days(&rt);
+    for one in &days {
+        for other in &days {
+            assert_eq!(rt; other.checked_add(*one - *other), Some(*one));
+        }
+    }
+}
+
+#[test]
+fn the_way_to_a_time_leads_there(rt: HostRuntime) {
+    for (from, to, duration) in [
+        (Time::MAX, Time::MIDNIGHT, SignedDuration::MIN),
+        (Time::MIDNIGHT, Time::MAX, SignedDuration::MAX),
+        (
+            time(&rt, 23, 0, 0, 0),
+            time(&rt, 1, 0, 0, 0),
+            SignedDuration::nanoseconds(-1),
+        ),
+    ] {
+        assert_eq!(rt; from + from.duration_until(to), to);
+        assert_eq!(rt; (from + duration) - duration, from);
+    }
+}
+
+#[test]
+fn offsets_lead_back(rt: HostRuntime) {
+    for offset in [
+        UtcOffset::UTC,
+        offset(&rt, 0, -30, -15),
+        offset(&rt, 25, 59, 59),
+    ] {
+        let Ok(same) = UtcOffset::from_whole_seconds(offset.whole_seconds()) else {
+            panic!(rt; "{offset} is refused");
+        };
+        assert_eq!(rt; same, offset);
+        assert_eq!(rt; -(-offset), offset);
+    }
+}
+
+#[test]
+fn turns_of_a_cycle_are_undone(rt: HostRuntime) {
+    for (month, n) in [
+        (Month::January, 255),
+        (Month::July, 9),
+        (Month::December, 0),
+    ] {
+        assert_eq!(rt; month.nth_next(n).nth_prev(n), month);
+    }
+    for (weekday, n) in [
+        (Weekday::Monday, 255),
+        (Weekday::Thursday, 3),
+        (Weekday::Sunday, 10),
+    ] {
+        assert_eq!(rt; weekday.nth_next(n).nth_prev(n), weekday);
+    }
+}
+
+#[test]
+fn a_walk_gives_each_day_once_from_whichever_end(rt: HostRuntime) {
+    let days = [
+        date(&rt, 2019, 12, 30),
+        date(&rt, 2019, 12, 31),
+        date(&rt, 2020, 1, 1),
+        date(&rt, 2020, 1, 2),
+    ];
+    for turns in [
+        [true, true, true, true],
+        [false, false, false, false],
+        [true, false, false, true],
+        [false, true, false, true],
+    ] {
+        let mut walk = days[0].iter_to(days[3]);
+        let mut left: &[Date] = &days;
+        for is_from_front in turns {
+            let (item, cut) = if is_from_front {
+                (walk.next(), left.split_first())
+            } else {
+                (walk.next_back(), left.split_last())
+            };
+            let Some((day, rest)) = cut else {
+                panic!(rt; "there are more than four days");
+            };
+            assert_eq!(rt; item, Some(*day));
+            assert_eq!(rt; walk.len(), rest.len());
+            left = rest;
+        }
+        assert_eq!(rt; walk.next(), None);
+    }
+}

@@ -1,0 +1,122 @@
+//! The texts of values, plain, padded, and for debugging.
+use super::{date, offset, time};
+use crate::error::{ComponentRange, ConversionRange, InvalidVariant};
+use crate::{Date, Month, SignedDuration, Time, UtcOffset, Weekday};
+use std::test::Fail;
+
+#[test]
+fn texts_of_dates(rt: HostRuntime) -> Result<(), Fail> {
+    for (date, text) in [
+        (date(&rt, 0, 1, 1), "0000-01-01"),
+        (date(&rt, -1, 1, 1), "-0001-01-01"),
+        (date(&rt, 2019, 1, 2), "2019-01-02"),
+        (Date::MIN, "-9999-01-01"),
+        (Date::MAX, "9999-12-31"),
+    ] {
+        assert_eq!(rt; format!(in rt.alloc(); "{date}")?.as_str(), text);
+        assert_eq!(rt; format!(in rt.alloc(); "{date:?}")?.as_str(), text);
+    }
+    Ok(())
+}
+
+#[test]
+fn texts_of_times(rt: HostRuntime) -> Result<(), Fail> {
+    for (time, text) in [
+        (Time::MIDNIGHT, "0:00:00.0"),
+        (time(&rt, 9, 5, 0, 120_000_000), "9:05:00.12"),
+        (Time::MAX, "23:59:59.999999999"),
+    ] {
+        assert_eq!(rt; format!(in rt.alloc(); "{time}")?.as_str(), text);
+        assert_eq!(rt; format!(in rt.alloc(); "{time:?}")?.as_str(), text);
+    }
+    Ok(())
+}
+
+#[test]
+fn texts_of_offsets(rt: HostRuntime) -> Result<(), Fail> {
+    for (offset, text) in [
+        (UtcOffset::UTC, "+00:00:00"),
+        (offset(&rt, -5, -30, 0), "-05:30:00"),
+        (offset(&rt, 0, 0, -1), "-00:00:01"),
+        (offset(&rt, 25, 59, 59), "+25:59:59"),
+    ] {
+        assert_eq!(rt; format!(in rt.alloc(); "{offset}")?.as_str(), text);
+        assert_eq!(rt; format!(in rt.alloc(); "{offset:?}")?.as_str(), text);
+    }
+    Ok(())
+}
+
+#[test]
+fn texts_of_durations(rt: HostRuntime) -> Result<(), Fail> {
+    for (duration, text) in [
+        (SignedDuration::ZERO, "0s"),
+        (SignedDuration::nanoseconds(-1), "-1ns"),
+        (SignedDuration::new(-1, 1), "-999ms999µs999ns"),
+        (
+            SignedDuration::MIN,
+            "-106751991167300d15h30m8s999ms999µs999ns",
+        ),
+        (
+            SignedDuration::MAX,
+            "106751991167300d15h30m7s999ms999µs999ns",
+        ),
+    ] {
+        assert_eq!(rt; format!(in rt.alloc(); "{duration}")?.as_str(), text);
+    }
+    Ok(())
+}
+
+// The whole text is padded, and never cut.
+#[test]
+fn padded_texts(rt: HostRuntime) -> Result<(), Fail> {
+    let day = date(&rt, 2019, 1, 2);
+    let padded = format!(in rt.alloc(); "{day:>12}|{day:_<11}|{day:2}|")?;
+    assert_eq!(rt; padded.as_str(), "  2019-01-02|2019-01-02_|2019-01-02|");
+    let midnight = Time::MIDNIGHT;
+    let padded = format!(in rt.alloc(); "{midnight:>11}|{midnight:_<10}|{midnight:2}|")?;
+    assert_eq!(rt; padded.as_str(), "  0:00:00.0|0:00:00.0_|0:00:00.0|");
+    let west = offset(&rt, -5, -30, 0);
+    let padded = format!(in rt.alloc(); "{west:>11}|{west:_<10}|{west:2}|")?;
+    assert_eq!(rt; padded.as_str(), "  -05:30:00|-05:30:00_|-05:30:00|");
+    let padded = format!(in rt.alloc();
+        "{:>6}|{:_<5}|{:2}|",
+        Month::May,
+        Month::June,
+        Month::July
+    )?;
+    assert_eq!(rt; padded.as_str(), "   May|June_|July|");
+    let friday = Weekday::Friday;
+    let padded = format!(in rt.alloc(); "{friday:>8}|{friday:_<7}|{friday:2}|")?;
+    assert_eq!(rt; padded.as_str(), "  Friday|Friday_|Friday|");
+    Ok(())
+}
+
+#[test]
+fn padded_texts_for_debugging(rt: HostRuntime) -> Result<(), Fail> {
+    let (day, midnight, utc) = (date(&rt, 2019, 1, 2), Time::MIDNIGHT, UtcOffset::UTC);
+    let padded = format!(in rt.alloc(); "{day:>12?}|{midnight:_<10?}|{utc:2?}|")?;
+    assert_eq!(rt; padded.as_str(), "  2019-01-02|0:00:00.0_|+00:00:00|");
+    Ok(())
+}
+
+#[test]
+fn texts_of_errors(rt: HostRuntime) -> Result<(), Fail> {
+    for (error, text) in [
+        (ComponentRange::conditional("day"), "day was not in range"),
+        (
+            ComponentRange::unconditional("offset hour"),
+            "offset hour was not in range",
+        ),
+    ] {
+        assert_eq!(rt; format!(in rt.alloc(); "{error}")?.as_str(), text);
+    }
+    assert_eq!(rt;
+        format!(in rt.alloc(); "{ConversionRange}")?.as_str(),
+        "Source value is out of range for the target type"
+    );
+    assert_eq!(rt;
+        format!(in rt.alloc(); "{InvalidVariant}")?.as_str(),
+        "value was not a valid variant"
+    );
+    Ok(())
+}

@@ -1,0 +1,74 @@
+//! Walks over days, from both ends.
+ghost use Rattle.std.specs.Iterator.{IsFinite};
+
+use super::date;
+use crate::Date;
+use crate::iter::DateIter;
+
+/// How many items an iterator gives.
+fn count_items<I: Iterator + Drop>(items: I) -> usize
+where
+    I::Item: Drop,
+    requires goes { I.can_next items }
+    requires ends { IsFinite (I.remaining items) }
+{
+    let mut count = 0usize;
+    for _ in items {
+        count = count.saturating_add(1);
+    }
+    count
+}
+
+#[test]
+fn a_walk_over_a_new_year(rt: HostRuntime) {
+    let (first, last) = (date(&rt, 2019, 12, 30), date(&rt, 2020, 1, 2));
+    let mut walk = DateIter::new(first, last);
+    assert_eq!(rt; walk.len(), 4);
+    assert_eq!(rt; walk.nth_back(2), Some(date(&rt, 2019, 12, 31)));
+    assert_eq!(rt; walk.len(), 1);
+    assert_eq!(rt; walk.clone().next(), Some(first));
+    assert_eq!(rt; walk.nth(usize::MAX), None);
+    assert_eq!(rt; walk.next(), None);
+    assert_eq!(rt; walk.next_back(), None);
+    assert_eq!(rt; count_items(DateIter::new(first, last)), 4);
+}
+
+#[test]
+fn what_a_walk_tells(rt: HostRuntime) {
+    let (first, last) = (date(&rt, 2019, 12, 30), date(&rt, 2020, 1, 2));
+    let walk = first.iter_to(last);
+    assert_eq!(rt; walk.size_hint(), (4, Some(4)));
+    assert_eq!(rt; walk.clone().count(), 4);
+    assert_eq!(rt; walk.clone().min(), Some(first));
+    assert_eq!(rt; walk.clone().max(), Some(last));
+    assert_eq!(rt; walk.clone().last(), Some(last));
+    assert!(rt; walk.clone().is_sorted());
+    assert!(rt; walk.clone() == walk);
+}
+
+#[test]
+fn walks_past_the_ends_of_a_year(rt: HostRuntime) {
+    let (first, last) = (date(&rt, 2019, 1, 1), date(&rt, 2020, 3, 1));
+    let mut walk = first.iter_to(last);
+    assert_eq!(rt; walk.nth(364), Some(date(&rt, 2019, 12, 31)));
+    assert_eq!(rt; walk.next(), Some(date(&rt, 2020, 1, 1)));
+    let mut walk = first.iter_to(last);
+    assert_eq!(rt; walk.nth_back(60), Some(date(&rt, 2020, 1, 1)));
+    assert_eq!(rt; walk.next_back(), Some(date(&rt, 2019, 12, 31)));
+}
+
+#[test]
+fn walks_over_the_whole_range(rt: HostRuntime) {
+    assert_eq!(rt; Date::MIN.iter_to(Date::MAX).len(), 7_304_484);
+    let mut backwards = DateIter::new(Date::MAX, Date::MIN);
+    assert_eq!(rt; backwards.len(), 0);
+    assert_eq!(rt; backwards.next(), None);
+    assert_eq!(rt; backwards.clone().min(), None);
+    assert_eq!(rt; backwards.clone().last(), None);
+
+    // Two walks without days are unequal where their front days are.
+    let mut single = DateIter::new(Date::MIN, Date::MIN);
+    assert_eq!(rt; single.next(), Some(Date::MIN));
+    assert_eq!(rt; (single.len(), backwards.len()), (0, 0));
+    assert!(rt; single != backwards);
+}
