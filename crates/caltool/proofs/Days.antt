@@ -1,9 +1,16 @@
 -- The day of the range that passes a test, where a constructor of dates has found it, or found that there is none.
-use Rattle.std.proofs.Common.{◌≡◌, ℕ, zero, suc, ◌+◌, ◌<◌, Bool, true, false, Some, None, refl, arith, inl, inr, ℤ, Decides}
+use Rattle.std.proofs.Common.{◌≡◌, ℕ, zero, suc, ◌+◌, ◌<◌, Bool, true, false, Some, None, refl, ap, arith, inl, inr, ℤ, pos, negsuc, ◌≤ℤ◌, Decides}
 use Rattle.std.proofs.lemmas.Bool.{cases_Bool, cases_lt, false_from_ne_true}
+use Rattle.std.proofs.lemmas.Bool.Decides.{nat_tests}
 use Rattle.std.proofs.lemmas.Int.{ints}
-use Rattle.cal_date.specs.Date.{IsDate, last_day, IsYear, NoDate, HasJulianDay, HasOrdinalDate}
-use Rattle.caltool.specs.Answers.{first_below, day_with, has_julian_day, has_ordinal_date, is_year}
+use Rattle.cal_time.specs.declared.Month.{Month}
+use Rattle.cal_time.specs.Month.{number}
+use Rattle.cal_time.specs.MonthCycle.{place-below}
+use Rattle.cal_time.specs.CalendarDay.{calendar_day}
+use Rattle.cal_time.specs.Date.{IsDate, last_day, IsYear, NoDate, HasJulianDay, HasOrdinalDate, HasCalendarDate, year_at, month_at, day_of_month_at}
+use Rattle.cal_time.specs.IsoWeekDate.{IsWeek, HasIsoWeekDate}
+use Rattle.cal_time.specs.Move.{IsDateNumber, date_nearest}
+use Rattle.caltool.specs.Answers.{first_below, day_with, has_julian_day, has_ordinal_date, has_calendar_date, has_iso_week_date, has_number, is_year, is_month, is_week}
 
 -- one more day, which is the first to pass, or one of those behind the first, or does not pass
 first_below-found : (test : ℕ → Bool) (n day : ℕ) → first_below test n ≡ Some day → first_below test (suc n) ≡ Some day
@@ -53,6 +60,62 @@ decides_julian_day j n = (λ p. grind (arith, ints), λ e. grind (arith, ints))
 
 pub decides_ordinal_date : (y : ℤ) (o n : ℕ) → Decides (has_ordinal_date y o n) (HasOrdinalDate y o n)
 decides_ordinal_date y o n = (λ p. (grind (arith, ints), grind (arith, ints)), λ e. grind (arith, ints))
+
+same_parts : (y z : ℤ) (m n d e : ℕ) → y ≡ z → m ≡ n → d ≡ e → calendar_day y m d ≡ calendar_day z n e
+same_parts y z m n d e p q r = rw (p, q, r) refl
+
+pub decides_calendar_date : (y : ℤ) (m d n : ℕ) → Decides (has_calendar_date y m d n) (HasCalendarDate y m d n)
+decides_calendar_date y m d n = (
+  λ p.
+      let of_year : year_at n ≡ y = grind (arith, ints) in
+      let of_month : month_at n ≡ m = grind (arith, ints) in
+      let of_day : day_of_month_at n ≡ d = grind (arith, ints) in
+      same_parts _ _ _ _ _ _ of_year of_month of_day,
+  λ e.
+      let of_year : year_at n ≡ y = ap (λ day. day.year) e in
+      let of_month : month_at n ≡ m = ap (λ day. day.month) e in
+      let of_day : day_of_month_at n ≡ d = ap (λ day. day.day) e in
+      grind (arith, ints),
+)
+
+pub decides_iso_week_date : (y : ℤ) (w wd n : ℕ) → Decides (has_iso_week_date y w wd n) (HasIsoWeekDate y w wd n)
+decides_iso_week_date y w wd n = (λ p. (grind (arith, ints), grind (arith, ints), grind (arith, ints)), λ e. grind (arith, ints))
+
+decides_number : (z : ℤ) (n : ℕ) → Decides (has_number z n) (pos n ≡ z)
+decides_number z n = (λ p. grind (arith, ints), λ e. grind (arith, ints))
+
+below : (n : ℕ) (z : ℤ) → pos n ≡ z → z ≤ℤ pos last_day → IsDate n
+below n z e h = omega (arith, ints)
+
+the_same : (n m : ℕ) (z : ℤ) → pos n ≡ z → pos m ≡ z → n ≡ m
+the_same n m z p q = omega (arith, ints)
+
+-- the nearest number of a day is the number itself, where it is one
+date_nearest-same : (z : ℤ) → IsDateNumber z → pos (date_nearest z) ≡ z
+date_nearest-same (pos n) h = grind (arith, ints)
+date_nearest-same (negsuc n) h = absurd (omega (arith, ints, h.not_before))
+
+-- the day of a number, if it is that of a day of the range
+pub day_with-number : (z : ℤ) → IsDateNumber z → day_with (has_number z) ≡ Some (date_nearest z)
+day_with-number z h =
+    let same : pos (date_nearest z) ≡ z = date_nearest-same z h in
+    let number : ℕ = date_nearest z in
+    day_with-has (λ n. pos n ≡ z) (has_number z) (decides_number z) number (below number z same h.not_after) same (λ n l e. the_same n number z e same)
+
+pub day_with-no_number : (z : ℤ) → ¬ IsDateNumber z → day_with (has_number z) ≡ None
+day_with-no_number z none =
+    day_with-none (λ n. pos n ≡ z) (has_number z) (decides_number z) (λ n l e. none record { not_before = omega (arith, ints); not_after = omega (arith, ints) })
+
+-- a month has the number of a month
+pub number-is_month : (m : Month) → is_month (number m) ≡ true
+number-is_month m = let below = place-below m in grind (arith, nat_tests)
+
+-- whether a year has a week
+pub a_week : (y : ℤ) (w : ℕ) → IsWeek y w → is_week y w ≡ true
+a_week y w h = grind (arith, nat_tests)
+
+pub not_a_week : (y : ℤ) (w : ℕ) → ¬ IsWeek y w → is_week y w ≡ false
+not_a_week y w h = false_from_ne_true (is_week y w) (λ p. h (grind (arith, nat_tests), grind (arith, nat_tests)))
 
 -- whether a year is in the range
 pub a_year : (y : ℤ) → IsYear y → is_year y ≡ true

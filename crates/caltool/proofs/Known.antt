@@ -50,5 +50,6 @@ taken_front old mid new bytes rest p q = record {
   front = p.taken ++ q.front;
   rest = q.rest;
   whole = p.whole ∙ ap (λ l. p.taken ++ l) q.whole ∙ sym (append_assoc p.taken q.front q.rest);
+  left = q.left;
   taken = Appends-trans old mid new _ _ p.appended q.taken;
 }

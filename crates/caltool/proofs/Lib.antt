@@ -1,4 +1,5 @@
 pub mod Known
+pub mod Moments
 pub mod Numbers
 pub mod Parts
 pub mod Replies

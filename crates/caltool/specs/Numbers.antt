@@ -25,5 +25,8 @@ i64_of word = option_and_then (within (neg_ℤ (pos 9223372036854775808)) (pos 9
 abbrev pub i32_of : List ℕ → Option ℤ
 i32_of word = option_and_then (within (neg_ℤ (pos 2147483648)) (pos 2147483647)) (integer_of word)
 
+abbrev pub u8_of : List ℕ → Option ℕ
+u8_of word = option_map nat_abs (option_and_then (within (pos 0) (pos 255)) (integer_of word))
+
 abbrev pub u16_of : List ℕ → Option ℕ
 u16_of word = option_map nat_abs (option_and_then (within (pos 0) (pos 65535)) (integer_of word))

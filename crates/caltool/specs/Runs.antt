@@ -14,9 +14,10 @@ pub record GivesMoreThan (most : ℕ) (old new : Option (List ℕ)) : Type 0 whe
   pub more : most < length bytes
   pub given : Consumes old new bytes
 
--- the writer took a beginning of the bytes, perhaps none of them, perhaps all
+-- the writer took a beginning of the bytes, perhaps none of them, and never all
 pub record AppendsFront (old new : Option (List ℕ)) (bytes : List ℕ) : Type 0 where
   pub front : List ℕ
   pub rest : List ℕ
   pub whole : bytes ≡ front ++ rest
+  pub left : 0 < length rest
   pub taken : Appends old new front

@@ -1,10 +1,11 @@
 //! The command that a line spells.
 ghost use Rattle.std.specs.Prelude.{◌≡◌, [], ◌∷◌, MatchOption};
-ghost use Rattle.caltool.specs.Commands.{command_of, julian_command, ordinal_command};
+ghost use Rattle.caltool.specs.Commands.{command_of, julian_command, ordinal_command, calendar_command, iso_command, show_command, add_command, moment_command, weekday_numbered};
 ghost use Rattle.caltool.specs.Lines.{words_of, HasTwoWords};
 
 use super::lines::place_of;
-use super::number::{parse_i32, parse_u16};
+use super::number::{parse_i32, parse_i64, parse_u8, parse_u16};
+use cal_time::Weekday;
 
 /// What a line asks for.
 #[derive(Clone, Copy, Debug, PartialEq, Eq)]
@@ -13,6 +14,16 @@ pub enum Command {
     Julian(i32),
     /// `ordinal Y N`: the day of that year that has this ordinal.
     Ordinal(i32, u16),
+    /// `calendar Y M D`: the day of that year and of the month of that number.
+    Calendar(i32, u8, u8),
+    /// `iso Y W D`: the day of that week of the ISO year that is the weekday of that number.
+    Iso(i32, u8, Weekday),
+    /// `show N`: the date and the ISO week date of the day that has this Julian day.
+    Show(i32),
+    /// `add N S`: the day that has this Julian day, moved by so many seconds.
+    Add(i32, i64),
+    /// `moment N H M S D`: the day that has this Julian day, at that hour, minute and second, moved by so many seconds.
+    Moment(i32, u8, u8, u8, i64),
 }
 
 /// The command that a line spells. All its words are read as numbers before any of them is used.
@@ -24,6 +35,16 @@ pub fn parse(line: &[u8]) -> Option<Command>
         parse_julian(words)
     } else if name == b"ordinal".as_slice() {
         parse_ordinal(words)
+    } else if name == b"calendar".as_slice() {
+        parse_calendar(words)
+    } else if name == b"iso".as_slice() {
+        parse_iso(words)
+    } else if name == b"show".as_slice() {
+        parse_show(words)
+    } else if name == b"add".as_slice() {
+        parse_add(words)
+    } else if name == b"moment".as_slice() {
+        parse_moment(words)
     } else {
         None
     }
@@ -40,6 +61,67 @@ fn parse_ordinal(words: &[u8]) -> Option<Command>
 {
     let (year, words) = first_word(words)?;
     Some(Command::Ordinal(parse_i32(year)?, parse_u16(only_word(words)?)?))
+}
+
+fn parse_calendar(words: &[u8]) -> Option<Command>
+    ensures { result ≡ calendar_command (words_of words.now) }
+{
+    let (year, words) = first_word(words)?;
+    let (month, words) = first_word(words)?;
+    Some(Command::Calendar(
+        parse_i32(year)?,
+        parse_u8(month)?,
+        parse_u8(only_word(words)?)?,
+    ))
+}
+
+fn parse_iso(words: &[u8]) -> Option<Command>
+    ensures { result ≡ iso_command (words_of words.now) }
+{
+    let (year, words) = first_word(words)?;
+    let (week, words) = first_word(words)?;
+    let number = parse_u8(only_word(words)?)?;
+    Some(Command::Iso(parse_i32(year)?, parse_u8(week)?, numbered_weekday(number)?))
+}
+
+fn parse_show(words: &[u8]) -> Option<Command>
+    ensures { result ≡ show_command (words_of words.now) }
+{
+    Some(Command::Show(parse_i32(only_word(words)?)?))
+}
+
+fn parse_add(words: &[u8]) -> Option<Command>
+    ensures { result ≡ add_command (words_of words.now) }
+{
+    let (julian_day, words) = first_word(words)?;
+    Some(Command::Add(parse_i32(julian_day)?, parse_i64(only_word(words)?)?))
+}
+
+fn parse_moment(words: &[u8]) -> Option<Command>
+    ensures { result ≡ moment_command (words_of words.now) }
+{
+    let (julian_day, words) = first_word(words)?;
+    let (hour, words) = first_word(words)?;
+    let (minute, words) = first_word(words)?;
+    let (second, words) = first_word(words)?;
+    let seconds = only_word(words)?;
+    Some(Command::Moment(
+        parse_i32(julian_day)?,
+        parse_u8(hour)?,
+        parse_u8(minute)?,
+        parse_u8(second)?,
+        parse_i64(seconds)?,
+    ))
+}
+
+/// The weekday that has the number, from Monday, 1, to Sunday, 7.
+fn numbered_weekday(number: u8) -> Option<Weekday>
+    ensures { result ≡ weekday_numbered number }
+{
+    if number == 0 || number > 7 {
+        return None;
+    }
+    Some(Weekday::Monday.nth_next(number - 1))
 }
 
 /// The first word, and what stands behind the space after it. There is none if no space stands in the bytes.

@@ -1,6 +1,6 @@
 //! The number that a word spells.
 ghost use Rattle.std.specs.Prelude.{◌≡◌, ◌==◌, slice_index};
-ghost use Rattle.caltool.specs.Numbers.{i64_of, i32_of, u16_of};
+ghost use Rattle.caltool.specs.Numbers.{i64_of, i32_of, u8_of, u16_of};
 
 use std::str;
 
@@ -11,6 +11,13 @@ pub fn parse_i32(word: &[u8]) -> Option<i32>
     i32::try_from(parse_i64(word)?).ok()
 }
 
+/// A number from 0 to 255.
+pub fn parse_u8(word: &[u8]) -> Option<u8>
+    ensures { result ≡ u8_of word.now }
+{
+    u8::try_from(parse_i64(word)?).ok()
+}
+
 /// A number from 0 to 65535.
 pub fn parse_u16(word: &[u8]) -> Option<u16>
     ensures { result ≡ u16_of word.now }
@@ -19,7 +26,7 @@ pub fn parse_u16(word: &[u8]) -> Option<u16>
 }
 
 /// A number of 64 bits with a sign. The narrower ones are read by it too, since std reads no `-0` as an unsigned number.
-fn parse_i64(word: &[u8]) -> Option<i64>
+pub fn parse_i64(word: &[u8]) -> Option<i64>
     ensures { result ≡ i64_of word.now }
 {
     if begins_with_plus(word) {

@@ -120,6 +120,32 @@ fn answers_line_by_line(rt: HostRuntime) -> Result<(), Fail> {
 }
 
 #[test]
+fn answers_each_command(rt: HostRuntime) -> Result<(), Fail> {
+    let cases: [(&[u8], &[u8]); 6] = [
+        (
+            b"calendar 2000 2 29\ncalendar 1900 2 29\ncalendar 10000 13 1\niso 2020 53 5\niso 2019 53 1\niso 9999 52 6\niso 2020 53 8\nshow 2451545\nshow -1930999\n",
+            b"2000 ordinal 60 julian 2451604\nrefused day conditional\nrefused month\n2021 ordinal 1 julian 2459216\nrefused week conditional\nrefused weekday conditional\nbad line\n2000-01-01 iso 1999 52 6 Saturday\n-9999-01-01 iso -9999 1 1 Monday\n",
+        ),
+        (
+            b"add 2459215 169200\nadd 5373484 86400\nadd 5373484 86399\nmoment 2459215 23 0 0 7200\nmoment 5373484 23 59 59 1\nmoment 5373484 24 60 0 0\n",
+            b"2021-01-01\nnone\n9999-12-31\n2021-01-01 1:00:00.0\nnone\nrefused hour\n",
+        ),
+        (b"calendar 2020 13 256", b"bad line\n"),
+        (b"iso 10000 0 0", b"bad line\n"),
+        (b"show 5373485", b"refused julian_day\n"),
+        (b"add 5373485 9223372036854775808", b"bad line\n"),
+        (b"moment 366963560 24 0 0 0", b"refused julian_day\n"),
+        (b"moment 0 256 0 0 0", b"bad line\n"),
+    ];
+    for (input, expected) in cases {
+        let (outcome, written) = answers(rt.alloc(), input)?;
+        assert_eq!(rt; outcome, Ok(()));
+        assert_eq!(rt; written.as_slice(), expected);
+    }
+    Ok(())
+}
+
+#[test]
 fn takes_4096_bytes(rt: HostRuntime) -> Result<(), Fail> {
     let (outcome, written) = answers(rt.alloc(), &[b'\n'; 4096])?;
     assert_eq!(rt; outcome, Ok(()));

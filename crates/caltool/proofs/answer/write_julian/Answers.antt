@@ -1,7 +1,7 @@
 use Rattle.std.proofs.Common.{◌≡◌, ℕ, List, ◌++◌, ap, subst, Some, None, to_z, of_z, w32}
 use Rattle.std.proofs.lemmas.Int.{to_z-of_z}
 use Rattle.std.specs.Prelude.{OnOk}
-use Rattle.cal_date.specs.Date.{NoDate, HasJulianDay}
+use Rattle.cal_time.specs.Date.{NoDate, HasJulianDay}
 use Rattle.caltool.specs.Answers.{day_with, has_julian_day, refused_text}
 use Rattle.caltool.proofs.Days.{day_with-has, day_with-none, decides_julian_day}
 use Rattle.caltool.proofs.answer.write_julian.Goals as goal

@@ -1,9 +1,9 @@
 use Rattle.std.proofs.Common.{◌≡◌, ℕ, List, ◌++◌, ap, subst, Some, None, to_z, of_z, w32, inl, inr}
 use Rattle.std.proofs.lemmas.Int.{to_z-of_z}
 use Rattle.std.specs.Prelude.{if◌then◌else◌, OnOk}
-use Rattle.cal_date.specs.Refusal.{refusal}
-use Rattle.cal_date.specs.Refusals.{year_out_of_range, ordinal_out_of_range}
-use Rattle.cal_date.specs.Date.{NoDate, HasOrdinalDate}
+use Rattle.cal_time.specs.Refusal.{refusal}
+use Rattle.cal_time.specs.Refusals.{year_out_of_range, ordinal_out_of_range}
+use Rattle.cal_time.specs.Date.{NoDate, HasOrdinalDate}
 use Rattle.caltool.specs.Answers.{day_with, has_ordinal_date, is_year, refused_text}
 use Rattle.caltool.proofs.Days.{day_with-has, day_with-none, decides_ordinal_date, a_year, not_a_year}
 use Rattle.caltool.proofs.answer.write_ordinal.Goals as goal
