@@ -1,0 +1,43 @@
+//! Functions that are proved from the clauses of `cal_time` alone.
+ghost use Rattle.std.specs.Prelude.{◌≡◌, pos, ◌+ℤ◌, IfOk, IfSome};
+ghost use Rattle.cal_time.specs.Date.{HasCalendarDate};
+ghost use Rattle.cal_time.specs.Move.{IsDateNumber};
+ghost use Rattle.cal_time.specs.Lengths.{days_in_month};
+ghost use Rattle.cal_time.specs.Month.{number};
+
+use cal_time::error::ComponentRange;
+use cal_time::util::days_in_month;
+use cal_time::{Date, Month, SignedDuration};
+use std::io;
+
+/// The last day of that month.
+fn last_of_month(year: i32, month: Month) -> Result<Date, ComponentRange>
+    ensures { IfOk result (HasCalendarDate year (number month) (days_in_month year (number month))) }
+{
+    Date::from_calendar_date(year, month, days_in_month(month, year))
+}
+
+/// The day itself, by way of the one after it.
+fn there_and_back(date: Date) -> Option<Date>
+    ensures { IfSome result (λ same. same ≡ date) }
+{
+    date.next_day()?.previous_day()
+}
+
+/// The day a week later, for a caller who knows that there is one.
+fn a_week_on(date: Date) -> Date
+    requires { IsDateNumber (pos date +ℤ pos 7) }
+    ensures { pos result ≡ pos date +ℤ pos 7 }
+{
+    date + SignedDuration::days(7)
+}
+
+pub fn show(rt: &impl Print) -> io::Result<()> {
+    if let Ok(date) = last_of_month(2020, Month::February) {
+        println!(rt; "{date} {:?}", there_and_back(date))?;
+        if date.checked_add(SignedDuration::days(7)).is_some() {
+            println!(rt; "{}", a_week_on(date))?;
+        }
+    }
+    Ok(())
+}

@@ -1,0 +1,25 @@
+//! A duration, a time and a date.
+use cal_time::{Date, Month, SignedDuration, Time, add_to_pair};
+use std::io;
+
+/// When a flight of two hours that leaves at 23:00 on that day of December 2020 is there.
+fn arrival(day: u8) -> Option<(Date, Time)> {
+    let flight = SignedDuration::hours(2);
+    let Ok(time) = Time::from_hms(23, 0, 0) else {
+        return None;
+    };
+    let Ok(date) = Date::from_calendar_date(2020, Month::December, day) else {
+        return None;
+    };
+    add_to_pair(date, time, flight)
+}
+
+pub fn show(rt: &impl Print) -> io::Result<()> {
+    for day in [31, 32] {
+        match arrival(day) {
+            Some((date, time)) => println!(rt; "{date} {time}")?,
+            None => println!(rt; "no such day")?,
+        }
+    }
+    Ok(())
+}

@@ -1,0 +1,28 @@
+//! The code of the guide for users of `cal_time`, a module for each task.
+#![tactic(auto)]
+
+mod clauses;
+mod first;
+mod generic;
+mod making;
+mod moving;
+mod order;
+mod parts;
+mod printing;
+mod refusals;
+mod walking;
+
+use std::io;
+
+fn main(rt: HostRuntime) -> io::Result<()> {
+    first::show(&rt)?;
+    making::show(&rt)?;
+    refusals::show(&rt)?;
+    parts::show(&rt)?;
+    moving::show(&rt)?;
+    walking::show(&rt)?;
+    order::show(&rt)?;
+    printing::show(&rt)?;
+    generic::show(&rt)?;
+    clauses::show(&rt)
+}

@@ -1,0 +1,35 @@
+//! Moves by durations and to weekdays.
+use cal_time::{Date, Month, SignedDuration, Time, Weekday};
+use std::io;
+
+/// The day 100 days after, or the last day of the range where there is none.
+fn due(date: Date) -> Date {
+    date.saturating_add(SignedDuration::days(100))
+}
+
+/// The third Thursday after the day, where the range has one.
+fn third_thursday(date: Date) -> Option<Date> {
+    date.checked_nth_next_occurrence(Weekday::Thursday, 3)
+}
+
+/// The same day of March, where the month has it.
+fn in_march(date: Date) -> Option<Date> {
+    match date.replace_month(Month::March) {
+        Ok(date) => Some(date),
+        Err(_) => None,
+    }
+}
+
+pub fn show(rt: &impl Print) -> io::Result<()> {
+    let Ok(day) = Date::from_calendar_date(2023, Month::June, 26) else {
+        return Ok(());
+    };
+    println!(rt; "{}", due(day))?;
+    println!(rt; "{:?}", third_thursday(day))?;
+    println!(rt; "{:?}", in_march(day))?;
+    println!(rt; "{:?}", Date::MAX.checked_add(SignedDuration::DAY))?;
+
+    // A clock goes round, and tells into which day.
+    let (_, time) = Time::MIDNIGHT.adjusting_sub(SignedDuration::MINUTE);
+    println!(rt; "{time}")
+}
