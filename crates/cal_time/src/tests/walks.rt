@@ -44,6 +44,25 @@ fn what_a_walk_tells(rt: HostRuntime) {
     assert_eq!(rt; walk.clone().last(), Some(last));
     assert!(rt; walk.clone().is_sorted());
     assert!(rt; walk.clone() == walk);
+    assert_eq!(rt; walk.take(3).last(), Some(date(&rt, 2020, 1, 1)));
+}
+
+#[test]
+fn the_two_days_at_each_end_of_the_range(rt: HostRuntime) {
+    let Some(second) = Date::MIN.next_day() else {
+        panic!(rt; "no day comes after the first");
+    };
+    let mut walk = Date::MIN.iter_to(second);
+    assert_eq!(rt; walk.next(), Some(Date::MIN));
+    assert_eq!(rt; walk.next_back(), Some(second));
+    assert_eq!(rt; walk.next(), None);
+    let Some(eve) = Date::MAX.previous_day() else {
+        panic!(rt; "no day comes before the last");
+    };
+    let mut walk = eve.iter_to(Date::MAX);
+    assert_eq!(rt; walk.next_back(), Some(Date::MAX));
+    assert_eq!(rt; walk.next(), Some(eve));
+    assert_eq!(rt; walk.next_back(), None);
 }
 
 #[test]
