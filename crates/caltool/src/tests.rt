@@ -121,7 +121,7 @@ fn answers_line_by_line(rt: HostRuntime) -> Result<(), Fail> {
 
 #[test]
 fn answers_each_command(rt: HostRuntime) -> Result<(), Fail> {
-    let cases: [(&[u8], &[u8]); 6] = [
+    let cases: [(&[u8], &[u8]); 8] = [
         (
             b"calendar 2000 2 29\ncalendar 1900 2 29\ncalendar 10000 13 1\niso 2020 53 5\niso 2019 53 1\niso 9999 52 6\niso 2020 53 8\nshow 2451545\nshow -1930999\n",
             b"2000 ordinal 60 julian 2451604\nrefused day conditional\nrefused month\n2021 ordinal 1 julian 2459216\nrefused week conditional\nrefused weekday conditional\nbad line\n2000-01-01 iso 1999 52 6 Saturday\n-9999-01-01 iso -9999 1 1 Monday\n",
