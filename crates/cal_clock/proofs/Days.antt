@@ -1,11 +1,11 @@
 -- Numbers of nanoseconds cut into days.
-use Rattle.std.proofs.Common.{◌≡◌, ℕ, zero, suc, ◌*◌, ◌/◌, ◌%◌, ◌<◌, ℤ, pos, negsuc, neg_ℤ, ◌+ℤ◌, ◌-ℤ◌, ◌*ℤ◌, ◌≤ℤ◌, int_rem, unsigned_abs, FitsSigned, to_z, of_z, lit<, refl, sym, subst, ◌∙◌, arith}
+use Rattle.std.proofs.Common.{◌≡◌, ℕ, zero, suc, ◌*◌, ◌/◌, ◌%◌, ◌<◌, ℤ, pos, negsuc, neg_ℤ, ◌+ℤ◌, ◌-ℤ◌, ◌*ℤ◌, ◌≤ℤ◌, int_rem, FitsSigned, to_z, of_z, lit<, refl, sym, subst, ◌∙◌, arith}
 use Rattle.std.specs.Int.{w64}
 use borrow.Author.Differences.{up, down}
 use Rattle.std.proofs.lemmas.Int.{ints, quot-rem, rem_below, to_z-of_z, fits_signed_from_abs, fits_signed_mul}
-use Rattle.cal_span.specs.SignedDuration.{second, day, cut, past_second, whole_days}
+use Rattle.cal_span.specs.SignedDuration.{second, day, cut, past_second}
 use Rattle.cal_span.specs.FieldsLaws.{times-second}
-use Rattle.cal_clock.specs.Time.{modulo_day}
+use Rattle.cal_clock.specs.Time.{IsPastDays, modulo_day}
 
 -- a day times a number
 times-day : (s : ℤ) → (up (s *ℤ pos day) ≡ day * up s) × (down (s *ℤ pos day) ≡ day * down s)
@@ -18,7 +18,8 @@ int_rem-neg zero = refl
 int_rem-neg (suc q) = refl
 
 -- what is left of the seconds past the whole days, with the nanoseconds past them, is what is left past the days
-pub past_days-is : (v : ℤ) → int_rem (cut v (pos second)) (pos 86_400) *ℤ pos second +ℤ past_second v ≡ int_rem v (pos day)
+pub past_days-is : (v : ℤ)
+    → int_rem (cut v (pos second)) (pos 86_400) *ℤ pos second +ℤ past_second v ≡ int_rem v (pos day)
 past_days-is (pos n) = omega (arith, ints)
 past_days-is (negsuc n) =
     let q = suc n / second in
@@ -26,13 +27,6 @@ past_days-is (negsuc n) =
     let seconds = times-second (int_rem (neg_ℤ (pos q)) (pos 86_400)) in
     let whole = times-second (neg_ℤ (pos q)) in
     omega (arith, ints)
-
--- r is what is left of v past its whole days
-pub record IsPastDays (v r : ℤ) : Type 0 where
-  pub value : v ≡ whole_days v *ℤ pos day +ℤ r
-  pub below_day : unsigned_abs r < day
-  pub positive : pos 0 ≤ℤ v → pos 0 ≤ℤ r
-  pub negative : v ≤ℤ pos 0 → r ≤ℤ pos 0
 
 rem-sign : (v : ℤ) → (pos 0 ≤ℤ v → pos 0 ≤ℤ int_rem v (pos day)) × (v ≤ℤ pos 0 → int_rem v (pos day) ≤ℤ pos 0)
 rem-sign (pos n) = (λ h. omega (arith, ints), λ h. omega (arith, ints))
@@ -70,7 +64,8 @@ rest-of v s n whole past =
 abbrev pub kept : ℤ → ℤ
 kept z = to_z w64 (of_z w64 z)
 
-pub computed-rest : (v s n : ℤ) → FitsSigned w64 s → FitsSigned w64 n → HasRest v s n → kept (kept (kept (int_rem (kept s) (pos 86_400)) *ℤ pos second) +ℤ kept n) ≡ int_rem s (pos 86_400) *ℤ pos second +ℤ n
+pub computed-rest : (v s n : ℤ) → FitsSigned w64 s → FitsSigned w64 n → HasRest v s n
+    → kept (kept (kept (int_rem (kept s) (pos 86_400)) *ℤ pos second) +ℤ kept n) ≡ int_rem s (pos 86_400) *ℤ pos second +ℤ n
 computed-rest v s n fits_s fits_n h =
     let rem = h.rem_fits in
     let product = h.product_fits in
@@ -78,7 +73,8 @@ computed-rest v s n fits_s fits_n h =
     simp to_z-of_z
 
 -- a step back within the days, and then whole days back
-pub moved-back : (t v w r c u : ℤ) → v ≡ w *ℤ pos day +ℤ r → t -ℤ r ≡ c *ℤ pos day +ℤ u → t -ℤ v ≡ (c -ℤ w) *ℤ pos day +ℤ u
+pub moved-back : (t v w r c u : ℤ) → v ≡ w *ℤ pos day +ℤ r → t -ℤ r ≡ c *ℤ pos day +ℤ u
+    → t -ℤ v ≡ (c -ℤ w) *ℤ pos day +ℤ u
 moved-back t v w r c u p q =
     let x = times-day w in
     let y = times-day c in

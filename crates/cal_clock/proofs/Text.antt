@@ -24,7 +24,9 @@ two-digits n low high =
     decimal_step n low (omega arith) ∙ ap (λ ds. ds ++ digit (n % 10) ∷ []) (decimal_digit (n / 10) (omega arith))
 
 -- from the second digit of the hour on, and from the first
-one-digit-shown : (h m s n k : ℕ) → h < 10 → take k (drop 1 (nine_digits n)) ≡ without_last_zeros (drop 1 (nine_digits n)) → slice_range (longest h m s n) 1 (10 + k) ≡ shown (decimal h) m s n
+one-digit-shown : (h m s n k : ℕ) → h < 10
+    → take k (drop 1 (nine_digits n)) ≡ without_last_zeros (drop 1 (nine_digits n))
+    → slice_range (longest h m s n) 1 (10 + k) ≡ shown (decimal h) m s n
 one-digit-shown h m s n k below e =
     let l = longest h m s n in
     let end : 10 + k - 1 ≡ 9 + k = omega arith in
@@ -32,7 +34,9 @@ one-digit-shown h m s n k below e =
     ap (λ j. take j (drop 1 l)) end ∙ take-add 9 k (drop 1 l) ∙ ap (λ rest. take 9 (drop 1 l) ++ rest) e
     ∙ ap (λ d. shown (d ∷ []) m s n) hour ∙ ap (λ ds. shown ds m s n) (sym (decimal_digit h below))
 
-two-digits-shown : (h m s n k : ℕ) → 10 ≤ h → h < 24 → take k (drop 1 (nine_digits n)) ≡ without_last_zeros (drop 1 (nine_digits n)) → slice_range (longest h m s n) 0 (10 + k) ≡ shown (decimal h) m s n
+two-digits-shown : (h m s n k : ℕ) → 10 ≤ h → h < 24
+    → take k (drop 1 (nine_digits n)) ≡ without_last_zeros (drop 1 (nine_digits n))
+    → slice_range (longest h m s n) 0 (10 + k) ≡ shown (decimal h) m s n
 two-digits-shown h m s n k low high e =
     let l = longest h m s n in
     let end : 10 + k - 0 ≡ 10 + k = omega arith in
@@ -40,10 +44,46 @@ two-digits-shown h m s n k low high e =
     ∙ ap (λ ds. shown ds m s n) (sym (two-digits h low high))
 
 -- digits and signs are ASCII
-longest-ascii : (h m s n : ℕ) → h < 24 → m < 60 → s < 60 → n < 1_000_000_000 → All (λ byte. byte < 128) (longest h m s n)
+longest-ascii : (h m s n : ℕ) → h < 24 → m < 60 → s < 60 → n < 1_000_000_000
+    → All (λ byte. byte < 128) (longest h m s n)
 longest-ascii h m s n a b c d =
-    All-from_recursion (λ byte. byte < 128) (longest h m s n)
-    (omega arith, (omega arith, (omega arith, (omega arith, (omega arith, (omega arith, (omega arith, (omega arith, (omega arith, (omega arith, (omega arith, (omega arith, (omega arith, (omega arith, (omega arith, (omega arith, (omega arith, (omega arith, tt))))))))))))))))))
+    All-from_recursion (λ byte. byte < 128) (longest h m s n) (
+      omega arith,
+      (
+        omega arith,
+        (
+          omega arith,
+          (
+            omega arith,
+            (
+              omega arith,
+              (
+                omega arith,
+                (
+                  omega arith,
+                  (
+                    omega arith,
+                    (
+                      omega arith,
+                      (
+                        omega arith,
+                        (
+                          omega arith,
+                          (
+                            omega arith,
+                            (omega arith, (omega arith, (omega arith, (omega arith, (omega arith, (omega arith, tt)))))),
+                          ),
+                        ),
+                      ),
+                    ),
+                  ),
+                ),
+              ),
+            ),
+          ),
+        ),
+      ),
+    )
 
 part-ascii : (xs : List ℕ) (i j : ℕ) → All (λ byte. byte < 128) xs → IsAscii (slice_range xs i j)
 part-ascii xs i j ascii =
@@ -59,20 +99,24 @@ pub record IsCut (t : ℕ) (bytes : List ℕ) (k : ℕ) : Type 0 where
   pub whole : bytes ≡ longest_text t
   pub value : take k (slice_range bytes 10 18) ≡ without_last_zeros (slice_range bytes 10 18)
 
-cut-longest : (t : ℕ) (bytes : List ℕ) (k : ℕ) → IsCut t bytes k → take k (slice_range (longest_text t) 10 18) ≡ without_last_zeros (slice_range (longest_text t) 10 18)
+cut-longest : (t : ℕ) (bytes : List ℕ) (k : ℕ) → IsCut t bytes k
+    → take k (slice_range (longest_text t) 10 18) ≡ without_last_zeros (slice_range (longest_text t) 10 18)
 cut-longest t bytes k h = subst (λ whole. take k (slice_range whole 10 18) ≡ without_last_zeros (slice_range whole 10 18)) h.whole h.value
 
-pub text-one-digit : (t : ℕ) (bytes : List ℕ) (k : ℕ) → IsCut t bytes k → hour_of t < 10 → slice_range bytes 1 (10 + k) ≡ text t
+pub text-one-digit : (t : ℕ) (bytes : List ℕ) (k : ℕ) → IsCut t bytes k → hour_of t < 10
+    → slice_range bytes 1 (10 + k) ≡ text t
 text-one-digit t bytes k h below =
     ap (λ whole. slice_range whole 1 (10 + k)) h.whole
     ∙ one-digit-shown (hour_of t) (minute_of t) (second_of t) (nanosecond_of t) k below (cut-longest t bytes k h)
 
-pub text-two-digits : (t : ℕ) (bytes : List ℕ) (k : ℕ) → IsCut t bytes k → 10 ≤ hour_of t → hour_of t < 24 → slice_range bytes 0 (10 + k) ≡ text t
+pub text-two-digits : (t : ℕ) (bytes : List ℕ) (k : ℕ) → IsCut t bytes k → 10 ≤ hour_of t → hour_of t < 24
+    → slice_range bytes 0 (10 + k) ≡ text t
 text-two-digits t bytes k h low high =
     ap (λ whole. slice_range whole 0 (10 + k)) h.whole
     ∙ two-digits-shown (hour_of t) (minute_of t) (second_of t) (nanosecond_of t) k low high (cut-longest t bytes k h)
 
-pub text-ascii : (t : ℕ) (bytes : List ℕ) (i j : ℕ) → bytes ≡ longest_text t → hour_of t < 24 → IsAscii (slice_range bytes i j)
+pub text-ascii : (t : ℕ) (bytes : List ℕ) (i j : ℕ) → bytes ≡ longest_text t → hour_of t < 24
+    → IsAscii (slice_range bytes i j)
 text-ascii t bytes i j whole high =
     let ascii = longest-ascii (hour_of t) (minute_of t) (second_of t) (nanosecond_of t) high (omega arith) (omega arith) (omega arith) in
     part-ascii bytes i j (subst (All (λ byte. byte < 128)) (sym whole) ascii)

@@ -18,22 +18,28 @@ without_last_zeros-other ds d other =
     rw reverse-append (ap reverse (first-other (reverse ds) d other) ∙ reverse-append (d ∷ []) (reverse ds) ∙ ap (λ front. front ++ d ∷ []) (reverse-reverse ds))
 
 -- a zero at the end, and another digit there
-ends-in-zero : (ds : List ℕ) (j : ℕ) → j < length ds → get_or ds j 0 ≡ 48 → without_last_zeros (take (suc j) ds) ≡ without_last_zeros (take j ds)
+ends-in-zero : (ds : List ℕ) (j : ℕ) → j < length ds → get_or ds j 0 ≡ 48
+    → without_last_zeros (take (suc j) ds) ≡ without_last_zeros (take j ds)
 ends-in-zero ds j h e =
     ap without_last_zeros (take-suc ds j 0 h ∙ ap (λ d. take j ds ++ d ∷ []) e) ∙ without_last_zeros-zero (take j ds)
 
-ends-in-other : (ds : List ℕ) (j : ℕ) → j < length ds → ¬ (get_or ds j 0 ≡ 48) → without_last_zeros (take (suc j) ds) ≡ take (suc j) ds
+ends-in-other : (ds : List ℕ) (j : ℕ) → j < length ds → ¬ (get_or ds j 0 ≡ 48)
+    → without_last_zeros (take (suc j) ds) ≡ take (suc j) ds
 ends-in-other ds j h other =
-    ap without_last_zeros (take-suc ds j 0 h) ∙ without_last_zeros-other (take j ds) (get_or ds j 0) other ∙ sym (take-suc ds j 0 h)
+    ap without_last_zeros (take-suc ds j 0 h) ∙ without_last_zeros-other (take j ds) (get_or ds j 0) other
+    ∙ sym (take-suc ds j 0 h)
 
 -- the same by the length that is looked at
-pub one-zero-less : (ds : List ℕ) (n : ℕ) → 0 < n → n ≤ length ds → get_or ds (n - 1) 0 ≡ 48 → without_last_zeros (take (n - 1) ds) ≡ without_last_zeros (take n ds)
+pub one-zero-less : (ds : List ℕ) (n : ℕ) → 0 < n → n ≤ length ds → get_or ds (n - 1) 0 ≡ 48
+    → without_last_zeros (take (n - 1) ds) ≡ without_last_zeros (take n ds)
 one-zero-less ds zero some within last = absurd (omega arith)
 one-zero-less ds (suc j) some within last =
     let before : suc j - 1 ≡ j = omega arith in
-    ap (λ i. without_last_zeros (take i ds)) before ∙ sym (ends-in-zero ds j (omega arith) (ap (λ i. get_or ds i 0) (sym before) ∙ last))
+    ap (λ i. without_last_zeros (take i ds)) before
+    ∙ sym (ends-in-zero ds j (omega arith) (ap (λ i. get_or ds i 0) (sym before) ∙ last))
 
-pub no-last-zero : (ds : List ℕ) (n : ℕ) → 0 < n → n ≤ length ds → ¬ (get_or ds (n - 1) 0 ≡ 48) → take n ds ≡ without_last_zeros (take n ds)
+pub no-last-zero : (ds : List ℕ) (n : ℕ) → 0 < n → n ≤ length ds → ¬ (get_or ds (n - 1) 0 ≡ 48)
+    → take n ds ≡ without_last_zeros (take n ds)
 no-last-zero ds zero some within last = absurd (omega arith)
 no-last-zero ds (suc j) some within last =
     let before : suc j - 1 ≡ j = omega arith in

@@ -1,4 +1,3 @@
 pub mod Digits
-pub mod Order
 pub mod Time
 pub mod UtcOffset

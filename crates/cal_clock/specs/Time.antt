@@ -1,12 +1,13 @@
--- A time of day is one whole number of nanoseconds since midnight, below a day of 24 hours (a local time of day of ISO 8601, without
--- leap seconds). Here stands what its calls answer, as functions of that number.
-use Rattle.std.specs.Prelude.{ℕ, ◌+◌, ◌*◌, ◌/◌, ◌%◌, ◌<◌, ℤ, pos, negsuc, unsigned_abs, List, ◌++◌, codes}
+-- A time of day is one whole number of nanoseconds since midnight, below a day of 24 hours (a local time of day of
+-- ISO 8601, without leap seconds). Here stands what its calls answer, as functions of that number.
+use Rattle.std.specs.Prelude.{◌≡◌, ℕ, ◌+◌, ◌*◌, ◌/◌, ◌%◌, ◌<◌, ◌≤◌, ◌↔◌, ℤ, pos, negsuc, ◌+ℤ◌, ◌*ℤ◌, ◌≤ℤ◌, unsigned_abs, List, ◌++◌, codes, Result}
 use Rattle.std.specs.Int.{int_rem_euclid}
 use Rattle.std.specs.Fmt.{decimal}
-use Rattle.cal_units.specs.Refusal.{Refusal, unconditional}
+use Rattle.cal_units.specs.declared.error.ComponentRange.{ComponentRange}
+use Rattle.cal_units.specs.Refusal.{Refusal, unconditional, IsRefused}
 use Rattle.cal_units.specs.declared.util.date_adjustment.DateAdjustment.{DateAdjustment}
 use Rattle.cal_units.specs.declared.util.date_adjustment.DateAdjustment.TheVariants.{Previous, Next, None}
-use Rattle.cal_span.specs.SignedDuration.{microsecond, millisecond, second, minute, hour, day}
+use Rattle.cal_span.specs.SignedDuration.{microsecond, millisecond, second, minute, hour, day, whole_days}
 use Rattle.cal_units.specs.Digits.{two_digits}
 use Rattle.cal_clock.specs.Digits.{decimals}
 
@@ -32,6 +33,12 @@ microsecond_out_of_range = unconditional (codes "microsecond")
 
 abbrev pub nanosecond_out_of_range : Refusal
 nanosecond_out_of_range = unconditional (codes "nanosecond")
+
+-- an hour, a minute and a second are refused for the first of them that is out of range
+pub record IsRefusedByClock {T : Type 0} (h m s : ℕ) (result : Result T ComponentRange) : Type 0 where
+  pub hour : IsRefused hour_out_of_range result ↔ (23 < h)
+  pub minute : IsRefused minute_out_of_range result ↔ (h ≤ 23) × (59 < m)
+  pub second : IsRefused second_out_of_range result ↔ (h ≤ 23) × (m ≤ 59) × (59 < s)
 
 -- ---- components
 -- the time of hours, minutes, seconds and nanoseconds
@@ -61,6 +68,13 @@ nanosecond_of t = t % second
 -- the remainder of a number of nanoseconds by a day, from 0 to below a day
 abbrev pub modulo_day : ℤ → ℕ
 modulo_day v = unsigned_abs (int_rem_euclid v (pos day))
+
+-- r is what a number of nanoseconds has past its whole days, with its sign
+pub record IsPastDays (v r : ℤ) : Type 0 where
+  pub value : v ≡ whole_days v *ℤ pos day +ℤ r
+  pub below_day : unsigned_abs r < day
+  pub positive : pos 0 ≤ℤ v → pos 0 ≤ℤ r
+  pub negative : v ≤ℤ pos 0 → r ≤ℤ pos 0
 
 -- how many days a step of the clock adds to those that were asked for
 abbrev pub carry : DateAdjustment → ℤ

@@ -1,5 +1,5 @@
--- An offset from UTC is one whole number of seconds, above 0 to the east (a time shift of ISO 8601). Here stands what its calls
--- answer, as functions of that number.
+-- An offset from UTC is one whole number of seconds, above 0 to the east (a time shift of ISO 8601). Here stands what
+-- its calls answer, as functions of that number.
 use Rattle.std.specs.Prelude.{ℕ, zero, suc, ◌+◌, ◌*◌, ◌/◌, ◌%◌, ◌≤◌, ℤ, pos, negsuc, neg_ℤ, ◌-ℤ◌, ◌*ℤ◌, unsigned_abs, List, ◌++◌, codes}
 use Rattle.cal_span.specs.SignedDuration.{cut}
 use Rattle.cal_units.specs.Refusal.{Refusal, unconditional}
@@ -45,7 +45,8 @@ with_sign_of (negsuc _) n = neg_ℤ (pos n)
 -- the sum of the magnitudes, with the sign of the first number that is not 0
 abbrev pub offset_of : ℤ → ℤ → ℤ → ℤ
 offset_of hours minutes seconds =
-    with_sign_of (leading hours minutes seconds) (3_600 * unsigned_abs hours + 60 * unsigned_abs minutes + unsigned_abs seconds)
+    with_sign_of (leading hours minutes seconds)
+    (3_600 * unsigned_abs hours + 60 * unsigned_abs minutes + unsigned_abs seconds)
 
 -- ---- parts: quotients cut toward zero, and what is left of them
 abbrev pub whole_hours : ℤ → ℤ

@@ -1,4 +1,5 @@
-//! What callers rest on and no clause of a call says: which numbers the constants are, and that a clone is the value itself.
+//! What callers rest on and no clause of a call says: which numbers the constants are, and that a clone is the value
+//! itself.
 //!
 //! Constants and derives have no clauses, so a function that gives them back says what they are.
 

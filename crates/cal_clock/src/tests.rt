@@ -1,4 +1,4 @@
-//! The laws of constants and clones, and text for debugging under a width. The worked values stand in the crate of the facade.
+//! The laws of constants and clones. The worked values stand in the crate of the facade.
 use crate::{Time, UtcOffset, laws};
 use cal_units::Counted;
 use std::test::Fail;

@@ -1,6 +1,7 @@
+//! Times of day.
 ghost use Rattle.std.specs.Prelude.{◌≡◌, ◌↔◌, ◌*◌, ◌<◌, ◌≤◌};
 ghost use Rattle.cal_units.specs.Refusal.{IsRefused};
-ghost use Rattle.cal_clock.specs.Time.{hour_out_of_range, minute_out_of_range, second_out_of_range, millisecond_out_of_range, microsecond_out_of_range, nanosecond_out_of_range, time_of};
+ghost use Rattle.cal_clock.specs.Time.{millisecond_out_of_range, microsecond_out_of_range, nanosecond_out_of_range, time_of, IsRefusedByClock};
 
 use cal_units::error::ComponentRange;
 use std::marker::Model;
@@ -26,7 +27,7 @@ const NANOSECONDS_PER_DAY: u64 = 86_400_000_000_000;
 ///
 /// It prints the hour without padding, two digits each of the minute and the second, and the decimals without trailing
 /// zeros, but at least one, as `9:05:00.12`. Under a width the whole text is padded. `Debug` prints the same.
-#[derive(Clone, Copy)]
+#[derive(Clone, Copy, PartialEq, Eq, PartialOrd, Ord, Hash)]
 pub struct Time {
     nanoseconds: u64,
 }
@@ -55,11 +56,10 @@ impl Time {
 
     /// The time of that hour, minute and second.
     ///
-    /// Refused with the first component out of range, unconditional: `hour` above 23, `minute` and then `second` above 59.
+    /// Refused with the first component out of range, unconditional: `hour` above 23, `minute` and then `second` above
+    /// 59.
     pub fn from_hms(hour: u8, minute: u8, second: u8) -> Result<Self, ComponentRange>
-        ensures hour { IsRefused hour_out_of_range result ↔ (23 < hour) }
-        ensures minute { IsRefused minute_out_of_range result ↔ (hour ≤ 23) × (59 < minute) }
-        ensures second { IsRefused second_out_of_range result ↔ (hour ≤ 23) × (minute ≤ 59) × (59 < second) }
+        ensures refused { IsRefusedByClock hour minute second result }
         ensures value { hour ≤ 23 → minute ≤ 59 → second ≤ 59 → result ≡ Ok (time_of hour minute second 0) }
     {
         if hour > 23 {
@@ -80,17 +80,15 @@ impl Time {
 
     /// The time of that hour, minute, second and millisecond.
     ///
-    /// Refused with the first component out of range, unconditional: as [`Self::from_hms`], and then `millisecond` above
-    /// 999.
+    /// Refused with the first component out of range, unconditional: as [`Self::from_hms`], and then `millisecond`
+    /// above 999.
     pub fn from_hms_milli(
         hour: u8,
         minute: u8,
         second: u8,
         millisecond: u16,
     ) -> Result<Self, ComponentRange>
-        ensures hour { IsRefused hour_out_of_range result ↔ (23 < hour) }
-        ensures minute { IsRefused minute_out_of_range result ↔ (hour ≤ 23) × (59 < minute) }
-        ensures second { IsRefused second_out_of_range result ↔ (hour ≤ 23) × (minute ≤ 59) × (59 < second) }
+        ensures refused { IsRefusedByClock hour minute second result }
         ensures millisecond { IsRefused millisecond_out_of_range result
             ↔ (hour ≤ 23) × (minute ≤ 59) × (second ≤ 59) × (999 < millisecond) }
         ensures value { hour ≤ 23 → minute ≤ 59 → second ≤ 59 → millisecond ≤ 999
@@ -104,17 +102,15 @@ impl Time {
 
     /// The time of that hour, minute, second and microsecond.
     ///
-    /// Refused with the first component out of range, unconditional: as [`Self::from_hms`], and then `microsecond` above
-    /// 999999.
+    /// Refused with the first component out of range, unconditional: as [`Self::from_hms`], and then `microsecond`
+    /// above 999999.
     pub fn from_hms_micro(
         hour: u8,
         minute: u8,
         second: u8,
         microsecond: u32,
     ) -> Result<Self, ComponentRange>
-        ensures hour { IsRefused hour_out_of_range result ↔ (23 < hour) }
-        ensures minute { IsRefused minute_out_of_range result ↔ (hour ≤ 23) × (59 < minute) }
-        ensures second { IsRefused second_out_of_range result ↔ (hour ≤ 23) × (minute ≤ 59) × (59 < second) }
+        ensures refused { IsRefusedByClock hour minute second result }
         ensures microsecond { IsRefused microsecond_out_of_range result
             ↔ (hour ≤ 23) × (minute ≤ 59) × (second ≤ 59) × (999_999 < microsecond) }
         ensures value { hour ≤ 23 → minute ≤ 59 → second ≤ 59 → microsecond ≤ 999_999
@@ -136,9 +132,7 @@ impl Time {
         second: u8,
         nanosecond: u32,
     ) -> Result<Self, ComponentRange>
-        ensures hour { IsRefused hour_out_of_range result ↔ (23 < hour) }
-        ensures minute { IsRefused minute_out_of_range result ↔ (hour ≤ 23) × (59 < minute) }
-        ensures second { IsRefused second_out_of_range result ↔ (hour ≤ 23) × (minute ≤ 59) × (59 < second) }
+        ensures refused { IsRefusedByClock hour minute second result }
         ensures nanosecond { IsRefused nanosecond_out_of_range result
             ↔ (hour ≤ 23) × (minute ≤ 59) × (second ≤ 59) × (999_999_999 < nanosecond) }
         ensures value { hour ≤ 23 → minute ≤ 59 → second ≤ 59 → nanosecond ≤ 999_999_999

@@ -1,19 +1,13 @@
+//! Offsets from UTC.
 ghost use Rattle.std.specs.Prelude.{◌≡◌, ◌↔◌, ◌<◌, ◌≤◌, pos, neg_ℤ, ◌<ℤ◌, unsigned_abs, Some, IsTrue};
-ghost use Rattle.std.specs.Fmt.{padded};
-ghost use Rattle.std.specs.Ordering.{int_cmp, int_eq, as_partial_cmp};
-ghost use Rattle.std.specs.Cmp.{partial_order_from_own_ties};
-ghost use Rattle.std.specs.Cmp.Rules.{comparing, hashing};
-ghost use Rattle.std.specs.Hash as fed;
-ghost use Rattle.std.proofs.Common.{rules};
+ghost use Rattle.std.specs.Fmt.{WritesOnOk, WritesStyledOnOk, formatter_spec, padded};
 ghost use Rattle.cal_units.specs.Refusal.{IsRefused};
 ghost use Rattle.cal_clock.specs.UtcOffset.{IsOffset, greatest, offset_hour_out_of_range, offset_minute_out_of_range, offset_second_out_of_range, seconds_out_of_range, leading, offset_of, whole_hours, whole_minutes, minutes_past_hour, seconds_past_minute, text};
 
 use cal_units::Counted;
 use cal_units::digits::{ascii_text, two_digits};
 use cal_units::error::ComponentRange;
-use std::cmp::Ordering;
 use std::fmt;
-use std::hash::{Hash, Hasher};
 use std::marker::Model;
 use std::ops::Neg;
 
@@ -25,9 +19,9 @@ const SECONDS_PER_HOUR: u32 = 3_600;
 ///
 /// East of Greenwich it is positive. Offsets are ordered by their seconds, so the order goes from west to east.
 ///
-/// It prints its sign, `+` for zero too, and two digits each of hours, minutes and seconds, as `-05:30:00`. Under a width
-/// the whole text is padded. `Debug` prints the same.
-#[derive(Clone, Copy)]
+/// It prints its sign, `+` for zero too, and two digits each of hours, minutes and seconds, as `-05:30:00`. Under a
+/// width the whole text is padded. `Debug` prints the same.
+#[derive(Clone, Copy, PartialEq, Eq, PartialOrd, Ord, Hash)]
 pub struct UtcOffset {
     seconds: i32,
 }
@@ -52,11 +46,11 @@ impl UtcOffset {
     /// The offset of that many hours, minutes and seconds.
     ///
     /// The first of them that is not zero gives the sign, and the magnitudes are added up under it, whatever signs the
-    /// others have: `from_hms(1, -2, -3)` is one hour, two minutes and three seconds, and `from_hms(0, -30, 15)` is thirty
-    /// minutes and fifteen seconds below zero.
+    /// others have: `from_hms(1, -2, -3)` is one hour, two minutes and three seconds, and `from_hms(0, -30, 15)` is
+    /// thirty minutes and fifteen seconds below zero.
     ///
-    /// Refused with the first component out of range, unconditional: `offset hour` outside -25 to 25, `offset minute` and
-    /// then `offset second` outside -59 to 59.
+    /// Refused with the first component out of range, unconditional: `offset hour` outside -25 to 25, `offset minute`
+    /// and then `offset second` outside -59 to 59.
     pub fn from_hms(hours: i8, minutes: i8, seconds: i8) -> Result<Self, ComponentRange>
         ensures hour { IsRefused offset_hour_out_of_range result ↔ (25 < unsigned_abs hours) }
         ensures minute { IsRefused offset_minute_out_of_range result
@@ -207,54 +201,6 @@ impl Neg for UtcOffset {
     }
 }
 
-impl PartialEq for UtcOffset {
-    ghost eq = { int_eq };
-
-    ghost laws = { Prim.search (comparing, rules) };
-
-    fn eq(&self, other: &Self) -> bool {
-        self.seconds == other.seconds
-    }
-}
-
-impl Eq for UtcOffset {
-    ghost laws = { Prim.search (comparing, rules) };
-}
-
-impl Ord for UtcOffset {
-    ghost cmp = { int_cmp };
-
-    ghost total = { Prim.search (comparing, rules) };
-
-    ghost matches_partial_cmp = { Prim.search (comparing, rules) };
-
-    ghost matches_eq = { Prim.search (comparing, rules) };
-
-    fn cmp(&self, other: &Self) -> Ordering {
-        self.seconds.cmp(&other.seconds)
-    }
-}
-
-impl PartialOrd for UtcOffset {
-    ghost partial_cmp = { as_partial_cmp int_cmp };
-
-    ghost laws = { partial_order_from_own_ties (Prim.search (comparing, rules)) (Prim.search (comparing, rules)) };
-
-    fn partial_cmp(&self, other: &Self) -> Option<Ordering> {
-        Some(self.cmp(other))
-    }
-}
-
-impl Hash for UtcOffset {
-    ghost hash_input = { fed.i32 };
-
-    ghost respects_eq = { Prim.search (hashing, rules) };
-
-    fn hash<H: Hasher>(&self, state: &mut H) {
-        self.seconds.hash(state);
-    }
-}
-
 impl Counted for UtcOffset {
     ghost use Rattle.std.specs.Prelude.{refl};
     ghost use Rattle.std.specs.Hash as fed;
@@ -304,7 +250,11 @@ impl fmt::Display for UtcOffset {
 impl fmt::Debug for UtcOffset {
     ghost debug_output = { λ o. Some (text o) };
 
-    fn fmt<W: fmt::Write>(&self, f: &mut fmt::Formatter<W>) -> fmt::Result {
+    fn fmt<W: fmt::Write>(&self, f: &mut fmt::Formatter<W>) -> fmt::Result
+        ensures text { WritesOnOk W.write_str_gives f.old result (text self.now) f.new }
+        ensures styled { WritesStyledOnOk W.write_str_gives f.old result
+            (padded (formatter_spec f.old) (text self.now)) f.new }
+    {
         fmt::Display::fmt(self, f)
     }
 }

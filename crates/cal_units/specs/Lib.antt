@@ -4,6 +4,7 @@ pub mod Lengths
 pub mod Month
 pub mod MonthCycle
 pub mod Name
+pub mod Order
 pub mod Places
 pub mod Refusal
 pub mod Walk

@@ -2,7 +2,7 @@
 
 ghost use Rattle.std.specs.Prelude.{◌≡◌, ◌*◌, ◌<◌, pos, negsuc, neg_ℤ, ◌+ℤ◌, ◌-ℤ◌, ◌*ℤ◌, ◌<ℤ◌, ◌≤ℤ◌, unsigned_abs};
 ghost use Rattle.cal_span.specs.SignedDuration.{day, whole_days};
-ghost use Rattle.cal_clock.specs.Time.{modulo_day, carry};
+ghost use Rattle.cal_clock.specs.Time.{IsPastDays, modulo_day, carry};
 
 use super::{NANOSECONDS_PER_DAY, NANOSECONDS_PER_SECOND, Time};
 use cal_span::SignedDuration;
@@ -31,10 +31,10 @@ impl Time {
         other.duration_until(self)
     }
 
-    /// The time that much later, and the day that it lies in, seen from the day that the whole days of the duration, cut
-    /// toward zero, lead to: 23:00 and 26 hours more are 1:00 of the `Next` day.
+    /// The new time, and the carry in days beyond the whole days of the duration, which are cut toward zero.
     ///
-    /// The step to the day never goes against the sign of the duration.
+    /// 23:00 and 26 hours more are 1:00, two days on: a whole day of the duration, and a carry to the `Next` day. The
+    /// carry never goes against the sign of the duration.
     pub fn adjusting_add(self, duration: SignedDuration) -> (DateAdjustment, Self)
         ensures equation { pos self +ℤ duration ≡ (whole_days duration +ℤ carry result.0) *ℤ pos day +ℤ pos result.1 }
         ensures below_day { result.1 < day }
@@ -44,10 +44,10 @@ impl Time {
         carried(self.nanoseconds as i64 + past_days(duration))
     }
 
-    /// The time that much earlier, and the day that it lies in, seen from the day that the whole days of the duration, cut
-    /// toward zero, lead back to: 1:00 less 26 hours is 23:00 of the `Previous` day.
+    /// The new time, and the carry in days beyond the whole days of the duration, which are cut toward zero.
     ///
-    /// The step to the day never goes along with the sign of the duration.
+    /// 1:00 less 26 hours is 23:00, two days back: a whole day of the duration, and a carry to the `Previous` day. The
+    /// carry never goes along with the sign of the duration.
     pub fn adjusting_sub(self, duration: SignedDuration) -> (DateAdjustment, Self)
         ensures equation { pos self -ℤ duration ≡ (carry result.0 -ℤ whole_days duration) *ℤ pos day +ℤ pos result.1 }
         ensures below_day { result.1 < day }
@@ -60,10 +60,7 @@ impl Time {
 
 /// The nanoseconds of the duration past its whole days, with its sign.
 fn past_days(duration: SignedDuration) -> i64
-    ensures value { duration ≡ whole_days duration *ℤ pos day +ℤ result }
-    ensures below_day { unsigned_abs result < day }
-    ensures positive { pos 0 ≤ℤ duration → pos 0 ≤ℤ result }
-    ensures negative { duration ≤ℤ pos 0 → result ≤ℤ pos 0 }
+    ensures { IsPastDays duration result }
 {
     let seconds = duration.whole_seconds() % SECONDS_PER_DAY;
     seconds * NANOSECONDS_PER_SECOND as i64 + i64::from(duration.subsec_nanoseconds())

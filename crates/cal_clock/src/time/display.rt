@@ -1,7 +1,7 @@
 //! The text of times.
 
 ghost use Rattle.std.specs.Prelude.{◌≡◌, ◌≤◌, Some, ◌++◌, codes, length, take};
-ghost use Rattle.std.specs.Fmt.{padded};
+ghost use Rattle.std.specs.Fmt.{WritesOnOk, WritesStyledOnOk, formatter_spec, padded};
 ghost use Rattle.cal_clock.specs.Digits.{nine_digits, without_last_zeros};
 ghost use Rattle.cal_units.specs.Digits.{two_digits};
 ghost use Rattle.cal_clock.specs.Time.{hour_of, minute_of, second_of, nanosecond_of, text};
@@ -62,19 +62,20 @@ impl fmt::Display for Time {
 
     fn fmt<W: fmt::Write>(&self, f: &mut fmt::Formatter<W>) -> fmt::Result {
         let bytes = self.longest_text();
+        let start = usize::from(self.hour() < 10);
         let end = 10 + length_without_last_zeros(&bytes[10..]);
-        if self.hour() < 10 {
-            f.pad(ascii_text(&bytes[1..end]))
-        } else {
-            f.pad(ascii_text(&bytes[0..end]))
-        }
+        f.pad(ascii_text(&bytes[start..end]))
     }
 }
 
 impl fmt::Debug for Time {
     ghost debug_output = { λ t. Some (text t) };
 
-    fn fmt<W: fmt::Write>(&self, f: &mut fmt::Formatter<W>) -> fmt::Result {
+    fn fmt<W: fmt::Write>(&self, f: &mut fmt::Formatter<W>) -> fmt::Result
+        ensures text { WritesOnOk W.write_str_gives f.old result (text self.now) f.new }
+        ensures styled { WritesStyledOnOk W.write_str_gives f.old result
+            (padded (formatter_spec f.old) (text self.now)) f.new }
+    {
         fmt::Display::fmt(self, f)
     }
 }

@@ -2,7 +2,7 @@
 
 ghost use Rattle.std.specs.Prelude.{◌≡◌, ◌↔◌, ◌*◌, ◌<◌, ◌≤◌};
 ghost use Rattle.cal_units.specs.Refusal.{IsRefused};
-ghost use Rattle.cal_clock.specs.Time.{hour_out_of_range, minute_out_of_range, second_out_of_range, millisecond_out_of_range, microsecond_out_of_range, nanosecond_out_of_range, time_of, hour_of, minute_of, second_of, millisecond_of, microsecond_of, nanosecond_of};
+ghost use Rattle.cal_clock.specs.Time.{hour_out_of_range, minute_out_of_range, second_out_of_range, millisecond_out_of_range, microsecond_out_of_range, nanosecond_out_of_range, time_of, IsTime, hour_of, minute_of, second_of, millisecond_of, microsecond_of, nanosecond_of};
 
 use super::{
     NANOSECONDS_PER_HOUR, NANOSECONDS_PER_MICROSECOND, NANOSECONDS_PER_MILLISECOND,
@@ -52,7 +52,7 @@ impl Time {
     /// The hour, from 0 to 23.
     pub fn hour(self) -> u8
         ensures value { result ≡ hour_of self }
-        ensures range { result ≤ 23 }
+        ensures range { IsTime self }
     {
         (self.nanoseconds / NANOSECONDS_PER_HOUR) as u8
     }
@@ -113,7 +113,8 @@ impl Time {
     /// Refused with `minute`, unconditional, above 59.
     pub fn replace_minute(self, minute: u8) -> Result<Self, ComponentRange>
         ensures refused { IsRefused minute_out_of_range result ↔ (59 < minute) }
-        ensures value { minute ≤ 59 → result ≡ Ok (time_of (hour_of self) minute (second_of self) (nanosecond_of self)) }
+        ensures value { minute ≤ 59
+            → result ≡ Ok (time_of (hour_of self) minute (second_of self) (nanosecond_of self)) }
     {
         if minute > 59 {
             return Err(ComponentRange::unconditional("minute"));
@@ -130,7 +131,8 @@ impl Time {
     /// Refused with `second`, unconditional, above 59.
     pub fn replace_second(self, second: u8) -> Result<Self, ComponentRange>
         ensures refused { IsRefused second_out_of_range result ↔ (59 < second) }
-        ensures value { second ≤ 59 → result ≡ Ok (time_of (hour_of self) (minute_of self) second (nanosecond_of self)) }
+        ensures value { second ≤ 59
+            → result ≡ Ok (time_of (hour_of self) (minute_of self) second (nanosecond_of self)) }
     {
         if second > 59 {
             return Err(ComponentRange::unconditional("second"));

@@ -1,6 +1,6 @@
 //! The text of dates.
 ghost use Rattle.std.specs.Prelude.{◌≡◌, ◌++◌, unsigned_abs, codes, Some};
-ghost use Rattle.std.specs.Fmt.{padded};
+ghost use Rattle.std.specs.Fmt.{WritesOnOk, WritesStyledOnOk, formatter_spec, padded};
 ghost use Rattle.std.specs.Str.{IsAscii};
 ghost use Rattle.cal_date.specs.Date.{year_at, month_at, day_of_month_at};
 ghost use Rattle.cal_date.specs.DateText.{date_digits, text};
@@ -55,7 +55,11 @@ impl fmt::Display for Date {
 impl fmt::Debug for Date {
     ghost debug_output = { λ n. Some (text n) };
 
-    fn fmt<W: fmt::Write>(&self, f: &mut fmt::Formatter<W>) -> fmt::Result {
+    fn fmt<W: fmt::Write>(&self, f: &mut fmt::Formatter<W>) -> fmt::Result
+        ensures text { WritesOnOk W.write_str_gives f.old result (text self.now) f.new }
+        ensures styled { WritesStyledOnOk W.write_str_gives f.old result
+            (padded (formatter_spec f.old) (text self.now)) f.new }
+    {
         fmt::Display::fmt(self, f)
     }
 }

@@ -1,49 +1,36 @@
-use Rattle.std.proofs.Common.{◌<◌, ◌≤◌, ◌∙◌, List, ℕ, subst, arith}
+use Rattle.std.proofs.Common.{◌≡◌, ◌∙◌, ◌+◌, ◌<◌, List, ℕ, slice_range, subst, arith, inl, inr}
 use Rattle.std.specs.Fmt.{WritesOnOk, WritesStyledOnOk, formatter_spec, padded}
-use Rattle.cal_clock.specs.Time.{hour_of}
+use Rattle.std.proofs.lemmas.Bool.{cases_lt}
+use Rattle.std.proofs.lemmas.Bool.Decides.{nat_tests}
+use Rattle.cal_clock.specs.Time.{hour_of, text}
 use Rattle.cal_clock.proofs.Text.{IsCut, text-one-digit, text-two-digits, text-ascii}
 use Rattle.cal_clock.proofs.time.display.TimeDisplay.fmt.Goals as goal
 
 pub ascii_text-requires : goal.ascii_text-requires
 ascii_text-requires g c =
-    let high : hour_of c.args.self.now < 24 = omega arith in
-    text-ascii c.args.self.now _ 1 _ c.longest_text-bytes.ensures high
+    let high : hour_of c.args.self.now < 24 = omega (arith, c.hour.ensures.range.below_day) in
+    text-ascii c.args.self.now _ _ _ c.longest_text-bytes.ensures high
 
-pub ascii_text-requires-else-hour-lt10 : goal.ascii_text-requires-else-hour-lt10
-ascii_text-requires-else-hour-lt10 g c =
-    let high : hour_of c.args.self.now < 24 = omega arith in
-    text-ascii c.args.self.now _ 0 _ c.longest_text-bytes.ensures high
+-- the bytes from the first digit of the hour on, or from the second, are the text
+is_text : (g : _) (c : goal.After-pad g) → c.ascii_text.result.now ≡ text c.args.self.now
+is_text g c =
+    let t = c.args.self.now in
+    let bytes = c.longest_text-bytes.result in
+    let k = c.length_without_last_zeros-end.result in
+    let high : hour_of t < 24 = omega (arith, c.hour.ensures.range.below_day) in
+    let cut : IsCut t bytes k = record { whole = c.longest_text-bytes.ensures; value = c.length_without_last_zeros-end.ensures.value } in
+    let P : ℕ → Type 0 = λ start. slice_range bytes start (10 + k) ≡ text t in
+    c.ascii_text.ensures ∙ elim (cases_lt (hour_of t) 10) [
+      | inl one ↦ let start : 1 ≡ c.from-start.result = grind (arith, nat_tests) in subst P start (text-one-digit t bytes k cut one)
+      | inr two ↦ let start : 0 ≡ c.from-start.result = grind (arith, nat_tests) in subst P start (text-two-digits t bytes k cut two high)
+    ]
 
-pub returns-then-hour-lt10-clause-writes : goal.returns-then-hour-lt10-clause-writes
-returns-then-hour-lt10-clause-writes g c =
-    let below : hour_of c.args.self.now < 10 = omega arith in
-    let cut : IsCut c.args.self.now c.longest_text-bytes.result c.length_without_last_zeros-end.result = record { whole = c.longest_text-bytes.ensures; value = c.length_without_last_zeros-end.ensures.value } in
-    let same = c.ascii_text.ensures ∙ text-one-digit _ _ _ cut below in
+pub returns-clause-writes : goal.returns-clause-writes
+returns-clause-writes g c =
     let P : List ℕ → Type 0 = λ bytes. WritesOnOk g.W.Write.write_str_gives c.args.f.now c.pad.result bytes c.pad.new.self in
-    subst P same c.pad.ensures.writes
+    subst P (is_text g c) c.pad.ensures.writes
 
-pub returns-then-hour-lt10-clause-styled : goal.returns-then-hour-lt10-clause-styled
-returns-then-hour-lt10-clause-styled g c =
-    let below : hour_of c.args.self.now < 10 = omega arith in
-    let cut : IsCut c.args.self.now c.longest_text-bytes.result c.length_without_last_zeros-end.result = record { whole = c.longest_text-bytes.ensures; value = c.length_without_last_zeros-end.ensures.value } in
-    let same = c.ascii_text.ensures ∙ text-one-digit _ _ _ cut below in
+pub returns-clause-styled : goal.returns-clause-styled
+returns-clause-styled g c =
     let P : List ℕ → Type 0 = λ bytes. WritesStyledOnOk g.W.Write.write_str_gives c.args.f.now c.pad.result (padded (formatter_spec c.args.f.now) bytes) c.pad.new.self in
-    subst P same c.pad.ensures.styled
-
-pub returns-else-hour-lt10-clause-writes : goal.returns-else-hour-lt10-clause-writes
-returns-else-hour-lt10-clause-writes g c =
-    let low : 10 ≤ hour_of c.args.self.now = omega arith in
-    let high : hour_of c.args.self.now < 24 = omega arith in
-    let cut : IsCut c.args.self.now c.longest_text-bytes.result c.length_without_last_zeros-end.result = record { whole = c.longest_text-bytes.ensures; value = c.length_without_last_zeros-end.ensures.value } in
-    let same = c.ascii_text-else-hour-lt10.ensures ∙ text-two-digits _ _ _ cut low high in
-    let P : List ℕ → Type 0 = λ bytes. WritesOnOk g.W.Write.write_str_gives c.args.f.now c.pad-else-hour-lt10.result bytes c.pad-else-hour-lt10.new.self in
-    subst P same c.pad-else-hour-lt10.ensures.writes
-
-pub returns-else-hour-lt10-clause-styled : goal.returns-else-hour-lt10-clause-styled
-returns-else-hour-lt10-clause-styled g c =
-    let low : 10 ≤ hour_of c.args.self.now = omega arith in
-    let high : hour_of c.args.self.now < 24 = omega arith in
-    let cut : IsCut c.args.self.now c.longest_text-bytes.result c.length_without_last_zeros-end.result = record { whole = c.longest_text-bytes.ensures; value = c.length_without_last_zeros-end.ensures.value } in
-    let same = c.ascii_text-else-hour-lt10.ensures ∙ text-two-digits _ _ _ cut low high in
-    let P : List ℕ → Type 0 = λ bytes. WritesStyledOnOk g.W.Write.write_str_gives c.args.f.now c.pad-else-hour-lt10.result (padded (formatter_spec c.args.f.now) bytes) c.pad-else-hour-lt10.new.self in
-    subst P same c.pad-else-hour-lt10.ensures.styled
+    subst P (is_text g c) c.pad.ensures.styled
