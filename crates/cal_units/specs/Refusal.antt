@@ -1,4 +1,4 @@
--- What an error of a component says: the name of the first component out of range, and whether the range hangs on other components.
+-- What an error of a component says: the name of the first component out of range, and whether the range depends on other components.
 use Rattle.std.specs.Prelude.{◌≡◌, ℕ, List, Bool, true, false, Result, IsErrAnd}
 use Rattle.cal_units.specs.declared.error.ComponentRange.{ComponentRange}
 
@@ -15,7 +15,7 @@ refusal e = record { name = e.name.now; is_conditional = e.is_conditional }
 abbrev pub unconditional : List ℕ → Refusal
 unconditional name = record { name = name; is_conditional = false }
 
--- the range hangs on the other components
+-- the range depends on the other components
 abbrev pub conditional : List ℕ → Refusal
 conditional name = record { name = name; is_conditional = true }
 

@@ -51,6 +51,3 @@ pub fn is_rising<T: Counted>(items: &[T]) -> bool
     }
     true
 }
-
-#[cfg(test)]
-mod tests;

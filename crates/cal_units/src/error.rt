@@ -6,7 +6,7 @@ use std::fmt;
 
 /// A component, such as a month or an hour, was outside its range.
 ///
-/// It carries the name of the component, and whether the range hangs on other components: that of a day hangs on the month
+/// It carries the name of the component, and whether the range depends on other components: that of a day depends on the month
 /// and the year, that of an hour on nothing. It prints `<name> was not in range`, such as `hour was not in range`.
 #[derive(Clone, Copy, Debug, PartialEq, Eq, Hash)]
 pub struct ComponentRange {
@@ -25,7 +25,7 @@ impl ComponentRange {
         }
     }
 
-    /// The error of a component whose range hangs on other components.
+    /// The error of a component whose range depends on other components.
     pub fn conditional(name: &'static str) -> Self
         ensures { refusal result ≡ conditional name.now }
     {
@@ -42,7 +42,7 @@ impl ComponentRange {
         self.name
     }
 
-    /// Whether the range of the component hangs on other components.
+    /// Whether the range of the component depends on other components.
     pub fn is_conditional(self) -> bool
         ensures { result ≡ (refusal self).is_conditional }
     {

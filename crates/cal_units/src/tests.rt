@@ -7,6 +7,8 @@ use crate::util::DateAdjustment;
 use crate::{Month, Weekday};
 use std::test::Fail;
 
+mod counted;
+
 #[test]
 fn months_and_weekdays_are_numbers(rt: HostRuntime) {
     for (month, number) in [(Month::January, 1), (Month::December, 12)] {

@@ -1,5 +1,7 @@
 -- The day of the range that passes a test, where a constructor of dates has found it, or found that there is none.
-use Rattle.std.proofs.Common.{◌≡◌, ℕ, zero, suc, ◌+◌, ◌<◌, Bool, true, false, Some, None, refl, ap, arith, inl, inr, ℤ, pos, negsuc, ◌≤ℤ◌, Decides}
+use Rattle.std.proofs.Common.{◌≡◌, ℕ, zero, suc, ◌+◌, ◌<◌, Bool, true, false, Some, None, Result, Ok, Err, [], ◌∷◌, refl, sym, ap, ◌∙◌, arith, inl, inr, ℤ, pos, negsuc, ◌+ℤ◌, Decides}
+use Rattle.std.specs.Ordering.{int_eq}
+use Rattle.std.specs.Cmp.Lexicographic.{pointwise}
 use Rattle.std.proofs.lemmas.Bool.{cases_Bool, cases_lt, false_from_ne_true}
 use Rattle.std.proofs.lemmas.Bool.Decides.{nat_tests}
 use Rattle.std.proofs.lemmas.Int.{ints}
@@ -7,21 +9,24 @@ use Rattle.cal_time.specs.declared.Month.{Month}
 use Rattle.cal_time.specs.Month.{number}
 use Rattle.cal_time.specs.MonthCycle.{place-below}
 use Rattle.cal_time.specs.CalendarDay.{calendar_day}
-use Rattle.cal_time.specs.Date.{IsDate, last_day, IsYear, NoDate, HasJulianDay, HasOrdinalDate, HasCalendarDate, year_at, month_at, day_of_month_at}
+use Rattle.cal_time.specs.Date.{IsDate, first_julian_day, last_day, IsYear, NoDate, HasJulianDay, HasOrdinalDate, HasCalendarDate, julian_day_at, year_at, month_at, day_of_month_at}
 use Rattle.cal_time.specs.IsoWeekDate.{IsWeek, HasIsoWeekDate}
 use Rattle.cal_time.specs.Move.{IsDateNumber, date_nearest}
-use Rattle.caltool.specs.Answers.{first_below, day_with, has_julian_day, has_ordinal_date, has_calendar_date, has_iso_week_date, has_number, is_year, is_month, is_week}
+use Rattle.cal_time.specs.Order.{ordinal_date_at, calendar_date_at, iso_week_date_at}
+use Rattle.caltool.specs.Answers.{first_below, day_where, day_with, julian_day, is_year, is_month, is_week}
 
--- one more day, which is the first to pass, or one of those behind the first, or does not pass
+-- one more day, which is the first to pass, or comes after the first, or does not pass
 first_below-found : (test : ℕ → Bool) (n day : ℕ) → first_below test n ≡ Some day → first_below test (suc n) ≡ Some day
 unfolding first_below
 first_below-found test n day e = rw e refl
 
-first_below-passes : (test : ℕ → Bool) (n : ℕ) → first_below test n ≡ None → test n ≡ true → first_below test (suc n) ≡ Some n
+first_below-passes : (test : ℕ → Bool) (n : ℕ) → first_below test n ≡ None → test n ≡ true
+    → first_below test (suc n) ≡ Some n
 unfolding first_below
 first_below-passes test n e p = rw (e, p) refl
 
-first_below-fails : (test : ℕ → Bool) (n : ℕ) → first_below test n ≡ None → test n ≡ false → first_below test (suc n) ≡ None
+first_below-fails : (test : ℕ → Bool) (n : ℕ) → first_below test n ≡ None → test n ≡ false
+    → first_below test (suc n) ≡ None
 unfolding first_below
 first_below-fails test n e p = rw (e, p) refl
 
@@ -32,7 +37,8 @@ first_below-none test (suc n) fails =
     first_below-fails test n (first_below-none test n (λ m h. fails m (omega arith))) (fails n (omega arith))
 
 -- the only one that passes is found
-pub first_below-only : (test : ℕ → Bool) (n day : ℕ) → day < n → test day ≡ true → ((m : ℕ) → m < n → test m ≡ true → m ≡ day) → first_below test n ≡ Some day
+pub first_below-only : (test : ℕ → Bool) (n day : ℕ) → day < n → test day ≡ true
+    → ((m : ℕ) → m < n → test m ≡ true → m ≡ day) → first_below test n ≡ Some day
 first_below-only test zero day h p only = absurd (omega arith)
 first_below-only test (suc n) day h p only = elim (cases_lt day n) [
   | inl before ↦ first_below-found test n day (first_below-only test n day before p (λ m l q. only m (omega arith) q))
@@ -47,24 +53,37 @@ first_below-only test (suc n) day h p only = elim (cases_lt day n) [
 
 module _ (Has : ℕ → Type 0) (test : ℕ → Bool) (decides : (n : ℕ) → Decides (test n) (Has n)) where
   -- the day that has it, if no other has it
-  pub day_with-has : (day : ℕ) → IsDate day → Has day → ((n : ℕ) → IsDate n → Has n → n ≡ day) → day_with test ≡ Some day
-  day_with-has day h has only =
+  pub day_where-has : (day : ℕ) → IsDate day → Has day → ((n : ℕ) → IsDate n → Has n → n ≡ day) → day_where test ≡ Some day
+  day_where-has day h has only =
       first_below-only test (last_day + 1) day (omega arith) ((decides day).1 has) (λ n l p. only n (omega arith) ((decides n).0 p))
 
   -- none, if no day has it
-  pub day_with-none : NoDate Has → day_with test ≡ None
-  day_with-none none = first_below-none test (last_day + 1) (λ n l. false_from_ne_true (test n) (λ p. none n (omega arith) ((decides n).0 p)))
+  pub day_where-none : NoDate Has → day_where test ≡ None
+  day_where-none none = first_below-none test (last_day + 1) (λ n l. false_from_ne_true (test n) (λ p. none n (omega arith) ((decides n).0 p)))
 
-pub decides_julian_day : (j : ℤ) (n : ℕ) → Decides (has_julian_day j n) (HasJulianDay j n)
+  -- what a constructor of dates answers: the day, as each day that has it is that one
+  pub found : {E : Type 0} (day : ℕ) → ((n : ℕ) → IsDate n → Has n → ◌≡◌ {A = Result ℕ E} (Ok day) (Ok n)) → IsDate day × Has day → day_where test ≡ Some day
+  found day every has = day_where-has day has.0 has.1 (λ n h f. let e = every n h f in cc)
+
+  -- or a refusal, so that no day has it
+  pub refused : {E : Type 0} (error : E) → ((n : ℕ) → IsDate n → Has n → ◌≡◌ {A = Result ℕ E} (Err error) (Ok n)) → NoDate Has × (day_where test ≡ None)
+  refused error every =
+      let none : NoDate Has = λ n h f. let e = every n h f in cc in
+      (none, day_where-none none)
+
+-- whether a day has these numbers
+pub decides_julian_day : (j : ℤ) (n : ℕ) → Decides (pointwise int_eq (julian_day n) (j ∷ [])) (HasJulianDay j n)
 decides_julian_day j n = (λ p. grind (arith, ints), λ e. grind (arith, ints))
 
-pub decides_ordinal_date : (y : ℤ) (o n : ℕ) → Decides (has_ordinal_date y o n) (HasOrdinalDate y o n)
+pub decides_ordinal_date : (y : ℤ) (o n : ℕ)
+    → Decides (pointwise int_eq (ordinal_date_at n) (y ∷ pos o ∷ [])) (HasOrdinalDate y o n)
 decides_ordinal_date y o n = (λ p. (grind (arith, ints), grind (arith, ints)), λ e. grind (arith, ints))
 
 same_parts : (y z : ℤ) (m n d e : ℕ) → y ≡ z → m ≡ n → d ≡ e → calendar_day y m d ≡ calendar_day z n e
 same_parts y z m n d e p q r = rw (p, q, r) refl
 
-pub decides_calendar_date : (y : ℤ) (m d n : ℕ) → Decides (has_calendar_date y m d n) (HasCalendarDate y m d n)
+pub decides_calendar_date : (y : ℤ) (m d n : ℕ)
+    → Decides (pointwise int_eq (calendar_date_at n) (y ∷ pos m ∷ pos d ∷ [])) (HasCalendarDate y m d n)
 decides_calendar_date y m d n = (
   λ p.
       let of_year : year_at n ≡ y = grind (arith, ints) in
@@ -78,33 +97,32 @@ decides_calendar_date y m d n = (
       grind (arith, ints),
 )
 
-pub decides_iso_week_date : (y : ℤ) (w wd n : ℕ) → Decides (has_iso_week_date y w wd n) (HasIsoWeekDate y w wd n)
+pub decides_iso_week_date : (y : ℤ) (w wd n : ℕ)
+    → Decides (pointwise int_eq (iso_week_date_at n) (y ∷ pos w ∷ pos wd ∷ [])) (HasIsoWeekDate y w wd n)
 decides_iso_week_date y w wd n = (λ p. (grind (arith, ints), grind (arith, ints), grind (arith, ints)), λ e. grind (arith, ints))
-
-decides_number : (z : ℤ) (n : ℕ) → Decides (has_number z n) (pos n ≡ z)
-decides_number z n = (λ p. grind (arith, ints), λ e. grind (arith, ints))
-
-below : (n : ℕ) (z : ℤ) → pos n ≡ z → z ≤ℤ pos last_day → IsDate n
-below n z e h = omega (arith, ints)
-
-the_same : (n m : ℕ) (z : ℤ) → pos n ≡ z → pos m ≡ z → n ≡ m
-the_same n m z p q = omega (arith, ints)
 
 -- the nearest number of a day is the number itself, where it is one
 date_nearest-same : (z : ℤ) → IsDateNumber z → pos (date_nearest z) ≡ z
 date_nearest-same (pos n) h = grind (arith, ints)
 date_nearest-same (negsuc n) h = absurd (omega (arith, ints, h.not_before))
 
--- the day of a number, if it is that of a day of the range
-pub day_with-number : (z : ℤ) → IsDateNumber z → day_with (has_number z) ≡ Some (date_nearest z)
-day_with-number z h =
-    let same : pos (date_nearest z) ≡ z = date_nearest-same z h in
-    let number : ℕ = date_nearest z in
-    day_with-has (λ n. pos n ≡ z) (has_number z) (decides_number z) number (below number z same h.not_after) same (λ n l e. the_same n number z e same)
+-- a day moved by so many days, as its Julian day is
+moved : (n : ℕ) (w : ℤ) → julian_day_at n +ℤ w ≡ first_julian_day +ℤ (pos n +ℤ w)
+moved n w = omega (arith, ints)
 
-pub day_with-no_number : (z : ℤ) → ¬ IsDateNumber z → day_with (has_number z) ≡ None
-day_with-no_number z none =
-    day_with-none (λ n. pos n ≡ z) (has_number z) (decides_number z) (λ n l e. none record { not_before = omega (arith, ints); not_after = omega (arith, ints) })
+pub day_with-moved : (n : ℕ) (w : ℤ) → IsDateNumber (pos n +ℤ w)
+    → day_with julian_day ((julian_day_at n +ℤ w) ∷ []) ≡ Some (date_nearest (pos n +ℤ w))
+day_with-moved n w h =
+    let same : pos (date_nearest (pos n +ℤ w)) ≡ pos n +ℤ w = date_nearest-same (pos n +ℤ w) h in
+    let late = h.not_after in
+    day_where-has (HasJulianDay (julian_day_at n +ℤ w)) _ (decides_julian_day (julian_day_at n +ℤ w)) (date_nearest (pos n +ℤ w))
+    (omega (arith, ints)) (ap (λ z. first_julian_day +ℤ z) same ∙ sym (moved n w)) (λ m l e. omega (arith, ints))
+
+pub day_with-moved_away : (n : ℕ) (w : ℤ) → ¬ IsDateNumber (pos n +ℤ w)
+    → day_with julian_day ((julian_day_at n +ℤ w) ∷ []) ≡ None
+day_with-moved_away n w none =
+    day_where-none (HasJulianDay (julian_day_at n +ℤ w)) _ (decides_julian_day (julian_day_at n +ℤ w))
+    (λ m l e. none record { not_before = omega (arith, ints); not_after = omega (arith, ints) })
 
 -- a month has the number of a month
 pub number-is_month : (m : Month) → is_month (number m) ≡ true

@@ -6,24 +6,27 @@ use Rattle.std.proofs.KnownBytes.{Appends-trans, Consumes-trans}
 use Rattle.std.proofs.Math.Nat.{min-eq_left}
 use Rattle.std.proofs.Math.Seq.{take-append-add}
 use Rattle.std.proofs.lemmas.List.{take-append-le, take_rest}
-use Rattle.caltool.specs.Runs.{AppendsFront, GivesMoreThan}
+use Rattle.caltool.specs.Runs.{AppendsFront, GivesTooMany, most_bytes}
 
 -- the front of a buffer whose part from a on was read into
-pub take-read : (a k n : ℕ) (xs ys : List ℕ) → a ≤ length xs → n ≤ length ys → take (a + n) (put_mid a k xs ys) ≡ take a xs ++ take n ys
+pub take-read : (a k n : ℕ) (xs ys : List ℕ) → a ≤ length xs → n ≤ length ys
+    → take (a + n) (put_mid a k xs ys) ≡ take a xs ++ take n ys
 take-read a k n xs ys h e =
     let front : length (take a xs) ≡ a = length-take a xs ∙ min-eq_left h in
     subst (λ m. take (m + n) (put_mid a k xs ys) ≡ take a xs ++ take n (ys ++ post_of a k xs)) front (take-append-add (take a xs) (ys ++ post_of a k xs) n)
     ∙ ap (λ l. take a xs ++ l) (take-append-le n ys (post_of a k xs) e)
 
 -- what was read before, and n bytes more
-pub given_more : (old mid new : Option (List ℕ)) (a k n : ℕ) (xs ys : List ℕ) → a ≤ length xs → n ≤ length ys → Consumes old mid (take a xs) → Consumes mid new (take n ys)
+pub given_more : (old mid new : Option (List ℕ)) (a k n : ℕ) (xs ys : List ℕ) → a ≤ length xs → n ≤ length ys
+    → Consumes old mid (take a xs) → Consumes mid new (take n ys)
     → Consumes old new (take (a + n) (put_mid a k xs ys))
 given_more old mid new a k n xs ys h e p q = rw (take-read a k n xs ys h e) (Consumes-trans old mid new _ _ p q)
 
 -- as many bytes as are allowed, and n bytes more
-pub given_too_many : (old mid new : Option (List ℕ)) (most a n : ℕ) (xs ys : List ℕ) → Consumes old mid (take a xs) → Consumes mid new (take n ys) → most ≤ a → a ≤ length xs → n ≤ length ys → 0 < n
-    → GivesMoreThan most old new
-given_too_many old mid new most a n xs ys p q f h e s = record {
+pub given_too_many : (old mid new : Option (List ℕ)) (a n : ℕ) (xs ys : List ℕ) → Consumes old mid (take a xs)
+    → Consumes mid new (take n ys) → most_bytes ≤ a → a ≤ length xs → n ≤ length ys → 0 < n
+    → GivesTooMany old new
+given_too_many old mid new a n xs ys p q f h e s = record {
   bytes = take a xs ++ take n ys;
   more = simp (length-append, length-take) (omega arith);
   given = Consumes-trans old mid new _ _ p q;
@@ -36,7 +39,8 @@ pub record HasTaken (old new : Option (List ℕ)) (bytes rest : List ℕ) : Type
   pub appended : Appends old new taken
 
 -- a write that takes n bytes; what is left is a slice of what was left
-pub taken_more : (old mid new : Option (List ℕ)) (bytes rest : List ℕ) (n : ℕ) → HasTaken old mid bytes rest → Appends mid new (take n rest)
+pub taken_more : (old mid new : Option (List ℕ)) (bytes rest : List ℕ) (n : ℕ) → HasTaken old mid bytes rest
+    → Appends mid new (take n rest)
     → HasTaken old new bytes (take (length rest - n) (drop n rest))
 taken_more old mid new bytes rest n p q = record {
   taken = p.taken ++ take n rest;
@@ -45,11 +49,23 @@ taken_more old mid new bytes rest n p q = record {
 }
 
 -- a front of what was left
-pub taken_front : (old mid new : Option (List ℕ)) (bytes rest : List ℕ) → HasTaken old mid bytes rest → AppendsFront mid new rest → AppendsFront old new bytes
+pub taken_front : (old mid new : Option (List ℕ)) (bytes rest : List ℕ) → HasTaken old mid bytes rest
+    → AppendsFront mid new rest → AppendsFront old new bytes
 taken_front old mid new bytes rest p q = record {
   front = p.taken ++ q.front;
   rest = q.rest;
   whole = p.whole ∙ ap (λ l. p.taken ++ l) q.whole ∙ sym (append_assoc p.taken q.front q.rest);
   left = q.left;
   taken = Appends-trans old mid new _ _ p.appended q.taken;
+}
+
+-- a front that is not all of the bytes, where more were to follow
+pub front_of_longer : (old new : Option (List ℕ)) (bytes more : List ℕ) → AppendsFront old new bytes
+    → AppendsFront old new (bytes ++ more)
+front_of_longer old new bytes more q = record {
+  front = q.front;
+  rest = q.rest ++ more;
+  whole = ap (λ l. l ++ more) q.whole ∙ append_assoc q.front q.rest more;
+  left = omega (arith, q.left, length-append q.rest more);
+  taken = q.taken;
 }

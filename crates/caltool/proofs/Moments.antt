@@ -5,8 +5,8 @@ use Rattle.cal_time.specs.Date.{julian_day_at, NoDate}
 use Rattle.cal_time.specs.Pair.{HasMoment, NoPair}
 use Rattle.cal_time.specs.SignedDuration.{day}
 use Rattle.cal_time.proofs.Pairs.{times-day}
-use Rattle.caltool.specs.Answers.{day_with, holds_moment}
-use Rattle.caltool.proofs.Days.{day_with-has, day_with-none}
+use Rattle.caltool.specs.Answers.{day_where, holds_moment}
+use Rattle.caltool.proofs.Days.{day_where-has, day_where-none}
 
 abbrev Holds : ℤ → ℕ → Type 0
 Holds z n = ((julian_day_at n *ℤ pos day) ≤ℤ z) × (z <ℤ ((julian_day_at n +ℤ pos 1) *ℤ pos day))
@@ -30,9 +30,9 @@ holds z n t h =
     let same = h.moment_is in
     (omega (arith, ints), omega (arith, ints))
 
-pub day_with-moment : (z : ℤ) (n t : ℕ) → HasMoment z n t → day_with (holds_moment z) ≡ Some n
-day_with-moment z n t h =
-    day_with-has (Holds z) (holds_moment z) (decides_moment z) n h.date (holds z n t h) (λ m l f. one_day z m n f (holds z n t h))
+pub day_where-moment : (z : ℤ) (n t : ℕ) → HasMoment z n t → day_where (holds_moment z) ≡ Some n
+day_where-moment z n t h =
+    day_where-has (Holds z) (holds_moment z) (decides_moment z) n h.date (holds z n t h) (λ m l f. one_day z m n f (holds z n t h))
 
 pub rest-time : (z : ℤ) (n t : ℕ) → HasMoment z n t → unsigned_abs (z -ℤ julian_day_at n *ℤ pos day) ≡ t
 rest-time z n t h = let same = h.moment_is in omega (arith, ints)
@@ -48,5 +48,5 @@ no_day z none n l h =
       moment_is = omega (arith, ints);
     })
 
-pub day_with-no_moment : (z : ℤ) → NoPair z → day_with (holds_moment z) ≡ None
-day_with-no_moment z none = day_with-none (Holds z) (holds_moment z) (decides_moment z) (no_day z none)
+pub day_where-no_moment : (z : ℤ) → NoPair z → day_where (holds_moment z) ≡ None
+day_where-no_moment z none = day_where-none (Holds z) (holds_moment z) (decides_moment z) (no_day z none)

@@ -1,15 +1,17 @@
 -- The answers to the lines of an input.
-use Rattle.std.specs.Prelude.{ℕ, zero, suc, ◌+◌, ◌==◌, ◌&&◌, nat_le, nat_lt, Bool, ℤ, pos, ◌+ℤ◌, ◌-ℤ◌, ◌*ℤ◌, unsigned_abs, int_le, int_lt, List, [], ◌∷◌, ◌++◌, codes, flat_map, if◌then◌else◌, Option, Some, None, decimal}
+use Rattle.std.specs.Prelude.{ℕ, zero, suc, ◌+◌, ◌&&◌, nat_le, nat_lt, Bool, ℤ, pos, ◌+ℤ◌, ◌-ℤ◌, ◌*ℤ◌, unsigned_abs, int_le, int_lt, List, [], ◌∷◌, ◌++◌, codes, flat_map, if◌then◌else◌, Option, Some, None, decimal}
 use Rattle.std.specs.Option.{option_or}
+use Rattle.std.specs.Cmp.Lexicographic.{pointwise}
 use Rattle.std.specs.Ordering.{int_eq}
 use Rattle.std.specs.Fmt.{signed_decimal}
-use Rattle.cal_time.specs.Date.{first_year, last_year, last_day, year_at, month_at, day_of_month_at, ordinal_at, weekday_at, julian_day_at}
+use Rattle.cal_time.specs.Date.{first_year, last_year, last_day, year_at, ordinal_at, weekday_at, julian_day_at}
 use Rattle.cal_time.specs.DateText.{text}
 use Rattle.cal_time.specs.IsoWeekDate.{iso_year_at, iso_week_at}
 use Rattle.cal_time.specs.Refusal.{Refusal}
 use Rattle.cal_time.specs.Refusals.{year_out_of_range, day_out_of_range, week_out_of_range, weekday_out_of_range, ordinal_out_of_range, julian_day_out_of_range}
 use Rattle.cal_time.specs.SignedDuration.{second, day, whole_days}
 use Rattle.cal_time.specs.Month.{month_out_of_range}
+use Rattle.cal_time.specs.Order.{ordinal_date_at, calendar_date_at, iso_week_date_at}
 use Rattle.cal_time.specs.Pair.{moment}
 use Rattle.cal_time.specs.Time.{time_of, hour_out_of_range, minute_out_of_range, second_out_of_range, text as time_text}
 use Rattle.cal_time.specs.Weekday.{name, place, weekday_at as weekday_in_place}
@@ -25,8 +27,15 @@ first_below test zero = None
 first_below test (suc n) = option_or (first_below test n) (if test n then Some n else None)
 
 -- the day of the range that passes the test
-abbrev pub day_with : (ℕ → Bool) → Option ℕ
-day_with test = first_below test (last_day + 1)
+abbrev pub day_where : (ℕ → Bool) → Option ℕ
+day_where test = first_below test (last_day + 1)
+
+-- the day of the range that has these numbers, in the words of the definition that says what a day has
+abbrev pub day_with : (ℕ → List ℤ) → List ℤ → Option ℕ
+day_with has numbers = day_where (λ n. pointwise int_eq (has n) numbers)
+
+abbrev pub julian_day : ℕ → List ℤ
+julian_day n = julian_day_at n ∷ []
 
 -- the text of a day: its year, its ordinal and its Julian day
 abbrev pub day_text : ℕ → List ℕ
@@ -53,21 +62,6 @@ abbrev pub date_or_none : Option ℕ → List ℕ
 date_or_none (Some n) = text n
 date_or_none None = codes "none"
 
-abbrev pub has_julian_day : ℤ → ℕ → Bool
-has_julian_day j n = int_eq (julian_day_at n) j
-
-abbrev pub has_ordinal_date : ℤ → ℕ → ℕ → Bool
-has_ordinal_date y o n = int_eq (year_at n) y && (ordinal_at n == o)
-
-abbrev pub has_calendar_date : ℤ → ℕ → ℕ → ℕ → Bool
-has_calendar_date y m d n = int_eq (year_at n) y && (month_at n == m) && (day_of_month_at n == d)
-
-abbrev pub has_iso_week_date : ℤ → ℕ → ℕ → ℕ → Bool
-has_iso_week_date y w wd n = int_eq (iso_year_at n) y && (iso_week_at n == w) && (weekday_at n == wd)
-
-abbrev pub has_number : ℤ → ℕ → Bool
-has_number z n = int_eq (pos n) z
-
 abbrev pub is_year : ℤ → Bool
 is_year y = int_le first_year y && int_le y last_year
 
@@ -79,37 +73,38 @@ is_week y w = nat_le 1 w && nat_le w (weeks_in_year y)
 
 -- what `julian N` is answered
 abbrev pub julian_answer : ℤ → List ℕ
-julian_answer j = text_or_refused day_text (day_with (has_julian_day j)) julian_day_out_of_range
+julian_answer j = text_or_refused day_text (day_with julian_day (j ∷ [])) julian_day_out_of_range
 
 -- what `ordinal Y N` is answered
 abbrev pub ordinal_answer : ℤ → ℕ → List ℕ
 ordinal_answer y o =
-    text_or_refused day_text (day_with (has_ordinal_date y o)) (if is_year y then ordinal_out_of_range else year_out_of_range)
+    text_or_refused day_text (day_with ordinal_date_at (y ∷ pos o ∷ []))
+    (if is_year y then ordinal_out_of_range else year_out_of_range)
 
 -- what `calendar Y M D` is answered: the month is refused before the year
 abbrev pub calendar_answer : ℤ → ℕ → ℕ → List ℕ
 calendar_answer y m d =
-    if is_month m
-    then text_or_refused day_text (day_with (has_calendar_date y m d)) (if is_year y then day_out_of_range else year_out_of_range)
+    if is_month m then text_or_refused day_text (day_with calendar_date_at (y ∷ pos m ∷ pos d ∷ []))
+    (if is_year y then day_out_of_range else year_out_of_range)
     else refused_text month_out_of_range
 
 -- what `iso Y W D` is answered
 abbrev pub iso_answer : ℤ → ℕ → ℕ → List ℕ
 iso_answer y w wd =
-    text_or_refused day_text (day_with (has_iso_week_date y w wd))
+    text_or_refused day_text (day_with iso_week_date_at (y ∷ pos w ∷ pos wd ∷ []))
     (if is_year y then (if is_week y w then weekday_out_of_range else week_out_of_range) else year_out_of_range)
 
 -- what `show N` is answered
 abbrev pub show_answer : ℤ → List ℕ
-show_answer j = text_or_refused week_text (day_with (has_julian_day j)) julian_day_out_of_range
+show_answer j = text_or_refused week_text (day_with julian_day (j ∷ [])) julian_day_out_of_range
 
 -- the day moved by so many seconds, of which only the whole days count
 abbrev pub moved_text : ℤ → ℕ → List ℕ
-moved_text s n = date_or_none (day_with (has_number (pos n +ℤ whole_days (s *ℤ pos second))))
+moved_text s n = date_or_none (day_with julian_day ((julian_day_at n +ℤ whole_days (s *ℤ pos second)) ∷ []))
 
 -- what `add N S` is answered
 abbrev pub add_answer : ℤ → ℤ → List ℕ
-add_answer j s = text_or_refused (moved_text s) (day_with (has_julian_day j)) julian_day_out_of_range
+add_answer j s = text_or_refused (moved_text s) (day_with julian_day (j ∷ [])) julian_day_out_of_range
 
 -- the moment lies in day n
 abbrev pub holds_moment : ℤ → ℕ → Bool
@@ -126,7 +121,7 @@ pair_or_none z None = codes "none"
 
 -- the moment so many seconds after day n at the time t
 abbrev pub later_text : ℤ → ℕ → ℕ → List ℕ
-later_text s n t = let z = moment n t +ℤ s *ℤ pos second in pair_or_none z (day_with (holds_moment z))
+later_text s n t = let z = moment n t +ℤ s *ℤ pos second in pair_or_none z (day_where (holds_moment z))
 
 -- the same for an hour, a minute and a second, or why they are no time
 abbrev pub clock_text : ℕ → ℕ → ℕ → ℤ → ℕ → List ℕ
@@ -138,7 +133,7 @@ clock_text h m s d n =
 
 -- what `moment N H M S D` is answered
 abbrev pub moment_answer : ℤ → ℕ → ℕ → ℕ → ℤ → List ℕ
-moment_answer j h m s d = text_or_refused (clock_text h m s d) (day_with (has_julian_day j)) julian_day_out_of_range
+moment_answer j h m s d = text_or_refused (clock_text h m s d) (day_with julian_day (j ∷ [])) julian_day_out_of_range
 
 -- what a line is answered that spells this command, or none
 abbrev pub answer_of : Option Command → List ℕ

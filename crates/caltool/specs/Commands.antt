@@ -1,39 +1,26 @@
--- The command that a line spells, with its numbers as whole numbers.
-use Rattle.std.specs.Prelude.{Some, ℕ, ◌-◌, ◌&&◌, nat_le, List, [], ◌∷◌, if◌then◌else◌, Option, None, bytes_eq, codes}
+-- The command that a line spells, with its numbers as whole numbers. A line whose words are not all such numbers spells none.
+use Rattle.std.specs.Prelude.{Some, ℕ, ◌-◌, ◌&&◌, nat_le, List, [], ◌∷◌, if◌then◌else◌, Option, None, option_map, option_and_then, bytes_eq, codes}
+use Rattle.std.specs.Option.{option_zip}
 use Rattle.cal_time.specs.declared.Weekday.{Weekday}
 use Rattle.cal_time.specs.Weekday.{weekday_at}
 use Rattle.caltool.specs.Numbers.{i32_of, i64_of, u8_of, u16_of}
 use Rattle.caltool.specs.declared.command.Command.{Command}
 use Rattle.caltool.specs.declared.command.Command.TheVariants.{Julian, Ordinal, Calendar, Iso, Show, Add, Moment}
 
--- the next step of a chain that ends where a step gives nothing
-infixl 10 ◌>>=◌
-abbrev pub ◌>>=◌ : {A B : Type 0} → Option A → (A → Option B) → Option B
-None >>= f = None
-(Some x) >>= f = f x
-
 -- `julian N`: a Julian day
 abbrev pub julian_command : List (List ℕ) → Option Command
-julian_command (n ∷ []) = do
-  julian_day ← i32_of n
-  Some (Julian julian_day)
+julian_command (j ∷ []) = option_map Julian (i32_of j)
 julian_command words = None
 
 -- `ordinal Y N`: a year and an ordinal
 abbrev pub ordinal_command : List (List ℕ) → Option Command
-ordinal_command (y ∷ n ∷ []) = do
-  year ← i32_of y
-  ordinal ← u16_of n
-  Some (Ordinal year ordinal)
+ordinal_command (y ∷ o ∷ []) = option_map (λ n. Ordinal n.0 n.1) (option_zip (i32_of y) (u16_of o))
 ordinal_command words = None
 
 -- `calendar Y M D`: a year, the number of a month and a day
 abbrev pub calendar_command : List (List ℕ) → Option Command
-calendar_command (y ∷ m ∷ d ∷ []) = do
-  year ← i32_of y
-  month ← u8_of m
-  day ← u8_of d
-  Some (Calendar year month day)
+calendar_command (y ∷ m ∷ d ∷ []) =
+    option_map (λ n. Calendar n.0 n.1.0 n.1.1) (option_zip (i32_of y) (option_zip (u8_of m) (u8_of d)))
 calendar_command words = None
 
 -- the weekday that has the number, from Monday, 1, to Sunday, 7 (ISO 8601)
@@ -42,38 +29,26 @@ weekday_numbered n = if nat_le 1 n && nat_le n 7 then Some (weekday_at (n - 1)) 
 
 -- `iso Y W D`: an ISO year, a week and the number of a weekday
 abbrev pub iso_command : List (List ℕ) → Option Command
-iso_command (y ∷ w ∷ d ∷ []) = do
-  year ← i32_of y
-  week ← u8_of w
-  number ← u8_of d
-  weekday ← weekday_numbered number
-  Some (Iso year week weekday)
+iso_command (y ∷ w ∷ d ∷ []) =
+    option_map (λ n. Iso n.0 n.1.0 n.1.1)
+    (option_zip (i32_of y) (option_zip (u8_of w) (option_and_then weekday_numbered (u8_of d))))
 iso_command words = None
 
 -- `show N`: a Julian day
 abbrev pub show_command : List (List ℕ) → Option Command
-show_command (n ∷ []) = do
-  julian_day ← i32_of n
-  Some (Show julian_day)
+show_command (j ∷ []) = option_map Show (i32_of j)
 show_command words = None
 
 -- `add N S`: a Julian day and a number of seconds
 abbrev pub add_command : List (List ℕ) → Option Command
-add_command (n ∷ s ∷ []) = do
-  julian_day ← i32_of n
-  seconds ← i64_of s
-  Some (Add julian_day seconds)
+add_command (j ∷ s ∷ []) = option_map (λ n. Add n.0 n.1) (option_zip (i32_of j) (i64_of s))
 add_command words = None
 
 -- `moment N H M S D`: a Julian day, an hour, a minute, a second and a number of seconds
 abbrev pub moment_command : List (List ℕ) → Option Command
-moment_command (n ∷ h ∷ m ∷ s ∷ d ∷ []) = do
-  julian_day ← i32_of n
-  hour ← u8_of h
-  minute ← u8_of m
-  second ← u8_of s
-  seconds ← i64_of d
-  Some (Moment julian_day hour minute second seconds)
+moment_command (j ∷ h ∷ m ∷ s ∷ d ∷ []) =
+    option_map (λ n. Moment n.0 n.1.0 n.1.1.0 n.1.1.1.0 n.1.1.1.1)
+    (option_zip (i32_of j) (option_zip (u8_of h) (option_zip (u8_of m) (option_zip (u8_of s) (i64_of d)))))
 moment_command words = None
 
 -- the command that the words of a line spell, if they spell one

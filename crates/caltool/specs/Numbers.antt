@@ -1,4 +1,4 @@
--- The number that a word spells: one digit or more, perhaps behind a minus sign. Leading zeros and `-0` are numbers.
+-- The number that a word spells: one digit or more, perhaps after a minus sign. Leading zeros and `-0` are numbers.
 use Rattle.std.specs.Prelude.{ℕ, ℤ, pos, neg_ℤ, nat_abs, ◌&&◌, List, [], ◌∷◌, ◌==◌, if◌then◌else◌, Option, Some, None, option_map, option_and_then, int_le}
 use Rattle.std.specs.Str.{all_ascii_digits}
 use Rattle.std.specs.Str.Parse.{digits_value}
@@ -8,7 +8,7 @@ abbrev pub natural_of : List ℕ → Option ℕ
 natural_of [] = None
 natural_of (d ∷ ds) = if all_ascii_digits (d ∷ ds) then Some (digits_value 10 (d ∷ ds)) else None
 
--- the same, perhaps behind a minus sign, which is the byte 45
+-- the same, perhaps after a minus sign, which is the byte 45
 abbrev pub integer_of : List ℕ → Option ℤ
 integer_of [] = None
 integer_of (c ∷ cs) =

@@ -2,16 +2,20 @@
 use Rattle.std.specs.Prelude.{◌≡◌, ℕ, ◌<◌, ◌≤◌, List, ◌++◌, length, Option}
 use Rattle.std.specs.Io.KnownBytes.{Appends, Consumes, IsAtEnd}
 
--- the reader gave this input, of so many bytes at most, and is at its end
-pub record GivesAll (most : ℕ) (old new : Option (List ℕ)) (input : List ℕ) : Type 0 where
-  pub fits : length input ≤ most
+-- the most bytes that an input may have
+abbrev pub most_bytes : ℕ
+most_bytes = 4096
+
+-- the reader gave this input, which is not too long, and is at its end
+pub record GivesAll (old new : Option (List ℕ)) (input : List ℕ) : Type 0 where
+  pub fits : length input ≤ most_bytes
   pub given : Consumes old new input
   pub ended : IsAtEnd new
 
 -- the reader gave more bytes than that
-pub record GivesMoreThan (most : ℕ) (old new : Option (List ℕ)) : Type 0 where
+pub record GivesTooMany (old new : Option (List ℕ)) : Type 0 where
   pub bytes : List ℕ
-  pub more : most < length bytes
+  pub more : most_bytes < length bytes
   pub given : Consumes old new bytes
 
 -- the writer took a beginning of the bytes, perhaps none of them, and never all

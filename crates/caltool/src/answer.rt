@@ -5,8 +5,8 @@ ghost use Rattle.cal_time.specs.Refusal.{refusal};
 ghost use Rattle.cal_time.specs.Weekday.{place};
 ghost use Rattle.caltool.specs.Answers.{answer_of, add_answer, calendar_answer, clock_text, day_text, iso_answer, julian_answer, later_text, moment_answer, moved_text, ordinal_answer, pair_text, refused_text, reply_to, show_answer, week_text};
 
-use super::command::{Command, parse};
-use super::text::Text;
+use crate::command::{Command, parse};
+use crate::text::Text;
 use cal_time::error::ComponentRange;
 use cal_time::{Date, Month, SignedDuration, Time, Weekday, add_to_pair};
 use std::fmt::{self, Write};

@@ -1,10 +1,10 @@
 //! The command that a line spells.
-ghost use Rattle.std.specs.Prelude.{◌≡◌, [], ◌∷◌, MatchOption};
+ghost use Rattle.std.specs.Prelude.{◌≡◌, ℕ, List, [], ◌∷◌, MatchOption};
 ghost use Rattle.caltool.specs.Commands.{command_of, julian_command, ordinal_command, calendar_command, iso_command, show_command, add_command, moment_command, weekday_numbered};
-ghost use Rattle.caltool.specs.Lines.{words_of, HasTwoWords};
+ghost use Rattle.caltool.specs.Lines.{words_of};
 
-use super::lines::place_of;
-use super::number::{parse_i32, parse_i64, parse_u8, parse_u16};
+use crate::lines::place_of;
+use crate::number::{parse_i32, parse_i64, parse_u8, parse_u16};
 use cal_time::Weekday;
 
 /// What a line asks for.
@@ -124,7 +124,7 @@ fn numbered_weekday(number: u8) -> Option<Weekday>
     Some(Weekday::Monday.nth_next(number - 1))
 }
 
-/// The first word, and what stands behind the space after it. There is none if no space stands in the bytes.
+/// The first word, and what comes after the space that ends it. There is none if no space stands in the bytes.
 #[tactic(auto, using(crate::proofs::Parts::words_of_some, crate::proofs::Parts::words_of_none, std::proofs::lemmas::List::take_rest))]
 fn first_word(bytes: &[u8]) -> Option<(&[u8], &[u8])>
     ensures { MatchOption result (words_of bytes.now ≡ bytes.now ∷ [])
@@ -137,7 +137,8 @@ fn first_word(bytes: &[u8]) -> Option<(&[u8], &[u8])>
 /// The bytes, if they are one word.
 #[tactic(auto, using(crate::proofs::Parts::two_words, crate::proofs::Parts::words_of_none))]
 fn only_word(bytes: &[u8]) -> Option<&[u8]>
-    ensures { MatchOption result (HasTwoWords bytes.now)
+    ensures { MatchOption result
+        ((first second : List ℕ) × (more : List (List ℕ)) × (words_of bytes.now ≡ first ∷ second ∷ more))
         (λ word. words_of bytes.now ≡ word.now ∷ []) }
 {
     match place_of(b' ', bytes) {

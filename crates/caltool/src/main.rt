@@ -3,7 +3,9 @@
 
 mod answer;
 mod command;
+mod ending;
 mod fault;
+mod gathered;
 mod input;
 mod lines;
 mod number;
@@ -18,11 +20,10 @@ use std::process::ExitCode;
 
 /// Ends with status 0, or with 2 and the reason on standard error.
 fn main(rt: HostRuntime) -> ExitCode {
-    match run::run(&mut rt.reader(), &mut io::writer(&rt)) {
-        Ok(()) => ExitCode::SUCCESS,
-        Err(fault) => {
-            let _ = eprintln!(rt; "{fault}");
-            ExitCode::from(2)
-        }
+    let outcome = run::run(&mut rt.reader(), &mut io::writer(&rt));
+    if let Err(fault) = outcome {
+        // Where standard error fails too, the status alone tells it.
+        let _ = ending::tell(&mut rt.stderr(), fault);
     }
+    ExitCode::from(ending::status(outcome))
 }

@@ -3,7 +3,7 @@ ghost use Rattle.std.specs.Prelude.{◌≡◌, OnOk, OnErr, IfErr};
 ghost use Rattle.std.specs.Io.KnownBytes.{Appends};
 ghost use Rattle.caltool.specs.Runs.{AppendsFront};
 
-use super::fault::Fault;
+use crate::fault::Fault;
 use std::io::{ErrorKind, Write};
 
 /// Writes all the bytes. Where that fails, a beginning of them has gone out.

@@ -2,31 +2,50 @@
 ghost use Rattle.std.specs.Prelude.{◌≡◌, IfOk, OnOk};
 ghost use Rattle.caltool.specs.Answers.{out};
 
-use super::fault::Fault;
-use super::run::run;
+use crate::ending::{status, tell};
+use crate::fault::Fault;
+use crate::run::run;
 use std::alloc::{AllocError, Global};
 use std::io::{self, ErrorKind, Read, Write};
 use std::test::Fail;
 
-/// Gives one byte a call, and fails at the call of that number and at each later one.
+/// Calls by their number, counted from 1.
+#[derive(Clone, Copy)]
+enum Calls {
+    From(u32),
+    Only(u32),
+    ThreeOfFour,
+}
+
+impl Calls {
+    fn hold(self, call: u32) -> bool {
+        match self {
+            Calls::From(first) => call >= first,
+            Calls::Only(one) => call == one,
+            Calls::ThreeOfFour => call % 4 != 0,
+        }
+    }
+}
+
+/// Gives one byte a call, and fails at these calls.
 #[derive(Drop)]
 struct Dripping<'a> {
     rest: &'a [u8],
     calls: u32,
-    fails_at: u32,
+    failing: Calls,
     kind: ErrorKind,
 }
 
 impl Read for Dripping<'_> {
     fn read(&mut self, buffer: &mut [u8]) -> io::Result<usize> {
         self.calls = self.calls.saturating_add(1);
-        if self.calls >= self.fails_at {
+        if self.failing.hold(self.calls) {
             return Err(io::Error::from(self.kind));
         }
         match self.rest.split_first() {
-            Some((byte, behind)) if !buffer.is_empty() => {
+            Some((byte, after)) if !buffer.is_empty() => {
                 buffer[0] = *byte;
-                self.rest = behind;
+                self.rest = after;
                 Ok(1)
             }
             _ => Ok(0),
@@ -34,20 +53,23 @@ impl Read for Dripping<'_> {
     }
 }
 
-/// Takes one byte a call, and fails at the call of that number and at each later one.
+/// Takes one byte a call, and at these calls fails, or takes none where no kind of failure is named.
 #[derive(Drop)]
 struct Sipping {
     taken: Vec<u8>,
     calls: u32,
-    fails_at: u32,
-    kind: ErrorKind,
+    failing: Calls,
+    kind: Option<ErrorKind>,
 }
 
 impl Write for Sipping {
     fn write(&mut self, bytes: &[u8]) -> io::Result<usize> {
         self.calls = self.calls.saturating_add(1);
-        if self.calls >= self.fails_at {
-            return Err(io::Error::from(self.kind));
+        if self.failing.hold(self.calls) {
+            return match self.kind {
+                Some(kind) => Err(io::Error::from(kind)),
+                None => Ok(0),
+            };
         }
         match bytes.first() {
             Some(byte) => {
@@ -63,13 +85,16 @@ impl Write for Sipping {
     }
 }
 
-/// Takes no byte.
+/// Takes all bytes, and counts the calls.
 #[derive(Drop)]
-struct Full;
+struct Counting {
+    calls: u32,
+}
 
-impl Write for Full {
-    fn write(&mut self, _bytes: &[u8]) -> io::Result<usize> {
-        Ok(0)
+impl Write for Counting {
+    fn write(&mut self, bytes: &[u8]) -> io::Result<usize> {
+        self.calls = self.calls.saturating_add(1);
+        Ok(bytes.len())
     }
 
     fn flush(&mut self) -> io::Result<()> {
@@ -156,24 +181,59 @@ fn takes_4096_bytes(rt: HostRuntime) -> Result<(), Fail> {
     Ok(())
 }
 
+// The answers are gathered: 4096 of nine bytes each go out in a few writes.
+#[test]
+fn answers_are_gathered(rt: HostRuntime) {
+    let mut reader = [b'\n'; 4096].as_slice();
+    let mut writer = Counting { calls: 0 };
+    assert_eq!(rt; run(&mut reader, &mut writer), Ok(()));
+    assert!(rt; writer.calls < 20, "{} writes", writer.calls);
+}
+
+// The longest answer of each command, and of a refusal.
+#[test]
+fn the_longest_answers_fit(rt: HostRuntime) -> Result<(), Fail> {
+    let cases: [(&[u8], &[u8]); 8] = [
+        (b"julian -1930635", b"-9999 ordinal 365 julian -1930635\n"),
+        (b"ordinal -9999 365", b"-9999 ordinal 365 julian -1930635\n"),
+        (
+            b"calendar -9999 12 31",
+            b"-9999 ordinal 365 julian -1930635\n",
+        ),
+        (b"iso -9998 1 1", b"-9999 ordinal 365 julian -1930635\n"),
+        (b"show -1930640", b"-9999-12-26 iso -9999 52 3 Wednesday\n"),
+        (b"add -1930635 0", b"-9999-12-31\n"),
+        (b"moment -1930635 23 59 59 0", b"-9999-12-31 23:59:59.0\n"),
+        (b"ordinal -9999 366", b"refused ordinal conditional\n"),
+    ];
+    for (input, expected) in cases {
+        let (outcome, written) = answers(rt.alloc(), input)?;
+        assert_eq!(rt; outcome, Ok(()));
+        assert_eq!(rt; written.as_slice(), expected);
+    }
+    Ok(())
+}
+
 #[test]
 fn each_read_fails_in_turn(rt: HostRuntime) -> Result<(), Fail> {
     let calls = INPUT.len() as u32 + 1;
-    for fails_at in 1..=calls + 1 {
-        let mut reader = Dripping {
-            rest: INPUT,
-            calls: 0,
-            fails_at,
-            kind: ErrorKind::Other,
-        };
-        let mut written = Vec::new(rt.alloc());
-        let outcome = run(&mut reader, &mut written);
-        if fails_at <= calls {
-            assert_eq!(rt; outcome, Err(Fault::Read), "at call {fails_at}");
-            assert!(rt; written.is_empty());
-        } else {
-            assert_eq!(rt; outcome, Ok(()));
-            assert_eq!(rt; written.as_slice(), ANSWERS);
+    for call in 1..=calls + 1 {
+        for failing in [Calls::From(call), Calls::Only(call)] {
+            let mut reader = Dripping {
+                rest: INPUT,
+                calls: 0,
+                failing,
+                kind: ErrorKind::Other,
+            };
+            let mut written = Vec::new(rt.alloc());
+            let outcome = run(&mut reader, &mut written);
+            if call <= calls {
+                assert_eq!(rt; outcome, Err(Fault::Read), "at call {call}");
+                assert!(rt; written.is_empty());
+            } else {
+                assert_eq!(rt; outcome, Ok(()));
+                assert_eq!(rt; written.as_slice(), ANSWERS);
+            }
         }
     }
     Ok(())
@@ -182,50 +242,86 @@ fn each_read_fails_in_turn(rt: HostRuntime) -> Result<(), Fail> {
 #[test]
 fn each_write_fails_in_turn(rt: HostRuntime) -> Result<(), Fail> {
     let calls = ANSWERS.len() as u32;
-    for fails_at in 1..=calls + 1 {
-        let mut reader = INPUT;
-        let mut writer = Sipping {
-            taken: Vec::new(rt.alloc()),
-            calls: 0,
-            fails_at,
-            kind: ErrorKind::Other,
-        };
-        let outcome = run(&mut reader, &mut writer);
-        if fails_at <= calls {
-            assert_eq!(rt; outcome, Err(Fault::Write), "at call {fails_at}");
-            let sent = fails_at as usize - 1;
-            assert_eq!(rt; writer.taken.as_slice(), &ANSWERS[..sent]);
-        } else {
-            assert_eq!(rt; outcome, Ok(()));
-            assert_eq!(rt; writer.taken.as_slice(), ANSWERS);
+    for call in 1..=calls + 1 {
+        for failing in [Calls::From(call), Calls::Only(call)] {
+            for kind in [Some(ErrorKind::Other), None] {
+                let mut reader = INPUT;
+                let mut writer = Sipping {
+                    taken: Vec::new(rt.alloc()),
+                    calls: 0,
+                    failing,
+                    kind,
+                };
+                let outcome = run(&mut reader, &mut writer);
+                if call <= calls {
+                    assert_eq!(rt; outcome, Err(Fault::Write), "at call {call}");
+                    let sent = call as usize - 1;
+                    assert_eq!(rt; writer.taken.as_slice(), &ANSWERS[..sent]);
+                } else {
+                    assert_eq!(rt; outcome, Ok(()));
+                    assert_eq!(rt; writer.taken.as_slice(), ANSWERS);
+                }
+            }
         }
     }
     Ok(())
 }
 
+// A run goes past an interruption, but not past each of them: they are counted over the whole run, not for each line.
 #[test]
 fn interruptions_are_counted(rt: HostRuntime) -> Result<(), Fail> {
-    let mut reader = Dripping {
-        rest: INPUT,
-        calls: 0,
-        fails_at: 1,
-        kind: ErrorKind::Interrupted,
-    };
-    let mut written = Vec::new(rt.alloc());
-    assert_eq!(rt; run(&mut reader, &mut written), Err(Fault::Read));
-    assert_eq!(rt; reader.calls, 4097);
-    assert!(rt; written.is_empty());
-    let mut reader = INPUT;
-    let mut writer = Sipping {
-        taken: written,
-        calls: 0,
-        fails_at: 1,
-        kind: ErrorKind::Interrupted,
-    };
-    assert_eq!(rt; run(&mut reader, &mut writer), Err(Fault::Write));
-    assert_eq!(rt; writer.calls, 4097);
-    assert!(rt; writer.taken.is_empty());
-    let mut reader = INPUT;
-    assert_eq!(rt; run(&mut reader, &mut Full), Err(Fault::Write));
+    let lines = [b'\n'; 2000];
+    for (input, failing, outcome, calls) in [
+        (INPUT, Calls::Only(1), Ok(()), INPUT.len() as u32 + 2),
+        (INPUT, Calls::From(1), Err(Fault::Read), 4097),
+        (lines.as_slice(), Calls::ThreeOfFour, Err(Fault::Read), 5462),
+    ] {
+        let mut reader = Dripping {
+            rest: input,
+            calls: 0,
+            failing,
+            kind: ErrorKind::Interrupted,
+        };
+        let mut written = Vec::new(rt.alloc());
+        assert_eq!(rt; run(&mut reader, &mut written), outcome);
+        assert_eq!(rt; reader.calls, calls);
+        assert_eq!(rt; written.is_empty(), outcome.is_err());
+    }
+    for (input, failing, outcome, calls) in [
+        (INPUT, Calls::Only(1), Ok(()), ANSWERS.len() as u32 + 1),
+        (INPUT, Calls::From(1), Err(Fault::Write), 4097),
+        (
+            lines.as_slice(),
+            Calls::ThreeOfFour,
+            Err(Fault::Write),
+            5462,
+        ),
+    ] {
+        let mut reader = input;
+        let mut writer = Sipping {
+            taken: Vec::new(rt.alloc()),
+            calls: 0,
+            failing,
+            kind: Some(ErrorKind::Interrupted),
+        };
+        assert_eq!(rt; run(&mut reader, &mut writer), outcome);
+        assert_eq!(rt; writer.calls, calls);
+    }
+    Ok(())
+}
+
+#[test]
+fn the_status_and_the_words_of_each_end(rt: HostRuntime) -> Result<(), Fail> {
+    assert_eq!(rt; status(Ok(())), 0);
+    for (fault, line) in [
+        (Fault::TooLong, b"input too long\n".as_slice()),
+        (Fault::Read, b"cannot read\n".as_slice()),
+        (Fault::Write, b"cannot write\n".as_slice()),
+    ] {
+        assert_eq!(rt; status(Err(fault)), 2);
+        let mut told = Vec::new(rt.alloc());
+        assert_eq!(rt; tell(&mut told, fault), Ok(()));
+        assert_eq!(rt; told.as_slice(), line);
+    }
     Ok(())
 }

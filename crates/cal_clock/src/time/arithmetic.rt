@@ -4,7 +4,7 @@ ghost use Rattle.std.specs.Prelude.{◌≡◌, ◌*◌, ◌<◌, pos, negsuc, ne
 ghost use Rattle.cal_span.specs.SignedDuration.{day, whole_days};
 ghost use Rattle.cal_clock.specs.Time.{IsPastDays, modulo_day, carry};
 
-use super::{NANOSECONDS_PER_DAY, NANOSECONDS_PER_SECOND, Time};
+use crate::time::{NANOSECONDS_PER_DAY, NANOSECONDS_PER_SECOND, Time};
 use cal_span::SignedDuration;
 use cal_units::util::DateAdjustment;
 use std::ops::{Add, AddAssign, Sub, SubAssign};

@@ -6,7 +6,7 @@ ghost use Rattle.cal_clock.specs.Digits.{nine_digits, without_last_zeros};
 ghost use Rattle.cal_units.specs.Digits.{two_digits};
 ghost use Rattle.cal_clock.specs.Time.{hour_of, minute_of, second_of, nanosecond_of, text};
 
-use super::Time;
+use crate::Time;
 use cal_units::digits::{ascii_text, digit, two_digits};
 use std::fmt;
 

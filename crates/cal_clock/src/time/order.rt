@@ -1,6 +1,6 @@
 //! The number of times. Their order, equality and hash are derived.
 
-use super::Time;
+use crate::Time;
 use cal_units::Counted;
 
 impl Counted for Time {

@@ -4,7 +4,7 @@ ghost use Rattle.std.specs.Prelude.{◌≡◌, ◌↔◌, ◌*◌, ◌<◌, ◌�
 ghost use Rattle.cal_units.specs.Refusal.{IsRefused};
 ghost use Rattle.cal_clock.specs.Time.{hour_out_of_range, minute_out_of_range, second_out_of_range, millisecond_out_of_range, microsecond_out_of_range, nanosecond_out_of_range, time_of, IsTime, hour_of, minute_of, second_of, millisecond_of, microsecond_of, nanosecond_of};
 
-use super::{
+use crate::time::{
     NANOSECONDS_PER_HOUR, NANOSECONDS_PER_MICROSECOND, NANOSECONDS_PER_MILLISECOND,
     NANOSECONDS_PER_MINUTE, NANOSECONDS_PER_SECOND, Time,
 };

@@ -5,7 +5,7 @@ ghost use Rattle.std.specs.Int.{w64};
 ghost use Rattle.cal_span.specs.SignedDuration.{second, IsDuration, IsWithin, HasQuotient, HasSum, clamp, cut, sum_of, with_sign};
 ghost use Rattle.cal_span.specs.Fields.{CanCarry, IsCarry};
 
-use super::{NANOSECONDS_PER_SECOND, SignedDuration};
+use crate::signed_duration::{NANOSECONDS_PER_SECOND, SignedDuration};
 
 /// The greatest magnitude of a factor or a divisor, which is that of a `u32`.
 pub(super) const GREATEST_OPERAND: u64 = 4_294_967_295;

@@ -3,7 +3,7 @@
 ghost use Rattle.std.specs.Prelude.{Some, ◌+◌, ◌*◌, ◌<◌};
 ghost use Rattle.cal_span.specs.SignedDuration.{second, part, parts_text, text};
 
-use super::{
+use crate::signed_duration::{
     NANOSECONDS_PER_MICROSECOND, NANOSECONDS_PER_MILLISECOND, SECONDS_PER_DAY, SECONDS_PER_HOUR,
     SECONDS_PER_MINUTE, SignedDuration,
 };

@@ -3,8 +3,8 @@
 ghost use Rattle.std.specs.Prelude.{◌≡◌, pos, neg_ℤ, ◌+ℤ◌, ◌-ℤ◌, ◌*ℤ◌};
 ghost use Rattle.cal_span.specs.SignedDuration.{IsDuration, IsWithin, HasQuotient, cut};
 
-use super::SignedDuration;
-use super::arithmetic::GREATEST_OPERAND;
+use crate::SignedDuration;
+use crate::signed_duration::arithmetic::GREATEST_OPERAND;
 use std::ops::{Add, AddAssign, Div, DivAssign, Mul, MulAssign, Neg, Sub, SubAssign};
 
 impl SignedDuration {

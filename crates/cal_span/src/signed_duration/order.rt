@@ -6,7 +6,7 @@ ghost use Rattle.std.specs.Cmp.{partial_order_from_own_ties};
 ghost use Rattle.std.specs.Cmp.Rules.{comparing, hashing};
 ghost use Rattle.std.proofs.Common.{rules};
 
-use super::SignedDuration;
+use crate::SignedDuration;
 use cal_units::Counted;
 use std::cmp::Ordering;
 use std::hash::{Hash, Hasher};

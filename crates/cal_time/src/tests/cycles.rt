@@ -1,5 +1,5 @@
 //! Lengths of years and months, months and weekdays, and endless walks over them.
-use super::check;
+use crate::tests::check;
 use crate::error::InvalidVariant;
 use crate::iter::{MonthIter, WeekdayIter};
 use crate::util::{days_in_month, days_in_year, days_in_year_month, is_leap_year, weeks_in_year};

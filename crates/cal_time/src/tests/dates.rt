@@ -1,5 +1,5 @@
 //! Dates in their four forms, their parts and their neighbours.
-use super::{check, date};
+use crate::tests::{check, date};
 use crate::{Date, Month, Weekday};
 
 #[test]

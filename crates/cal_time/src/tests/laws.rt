@@ -1,5 +1,5 @@
 //! Laws that hold between calls, each shown at a few values.
-use super::{date, hash_of, offset, time};
+use crate::tests::{date, hash_of, offset, time};
 use crate::{Counted, Date, Month, SignedDuration, Time, UtcOffset, Weekday};
 use std::process::Abort;
 

@@ -1,5 +1,5 @@
 //! Dates moved by durations and to weekdays, and dates with one component replaced.
-use super::{check, date};
+use crate::tests::{check, date};
 use crate::{Date, Month, SignedDuration, Weekday};
 
 /// The day that `+` and `+=` lead to, where there is one.

@@ -1,5 +1,5 @@
 //! Offsets from UTC.
-use super::{check, offset};
+use crate::tests::{check, offset};
 use crate::{UtcOffset, extent};
 
 #[test]

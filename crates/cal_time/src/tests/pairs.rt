@@ -1,5 +1,5 @@
 //! Dates and times of day together.
-use super::{date, time};
+use crate::tests::{date, time};
 use crate::{Date, SignedDuration, Time, add_to_pair, sub_from_pair};
 
 #[test]

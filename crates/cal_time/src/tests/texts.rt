@@ -1,5 +1,5 @@
 //! The texts of values, plain, padded, and for debugging.
-use super::{date, offset, time};
+use crate::tests::{date, offset, time};
 use crate::error::{ComponentRange, ConversionRange, InvalidVariant};
 use crate::{Date, Month, SignedDuration, Time, UtcOffset, Weekday};
 use std::test::Fail;
@@ -66,6 +66,26 @@ fn texts_of_durations(rt: HostRuntime) -> Result<(), Fail> {
     Ok(())
 }
 
+// A text fails only where its writer does, so at no hour.
+#[test]
+fn texts_of_each_hour(rt: HostRuntime) -> Result<(), Fail> {
+    for hour in 0..24 {
+        let text = format!(in rt.alloc(); "{hour}:00:00.0")?;
+        let time = time(&rt, hour, 0, 0, 0);
+        assert_eq!(rt; format!(in rt.alloc(); "{time}")?.as_str(), text.as_str());
+        assert_eq!(rt; format!(in rt.alloc(); "{time:?}")?.as_str(), text.as_str());
+    }
+    for hours in 1..26 {
+        for (sign, hours_east) in [("+", hours), ("-", -hours)] {
+            let text = format!(in rt.alloc(); "{sign}{hours:02}:00:00")?;
+            let offset = offset(&rt, hours_east, 0, 0);
+            assert_eq!(rt; format!(in rt.alloc(); "{offset}")?.as_str(), text.as_str());
+            assert_eq!(rt; format!(in rt.alloc(); "{offset:?}")?.as_str(), text.as_str());
+        }
+    }
+    Ok(())
+}
+
 // The whole text is padded, and never cut.
 #[test]
 fn padded_texts(rt: HostRuntime) -> Result<(), Fail> {
@@ -96,6 +116,8 @@ fn padded_texts_for_debugging(rt: HostRuntime) -> Result<(), Fail> {
     let (day, midnight, utc) = (date(&rt, 2019, 1, 2), Time::MIDNIGHT, UtcOffset::UTC);
     let padded = format!(in rt.alloc(); "{day:>12?}|{midnight:_<10?}|{utc:2?}|")?;
     assert_eq!(rt; padded.as_str(), "  2019-01-02|0:00:00.0_|+00:00:00|");
+    let padded = format!(in rt.alloc(); "{:>24?}|", Time::MAX)?;
+    assert_eq!(rt; padded.as_str(), "      23:59:59.999999999|");
     Ok(())
 }
 

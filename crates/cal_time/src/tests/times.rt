@@ -1,5 +1,5 @@
 //! Times of day.
-use super::{check, time};
+use crate::tests::{check, time};
 use crate::util::DateAdjustment;
 use crate::{SignedDuration, Time};
 

@@ -1,7 +1,7 @@
 //! Walks over days, from both ends.
 ghost use Rattle.std.specs.Iterator.{IsFinite};
 
-use super::date;
+use crate::tests::date;
 use crate::Date;
 use crate::iter::DateIter;
 

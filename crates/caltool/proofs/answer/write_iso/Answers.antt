@@ -1,13 +1,11 @@
-use Rattle.std.proofs.Common.{◌≡◌, ℕ, List, ◌++◌, ap, subst, Some, None, to_z, of_z, w32, inl, inr}
+use Rattle.std.proofs.Common.{◌≡◌, ℕ, List, ◌++◌, ap, subst, to_z, of_z, w32, inl, inr}
 use Rattle.std.proofs.lemmas.Int.{to_z-of_z}
 use Rattle.std.specs.Prelude.{if◌then◌else◌, OnOk}
 use Rattle.cal_time.specs.Refusal.{refusal}
 use Rattle.cal_time.specs.Weekday.{place}
 use Rattle.cal_time.specs.Refusals.{year_out_of_range, week_out_of_range, weekday_out_of_range}
-use Rattle.cal_time.specs.Date.{NoDate}
-use Rattle.cal_time.specs.IsoWeekDate.{HasIsoWeekDate}
-use Rattle.caltool.specs.Answers.{day_with, has_iso_week_date, is_week, is_year, refused_text}
-use Rattle.caltool.proofs.Days.{day_with-has, day_with-none, decides_iso_week_date, a_week, a_year, not_a_week, not_a_year}
+use Rattle.caltool.specs.Answers.{is_week, is_year, refused_text}
+use Rattle.caltool.proofs.Days.{found, refused, decides_iso_week_date, a_week, a_year, not_a_week, not_a_year}
 use Rattle.caltool.proofs.answer.write_iso.Goals as goal
 
 pub returns-in-Ok : goal.returns-in-Ok
@@ -17,9 +15,8 @@ returns-in-Ok c =
     let wd = place c.args.weekday in
     let same : to_z w32 (of_z w32 y) ≡ y = to_z-of_z w32 y c.ranges.year in
     let is = rw same at c.in-Ok.ensures in
-    let found : day_with (has_iso_week_date y w wd) ≡ Some c.in-Ok.date =
-    day_with-has _ _ (decides_iso_week_date y w wd) c.in-Ok.date is.has.0 is.has.1 (λ n h has. let e = is.every n h has in cc) in
-    rw found c.write_day.ensures
+    let is_found = found _ _ (decides_iso_week_date y w wd) c.in-Ok.date is.every is.has in
+    rw is_found c.write_day.ensures
 
 pub returns-in-Err : goal.returns-in-Err
 returns-in-Err c =
@@ -28,12 +25,11 @@ returns-in-Err c =
     let wd = place c.args.weekday in
     let same : to_z w32 (of_z w32 y) ≡ y = to_z-of_z w32 y c.ranges.year in
     let is = rw same at c.in-Err.ensures in
-    let none : NoDate (HasIsoWeekDate y w wd) = λ n h has. let e = is.every n h has in cc in
-    let not_found : day_with (has_iso_week_date y w wd) ≡ None = day_with-none _ _ (decides_iso_week_date y w wd) none in
+    let is_refused = refused _ _ (decides_iso_week_date y w wd) c.in-Err.error is.every in
     let why : refusal c.in-Err.error ≡ (if is_year y then (if is_week y w then weekday_out_of_range else week_out_of_range) else year_out_of_range) = elim is.reason [
       | inl e ↦ rw (not_a_year y (is.year.0 e)) e
       | inr (inl e) ↦ rw (a_year y (is.week.0 e).0, not_a_week y w (is.week.0 e).1) e
       | inr (inr e) ↦ rw (a_year y (is.weekday.0 e).0, a_week y w (is.weekday.0 e).1) e
     ] in
     let P : List ℕ → Type 0 = λ text. OnOk c.write_refusal.result (c.write_refusal.new.text ≡ c.args.text.now ++ text) in
-    rw not_found (subst P (ap refused_text why) c.write_refusal.ensures)
+    rw is_refused.1 (subst P (ap refused_text why) c.write_refusal.ensures)

@@ -2,7 +2,7 @@ use Rattle.std.proofs.Common.{rules, ◌≡◌, ℤ, pos, ◌+ℤ◌, ◌*ℤ◌
 use Rattle.std.proofs.lemmas.Int.{to_z-of_z}
 use Rattle.cal_time.specs.Pair.{moment}
 use Rattle.cal_time.specs.SignedDuration.{second}
-use Rattle.caltool.proofs.Moments.{day_with-moment, day_with-no_moment, rest-time}
+use Rattle.caltool.proofs.Moments.{day_where-moment, day_where-no_moment, rest-time}
 use Rattle.caltool.proofs.answer.write_later.Goals as goal
 
 pub returns-in-None : goal.returns-in-None
@@ -11,7 +11,7 @@ returns-in-None c =
     let same : to_z w64 (of_z w64 c.args.seconds) ≡ c.args.seconds = to_z-of_z w64 c.args.seconds c.ranges.seconds in
     let duration = rw same at c.seconds.ensures in
     let none = rw duration at c.in-None.ensures in
-    rw (day_with-no_moment z none) (search (rules, c.write_str.ensures.ok))
+    rw (day_where-no_moment z none) (search (rules, c.write_str.ensures.ok))
 
 pub returns-in-Some : goal.returns-in-Some
 returns-in-Some c =
@@ -19,6 +19,6 @@ returns-in-Some c =
     let same : to_z w64 (of_z w64 c.args.seconds) ≡ c.args.seconds = to_z-of_z w64 c.args.seconds c.ranges.seconds in
     let duration = rw same at c.seconds.ensures in
     let is = rw duration at c.in-Some.ensures in
-    let found = day_with-moment z c.in-Some.pair.0 c.in-Some.pair.1 is in
+    let found = day_where-moment z c.in-Some.pair.0 c.in-Some.pair.1 is in
     let time = rest-time z c.in-Some.pair.0 c.in-Some.pair.1 is in
     rw (found, time) c.write_pair.ensures

@@ -1,11 +1,10 @@
-use Rattle.std.proofs.Common.{◌≡◌, ℕ, List, ◌++◌, ap, subst, Some, None, to_z, of_z, w32, inl, inr}
+use Rattle.std.proofs.Common.{◌≡◌, ℕ, List, ◌++◌, ap, subst, to_z, of_z, w32, inl, inr}
 use Rattle.std.proofs.lemmas.Int.{to_z-of_z}
 use Rattle.std.specs.Prelude.{if◌then◌else◌, OnOk}
 use Rattle.cal_time.specs.Refusal.{refusal}
 use Rattle.cal_time.specs.Refusals.{year_out_of_range, ordinal_out_of_range}
-use Rattle.cal_time.specs.Date.{NoDate, HasOrdinalDate}
-use Rattle.caltool.specs.Answers.{day_with, has_ordinal_date, is_year, refused_text}
-use Rattle.caltool.proofs.Days.{day_with-has, day_with-none, decides_ordinal_date, a_year, not_a_year}
+use Rattle.caltool.specs.Answers.{is_year, refused_text}
+use Rattle.caltool.proofs.Days.{found, refused, decides_ordinal_date, a_year, not_a_year}
 use Rattle.caltool.proofs.answer.write_ordinal.Goals as goal
 
 pub returns-in-Ok : goal.returns-in-Ok
@@ -14,9 +13,8 @@ returns-in-Ok c =
     let o = c.args.ordinal in
     let same : to_z w32 (of_z w32 y) ≡ y = to_z-of_z w32 y c.ranges.year in
     let is = rw same at c.in-Ok.ensures in
-    let found : day_with (has_ordinal_date y o) ≡ Some c.in-Ok.date =
-    day_with-has _ _ (decides_ordinal_date y o) c.in-Ok.date is.has.0 is.has.1 (λ n h has. let e = is.every n h has in cc) in
-    rw found c.write_day.ensures
+    let is_found = found _ _ (decides_ordinal_date y o) c.in-Ok.date is.every is.has in
+    rw is_found c.write_day.ensures
 
 pub returns-in-Err : goal.returns-in-Err
 returns-in-Err c =
@@ -24,11 +22,10 @@ returns-in-Err c =
     let o = c.args.ordinal in
     let same : to_z w32 (of_z w32 y) ≡ y = to_z-of_z w32 y c.ranges.year in
     let is = rw same at c.in-Err.ensures in
-    let none : NoDate (HasOrdinalDate y o) = λ n h has. let e = is.every n h has in cc in
-    let not_found : day_with (has_ordinal_date y o) ≡ None = day_with-none _ _ (decides_ordinal_date y o) none in
+    let is_refused = refused _ _ (decides_ordinal_date y o) c.in-Err.error is.every in
     let why : refusal c.in-Err.error ≡ (if is_year y then ordinal_out_of_range else year_out_of_range) = elim is.reason [
       | inl e ↦ rw (not_a_year y (is.year.0 e)) e
       | inr e ↦ rw (a_year y (is.ordinal.0 e).0) e
     ] in
     let P : List ℕ → Type 0 = λ text. OnOk c.write_refusal.result (c.write_refusal.new.text ≡ c.args.text.now ++ text) in
-    rw not_found (subst P (ap refused_text why) c.write_refusal.ensures)
+    rw is_refused.1 (subst P (ap refused_text why) c.write_refusal.ensures)

@@ -6,4 +6,5 @@ use Rattle.caltool.proofs.number.parse_i32.Goals as goal
 pub returns : goal.returns
 returns c =
     let fits = i64_of_fits c.args.word.now c.in_ok-parse_i64.field-0 c.in_ok-parse_i64.ensures in
-    c.ok.ensures.value ∙ narrowed c.args.word.now c.in_ok-parse_i64.field-0 c.try_from.result c.in_ok-parse_i64.ensures (simp to_z-of_z at c.try_from.ensures)
+    c.ok.ensures.value
+    ∙ narrowed c.args.word.now c.in_ok-parse_i64.field-0 c.try_from.result c.in_ok-parse_i64.ensures (simp to_z-of_z at c.try_from.ensures)

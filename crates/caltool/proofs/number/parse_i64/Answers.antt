@@ -11,4 +11,5 @@ returns-in_default c =
 pub returns : goal.returns
 returns c =
     let plain = eqb-false (get_or c.args.word.now 0 0) 43 (sym c.begins_with_plus.ensures ∙ c.if-begins_with_plus.false) in
-    c.ok.ensures.value ∙ parsed c.args.word.now c.parse.result plain (rw c.in-Ok.ensures.cases.0 at c.parse.ensures.value.0)
+    c.ok.ensures.value
+    ∙ parsed c.args.word.now c.parse.result plain (rw c.in-Ok.ensures.cases.0 at c.parse.ensures.value.0)

@@ -3,7 +3,7 @@ ghost use Rattle.std.specs.Prelude.{◌≡◌, ◌↔◌, ◌<ℤ◌, IsTrue};
 ghost use Rattle.std.specs.List.{fold};
 ghost use Rattle.std.specs.Hash.DefaultHasher as hasher;
 
-use super::*;
+use crate::{Counted, extent, is_rising};
 use std::hash::{DefaultHasher, Hash, Hasher};
 use std::test::Fail;
 
