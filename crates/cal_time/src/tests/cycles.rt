@@ -1,7 +1,7 @@
 //! Lengths of years and months, months and weekdays, and endless walks over them.
-use crate::tests::check;
 use crate::error::InvalidVariant;
 use crate::iter::{MonthIter, WeekdayIter};
+use crate::tests::check;
 use crate::util::{days_in_month, days_in_year, days_in_year_month, is_leap_year, weeks_in_year};
 use crate::{Cycle, Month, Weekday, nth_in};
 

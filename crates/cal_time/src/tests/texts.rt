@@ -1,6 +1,6 @@
 //! The texts of values, plain, padded, and for debugging.
-use crate::tests::{date, offset, time};
 use crate::error::{ComponentRange, ConversionRange, InvalidVariant};
+use crate::tests::{date, offset, time};
 use crate::{Date, Month, SignedDuration, Time, UtcOffset, Weekday};
 use std::test::Fail;
 
@@ -75,13 +75,15 @@ fn texts_of_each_hour(rt: HostRuntime) -> Result<(), Fail> {
         assert_eq!(rt; format!(in rt.alloc(); "{time}")?.as_str(), text.as_str());
         assert_eq!(rt; format!(in rt.alloc(); "{time:?}")?.as_str(), text.as_str());
     }
-    for hours in 1..26 {
-        for (sign, hours_east) in [("+", hours), ("-", -hours)] {
-            let text = format!(in rt.alloc(); "{sign}{hours:02}:00:00")?;
-            let offset = offset(&rt, hours_east, 0, 0);
-            assert_eq!(rt; format!(in rt.alloc(); "{offset}")?.as_str(), text.as_str());
-            assert_eq!(rt; format!(in rt.alloc(); "{offset:?}")?.as_str(), text.as_str());
-        }
+    for hours in -25i8..26 {
+        let sign = if hours < 0 { "-" } else { "+" };
+        let text = format!(in rt.alloc(); "{sign}{:02}:00:00", hours.unsigned_abs())?;
+        let offset = offset(&rt, hours, 0, 0);
+        assert_eq!(rt; format!(in rt.alloc(); "{offset}")?.as_str(), text.as_str());
+        assert_eq!(rt;
+            format!(in rt.alloc(); "{offset:?}")?.as_str(),
+            text.as_str()
+        );
     }
     Ok(())
 }
