@@ -1,14 +1,12 @@
 -- Each number of the count has its calendar date, and each calendar date of the range its number.
-use Rattle.std.proofs.Common.{◌≡◌, refl, ℕ, ◌+◌, inl, inr, add-one, ◌-◌, ◌<◌, ◌≤◌, sym, ap, ◌∙◌, subst, arith, ℤ, ◌≤ℤ◌}
-use Rattle.std.proofs.lemmas.Bool.{cases_lt}
+use Rattle.std.proofs.Common.{◌≡◌, ℕ, ◌+◌, ◌-◌, ◌<◌, ◌≤◌, sym, ap, ◌∙◌, subst, arith, ℤ, ◌≤ℤ◌}
 use Rattle.std.proofs.lemmas.Bool.Decides.{nat_tests}
 use Rattle.cal_units.specs.Lengths.{days_in_month}
 use Rattle.cal_date.specs.CalendarDay.{calendar_day}
 use Rattle.cal_date.specs.Date.{first_year, day_at, year_at, month_at, day_of_month_at, ordinal_at, IsYear, IsDate, IsOrdinal, IsDayOfMonth, HasCalendarDate, NoDate}
-use Rattle.cal_date.specs.CountLaws.{days_of_months, days_before, in_months, place_in_year, days_of_months-all, year_start-days_before}
-use Rattle.cal_date.specs.DateFields.{number_of, IsOrdinalDate}
-use Rattle.cal_date.specs.declared.date.Date.TheInside.{Inside}
-use Rattle.cal_date.proofs.Dates.{ordinal_number, stands, in_range}
+use Rattle.cal_date.specs.CountLaws.{days_of_months, days_before, in_months, place_in_year, year_start-days_before}
+use Rattle.cal_date.specs.DateFields.{ordinal_number}
+use Rattle.cal_date.proofs.Dates.{stands, in_range}
 
 -- the ordinal of so many months and days into a year, and its number
 abbrev pub ordinal_in : ℤ → ℕ → ℕ → ℕ
@@ -88,33 +86,6 @@ IsOrdinal-ordinal_in y i d late low h =
 -- so there is no day for another calendar date
 pub NoDate-calendar_date : (y : ℤ) (i d : ℕ) → ¬ (IsYear y × IsDayOfMonth y (i + 1) d) → NoDate (HasCalendarDate y (i + 1) d)
 NoDate-calendar_date y i d none n h has = let is = calendar_in_range n y i d h has in none (is.year, is.day)
-
--- ---- a walk over the months of a year
-pub days_of_months-next : (y : ℤ) (i : ℕ) → days_of_months y (i + 1) ≡ days_of_months y i + days_in_month y (i + 1)
-unfolding days_of_months
-days_of_months-next y i = rw (add-one i) refl
-
--- past the end of a month that is not the last one stands the next month
-pub record IsPastMonth (y : ℤ) (i d o : ℕ) : Type 0 where
-  pub month : i + 1 < 12
-  pub ordinal_is : ordinal_in y (i + 1) (d - days_in_month y (i + 1)) ≡ o
-
-pub past_month : (y : ℤ) (i d o : ℕ) → i < 12 → days_in_month y (i + 1) < d → ordinal_in y i d ≡ o → IsOrdinal y o → IsPastMonth y i d o
-past_month y i d o low past e h =
-    let next = days_of_months-next y i in
-    let month : i + 1 < 12 =
-    elim (cases_lt (i + 1) 12) as (λ _. i + 1 < 12) [
-      | inl less ↦ less
-      | inr most ↦ let last : i + 1 ≡ 12 = omega arith in absurd (omega (arith, days_of_months-all y, ap (days_of_months y) last, h.1))
-    ] in
-    record { month = month; ordinal_is = omega arith }
-
--- the fields of a date that stand so many months and days into its year
-pub HasCalendarDate-number_of : (f : Inside) (i d : ℕ) → IsOrdinalDate f → i < 12 → IsDayOfMonth f.year (i + 1) d → ordinal_in f.year i d ≡ f.ordinal → HasCalendarDate f.year (i + 1) d (number_of f)
-HasCalendarDate-number_of f i d h low day e =
-    let at = stands_at f.year i d h.0.0 low day in
-    let same : ordinal_number f.year (ordinal_in f.year i d) ≡ number_of f = ap (λ o. ordinal_number f.year o) e in
-    ap day_at (sym same) ∙ at.has
 
 -- no month has more than 31 days
 pub day_of_month-most : (n : ℕ) → day_of_month_at n ≤ 31

@@ -1,6 +1,6 @@
 -- The days of a walk, and what is left of them.
 use Rattle.std.proofs.Common.{◌≡◌, ℕ, zero, suc, ◌+◌, ◌-◌, ◌<◌, ◌≤◌, refl, sym, ap, ◌∙◌, arith, [], ◌∷◌, ◌++◌, length, get_or, take, drop, reverse, slice_get, Some, None, inl, inr, false, is_lt}
-use Rattle.std.specs.Prelude.{Option, option_map, IfSome, SomeIff}
+use Rattle.std.specs.Prelude.{Option, option_map, IfSome, IsSomeAnd, SomeIff}
 use Rattle.std.proofs.Math.ListN.{drop_of_length-le}
 use Rattle.std.specs.List.Sorted.{IsSorted}
 use Rattle.std.specs.Ordering.{nat_cmp}
@@ -8,9 +8,11 @@ use Rattle.std.proofs.lemmas.Bool.{cases_lt}
 use Rattle.std.proofs.lemmas.Bool.Decides.{nat_tests}
 use Rattle.std.proofs.lemmas.List.{get_or-reverse, length-reverse}
 use Rattle.std.proofs.lemmas.Option.{slice_get-get_or, slice_get_past}
-use Rattle.cal_date.specs.Date.{IsDate}
+use Rattle.cal_date.specs.Date.{year_at, ordinal_at, IsDate, HasOrdinalDate}
 use Rattle.cal_date.specs.Occurrence.{days_from}
-use Rattle.cal_date.specs.DateIter.{Walk, walk, IsWalk, days_between, days_of, without_first, without_last}
+use Rattle.cal_date.proofs.Dates.{stands}
+use Rattle.cal_date.proofs.Neighbours.{same_year, as_far}
+use Rattle.cal_date.specs.DateIter.{IsInOneYear, Walk, walk, IsWalk, days_between, days_of, without_first, without_last}
 
 days_from-none : (n : ℕ) → days_from n 0 ≡ []
 unfolding days_from
@@ -232,3 +234,25 @@ place_in v w b n len same h e count less =
 pub SomeIff-some : {X : Type 0} {o : Option X} {P : Type 0} {x : X} → SomeIff o P x → P → o ≡ Some x
 SomeIff-some {o = None} h p = absurd (h p)
 SomeIff-some {o = Some y} h p = ap Some h.1
+
+-- walks within one year, by the ordinals of their ends
+pub length-one_year : (w : Walk) (back len : ℕ) → IsWalk w → IsInOneYear w back → len ≡ length (days_of w) → len + ordinal_at w.front ≡ ordinal_at back + 1
+length-one_year w back len walk h is =
+    let at = ends w back walk h.back_is in
+    omega (arith, is, length-days_of w back h.back_is, same_year w.front back h.year_is, at.in_order)
+
+pub item-one_year : (w : Walk) (back n : ℕ) (item : Option ℕ) → IsInOneYear w back → ordinal_at w.front + n ≤ ordinal_at back → item ≡ slice_get (days_of w) n
+    → IsSomeAnd item (HasOrdinalDate (year_at back) (ordinal_at w.front + n))
+item-one_year w back n item h low is =
+    let far = same_year w.front back h.year_is in
+    let some : item ≡ Some (w.front + n) = is ∙ slice_get-days_of w back n h.back_is (omega (arith, far)) in
+    let first = (stands w.front).ordinal.0 in
+    rw some (as_far back (w.front + n) (ordinal_at w.front + n) (omega (arith, first)) (omega (arith, (stands back).ordinal.1)) (omega (arith, far)))
+
+pub item_back-one_year : (w : Walk) (back n : ℕ) (item : Option ℕ) → IsInOneYear w back → ordinal_at w.front + n ≤ ordinal_at back
+    → item ≡ slice_get (reverse (days_of w)) n → IsSomeAnd item (HasOrdinalDate (year_at back) (ordinal_at back - n))
+item_back-one_year w back n item h low is =
+    let far = same_year w.front back h.year_is in
+    let some : item ≡ Some (back - n) = is ∙ slice_get-days_of_back w back n h.back_is (omega (arith, far)) in
+    let first = (stands w.front).ordinal.0 in
+    rw some (as_far back (back - n) (ordinal_at back - n) (omega (arith, first)) (omega (arith, (stands back).ordinal.1)) (omega (arith, far)))

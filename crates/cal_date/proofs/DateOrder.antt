@@ -1,15 +1,16 @@
--- To compare the years, and then the ordinals, is to compare the numbers.
-use Rattle.std.proofs.Common.{◌≡◌, ℕ, ◌+◌, ◌<◌, ◌≤◌, ℤ, pos, ◌+ℤ◌, ◌-ℤ◌, ◌<ℤ◌, ◌≤ℤ◌, unsigned_abs, ap, arith, inl, inr, Less, Equal, Greater}
-use Rattle.std.specs.Ordering.{int_cmp, nat_cmp, ordering_then}
-use Rattle.std.proofs.lemmas.Int.{ints, by_lt_z}
-use Rattle.std.proofs.lemmas.Bool.{cases_lt}
+-- To compare the packed values is to compare the numbers.
+use Rattle.std.proofs.Common.{◌≡◌, ℕ, ◌+◌, ◌<◌, ◌≤◌, ℤ, pos, ◌+ℤ◌, ◌-ℤ◌, ◌<ℤ◌, ◌≤ℤ◌, unsigned_abs, ap, sym, ◌∙◌, subst, arith, inl, inr, Less, Equal, Greater, nat_eq, to_z, of_z, w32, FitsSigned}
+use Rattle.std.specs.Ordering.{int_cmp, nat_cmp}
+use Rattle.std.proofs.lemmas.Int.{ints, by_lt_z, to_z-of_z}
+use Rattle.std.proofs.lemmas.Bool.{cases_eq, eq-eqb, ne_eqb}
 use Rattle.std.proofs.lemmas.Bool.Decides.{nat_tests}
 use Rattle.cal_units.specs.Lengths.{days_in_year}
-use Rattle.cal_date.specs.Date.{first_year}
-use Rattle.cal_date.specs.CountLaws.{days_of_years, days_before}
-use Rattle.cal_date.specs.DateFields.{number_of, IsOrdinalDate}
+use Rattle.cal_date.specs.Date.{first_year, IsOrdinal}
+use Rattle.cal_date.specs.CountLaws.{days_of_years, days_before, days_of_years-closed}
+use Rattle.cal_date.specs.DateFields.{packed, leap_mark, year_of, ordinal_of, number_of, ordinal_number, IsPacked, IsPackedDate, IsPacked-fields, packed_at, packed_at-number_of}
 use Rattle.cal_date.specs.declared.date.Date.TheInside.{Inside}
-use Rattle.cal_date.proofs.Years.{days_of_years-closed, days_before-next}
+use Rattle.cal_date.proofs.Packed.{packed-i32}
+use Rattle.cal_date.proofs.Years.{days_before-next}
 
 days_of_years-rises : (i j : ℕ) → i ≤ j → days_of_years i ≤ days_of_years j
 days_of_years-rises i j h = omega (arith, days_of_years-closed i, days_of_years-closed j)
@@ -20,11 +21,32 @@ days_before-less y z first less =
     let later : unsigned_abs ((y +ℤ pos 1) -ℤ first_year) ≤ unsigned_abs (z -ℤ first_year) = omega (arith, ints) in
     omega (arith, days_before-next y first, days_of_years-rises _ _ later)
 
-earlier_year : (a b : Inside) → IsOrdinalDate a → IsOrdinalDate b → a.year <ℤ b.year → number_of a < number_of b
-earlier_year a b h k less = omega (arith, days_before-less a.year b.year h.0.0 less)
+earlier_year : (a b : Inside) → IsPacked a.packed → IsPacked b.packed → year_of a.packed <ℤ year_of b.packed → number_of a < number_of b
+earlier_year a b h k less = omega (arith, h.ordinal, k.ordinal, days_before-less (year_of a.packed) (year_of b.packed) h.year.0 less)
 
-earlier_ordinal : (a b : Inside) → IsOrdinalDate a → a.year ≡ b.year → a.ordinal < b.ordinal → number_of a < number_of b
-earlier_ordinal a b h e less = omega (arith, ap days_before e)
+earlier_ordinal : (a b : Inside) → IsPacked a.packed → year_of a.packed ≡ year_of b.packed → ordinal_of a.packed < ordinal_of b.packed → number_of a < number_of b
+earlier_ordinal a b h e less = omega (arith, h.ordinal, ap days_before e)
+
+-- a lesser packed value has an earlier year, or the same year and a lesser ordinal
+record IsEarlier (y : ℤ) (o : ℕ) (z : ℤ) (p : ℕ) : Type 0 where
+  year : y ≤ℤ z
+  ordinal : y ≡ z → o < p
+
+packed-less : (y : ℤ) (o : ℕ) (z : ℤ) (p : ℕ) → IsOrdinal y o → IsOrdinal z p → packed y o <ℤ packed z p → IsEarlier y o z p
+unfolding packed
+packed-less y o z p h k less = record {
+  year = grind (arith, ints, nat_tests);
+  ordinal = λ e. let mark : leap_mark y ≡ leap_mark z = ap leap_mark e in omega (arith, ints);
+}
+
+earlier_packed : (a b : Inside) → IsPacked a.packed → IsPacked b.packed → a.packed <ℤ b.packed → number_of a < number_of b
+earlier_packed a b h k less =
+    let before : packed (year_of a.packed) (ordinal_of a.packed) <ℤ packed (year_of b.packed) (ordinal_of b.packed) =
+    rw (← h.packed_is, ← k.packed_is) less in
+    let is = packed-less _ _ _ _ h.ordinal k.ordinal before in
+    by_lt_z (year_of a.packed) (year_of b.packed)
+    (λ earlier. earlier_year a b h k earlier)
+    (λ most. let e : year_of a.packed ≡ year_of b.packed = omega (arith, ints, is.year) in earlier_ordinal a b h e (is.ordinal e))
 
 -- what the comparisons answer
 int_cmp-less : (x y : ℤ) → x <ℤ y → int_cmp x y ≡ Less
@@ -45,21 +67,30 @@ nat_cmp-greater x y h = grind (arith, nat_tests)
 nat_cmp-equal : (x y : ℕ) → x ≡ y → nat_cmp x y ≡ Equal
 nat_cmp-equal x y h = grind (arith, nat_tests)
 
-pub nat_cmp-fields : (a b : Inside) → IsOrdinalDate a → IsOrdinalDate b
-    → ordering_then (int_cmp a.year b.year) (nat_cmp a.ordinal b.ordinal) ≡ nat_cmp (number_of a) (number_of b)
-nat_cmp-fields a b h k =
-    by_lt_z a.year b.year
-    (λ less. simp (int_cmp-less a.year b.year less, nat_cmp-less (number_of a) (number_of b) (earlier_year a b h k less)))
-    (λ most. by_lt_z b.year a.year
-    (λ more. simp (int_cmp-greater a.year b.year more, nat_cmp-greater (number_of a) (number_of b) (earlier_year b a k h more)))
-    (λ least. let e : a.year ≡ b.year = omega (arith, ints) in
-    let f : b.year ≡ a.year = omega (arith, ints) in
-    elim (cases_lt a.ordinal b.ordinal) [
-      | inl less ↦ simp (int_cmp-equal a.year b.year e, nat_cmp-less a.ordinal b.ordinal less, nat_cmp-less (number_of a) (number_of b) (earlier_ordinal a b h e less))
-      | inr most' ↦ elim (cases_lt b.ordinal a.ordinal) [
-        | inl more ↦ simp (int_cmp-equal a.year b.year e, nat_cmp-greater a.ordinal b.ordinal more, nat_cmp-greater (number_of a) (number_of b) (earlier_ordinal b a k f more))
-        | inr least' ↦
-            let same : number_of a ≡ number_of b = omega (arith, ap days_before e) in
-            simp (int_cmp-equal a.year b.year e, nat_cmp-equal a.ordinal b.ordinal (omega arith), nat_cmp-equal (number_of a) (number_of b) same)
-      ]
-    ]))
+pub nat_cmp-packed : (a b : Inside) → IsPackedDate a → IsPackedDate b → int_cmp a.packed b.packed ≡ nat_cmp (number_of a) (number_of b)
+nat_cmp-packed a b h k =
+    by_lt_z a.packed b.packed
+    (λ less. int_cmp-less a.packed b.packed less ∙ sym (nat_cmp-less (number_of a) (number_of b) (earlier_packed a b (IsPacked-fields a h) (IsPacked-fields b k) less)))
+    (λ most. by_lt_z b.packed a.packed
+    (λ more. int_cmp-greater a.packed b.packed more ∙ sym (nat_cmp-greater (number_of a) (number_of b) (earlier_packed b a (IsPacked-fields b k) (IsPacked-fields a h) more)))
+    (λ least. let e : a.packed ≡ b.packed = omega (arith, ints) in
+    int_cmp-equal a.packed b.packed e ∙ sym (nat_cmp-equal (number_of a) (number_of b) (ap (λ p. ordinal_number (year_of p) (ordinal_of p)) e))))
+
+-- dates of one number have the same packed value
+pub same_packed : (a b : Inside) → IsPackedDate a → IsPackedDate b → number_of a ≡ number_of b → a.packed ≡ b.packed
+same_packed a b h k e = sym (packed_at-number_of a h) ∙ ap packed_at e ∙ packed_at-number_of b k
+
+fits : (d : Inside) → IsPackedDate d → FitsSigned w32 d.packed
+fits d h = let is = IsPacked-fields d h in subst (FitsSigned w32) (sym is.packed_is) (packed-i32 _ _ is.year is.ordinal)
+
+-- to test the bits of the packed values for equality is to test the numbers
+pub nat_eq-packed : (a b : Inside) → IsPackedDate a → IsPackedDate b → nat_eq (of_z w32 b.packed) (of_z w32 a.packed) ≡ nat_eq (number_of a) (number_of b)
+nat_eq-packed a b h k =
+    elim (cases_eq (number_of a) (number_of b)) [
+      | inl e ↦ eq-eqb _ _ (ap (of_z w32) (sym (same_packed a b h k e))) ∙ sym (eq-eqb _ _ e)
+      | inr other ↦
+          let number = λ (p : ℤ). ordinal_number (year_of p) (ordinal_of p) in
+          let differs : of_z w32 b.packed ≡ of_z w32 a.packed → ⊥ =
+          λ same. other (ap number (sym (to_z-of_z w32 a.packed (fits a h)) ∙ ap (to_z w32) (sym same) ∙ to_z-of_z w32 b.packed (fits b k))) in
+          ne_eqb _ _ differs ∙ sym (ne_eqb _ _ other)
+    ]

@@ -1,16 +1,12 @@
 -- Each number of the count has its ordinal date, and each ordinal date of the range its number.
-use Rattle.std.proofs.Common.{◌≡◌, ℕ, suc, ◌+◌, ◌-◌, ◌<◌, sym, ap, ◌∙◌, arith, ℤ, pos, ◌+ℤ◌, ◌-ℤ◌, ◌≤ℤ◌, unsigned_abs, to_z, of_z, w32, FitsSigned}
+use Rattle.std.proofs.Common.{◌≡◌, ℕ, suc, ◌+◌, ◌<◌, ◌≤◌, ap, ◌∙◌, arith, ℤ, pos, ◌+ℤ◌, ◌-ℤ◌, ◌≤ℤ◌, unsigned_abs, to_z, of_z, w32, FitsSigned}
+use Rattle.std.proofs.lemmas.Bool.Decides.{nat_tests}
 use Rattle.std.proofs.lemmas.Int.{ints, to_z-of_z}
 use Rattle.cal_units.specs.Lengths.{days_in_year}
 use Rattle.cal_date.specs.Date.{first_year, year_at, ordinal_at, IsYear, IsDate, IsOrdinal, HasOrdinalDate, NoDate}
-use Rattle.cal_date.specs.CountLaws.{days_of_years, days_before, in_year, year_start}
-use Rattle.cal_date.specs.DateFields.{number_of, IsOrdinalDate, HasOrdinalDate-number_of}
-use Rattle.cal_date.specs.declared.date.Date.TheInside.{Inside}
-use Rattle.cal_date.proofs.Years.{year_of, days_of_years-closed, IsYear-days_before, days_before-IsYear}
-
--- the number of an ordinal date
-abbrev pub ordinal_number : ℤ → ℕ → ℕ
-ordinal_number y o = days_before y + (o - 1)
+use Rattle.cal_date.specs.CountLaws.{days_of_years, in_year, year_start, days_of_years-closed}
+use Rattle.cal_date.specs.DateFields.{ordinal_number}
+use Rattle.cal_date.proofs.Years.{year_of, IsYear-days_before, days_before-IsYear}
 
 -- where a number stands
 pub record StandsAt (y : ℤ) (o n : ℕ) : Type 0 where
@@ -55,20 +51,23 @@ in_range n y o h has =
 pub IsDate-ordinal_number : (y : ℤ) (o : ℕ) → IsYear y → IsOrdinal y o → IsDate (ordinal_number y o)
 IsDate-ordinal_number y o h f = omega (arith, days_before-IsYear y h)
 
-pub HasOrdinalDate-ordinal_number : (y : ℤ) (o : ℕ) → IsYear y → IsOrdinal y o → HasOrdinalDate y o (ordinal_number y o)
-HasOrdinalDate-ordinal_number y o h f = HasOrdinalDate-number_of (record { year = y; ordinal = o }) (h, f)
-
 -- a year of the range is an i32
 pub IsYear-i32 : (y : ℤ) → IsYear y → to_z w32 (of_z w32 y) ≡ y
 IsYear-i32 y h = let fits : FitsSigned w32 y = grind (arith, ints) in to_z-of_z w32 y fits
+
+-- and so is the year after it
+pub next_year-i32 : (y : ℤ) → IsYear y → FitsSigned w32 (y +ℤ pos 1)
+next_year-i32 y h = grind (arith, ints)
 
 -- so there is no day for another ordinal date
 pub NoDate-ordinal_date : (y : ℤ) (o : ℕ) → ¬ (IsYear y × IsOrdinal y o) → NoDate (HasOrdinalDate y o)
 NoDate-ordinal_date y o none n h has = let is = in_range n y o h has in none (is.year, is.ordinal)
 
--- dates of one number have the same fields
-pub same_fields : (a b : Inside) → IsOrdinalDate a → IsOrdinalDate b → number_of a ≡ number_of b → (a.year ≡ b.year) × (a.ordinal ≡ b.ordinal)
-same_fields a b h f e =
-    let p = HasOrdinalDate-number_of a h in
-    let q = HasOrdinalDate-number_of b f in
-    (sym p.0 ∙ ap year_at e ∙ q.0, sym p.1 ∙ ap ordinal_at e ∙ q.1)
+-- no year has more than 366 days
+pub year-most : (y : ℤ) → days_in_year y ≤ 366
+year-most y = grind (arith, nat_tests)
+
+pub ordinal-most : (n : ℕ) → ordinal_at n ≤ 366
+ordinal-most n =
+    let at = stands n in
+    omega (arith, at.ordinal.1, year-most (year_at n))

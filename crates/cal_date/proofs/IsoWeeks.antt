@@ -8,12 +8,11 @@ use Rattle.cal_units.specs.Weeks.{weeks_in_year}
 use Rattle.cal_units.proofs.Weeks.{weeks_in_year-is}
 use Rattle.cal_date.specs.Date.{first_year, year_at, ordinal_at, weekday_at, IsYear, IsDate}
 use Rattle.cal_date.specs.CountLaws.{days_of_years, days_before, in_year, year_start-days_before}
-use Rattle.cal_date.specs.DateFields.{number_of, IsOrdinalDate}
+use Rattle.cal_date.specs.DateFields.{ordinal_number}
 use Rattle.cal_date.specs.IsoWeekDate.{weekdays_upto, thursday_of, iso_year_at, iso_week_at, IsWeek, HasIsoWeekDate}
 use Rattle.cal_date.specs.Order.{IsBefore, iso_week_date_at}
-use Rattle.cal_date.specs.declared.date.Date.TheInside.{Inside}
 use Rattle.cal_date.proofs.Years.{days_before-next}
-use Rattle.cal_date.proofs.Dates.{ordinal_number, stands, in_range, IsDate-ordinal_number}
+use Rattle.cal_date.proofs.Dates.{stands, in_range}
 use Rattle.cal_date.proofs.Order.{Rises, in_order}
 use Rattle.cal_date.proofs.Weekdays.{weekday_at-is, weekdays_upto-is, weeks_in_year-days_before}
 
@@ -81,10 +80,8 @@ IsYear-iso_year_at n h =
     let is : t ≡ n - n % 7 + 3 = thursday_of-is n in
     (in_range t (year_at t) (ordinal_at t) (omega arith) (refl, refl)).year
 
-pub IsYear-iso_year : (d : Inside) (n : ℕ) (y : ℤ) → IsOrdinalDate d → number_of d ≡ n → iso_year_at n ≡ y → IsYear y
-IsYear-iso_year d n y h is same =
-    let day = IsDate-ordinal_number d.year d.ordinal h.0 h.1 in
-    subst IsYear same (IsYear-iso_year_at n (subst IsDate is day))
+pub IsYear-iso_year : (n : ℕ) (y : ℤ) → IsDate n → iso_year_at n ≡ y → IsYear y
+IsYear-iso_year n y h same = subst IsYear same (IsYear-iso_year_at n h)
 
 pub in_weeks : (n : ℕ) (y : ℤ) (w wd : ℕ) → IsDate n → HasIsoWeekDate y w wd n → IsInWeek y w wd n
 in_weeks n y w wd h has =

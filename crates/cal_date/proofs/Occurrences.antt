@@ -40,7 +40,7 @@ first_is_on w n days h = rw h refl
 first_is_not : (w n : ℕ) (days : List ℕ) → is_on w n ≡ false → filter (is_on w) (n ∷ days) ≡ filter (is_on w) days
 first_is_not w n days h = rw h refl
 
--- of days that follow one another, the first with the weekday k days on, and each further one seven days behind it
+-- of days that follow one another, the first with the weekday k days on, and each further one seven days after it
 in_days_from : (w n k m count : ℕ) → k < 7 → (n + k) % 7 ≡ w
     → slice_get (filter (is_on w) (days_from n count)) m ≡ (if nat_lt (k + 7 * m) count then Some (n + k + 7 * m) else None)
 in_days_from w n k m zero h e = rw (days_from-none n) (grind (arith, nat_tests))

@@ -9,7 +9,8 @@ use Rattle.cal_date.specs.CalendarDay.{CalendarDay, calendar_day, day_after}
 use Rattle.cal_date.specs.CountLaws.{days_before, day_at-suc, in_year, year_start-days_before}
 use Rattle.cal_date.specs.Date.{first_year, day_at, year_at, ordinal_at, IsOrdinal, HasOrdinalDate}
 use Rattle.cal_date.specs.Order.{IsBefore, ordinal_date_at, calendar_date_at}
-use Rattle.cal_date.proofs.Dates.{ordinal_number, stands}
+use Rattle.cal_date.specs.DateFields.{ordinal_number}
+use Rattle.cal_date.proofs.Dates.{stands}
 use Rattle.cal_date.proofs.Order.{Rises}
 use Rattle.cal_date.proofs.Years.{days_before-next}
 
@@ -32,7 +33,7 @@ Rises-calendar_date = record {
   step = λ n. subst (λ d. IsBefore (parts (day_at n)) (parts d)) (sym (day_at-suc n)) (after (day_at n));
 }
 
--- each ordinal date stands in the count, also behind the range
+-- each ordinal date stands in the count, also after the range
 pub has_ordinal_number : (y : ℤ) (o : ℕ) → first_year ≤ℤ y → IsOrdinal y o → HasOrdinalDate y o (ordinal_number y o)
 has_ordinal_number y o late h =
     let here = in_year (days_before y) y (o - 1) (year_start-days_before y late) (omega (arith, h.0, h.1)) in

@@ -12,11 +12,9 @@ use Rattle.cal_units.specs.declared.weekday.Weekday.TheVariants.{Monday, Tuesday
 use Rattle.cal_units.specs.Weeks.{first_weekday, weeks_in_year}
 use Rattle.cal_units.proofs.Weeks.{first_weekday-next, first_weekday-is, weeks_in_year-is}
 use Rattle.cal_date.specs.Date.{first_year, last_day, year_at, ordinal_at, weekday_at, IsYear}
-use Rattle.cal_date.specs.CountLaws.{days_of_years, days_before, in_year, year_start-days_before}
+use Rattle.cal_date.specs.CountLaws.{days_of_years, days_before, in_year, year_start-days_before, days_of_years-suc}
 use Rattle.cal_date.specs.IsoWeekDate.{count_before, is_weekday_of_year, weekdays_upto}
-use Rattle.cal_date.specs.DateFields.{number_of, IsOrdinalDate, HasOrdinalDate-number_of}
-use Rattle.cal_date.specs.declared.date.Date.TheInside.{Inside}
-use Rattle.cal_date.proofs.Years.{days_of_years-suc, days_before-IsYear}
+use Rattle.cal_date.proofs.Years.{days_before-IsYear}
 use Rattle.cal_date.proofs.Dates.{StandsAt, stands}
 
 pub weekday_at-is : (n : ℕ) → weekday_at n ≡ n % 7
@@ -74,8 +72,8 @@ this_year w y n same = rw ((Decides-int_eq (year_at n) y).1 same, weekday_at-is 
 before_year : (w : ℕ) (y : ℤ) (n : ℕ) → n < days_before y → is_weekday_of_year w y n ≡ false
 before_year w y n h = other_year w y n (λ same. let at : StandsAt y (ordinal_at n) n = rw same at (stands n) in omega (arith, at.number_is))
 
-behind_year : (w : ℕ) (y : ℤ) (n : ℕ) → days_before y + days_in_year y ≤ n → is_weekday_of_year w y n ≡ false
-behind_year w y n h = other_year w y n (λ same. let at : StandsAt y (ordinal_at n) n = rw same at (stands n) in omega (arith, at.number_is, at.ordinal))
+after_year : (w : ℕ) (y : ℤ) (n : ℕ) → days_before y + days_in_year y ≤ n → is_weekday_of_year w y n ≡ false
+after_year w y n h = other_year w y n (λ same. let at : StandsAt y (ordinal_at n) n = rw same at (stands n) in omega (arith, at.number_is, at.ordinal))
 
 one_more : (c' c d j w : ℕ) → w < 7 → c' ≡ c + (if (d + j) % 7 == w then 1 else 0) → c + (d + 6 - w) / 7 ≡ (d + j + 6 - w) / 7 → c' + (d + 6 - w) / 7 ≡ (d + suc j + 6 - w) / 7
 one_more c' c d j w below e f = grind (arith, nat_tests)
@@ -106,13 +104,12 @@ weekdays_upto-is w n below =
     rw sums at count ∙ ap (λ k. k / 7) (omega arith)
 
 -- the same by the ordinal, and the days since the last one
-pub weekdays_upto-ordinal : (w since n : ℕ) (d : Inside) → IsOrdinalDate d → number_of d ≡ n → w < 7 → since < 7 → (since + w) % 7 ≡ n % 7
-    → (d.ordinal + 6 - since) / 7 ≡ weekdays_upto w n
-weekdays_upto-ordinal w since n d h is below small place =
-    let year : year_at n ≡ d.year = ap year_at (sym is) ∙ (HasOrdinalDate-number_of d h).0 in
+pub weekdays_upto-ordinal : (w since n : ℕ) → w < 7 → since < 7 → (since + w) % 7 ≡ n % 7 → (ordinal_at n + 6 - since) / 7 ≡ weekdays_upto w n
+weekdays_upto-ordinal w since n below small place =
+    let at = stands n in
     let count = weekdays_upto-is w n below in
-    let same : days_before (year_at n) ≡ days_before d.year = ap days_before year in
-    let low : 1 ≤ d.ordinal = h.1.0 in
+    let number : n ≡ days_before (year_at n) + (ordinal_at n - 1) = at.number_is in
+    let low : 1 ≤ ordinal_at n = at.ordinal.0 in
     omega arith
 
 pub days_from_sunday-place : (w : Weekday) → days_from_sunday w ≡ (place w + 1) % 7
@@ -141,7 +138,7 @@ weeks_in_year-count y h =
     let rest = last_day + 1 - (d + days_in_year y) in
     let sums : d + days_in_year y + rest ≡ last_day + 1 = omega arith in
     let all : count_before test (d + days_in_year y + rest) ≡ count_before test (d + days_in_year y) =
-    count_before-same test (d + days_in_year y) rest (behind_year 3 y) in
+    count_before-same test (d + days_in_year y) rest (after_year 3 y) in
     let count = count_in_year y 3 (days_in_year y) h.0 (lit< tt) (omega arith) in
     let weeks = weeks_in_year-days_before y h.0 in
     omega arith ∙ sym all ∙ ap (count_before test) sums

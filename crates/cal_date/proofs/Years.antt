@@ -1,28 +1,11 @@
 -- How many days the first years of the range have, and in which year a day stands.
-use Rattle.std.proofs.Common.{◌≡◌, ℕ, zero, suc, ◌+◌, ◌-◌, ◌*◌, ◌/◌, ◌<◌, ◌≤◌, refl, sym, ap, ◌∙◌, arith, ℤ, pos, ◌+ℤ◌, ◌-ℤ◌, ◌≤ℤ◌, unsigned_abs, inl, inr}
+use Rattle.std.proofs.Common.{◌≡◌, ℕ, zero, suc, ◌+◌, ◌-◌, ◌<◌, ◌≤◌, refl, sym, ap, ◌∙◌, arith, ℤ, pos, ◌+ℤ◌, ◌-ℤ◌, ◌≤ℤ◌, unsigned_abs, inl, inr}
 use Rattle.std.proofs.lemmas.Bool.{cases_lt}
 use Rattle.std.proofs.lemmas.Int.{ints}
-use Rattle.std.proofs.lemmas.Bool.Decides.{nat_tests}
 use Rattle.cal_units.specs.Lengths.{days_in_year}
 use Rattle.cal_date.specs.CalendarDay.{calendar_day}
 use Rattle.cal_date.specs.Date.{first_year, last_year, last_day, day_at, IsYear}
-use Rattle.cal_date.specs.CountLaws.{days_of_years, days_before, year_start, year_end}
-
--- the leap years among the first k years of the range: one in four, but for the centuries of which 400 is no divisor
-leap_year-step : (k : ℕ) → days_in_year (first_year +ℤ pos k) + (k + 1) / 100 + k / 4 + k / 400 ≡ 365 + k / 100 + (k + 1) / 4 + (k + 1) / 400
-leap_year-step k = grind (arith, ints, nat_tests)
-
-closed-step : (k d d' l : ℕ) → d' ≡ d + l → l + (k + 1) / 100 + k / 4 + k / 400 ≡ 365 + k / 100 + (k + 1) / 4 + (k + 1) / 400 → d + k / 100 ≡ 365 * k + k / 4 + k / 400
-    → d' + suc k / 100 ≡ 365 * suc k + suc k / 4 + suc k / 400
-closed-step k d d' l e f g = let s : suc k ≡ k + 1 = omega arith in rw s (omega arith)
-
-pub days_of_years-suc : (k : ℕ) → days_of_years (suc k) ≡ days_of_years k + days_in_year (first_year +ℤ pos k)
-unfolding days_of_years
-days_of_years-suc k = refl
-
-pub days_of_years-closed : (k : ℕ) → days_of_years k + k / 100 ≡ 365 * k + k / 4 + k / 400
-days_of_years-closed zero = unfold days_of_years in refl
-days_of_years-closed (suc k) = closed-step k (days_of_years k) (days_of_years (suc k)) (days_in_year (first_year +ℤ pos k)) (days_of_years-suc k) (leap_year-step k) (days_of_years-closed k)
+use Rattle.cal_date.specs.CountLaws.{days_of_years, days_before, year_start, year_end, days_of_years-closed, days_of_years-suc}
 
 -- each number stands in a year
 pub year_of : (k n : ℕ) → n < days_of_years k → (i : ℕ) × (j : ℕ) × (i < k) × (j < days_in_year (first_year +ℤ pos i)) × (n ≡ days_of_years i + j)

@@ -1,5 +1,5 @@
 -- Laws of the count of days: where each month and each year begins, and how many days the first years have.
-use Rattle.std.proofs.Common.{◌≡◌, ℕ, zero, suc, ◌+◌, ◌-◌, ◌<◌, ◌≤◌, refl, ap, ◌∙◌, arith, ℤ, pos, ◌+ℤ◌, ◌-ℤ◌, ◌≤ℤ◌, unsigned_abs, true, false, lit<, add-zero, inl, inr, add-one, add_assoc}
+use Rattle.std.proofs.Common.{◌≡◌, ℕ, zero, suc, ◌+◌, ◌-◌, ◌*◌, ◌/◌, ◌<◌, ◌≤◌, refl, ap, ◌∙◌, arith, ℤ, pos, ◌+ℤ◌, ◌-ℤ◌, ◌≤ℤ◌, unsigned_abs, true, false, lit<, add-zero, inl, inr, add-one, add_assoc}
 use Rattle.std.proofs.lemmas.Bool.{cases_lt}
 use Rattle.std.proofs.lemmas.Int.{ints}
 use Rattle.std.proofs.lemmas.Bool.Decides.{nat_tests}
@@ -56,7 +56,7 @@ in_month n (suc j) y m o e h =
     ordinal_at-same_year (n + j) same ∙ ap (λ k. k + 1) before.ordinal_is ∙ omega arith in
     rw (← sums) (record { day_is = day; ordinal_is = ordinal })
 
--- behind a month stands the first of the next month
+-- after a month comes the first of the next month
 next_month : (n : ℕ) (y : ℤ) (m o : ℕ) → IsDayAt n y m 1 o → 0 < m → m < 12 → IsDayAt (n + days_in_month y m) y (m + 1) 1 (o + days_in_month y m)
 next_month n y m o e low high =
     let some : 28 ≤ days_in_month y m = days_in_month-bound y m low (omega arith) in
@@ -149,7 +149,7 @@ year_end n y e =
     let sums : n + days_of_months y 11 + 30 ≡ n + (days_in_year y - 1) = omega (arith, days_of_months-december y) in
     rw (← sums) (record { day_is = last.day_is; ordinal_is = last.ordinal_is ∙ omega (arith, days_of_months-december y) })
 
--- behind a year stands the first of the next year
+-- after a year comes the first of the next year
 next_year : (n : ℕ) (y : ℤ) → IsYearStart n y → IsYearStart (n + days_in_year y) (y +ℤ pos 1)
 next_year n y e =
     let last = year_end n y e in
@@ -164,6 +164,22 @@ next_year n y e =
 unfoldable pub days_of_years : ℕ → ℕ
 days_of_years zero = 0
 days_of_years (suc k) = days_of_years k + days_in_year (first_year +ℤ pos k)
+
+-- the leap years among the first k years of the range: one in four, but for the centuries of which 400 is no divisor
+leap_year-step : (k : ℕ) → days_in_year (first_year +ℤ pos k) + (k + 1) / 100 + k / 4 + k / 400 ≡ 365 + k / 100 + (k + 1) / 4 + (k + 1) / 400
+leap_year-step k = grind (arith, ints, nat_tests)
+
+closed-step : (k d d' l : ℕ) → d' ≡ d + l → l + (k + 1) / 100 + k / 4 + k / 400 ≡ 365 + k / 100 + (k + 1) / 4 + (k + 1) / 400 → d + k / 100 ≡ 365 * k + k / 4 + k / 400
+    → d' + suc k / 100 ≡ 365 * suc k + suc k / 4 + suc k / 400
+closed-step k d d' l e f g = let s : suc k ≡ k + 1 = omega arith in rw s (omega arith)
+
+pub days_of_years-suc : (k : ℕ) → days_of_years (suc k) ≡ days_of_years k + days_in_year (first_year +ℤ pos k)
+unfolding days_of_years
+days_of_years-suc k = refl
+
+pub days_of_years-closed : (k : ℕ) → days_of_years k + k / 100 ≡ 365 * k + k / 4 + k / 400
+days_of_years-closed zero = unfold days_of_years in refl
+days_of_years-closed (suc k) = closed-step k (days_of_years k) (days_of_years (suc k)) (days_in_year (first_year +ℤ pos k)) (days_of_years-suc k) (leap_year-step k) (days_of_years-closed k)
 
 pub year_start : (k : ℕ) → IsYearStart (days_of_years k) (first_year +ℤ pos k)
 unfolding days_of_years

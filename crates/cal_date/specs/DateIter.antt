@@ -1,8 +1,8 @@
 -- A walk over days from both ends: a front day, and a back day or none. Its days are those from the front day to the back day, one
 -- after the other; without a back day it has none.
-use Rattle.std.specs.Prelude.{ℕ, ◌+◌, ◌-◌, ◌≤◌, Bool, ◌&&◌, ◌==◌, List, [], length, nat_lt, nat_le, Option, Some, None, IfSome, option_map, if◌then◌else◌}
+use Rattle.std.specs.Prelude.{◌≡◌, ℕ, ◌+◌, ◌-◌, ◌≤◌, Bool, ◌&&◌, ◌==◌, List, [], length, nat_lt, nat_le, Option, Some, None, IfSome, option_map, if◌then◌else◌}
 use Rattle.std.specs.Option.{option_eq}
-use Rattle.cal_date.specs.Date.{IsDate}
+use Rattle.cal_date.specs.Date.{year_at, IsDate}
 use Rattle.cal_date.specs.Occurrence.{days_from}
 
 pub record Walk : Type 0 where
@@ -42,3 +42,8 @@ without_last k w =
 -- walks are equal where their front days are, and their back days
 abbrev pub walk_eq : Walk → Walk → Bool
 walk_eq v w = (v.front == w.front) && option_eq ◌==◌ v.back w.back
+
+-- the back day of the walk is this one, and is of the year of its front day
+pub record IsInOneYear (w : Walk) (back : ℕ) : Type 0 where
+  pub back_is : w.back ≡ Some back
+  pub year_is : year_at w.front ≡ year_at back

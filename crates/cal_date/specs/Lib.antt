@@ -1,8 +1,10 @@
 pub mod CalendarDay
+pub mod ClosedForms
 pub mod CountLaws
 pub mod Date
 pub mod DateFields
 pub mod DateIter
+pub mod DateLimits
 pub mod DateText
 pub mod IsoWeekDate
 pub mod Move

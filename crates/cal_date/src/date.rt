@@ -1,12 +1,16 @@
 //! Dates.
-ghost use Rattle.std.specs.Prelude.{◌≡◌, ℕ, ◌+◌, ◌-◌, ◌<◌, pos, ◌<ℤ◌, ◌↔◌, IfOk, IfErr, IsErr, SomeIff, ◌⊎◌, Ok, [], ◌∷◌};
+ghost use Rattle.std.specs.Prelude.{◌≡◌, ℕ, ◌+◌, ◌-◌, ◌<◌, pos, ◌+ℤ◌, ◌<ℤ◌, ◌≤ℤ◌, ◌↔◌, IfOk, IfErr, IsErr, SomeIff, ◌⊎◌, Ok, [], ◌∷◌};
 ghost use Rattle.cal_date.specs.Date.{last_day, year_at, ordinal_at, julian_day_at, IsDate, IsYear, IsOrdinal, HasOrdinalDate, HasJulianDay, NoDate};
 ghost use Rattle.cal_date.specs.Order.{IsBefore, ordinal_date_at};
+ghost use Rattle.cal_date.specs.ClosedForms.{julian_day_of, kernel_of, year_of_kernel, ordinal_of_kernel};
+ghost use Rattle.cal_date.specs.DateFields.{leap_mark, ordinal_number};
+ghost use Rattle.cal_units.specs.Lengths.{days_in_year};
 ghost use Rattle.cal_units.specs.Refusal.{refusal, IsRefused};
 ghost use Rattle.cal_date.specs.Refusals.{year_out_of_range, ordinal_out_of_range, julian_day_out_of_range};
 
 use crate::error::ComponentRange;
-use cal_units::util::days_in_year;
+use crate::kernel::{date_of_kernel, julian_kernel};
+use cal_units::util::{days_in_year, is_leap_year};
 use std::marker::Model;
 
 mod arithmetic;
@@ -16,6 +20,8 @@ mod iso_week;
 mod occurrences;
 mod order;
 mod replacement;
+#[cfg(test)]
+mod tests;
 
 const MIN_YEAR: i32 = -9999;
 
@@ -25,7 +31,14 @@ const MIN_JULIAN_DAY: i32 = -1_930_999;
 
 const MAX_JULIAN_DAY: i32 = 5_373_484;
 
-const LAST_NUMBER: u32 = 7_304_483;
+/// The leap mark of a packed date.
+const LEAP_MARK: i32 = 512;
+
+/// The bits of a packed date that hold the ordinal.
+const ORDINAL_BITS: i32 = 511;
+
+/// The bits of a packed date that hold the leap mark and the ordinal.
+const LOW_BITS: i32 = 1023;
 
 /// A day of the proleptic Gregorian calendar, from -9999-01-01 to 9999-12-31.
 ///
@@ -33,8 +46,9 @@ const LAST_NUMBER: u32 = 7_304_483;
 /// as its number in the count of days, from 0 at -9999-01-01 to 7304483 at 9999-12-31.
 #[derive(Clone, Copy)]
 pub struct Date {
-    year: i32,
-    ordinal: u16,
+    /// The year times 1024, and [`LEAP_MARK`] in a leap year, and the ordinal. Shifted right by 10 bits it is the
+    /// year, also below zero, and later days have greater values.
+    packed: i32,
 }
 
 impl Model for Date {
@@ -42,11 +56,11 @@ impl Model for Date {
 
     ghost Value = { ℕ };
 
-    ghost use Rattle.cal_date.specs.DateFields.{number_of, IsOrdinalDate, fields_at, fields_at-number_of};
+    ghost use Rattle.cal_date.specs.DateFields.{number_of, IsPackedDate, fields_at, fields_at-number_of};
 
     ghost view = { number_of };
 
-    ghost invariant = { IsOrdinalDate };
+    ghost invariant = { IsPackedDate };
 
     ghost inverse = { fields_at };
 
@@ -56,15 +70,11 @@ impl Model for Date {
 impl Date {
     /// The first day, -9999-01-01, whose Julian day is -1930999.
     pub const MIN: Date = Date {
-        year: -9999,
-        ordinal: 1,
+        packed: -10_238_975,
     };
 
     /// The last day, 9999-12-31, whose Julian day is 5373484.
-    pub const MAX: Date = Date {
-        year: 9999,
-        ordinal: 365,
-    };
+    pub const MAX: Date = Date { packed: 10_239_341 };
 
     /// The day of the year that has this ordinal.
     ///
@@ -72,7 +82,7 @@ impl Date {
     /// ISO 8601. The day with ordinal 60 of 1900 is its 1 March, and that of 2000 its 29 February.
     ///
     /// It is refused for the first component that is out of range: `year`, unconditionally, or `ordinal`, conditionally,
-    /// as its range hangs on the year.
+    /// as its range depends on the year.
     pub fn from_ordinal_date(year: i32, ordinal: u16) -> Result<Self, ComponentRange>
         ensures every { (n : ℕ) → IsDate n → HasOrdinalDate year ordinal n → result ≡ Ok n }
         ensures has { IfOk result (λ n. IsDate n × HasOrdinalDate year ordinal n) }
@@ -89,7 +99,7 @@ impl Date {
         if ordinal == 0 || ordinal > days_in_year(year) {
             return Err(ComponentRange::conditional("ordinal"));
         }
-        Ok(Date { year, ordinal })
+        Ok(Date::at_ordinal(year, ordinal))
     }
 
     /// The day that has this Julian day, from -1930999 to 5373484.
@@ -101,32 +111,36 @@ impl Date {
         ensures every { (n : ℕ) → IsDate n → HasJulianDay julian_day n → result ≡ Ok n }
         ensures has { IfOk result (λ n. IsDate n × HasJulianDay julian_day n) }
         ensures julian_day { IsRefused julian_day_out_of_range result ↔ NoDate (HasJulianDay julian_day) }
+        ensures closed_form { let kernel = kernel_of julian_day in
+            IfOk result (HasOrdinalDate (year_of_kernel kernel) (ordinal_of_kernel kernel)) }
     {
         if julian_day < MIN_JULIAN_DAY || julian_day > MAX_JULIAN_DAY {
             return Err(ComponentRange::unconditional("julian_day"));
         }
-        Ok(Date::at_number((julian_day - MIN_JULIAN_DAY) as u32))
+        Ok(date_of_kernel(julian_kernel(julian_day)))
     }
 
     /// The year, from -9999 to 9999.
     pub fn year(self) -> i32
         ensures { result ≡ year_at self }
     {
-        self.year
+        self.packed >> 10
     }
 
     /// The place of the day in its year, from 1 to 365, or 366 in a leap year.
     pub fn ordinal(self) -> u16
         ensures { result ≡ ordinal_at self }
     {
-        self.ordinal
+        (self.packed & ORDINAL_BITS) as u16
     }
 
     /// The year and the ordinal, as [`Self::year`] and [`Self::ordinal`] return them: the ordinal date of ISO 8601.
     pub fn to_ordinal_date(self) -> (i32, u16)
         ensures date { HasOrdinalDate result.0 result.1 self }
         ensures order { (n : ℕ) → IsDate n → (n < self) ↔ IsBefore (ordinal_date_at n) (result.0 ∷ pos result.1 ∷ []) }
+        ensures in_range { IsDate self }
     {
+        self.is_in_range();
         (self.year(), self.ordinal())
     }
 
@@ -135,64 +149,106 @@ impl Date {
         ensures day { result ≡ julian_day_at self }
         ensures order { (n : ℕ) → IsDate n → (n < self) ↔ (julian_day_at n <ℤ result) }
         ensures in_range { IsDate self }
+        ensures closed_form { result ≡ julian_day_of (year_at self) (ordinal_at self) }
     {
-        MIN_JULIAN_DAY + self.number() as i32
+        let (year, ordinal) = self.year_and_ordinal();
+        let years = (year + 999_999) as u32;
+        let centuries = years / 100;
+        let days = 1461 * years / 4 - centuries + centuries / 4 + u32::from(ordinal);
+        days as i32 - 363_521_075
     }
 
     /// The day after, or `None` after [`Self::MAX`] alone. That of 2019-12-31 is 2020-01-01.
     pub fn next_day(self) -> Option<Self>
         ensures { SomeIff result (self < last_day) (self + 1) }
     {
-        if self.ordinal < days_in_year(self.year) {
-            return Some(Date {
-                year: self.year,
-                ordinal: self.ordinal + 1,
-            });
+        let low_bits = self.low_bits();
+        if low_bits != 365 && low_bits != 878 {
+            return Some(self.moved_in_year(1));
         }
-        if self.year == MAX_YEAR {
+        let year = self.year();
+        if year == MAX_YEAR {
             return None;
         }
-        Some(Date {
-            year: self.year + 1,
-            ordinal: 1,
-        })
+        Some(Date::at_ordinal(year + 1, 1))
     }
 
     /// The day before, or `None` before [`Self::MIN`] alone. That of 2020-01-01 is 2019-12-31.
     pub fn previous_day(self) -> Option<Self>
         ensures { SomeIff result (0 < self) (self - 1) }
     {
-        if self.ordinal > 1 {
-            return Some(Date {
-                year: self.year,
-                ordinal: self.ordinal - 1,
-            });
+        let low_bits = self.low_bits();
+        if low_bits != 1 && low_bits != 513 {
+            return Some(self.moved_in_year(-1));
         }
-        if self.year == MIN_YEAR {
+        let year = self.year();
+        if year == MIN_YEAR {
             return None;
         }
-        Some(Date {
-            year: self.year - 1,
-            ordinal: days_in_year(self.year - 1),
-        })
+        Some(Date::at_ordinal(year - 1, days_in_year(year - 1)))
     }
 
-    /// The day of that number, found from year to year, by taking away the length of one year at a time.
+    /// The day of that year of the range, with that ordinal of the year.
+    pub(crate) fn at_ordinal(year: i32, ordinal: u16) -> Self
+        requires year { IsYear year }
+        requires ordinal { IsOrdinal year ordinal }
+        ensures number { result ≡ ordinal_number year ordinal }
+        ensures date { HasOrdinalDate year ordinal result }
+        ensures in_range { IsDate result }
+    {
+        Date {
+            packed: year * 1024 + i32::from(is_leap_year(year)) * LEAP_MARK + i32::from(ordinal),
+        }
+    }
+
+    /// The leap mark and the ordinal: from 1 to 365, or from 513 to 878 in a leap year.
+    fn low_bits(self) -> u32
+        ensures bits { result ≡ leap_mark (year_at self) + ordinal_at self }
+        ensures in_range { IsDate self }
+    {
+        (self.packed & LOW_BITS) as u32
+    }
+
+    /// The day so many days later, or earlier where they are below zero, which is of the same year.
+    fn moved_in_year(self, days: i32) -> Self
+        requires not_before { pos 1 ≤ℤ (pos (ordinal_at self) +ℤ days) }
+        requires not_after { (pos (ordinal_at self) +ℤ days) ≤ℤ pos (days_in_year (year_at self)) }
+        ensures { pos result ≡ pos self +ℤ days }
+    {
+        Date {
+            packed: self.packed + days,
+        }
+    }
+
+    /// The day of the same year that has so many days of the year before it, or `None` where the year has no such day.
+    fn in_same_year(self, place: u64) -> Option<Self>
+        ensures day { SomeIff result (place < days_in_year (year_at self)) (ordinal_number (year_at self) (place + 1)) }
+        ensures in_range { IsDate self }
+    {
+        let length = 365 + u64::from(self.low_bits() > 512);
+        if place < length {
+            Some(self.moved_in_year(place as i32 + 1 - i32::from(self.ordinal())))
+        } else {
+            None
+        }
+    }
+
+    /// The year of the range and the ordinal, of which every other part is made.
+    fn year_and_ordinal(self) -> (i32, u16)
+        ensures date { HasOrdinalDate result.0 result.1 self }
+        ensures year { IsYear result.0 }
+        ensures ordinal { IsOrdinal result.0 result.1 }
+        ensures in_range { IsDate self }
+    {
+        self.to_ordinal_date()
+    }
+
+    /// The day of that number.
     fn at_number(number: u32) -> Self
         requires { IsDate number }
         ensures { result ≡ number }
     {
-        let mut year = MIN_YEAR;
-        let mut days = number;
-        loop {
-            let length = u32::from(days_in_year(year));
-            if days < length {
-                let ordinal = days as u16 + 1;
-                return Date { year, ordinal };
-            }
-            days -= length;
-            year += 1;
-        }
+        date_of_kernel(julian_kernel(MIN_JULIAN_DAY + number as i32))
     }
 
     /// The number of the day: the days from the first one on that come before it.
@@ -200,10 +256,6 @@ impl Date {
         ensures number { result ≡ self }
         ensures in_range { IsDate self }
     {
-        let mut days = u32::from(self.ordinal) - 1;
-        for year in MIN_YEAR..self.year {
-            days += u32::from(days_in_year(year));
-        }
-        days
+        (self.to_julian_day() - MIN_JULIAN_DAY) as u32
     }
 }

@@ -7,6 +7,7 @@
 mod date;
 pub mod error;
 pub mod iter;
+pub mod kernel;
 mod laws;
 
 pub use date::Date;

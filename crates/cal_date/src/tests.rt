@@ -11,6 +11,8 @@ use cal_span::SignedDuration;
 use cal_units::Weekday;
 use std::test::Fail;
 
+mod every_day;
+
 fn later(date: Date, duration: SignedDuration) -> [Date; 2]
     requires { IsDateNumber (pos date +ℤ whole_days duration) }
 {

@@ -15,6 +15,7 @@ pub use Rattle.cal_clock.specs.UtcOffset
 pub use Rattle.cal_date.specs.CalendarDay
 pub use Rattle.cal_date.specs.Date
 pub use Rattle.cal_date.specs.DateIter
+pub use Rattle.cal_date.specs.DateLimits
 pub use Rattle.cal_date.specs.DateText
 pub use Rattle.cal_date.specs.IsoWeekDate
 pub use Rattle.cal_date.specs.Move

@@ -1,6 +1,6 @@
 //! Functions that are proved from the clauses of `cal_time` alone.
 ghost use Rattle.std.specs.Prelude.{◌≡◌, pos, ◌+ℤ◌, IfOk, IfSome};
-ghost use Rattle.cal_time.specs.Date.{HasCalendarDate};
+ghost use Rattle.cal_time.specs.Date.{last_day, HasCalendarDate};
 ghost use Rattle.cal_time.specs.Move.{IsDateNumber};
 ghost use Rattle.cal_time.specs.Lengths.{days_in_month};
 ghost use Rattle.cal_time.specs.Month.{number};
@@ -32,6 +32,13 @@ fn a_week_on(date: Date) -> Date
     date + SignedDuration::days(7)
 }
 
+/// The last day of the range, by the law of its constant.
+fn last_day() -> Date
+    ensures { result ≡ last_day }
+{
+    Date::MAX
+}
+
 pub fn show(rt: &impl Print) -> io::Result<()> {
     if let Ok(date) = last_of_month(2020, Month::February) {
         println!(rt; "{date} {:?}", there_and_back(date))?;
@@ -39,5 +46,6 @@ pub fn show(rt: &impl Print) -> io::Result<()> {
             println!(rt; "{}", a_week_on(date))?;
         }
     }
+    println!(rt; "{}", last_day())?;
     Ok(())
 }

@@ -1,10 +1,10 @@
 //! Dates moved on and back by durations, and the durations between dates.
-ghost use Rattle.std.specs.Prelude.{◌≡◌, pos, ◌+ℤ◌, ◌-ℤ◌, ◌*ℤ◌, SomeIff};
+ghost use Rattle.std.specs.Prelude.{◌≡◌, pos, ◌+ℤ◌, ◌-ℤ◌, ◌*ℤ◌, SomeIff, IsSomeAnd};
 ghost use Rattle.cal_span.specs.SignedDuration.{day, whole_days};
-ghost use Rattle.cal_date.specs.Date.{first_julian_day, IsDate};
-ghost use Rattle.cal_date.specs.Move.{IsDateNumber, date_nearest};
+ghost use Rattle.cal_date.specs.Date.{first_julian_day, year_at, ordinal_at, IsDate};
+ghost use Rattle.cal_date.specs.Move.{IsDateNumber, IsOrdinalNumber, date_nearest};
 
-use super::Date;
+use crate::date::Date;
 use cal_span::SignedDuration;
 use std::ops::{Add, AddAssign, Sub, SubAssign};
 
@@ -15,10 +15,22 @@ impl Date {
     /// [`Self::MIN`] less 23 hours is still [`Self::MIN`].
     pub fn checked_add(self, duration: SignedDuration) -> Option<Self>
         ensures day { SomeIff result (IsDateNumber (pos self +ℤ whole_days duration)) (date_nearest (pos self +ℤ whole_days duration)) }
+        ensures same_year { IsOrdinalNumber (year_at self) (pos (ordinal_at self) +ℤ whole_days duration)
+            → IsSomeAnd result (λ n. (year_at n ≡ year_at self)
+            × (pos (ordinal_at n) ≡ pos (ordinal_at self) +ℤ whole_days duration)) }
         ensures in_range { IsDate self }
     {
+        let days = duration.whole_days();
+
+        // The days of the year before the moved day. A sum that wraps is far above the length of a year.
+        let place = days
+            .cast_unsigned()
+            .wrapping_add(u64::from(self.ordinal()) - 1);
+        if let Some(date) = self.in_same_year(place) {
+            return Some(date);
+        }
         let julian_day = i64::from(self.to_julian_day());
-        match julian_day.checked_add(duration.whole_days()) {
+        match julian_day.checked_add(days) {
             Some(moved) => Self::at_julian_day(moved),
             None => None,
         }
@@ -29,10 +41,20 @@ impl Date {
     /// Only the whole days of the duration count, cut toward zero: 2020-12-31 less 47 hours is 2020-12-30.
     pub fn checked_sub(self, duration: SignedDuration) -> Option<Self>
         ensures day { SomeIff result (IsDateNumber (pos self -ℤ whole_days duration)) (date_nearest (pos self -ℤ whole_days duration)) }
+        ensures same_year { IsOrdinalNumber (year_at self) (pos (ordinal_at self) -ℤ whole_days duration)
+            → IsSomeAnd result (λ n. (year_at n ≡ year_at self)
+            × (pos (ordinal_at n) ≡ pos (ordinal_at self) -ℤ whole_days duration)) }
         ensures in_range { IsDate self }
     {
+        let days = duration.whole_days();
+
+        // As in `checked_add`, by a difference that may wrap.
+        let place = (u64::from(self.ordinal()) - 1).wrapping_sub(days.cast_unsigned());
+        if let Some(date) = self.in_same_year(place) {
+            return Some(date);
+        }
         let julian_day = i64::from(self.to_julian_day());
-        match julian_day.checked_sub(duration.whole_days()) {
+        match julian_day.checked_sub(days) {
             Some(moved) => Self::at_julian_day(moved),
             None => None,
         }

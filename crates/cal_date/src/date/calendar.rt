@@ -2,15 +2,20 @@
 ghost use Rattle.std.specs.Prelude.{◌≡◌, ℕ, ◌<◌, pos, ◌↔◌, ◌⊎◌, IfOk, IfErr, IsErr, Ok, [], ◌∷◌};
 ghost use Rattle.cal_units.specs.Month.{place, number};
 ghost use Rattle.cal_units.specs.Refusal.{refusal, IsRefused};
+ghost use Rattle.cal_units.specs.Lengths.{is_leap_year};
+ghost use Rattle.cal_date.specs.ClosedForms.{days_in_part, months_before_part, month_of_ordinal, day_of_ordinal};
 ghost use Rattle.cal_date.specs.CountLaws.{days_of_months};
-ghost use Rattle.cal_date.specs.Date.{month_at, day_of_month_at, IsDate, IsYear, IsDayOfMonth, HasCalendarDate, NoDate};
+ghost use Rattle.cal_date.specs.Date.{year_at, month_at, day_of_month_at, ordinal_at, IsDate, IsYear, IsDayOfMonth, HasCalendarDate, NoDate};
 ghost use Rattle.cal_date.specs.Order.{IsBefore, calendar_date_at};
 ghost use Rattle.cal_date.specs.Refusals.{year_out_of_range, day_out_of_range};
 
-use super::{Date, MAX_YEAR, MIN_YEAR};
+use crate::date::{Date, MAX_YEAR, MIN_YEAR};
 use crate::error::ComponentRange;
-use cal_units::Month;
 use cal_units::util::is_leap_year;
+use cal_units::{Cycle, Month};
+
+/// The days of a common year that come before each month.
+const DAYS_BEFORE_MONTH: [u16; 12] = [0, 31, 59, 90, 120, 151, 181, 212, 243, 273, 304, 334];
 
 impl Date {
     /// The day of the year that has this month and day of the month.
@@ -19,7 +24,7 @@ impl Date {
     /// ISO 8601. 29 February is a day of 2000 and 2020, and none of 1900 and 2019.
     ///
     /// It is refused for the first component that is out of range: `year`, unconditionally, or `day`, conditionally, as its
-    /// range hangs on the month and the year.
+    /// range depends on the month and the year.
     pub fn from_calendar_date(year: i32, month: Month, day: u8) -> Result<Self, ComponentRange>
         ensures every { (n : ℕ) → IsDate n → HasCalendarDate year (number month) day n → result ≡ Ok n }
         ensures has { IfOk result (λ n. IsDate n × HasCalendarDate year (number month) day n) }
@@ -36,15 +41,14 @@ impl Date {
         if day == 0 || day > month.length(year) {
             return Err(ComponentRange::conditional("day"));
         }
-        Ok(Date {
-            year,
-            ordinal: days_before_month(month, year) + u16::from(day),
-        })
+        Ok(Date::at_ordinal(year, days_before_month(month, year) + u16::from(day)))
     }
 
     /// The month.
     pub fn month(self) -> Month
-        ensures { number result ≡ month_at self }
+        ensures counted { number result ≡ month_at self }
+        ensures closed_form { number result ≡ month_of_ordinal (is_leap_year (year_at self)) (ordinal_at self) }
+        ensures in_range { IsDate self }
     {
         let (month, _) = self.month_and_day();
         month
@@ -52,7 +56,9 @@ impl Date {
 
     /// The day of the month, from 1 to at most 31.
     pub fn day(self) -> u8
-        ensures { result ≡ day_of_month_at self }
+        ensures counted { result ≡ day_of_month_at self }
+        ensures closed_form { result ≡ day_of_ordinal (is_leap_year (year_at self)) (ordinal_at self) }
+        ensures in_range { IsDate self }
     {
         let (_, day) = self.month_and_day();
         day
@@ -68,42 +74,45 @@ impl Date {
         (self.year(), month, day)
     }
 
-    /// The month and the day, found from month to month, by taking away the length of one month at a time.
+    /// The month and the day of the month, from the leap mark and the ordinal.
+    ///
+    /// The months of each part of the year follow one another as in every other year. So a quotient by 8192 gives
+    /// the month of the part, and one by 128 the days of the part before that month.
     pub(super) fn month_and_day(self) -> (Month, u8)
         ensures month { number result.0 ≡ month_at self }
         ensures day { result.1 ≡ day_of_month_at self }
+        ensures closed_month { number result.0 ≡ month_of_ordinal (is_leap_year (year_at self)) (ordinal_at self) }
+        ensures closed_day { result.1 ≡ day_of_ordinal (is_leap_year (year_at self)) (ordinal_at self) }
+        ensures in_range { IsDate self }
     {
-        let mut month = Month::January;
-        let mut day = self.ordinal;
-        loop {
-            let length = u16::from(month.length(self.year));
-            if day <= length {
-                return (month, day as u8);
-            }
-            day -= length;
-            month = month.next();
+        let (days, months) = self.place_in_part();
+        let month = (days * 268 + 8031) >> 13;
+        let day = days - ((month * 3917 - 3866) >> 7);
+        (Month::at((month + months - 1) as u8), day as u8)
+    }
+
+    /// The days into its part of the year, and the months before that part: January and February are the one part,
+    /// and March to December are the other.
+    fn place_in_part(self) -> (u32, u32)
+        ensures days { result.0 ≡ days_in_part (is_leap_year (year_at self)) (ordinal_at self) }
+        ensures months { result.1 ≡ months_before_part (is_leap_year (year_at self)) (ordinal_at self) }
+        ensures in_range { IsDate self }
+    {
+        let ordinal = u32::from(self.ordinal());
+        let february_end = 59 + u32::from(self.low_bits() > 512);
+        if ordinal <= february_end {
+            (ordinal, 0)
+        } else {
+            (ordinal - february_end, 2)
         }
     }
 }
 
 /// The days of the year that come before the month.
-#[tactic(auto, unfolding(crate::specs::CountLaws::days_of_months, cal_units::specs::Lengths::days_in_month))]
 fn days_before_month(month: Month, year: i32) -> u16
     ensures { result ≡ days_of_months year (place month) }
 {
-    let leap_day = u16::from(is_leap_year(year));
-    match month {
-        Month::January => 0,
-        Month::February => 31,
-        Month::March => 59 + leap_day,
-        Month::April => 90 + leap_day,
-        Month::May => 120 + leap_day,
-        Month::June => 151 + leap_day,
-        Month::July => 181 + leap_day,
-        Month::August => 212 + leap_day,
-        Month::September => 243 + leap_day,
-        Month::October => 273 + leap_day,
-        Month::November => 304 + leap_day,
-        Month::December => 334 + leap_day,
-    }
+    let place = usize::from(month.place());
+    let leap_day = u16::from(place >= 2 && is_leap_year(year));
+    DAYS_BEFORE_MONTH[place] + leap_day
 }

@@ -5,7 +5,7 @@ ghost use Rattle.std.specs.Str.{IsAscii};
 ghost use Rattle.cal_date.specs.Date.{year_at, month_at, day_of_month_at};
 ghost use Rattle.cal_date.specs.DateText.{date_digits, text};
 
-use super::Date;
+use crate::date::Date;
 use cal_units::digits::{ascii_text, two_digits};
 use std::fmt;
 
@@ -16,7 +16,7 @@ impl Date {
         ensures ascii { IsAscii result }
     {
         let (month, day) = self.month_and_day();
-        let year = self.year.unsigned_abs();
+        let year = self.year().unsigned_abs();
         let [millennia, centuries] = two_digits(year / 100);
         let [decades, years] = two_digits(year % 100);
         let [month_tens, month_units] = two_digits(u32::from(u8::from(month)));

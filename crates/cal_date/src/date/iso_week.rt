@@ -1,13 +1,15 @@
 //! Weekdays, ISO week dates, and the weeks of a year from Sunday or Monday on.
-ghost use Rattle.std.specs.Prelude.{◌≡◌, ℕ, ◌+◌, ◌/◌, ◌<◌, ◌≤◌, pos, ◌↔◌, ◌⊎◌, IfOk, IfErr, IsErr, Ok, [], ◌∷◌};
+ghost use Rattle.std.specs.Prelude.{◌≡◌, ℕ, ◌+◌, ◌-◌, ◌%◌, ◌<◌, ◌≤◌, pos, ◌↔◌, ◌⊎◌, IfOk, IfErr, IsErr, IsTrue, Ok, [], ◌∷◌};
 ghost use Rattle.cal_units.specs.Refusal.{refusal, IsRefused};
 ghost use Rattle.cal_units.specs.Weekday.{place};
-ghost use Rattle.cal_date.specs.Date.{weekday_at, IsDate, IsYear, NoDate};
+ghost use Rattle.cal_units.specs.Weeks.{first_weekday};
+ghost use Rattle.cal_date.specs.ClosedForms.{iso_year_of, iso_week_of, year_of_week, ordinal_of_week};
+ghost use Rattle.cal_date.specs.Date.{year_at, ordinal_at, weekday_at, IsDate, IsYear, IsOrdinal, HasOrdinalDate, NoDate};
 ghost use Rattle.cal_date.specs.IsoWeekDate.{weekdays_upto, iso_week_at, IsWeek, HasIsoWeekDate};
 ghost use Rattle.cal_date.specs.Order.{IsBefore, iso_week_date_at};
 ghost use Rattle.cal_date.specs.Refusals.{year_out_of_range, week_out_of_range, weekday_out_of_range};
 
-use super::{Date, LAST_NUMBER, MAX_YEAR, MIN_YEAR};
+use crate::date::{Date, MAX_YEAR, MIN_YEAR};
 use crate::error::ComponentRange;
 use cal_units::util::{days_in_year, weeks_in_year};
 use cal_units::{Cycle, Weekday};
@@ -20,7 +22,7 @@ impl Date {
     /// 2021-01-01, and the Monday of week 1 of 2020 is 2019-12-30.
     ///
     /// It is refused for the first component that is out of range: `year`, unconditionally, or `week`, conditionally, as its
-    /// range hangs on the year, or `weekday`, conditionally, where the day would come after [`Self::MAX`]: on Saturday and
+    /// range depends on the year, or `weekday`, conditionally, where the day would come after [`Self::MAX`]: on Saturday and
     /// Sunday of week 52 of 9999 alone.
     pub fn from_iso_week_date(year: i32, week: u8, weekday: Weekday) -> Result<Self, ComponentRange>
         ensures every { (n : ℕ) → IsDate n → HasIsoWeekDate year week (place weekday) n → result ≡ Ok n }
@@ -33,29 +35,28 @@ impl Date {
         ensures week { IsRefused week_out_of_range result ↔ IsYear year × ¬ IsWeek year week }
         ensures weekday { IsRefused weekday_out_of_range result
             ↔ IsYear year × IsWeek year week × NoDate (HasIsoWeekDate year week (place weekday)) }
+        ensures closed_form { let day = place weekday + 1 in
+            IfOk result (HasOrdinalDate (year_of_week year week day) (ordinal_of_week year week day)) }
     {
         if year < MIN_YEAR || year > MAX_YEAR {
             return Err(ComponentRange::unconditional("year"));
         }
-        if week == 0 || week > weeks_in_year(year) {
+        if !has_week(year, week) {
             return Err(ComponentRange::conditional("week"));
         }
-
-        // Week 1 is that of 4 January. Day 0 is a Monday, so each number that 7 divides is one.
-        let fourth = Date { year, ordinal: 4 }.number();
-        let monday = fourth - fourth % 7 + 7 * (u32::from(week) - 1);
-        let number = monday + u32::from(weekday.number_days_from_monday());
-        if number > LAST_NUMBER {
+        let (calendar_year, ordinal) = ordinal_date_of(year, week, weekday);
+        if calendar_year > MAX_YEAR {
             return Err(ComponentRange::conditional("weekday"));
         }
-        Ok(Date::at_number(number))
+        Ok(Date::at_ordinal(calendar_year, ordinal))
     }
 
     /// The weekday.
     pub fn weekday(self) -> Weekday
         ensures { place result ≡ weekday_at self }
     {
-        Weekday::at((self.number() % 7) as u8)
+        let (year, ordinal) = self.year_and_ordinal();
+        Weekday::at(weekday_place(year, ordinal))
     }
 
     /// The week of the ISO week date, from 1 to 53. That of 2021-01-01 is 53, as its week belongs to 2020.
@@ -74,43 +75,88 @@ impl Date {
         ensures in_range { IsYear result.0 }
         ensures order { (n : ℕ) → IsDate n
             → (n < self) ↔ IsBefore (iso_week_date_at n) (result.0 ∷ pos result.1 ∷ pos (place result.2) ∷ []) }
+        ensures closed_form { let day = weekday_at self + 1 in
+            (result.0 ≡ iso_year_of (year_at self) (ordinal_at self) day)
+            × (result.1 ≡ iso_week_of (year_at self) (ordinal_at self) day) }
     {
+        let (year, ordinal) = self.year_and_ordinal();
         let weekday = self.weekday();
-
-        // The Thursday of the week has the ordinal of the day and three more, less the days since Monday; that may lie past
-        // either end of the year.
-        let days = u16::from(weekday.number_days_from_monday());
-        if self.ordinal + 3 <= days {
-            let year = self.year - 1;
-            let thursday = days_in_year(year) + self.ordinal + 3 - days;
-            return (year, week_of_thursday(thursday), weekday);
-        }
-        let thursday = self.ordinal + 3 - days;
-        if thursday > days_in_year(self.year) {
-            return (self.year + 1, 1, weekday);
-        }
-        (self.year, week_of_thursday(thursday), weekday)
+        let (iso_year, week) = iso_week_of(year, ordinal, weekday);
+        (iso_year, week, weekday)
     }
 
     /// The weeks from Sunday on that have begun in the year up to the day: the Sundays of the year up to it, from 0 to 53.
     pub fn sunday_based_week(self) -> u8
         ensures { result ≡ weekdays_upto 6 self }
     {
-        ((self.ordinal + 6 - u16::from(self.weekday().number_days_from_sunday())) / 7) as u8
+        ((self.ordinal() + 6 - u16::from(self.weekday().number_days_from_sunday())) / 7) as u8
     }
 
     /// The weeks from Monday on that have begun in the year up to the day: the Mondays of the year up to it, from 0 to 53.
     pub fn monday_based_week(self) -> u8
         ensures { result ≡ weekdays_upto 0 self }
     {
-        ((self.ordinal + 6 - u16::from(self.weekday().number_days_from_monday())) / 7) as u8
+        ((self.ordinal() + 6 - u16::from(self.weekday().number_days_from_monday())) / 7) as u8
     }
 }
 
-/// The week of a Thursday that has this ordinal: the Thursdays of its year up to it.
-fn week_of_thursday(ordinal: u16) -> u8
-    requires { ordinal ≤ 366 }
-    ensures { result ≡ (ordinal + 6) / 7 }
+/// Whether the year has this week. Each year has 52, so its weeks are asked for only past those.
+fn has_week(year: i32, week: u8) -> bool
+    ensures { IsTrue result ↔ IsWeek year week }
 {
-    ((ordinal + 6) / 7) as u8
+    match week {
+        0 => false,
+        1..=52 => true,
+        _ => week <= weeks_in_year(year),
+    }
+}
+
+/// The place of the weekday of this day of a year of the range, from Monday, 0.
+fn weekday_place(year: i32, ordinal: u16) -> u8
+    requires year { IsYear year }
+    requires ordinal { 1 ≤ ordinal }
+    ensures { result ≡ (first_weekday year + (ordinal - 1)) % 7 }
+{
+    // The first year of the range begins on a Monday. A year of 365 days moves the weekday by one, and a leap day by
+    // one more.
+    let years = (year - MIN_YEAR) as u32;
+    let moved = years + years / 4 - years / 100 + years / 400;
+    ((moved + u32::from(ordinal) - 1) % 7) as u8
+}
+
+/// The ISO year and the week of the day of a year of the range that has this ordinal and this weekday.
+fn iso_week_of(year: i32, ordinal: u16, weekday: Weekday) -> (i32, u8)
+    requires year { IsYear year }
+    requires ordinal { IsOrdinal year ordinal }
+    ensures year { result.0 ≡ iso_year_of year ordinal (place weekday + 1) }
+    ensures week { result.1 ≡ iso_week_of year ordinal (place weekday + 1) }
+{
+    let week = ((ordinal + 10 - u16::from(weekday.number_from_monday())) / 7) as u8;
+    if week == 0 {
+        return (year - 1, weeks_in_year(year - 1));
+    }
+    if week == 53 && weeks_in_year(year) == 52 {
+        return (year + 1, 1);
+    }
+    (year, week)
+}
+
+/// The year and the ordinal of the day that has this weekday, in this week of a year of the range.
+fn ordinal_date_of(year: i32, week: u8, weekday: Weekday) -> (i32, u16)
+    requires year { IsYear year }
+    requires week { IsWeek year week }
+    ensures year { result.0 ≡ year_of_week year week (place weekday + 1) }
+    ensures ordinal { result.1 ≡ ordinal_of_week year week (place weekday + 1) }
+{
+    // 4 January always lies in week 1.
+    let taken = u16::from(weekday_place(year, 4)) + 1 + 3;
+    let days = 7 * u16::from(week) + u16::from(weekday.number_from_monday());
+    if days <= taken {
+        return (year - 1, days_in_year(year - 1) + days - taken);
+    }
+    let ordinal = days - taken;
+    if ordinal > 365 && ordinal > days_in_year(year) {
+        return (year + 1, ordinal - days_in_year(year));
+    }
+    (year, ordinal)
 }

@@ -3,7 +3,7 @@ ghost use Rattle.std.specs.Prelude.{◌≡◌, ◌+◌, ◌%◌, ◌≤◌, Some
 ghost use Rattle.cal_units.specs.Weekday.{place};
 ghost use Rattle.cal_date.specs.Occurrence.{next_occurrences, prev_occurrences, kth};
 
-use super::Date;
+use crate::date::Date;
 use cal_span::SignedDuration;
 use cal_units::Weekday;
 

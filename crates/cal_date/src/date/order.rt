@@ -6,7 +6,7 @@ ghost use Rattle.std.specs.Cmp.Rules.{comparing, hashing};
 ghost use Rattle.std.proofs.Common.{rules};
 ghost use Rattle.cal_date.specs.Date.{IsDate};
 
-use super::Date;
+use crate::date::Date;
 use cal_units::Counted;
 use std::cmp::Ordering;
 use std::hash::{Hash, Hasher};
@@ -16,7 +16,7 @@ impl Date {
     pub(crate) fn is_in_range(self)
         ensures { IsDate self }
     {
-        let _ = &self.year;
+        let _ = &self.packed;
     }
 
     /// How many days after this day `later` comes, which does not come before it.
@@ -24,6 +24,9 @@ impl Date {
         requires { self ≤ later }
         ensures { result ≡ later - self }
     {
+        if self.year() == later.year() {
+            return u32::from(later.ordinal() - self.ordinal());
+        }
         later.number() - self.number()
     }
 
@@ -32,7 +35,10 @@ impl Date {
         requires { IsDate (self + days) }
         ensures { result ≡ self + days }
     {
-        Date::at_number(self.number() + days)
+        match self.in_same_year(u64::from(self.ordinal()) - 1 + u64::from(days)) {
+            Some(date) => date,
+            None => Date::at_number(self.number() + days),
+        }
     }
 
     /// The day that comes so many days before this one.
@@ -40,7 +46,11 @@ impl Date {
         requires { days ≤ self }
         ensures { result ≡ self - days }
     {
-        Date::at_number(self.number() - days)
+        // Where the year begins in between, the difference wraps, far above the length of a year.
+        match self.in_same_year((u64::from(self.ordinal()) - 1).wrapping_sub(u64::from(days))) {
+            Some(date) => date,
+            None => Date::at_number(self.number() - days),
+        }
     }
 }
 
@@ -50,7 +60,7 @@ impl PartialEq for Date {
     ghost laws = { Prim.search (comparing, rules) };
 
     fn eq(&self, other: &Date) -> bool {
-        other.year == self.year && other.ordinal == self.ordinal
+        other.packed == self.packed
     }
 }
 
@@ -68,9 +78,7 @@ impl Ord for Date {
     ghost matches_eq = { Prim.search (comparing, rules) };
 
     fn cmp(&self, other: &Date) -> Ordering {
-        self.year
-            .cmp(&other.year)
-            .then(self.ordinal.cmp(&other.ordinal))
+        self.packed.cmp(&other.packed)
     }
 }
 
@@ -85,17 +93,15 @@ impl PartialOrd for Date {
 }
 
 impl Hash for Date {
-    ghost use Rattle.std.specs.Prelude.{◌++◌};
     ghost use Rattle.std.specs.Hash as fed;
-    ghost use Rattle.cal_date.specs.Date.{year_at, ordinal_at};
+    ghost use Rattle.cal_date.specs.DateFields.{packed_at};
 
-    ghost hash_input = { λ n. fed.i32 (year_at n) ++ fed.u16 (ordinal_at n) };
+    ghost hash_input = { λ n. fed.i32 (packed_at n) };
 
     ghost respects_eq = { Prim.search (hashing, rules) };
 
     fn hash<H: Hasher>(&self, state: &mut H) {
-        self.year.hash(state);
-        self.ordinal.hash(state);
+        self.packed.hash(state);
     }
 }
 

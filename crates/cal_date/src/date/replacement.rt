@@ -1,13 +1,15 @@
 //! Dates with one component replaced.
-ghost use Rattle.std.specs.Prelude.{◌≡◌, ℕ, ◌↔◌, ◌⊎◌, IfOk, IfErr, IsErr, Ok};
+ghost use Rattle.std.specs.Prelude.{◌≡◌, ℕ, ◌+◌, ◌-◌, ◌↔◌, ◌⊎◌, IfOk, IfErr, IsErr, Ok, SomeIff};
 ghost use Rattle.cal_units.specs.Month.{number};
 ghost use Rattle.cal_units.specs.Refusal.{refusal, IsRefused};
+ghost use Rattle.cal_date.specs.CountLaws.{days_of_months};
 ghost use Rattle.cal_date.specs.Date.{year_at, month_at, day_of_month_at, IsDate, IsYear, IsDayOfMonth, IsOrdinal, HasCalendarDate, HasOrdinalDate, NoDate};
 ghost use Rattle.cal_date.specs.Refusals.{year_out_of_range, day_out_of_range, ordinal_out_of_range};
 
-use super::Date;
+use crate::date::{Date, MAX_YEAR, MIN_YEAR};
 use crate::error::ComponentRange;
 use cal_units::Month;
+use cal_units::util::is_leap_year;
 
 impl Date {
     /// The day of that year that has the same month and day of the month.
@@ -27,7 +29,13 @@ impl Date {
         ensures year { IsRefused year_out_of_range result ↔ ¬ IsYear year }
         ensures day { IsRefused day_out_of_range result ↔ IsYear year × ¬ IsDayOfMonth year (month_at self) (day_of_month_at self) }
     {
-        Self::from_calendar_date(year, self.month(), self.day())
+        if year < MIN_YEAR || year > MAX_YEAR {
+            return Err(ComponentRange::unconditional("year"));
+        }
+        let Some(ordinal) = self.ordinal_in(year) else {
+            return Err(ComponentRange::conditional("day"));
+        };
+        Ok(Date::at_ordinal(year, ordinal))
     }
 
     /// The day of that month that has the same year and day of the month.
@@ -69,6 +77,29 @@ impl Date {
         ensures refused { IsErr result ↔ NoDate (HasOrdinalDate (year_at self) ordinal) }
         ensures ordinal { IsRefused ordinal_out_of_range result ↔ ¬ IsOrdinal (year_at self) ordinal }
     {
-        Self::from_ordinal_date(self.year(), ordinal)
+        let (year, _) = self.to_ordinal_date();
+        Self::from_ordinal_date(year, ordinal)
+    }
+
+    /// The ordinal that the same month and day of the month have in this year, or `None` on 29 February for a common
+    /// year.
+    fn ordinal_in(self, year: i32) -> Option<u16>
+        ensures { SomeIff result (IsDayOfMonth year (month_at self) (day_of_month_at self))
+            (days_of_months year (month_at self - 1) + day_of_month_at self) }
+    {
+        let ordinal = self.ordinal();
+        let is_leap = is_leap_year(year);
+        let was_leap = self.low_bits() > 512;
+
+        // Up to 28 February all years have the same ordinals. From March on a leap year is one ahead.
+        if is_leap == was_leap || ordinal < 60 {
+            Some(ordinal)
+        } else if is_leap {
+            Some(ordinal + 1)
+        } else if ordinal > 60 {
+            Some(ordinal - 1)
+        } else {
+            None
+        }
     }
 }

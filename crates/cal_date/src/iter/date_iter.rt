@@ -1,13 +1,13 @@
 //! The walk over days from both ends.
-ghost use Rattle.std.specs.Prelude.{◌≡◌, ◌+◌, ◌-◌, ◌≤◌, IfSome, true, ⊤, slice_get, reverse, length};
+ghost use Rattle.std.specs.Prelude.{◌≡◌, ℕ, ◌+◌, ◌-◌, ◌<◌, ◌≤◌, IfSome, IsSomeAnd, None, true, ⊤, slice_get, reverse, length};
 ghost use Rattle.std.specs.Iterator.{YieldsFirst, YieldsLast, MakesProgress, UpTo, item_count};
 ghost use Rattle.std.specs.Iterator.SizeHint.{IsWithinCount};
 ghost use Rattle.std.specs.List.Sorted.{IsSorted};
 ghost use Rattle.std.specs.Ordering.{nat_cmp};
 ghost use Rattle.std.proofs.Common.{rules};
 ghost use Rattle.std.specs.Cmp.Rules.{comparing};
-ghost use Rattle.cal_date.specs.Date.{last_day};
-ghost use Rattle.cal_date.specs.DateIter.{walk_between, walk_eq, days_of, without_first, without_last};
+ghost use Rattle.cal_date.specs.Date.{last_day, year_at, ordinal_at, HasOrdinalDate};
+ghost use Rattle.cal_date.specs.DateIter.{IsInOneYear, walk_between, walk_eq, days_of, without_first, without_last};
 
 use crate::date::Date;
 use std::marker::Model;
@@ -66,6 +66,12 @@ impl DateIter {
     pub fn nth(&mut self, n: usize) -> Option<Date>
         ensures item { result ≡ slice_get (days_of self.old) n }
         ensures left { self.new ≡ without_first (n + 1) self.old }
+
+        // Where the front day and the back day are of one year, the ordinals say it.
+        ensures same_year { (back : ℕ) → IsInOneYear self.old back → ordinal_at self.old.front + n ≤ ordinal_at back
+            → IsSomeAnd result (HasOrdinalDate (year_at back) (ordinal_at self.old.front + n)) }
+        ensures past_back { (back : ℕ) → IsInOneYear self.old back → ordinal_at back < ordinal_at self.old.front + n
+            → result ≡ None }
     {
         let back = self.back?;
         if n >= self.len() {
@@ -83,6 +89,12 @@ impl DateIter {
     pub fn nth_back(&mut self, n: usize) -> Option<Date>
         ensures item { result ≡ slice_get (reverse (days_of self.old)) n }
         ensures left { self.new ≡ without_last (n + 1) self.old }
+
+        // Where the front day and the back day are of one year, the ordinals say it.
+        ensures same_year { (back : ℕ) → IsInOneYear self.old back → ordinal_at self.old.front + n ≤ ordinal_at back
+            → IsSomeAnd result (HasOrdinalDate (year_at back) (ordinal_at back - n)) }
+        ensures past_front { (back : ℕ) → IsInOneYear self.old back → ordinal_at back < ordinal_at self.old.front + n
+            → result ≡ None }
     {
         let back = self.back?;
         if self.len() <= n {
@@ -98,6 +110,8 @@ impl DateIter {
     pub fn len(&self) -> usize
         ensures count { result ≡ length (days_of self.now) }
         ensures bound { result ≤ last_day + 1 }
+        ensures same_year { (back : ℕ) → IsInOneYear self.now back
+            → result + ordinal_at self.now.front ≡ ordinal_at back + 1 }
     {
         let Some(back) = self.back else {
             return 0;

@@ -1,4 +1,4 @@
-use Rattle.std.proofs.Common.{ap, sym, arith, refl, Ok, ◌≡◌, ◌+◌, ◌≤◌, to_z, of_z, w32}
+use Rattle.std.proofs.Common.{ap, sym, ◌∙◌, arith, refl, Ok, ◌≡◌, ◌+◌, ◌≤◌, to_z, of_z, w32}
 use Rattle.std.proofs.lemmas.Int.{ints, to_z-of_z}
 use Rattle.std.proofs.lemmas.Bool.{false≢true}
 use Rattle.std.proofs.lemmas.Bool.Decides.{nat_tests}
@@ -6,10 +6,11 @@ use Rattle.cal_units.specs.Lengths.{days_in_year}
 use Rattle.cal_units.specs.Month.{place, number}
 use Rattle.cal_units.specs.MonthCycle.{place-below}
 use Rattle.cal_date.specs.Date.{IsYear, IsOrdinal, IsDayOfMonth}
+use Rattle.cal_date.specs.DateFields.{ordinal_number}
 use Rattle.cal_date.proofs.Dates.{IsDate-ordinal_number}
 use Rattle.cal_date.proofs.Calendar.{ordinal_in, stands_at, calendar_in_range, IsOrdinal-ordinal_in, NoDate-calendar_date}
 use Rattle.cal_date.proofs.date.Date.from_calendar_date.Goals as goal
-use Rattle.cal_date.proofs.date.Date.from_calendar_date.Goals.{then-day-eq0-via-then-day-eq0, then-day-eq0-via-else-day-eq0+then-day-length, then-year-lt-MIN_YEAR-via-then-year-lt-MIN_YEAR, then-year-lt-MIN_YEAR-via-else-year-lt-MIN_YEAR+then-year-gt-MAX_YEAR}
+use Rattle.cal_date.proofs.date.Date.from_calendar_date.Goals.{After-from, After-at_ordinal, then-day-eq0-via-then-day-eq0, then-day-eq0-via-else-day-eq0+then-day-length, then-year-lt-MIN_YEAR-via-then-year-lt-MIN_YEAR, then-year-lt-MIN_YEAR-via-else-year-lt-MIN_YEAR+then-year-gt-MAX_YEAR}
 
 no_year : (c : goal.After-unconditional) → ¬ IsYear c.args.year
 no_year c year = elim c.then-year-lt-MIN_YEAR.branch [ then-year-lt-MIN_YEAR-via-then-year-lt-MIN_YEAR w ↦ omega (arith, ints) | then-year-lt-MIN_YEAR-via-else-year-lt-MIN_YEAR+then-year-gt-MAX_YEAR w ↦ omega (arith, ints) ]
@@ -35,14 +36,14 @@ pub returns-then-day-eq0-clause-refused : goal.returns-then-day-eq0-clause-refus
 returns-then-day-eq0-clause-refused c = (λ e. NoDate-calendar_date _ (place c.args.month) _ (λ h. no_day c h.1), λ none. refl)
 
 -- past both tests the year and the day are in their ranges
-record Fits (c : goal.After-from) : Type 0 where
+record Fits (c : After-from) : Type 0 where
   same : to_z w32 (of_z w32 c.args.year) ≡ c.args.year
   year : IsYear c.args.year
   day : IsDayOfMonth c.args.year (number c.args.month) c.args.day
   ordinal_is : c.days_before_month.result + c.from.result ≡ ordinal_in c.args.year (place c.args.month) c.args.day
   ordinal : IsOrdinal c.args.year (ordinal_in c.args.year (place c.args.month) c.args.day)
 
-fits : (c : goal.After-from) → Fits c
+fits : (c : After-from) → Fits c
 fits c =
     let same : to_z w32 (of_z w32 c.args.year) ≡ c.args.year = to_z-of_z w32 _ c.ranges.year in
     let long = rw same at c.length.ensures in
@@ -57,24 +58,30 @@ fits c =
       ordinal = IsOrdinal-ordinal_in c.args.year (place c.args.month) c.args.day year.0 (place-below c.args.month) day;
     }
 
-pub overflow_add-result : goal.overflow_add-result
-overflow_add-result c =
+pub overflow_add-days_before_month : goal.overflow_add-days_before_month
+overflow_add-days_before_month c =
     let f = fits c in
     let most : days_in_year c.args.year ≤ 366 = grind (arith, nat_tests) in
     omega (arith, f.ordinal.1, f.ordinal_is)
 
-pub invariant_of-result : goal.invariant_of-result
-invariant_of-result c = let f = fits c in rw (f.same, f.ordinal_is) (f.year, f.ordinal)
+pub at_ordinal-requires-clause-year : goal.at_ordinal-requires-clause-year
+at_ordinal-requires-clause-year c = let f = fits c in rw f.same f.year
+
+pub at_ordinal-requires-clause-ordinal : goal.at_ordinal-requires-clause-ordinal
+at_ordinal-requires-clause-ordinal c = let f = fits c in rw (f.same, f.ordinal_is) f.ordinal
+
+number_is : (c : After-at_ordinal) → c.at_ordinal.result ≡ ordinal_number c.args.year (ordinal_in c.args.year (place c.args.month) c.args.day)
+number_is c = let f = fits c.before in rw (f.same, f.ordinal_is) at c.at_ordinal.ensures.number
 
 pub returns-clause-every : goal.returns-clause-every
-returns-clause-every c = λ n h has. let f = fits c in rw (f.same, f.ordinal_is) (ap Ok (sym (calendar_in_range n _ (place c.args.month) _ h has).number_is))
+returns-clause-every c = λ n h has. let f = fits c.before in ap Ok (number_is c ∙ sym (calendar_in_range n _ (place c.args.month) _ h has).number_is)
 
 pub returns-clause-has : goal.returns-clause-has
 returns-clause-has c =
-    let f = fits c in
-    rw (f.same, f.ordinal_is) (IsDate-ordinal_number _ _ f.year f.ordinal, (stands_at c.args.year (place c.args.month) c.args.day f.year.0 (place-below c.args.month) f.day).has)
+    let f = fits c.before in
+    rw (number_is c) (IsDate-ordinal_number _ _ f.year f.ordinal, (stands_at c.args.year (place c.args.month) c.args.day f.year.0 (place-below c.args.month) f.day).has)
 
 pub returns-clause-refused : goal.returns-clause-refused
 returns-clause-refused c =
-    let f = fits c in
+    let f = fits c.before in
     (λ e. absurd (false≢true e), λ none. absurd (none _ (IsDate-ordinal_number _ _ f.year f.ordinal) (stands_at c.args.year (place c.args.month) c.args.day f.year.0 (place-below c.args.month) f.day).has))

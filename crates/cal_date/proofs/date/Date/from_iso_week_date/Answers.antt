@@ -1,13 +1,17 @@
-use Rattle.std.proofs.Common.{ap, subst, arith, refl, Ok, ◌≡◌, to_z, of_z, w32}
+use Rattle.std.proofs.Common.{ap, arith, refl, Ok, ◌≡◌, ◌+◌, ◌<◌, ℕ, ℤ, to_z, of_z, w32, FitsSigned, rules}
 use Rattle.std.proofs.lemmas.Int.{ints, to_z-of_z}
 use Rattle.std.proofs.lemmas.Bool.{false≢true}
 use Rattle.cal_units.specs.Weekday.{place}
 use Rattle.cal_units.specs.WeekdayCycle.{place-below}
-use Rattle.cal_date.specs.Date.{IsYear, NoDate}
+use Rattle.cal_date.specs.Date.{IsYear, IsOrdinal, NoDate}
 use Rattle.cal_date.specs.IsoWeekDate.{IsWeek, HasIsoWeekDate}
-use Rattle.cal_date.proofs.IsoWeeks.{iso_number, in_weeks, HasIsoWeekDate-iso_number}
+use Rattle.cal_date.specs.ClosedForms.{year_of_week, ordinal_of_week}
+use Rattle.cal_units.specs.declared.weekday.Weekday.{Weekday}
+use Rattle.cal_date.proofs.Dates.{IsYear-i32}
+use Rattle.cal_date.proofs.IsoWeeks.{in_weeks}
+use Rattle.cal_date.proofs.IsoForms.{day_of_week, week_date_of_day, NoDate-week_date}
 use Rattle.cal_date.proofs.date.Date.from_iso_week_date.Goals as goal
-use Rattle.cal_date.proofs.date.Date.from_iso_week_date.Goals.{then-week-eq0-via-then-week-eq0, then-week-eq0-via-else-week-eq0+then-week-weeks_in_year, then-year-lt-MIN_YEAR-via-then-year-lt-MIN_YEAR, then-year-lt-MIN_YEAR-via-else-year-lt-MIN_YEAR+then-year-gt-MAX_YEAR}
+use Rattle.cal_date.proofs.date.Date.from_iso_week_date.Goals.{then-year-lt-MIN_YEAR-via-then-year-lt-MIN_YEAR, then-year-lt-MIN_YEAR-via-else-year-lt-MIN_YEAR+then-year-gt-MAX_YEAR}
 
 no_year : (c : goal.After-unconditional) → ¬ IsYear c.args.year
 no_year c year =
@@ -22,26 +26,91 @@ returns-then-year-lt-MIN_YEAR-clause-refused c = (λ e n h has. no_year c (in_we
 no_week : (c : goal.After-conditional) → ¬ IsWeek c.args.year c.args.week
 no_week c week =
     let same : to_z w32 (of_z w32 c.args.year) ≡ c.args.year = to_z-of_z w32 _ c.ranges.year in
-    elim c.then-week-eq0.branch [
-      | then-week-eq0-via-then-week-eq0 w ↦ omega arith
-      | then-week-eq0-via-else-week-eq0+then-week-weeks_in_year w ↦ let weeks = rw same at w.weeks_in_year.ensures in omega arith
-    ]
+    let tested = rw (same, c.if-not-has_week.true) at c.has_week.ensures in
+    false≢true (tested.1 week)
 
-pub returns-then-week-eq0-clause-every : goal.returns-then-week-eq0-clause-every
-returns-then-week-eq0-clause-every c = λ n h has. absurd (no_week c (in_weeks n _ _ _ h has).week)
+pub returns-then-not-has_week-clause-every : goal.returns-then-not-has_week-clause-every
+returns-then-not-has_week-clause-every c = λ n h has. absurd (no_week c (in_weeks n _ _ _ h has).week)
 
-pub returns-then-week-eq0-clause-refused : goal.returns-then-week-eq0-clause-refused
-returns-then-week-eq0-clause-refused c = (λ e n h has. no_week c (in_weeks n _ _ _ h has).week, λ none. refl)
+pub returns-then-not-has_week-clause-refused : goal.returns-then-not-has_week-clause-refused
+returns-then-not-has_week-clause-refused c = (λ e n h has. no_week c (in_weeks n _ _ _ h has).week, λ none. refl)
 
--- past both tests the year and the week are in their ranges, and the number is that of the week date
+-- past both tests the year and the week are in their ranges, and the year and the ordinal are those of the closed forms
+record Fits (y : ℤ) (w p : ℕ) (z : ℤ) (o : ℕ) : Type 0 where
+  year : IsYear y
+  week : IsWeek y w
+  below : p < 7
+  year_is : z ≡ year_of_week y w (p + 1)
+  ordinal_is : o ≡ ordinal_of_week y w (p + 1)
+
+fits : (y : ℤ) (w : ℕ) (weekday : Weekday) (z : ℤ) (o : ℕ) → IsYear y → IsWeek (to_z w32 (of_z w32 y)) w
+    → z ≡ year_of_week (to_z w32 (of_z w32 y)) w (place weekday + 1) → o ≡ ordinal_of_week (to_z w32 (of_z w32 y)) w (place weekday + 1) → Fits y w (place weekday) z o
+fits y w weekday z o year week year_is ordinal_is =
+    let same = IsYear-i32 y year in
+    record {
+      year = year;
+      week = rw same at week;
+      below = place-below weekday;
+      year_is = rw same at year_is;
+      ordinal_is = rw same at ordinal_is;
+    }
+
+-- where the year of the day comes after the last, no day has the week date
+after : (c : goal.After-conditional-then-calendar_year-gt-MAX_YEAR) → Fits c.args.year c.args.week (place c.args.weekday) c.ordinal_date_of-calendar_year.result.0 c.ordinal_date_of-calendar_year.result.1
+after c =
+    let found = c.ordinal_date_of-calendar_year.ensures in
+    fits c.args.year c.args.week c.args.weekday _ _ (omega (arith, ints), omega (arith, ints)) (c.has_week.ensures.0 c.if-not-has_week.false) found.year found.ordinal
+
+no_day : (c : goal.After-conditional-then-calendar_year-gt-MAX_YEAR) → NoDate (HasIsoWeekDate c.args.year c.args.week (place c.args.weekday))
+no_day c =
+    let f = after c in
+    let small : FitsSigned w32 c.ordinal_date_of-calendar_year.result.0 = search rules in
+    NoDate-week_date c.args.year c.args.week (place c.args.weekday) f.year f.week f.below (let is = f.year_is in omega (arith, ints))
+
+pub returns-then-calendar_year-gt-MAX_YEAR-clause-every : goal.returns-then-calendar_year-gt-MAX_YEAR-clause-every
+returns-then-calendar_year-gt-MAX_YEAR-clause-every c = λ n h has. absurd (no_day c n h has)
+
+pub returns-then-calendar_year-gt-MAX_YEAR-clause-refused : goal.returns-then-calendar_year-gt-MAX_YEAR-clause-refused
+returns-then-calendar_year-gt-MAX_YEAR-clause-refused c = (λ e. no_day c, λ none. refl)
+
+pub returns-then-calendar_year-gt-MAX_YEAR-clause-weekday : goal.returns-then-calendar_year-gt-MAX_YEAR-clause-weekday
+returns-then-calendar_year-gt-MAX_YEAR-clause-weekday c =
+    let f = after c in
+    (λ e. (f.year, f.week, no_day c), λ all. c.conditional-then-calendar_year-gt-MAX_YEAR.ensures)
+
+-- else it is the day of that year and ordinal
+record Found (c : goal.Else-calendar_year-gt-MAX_YEAR) : Type 0 where
+  same : to_z w32 (of_z w32 c.ordinal_date_of-calendar_year.result.0) ≡ c.ordinal_date_of-calendar_year.result.0
+  year : IsYear c.ordinal_date_of-calendar_year.result.0
+  ordinal : IsOrdinal c.ordinal_date_of-calendar_year.result.0 c.ordinal_date_of-calendar_year.result.1
+
+found : (c : goal.Else-calendar_year-gt-MAX_YEAR) → Found c
+found c =
+    let made = c.ordinal_date_of-calendar_year.ensures in
+    let f = fits c.args.year c.args.week c.args.weekday _ _ (omega (arith, ints), omega (arith, ints)) (c.has_week.ensures.0 c.if-not-has_week.false) made.year made.ordinal in
+    let small : FitsSigned w32 c.ordinal_date_of-calendar_year.result.0 = search rules in
+    let is = day_of_week c.args.year c.args.week (place c.args.weekday) f.year.0 f.week f.below in
+    let late = is.late in
+    let year = f.year_is in
+    record {
+      same = to_z-of_z w32 _ small;
+      year = (omega (arith, ints), omega (arith, ints));
+      ordinal = rw (f.year_is, f.ordinal_is) is.ordinal;
+    }
+
+pub at_ordinal-requires-clause-year : goal.at_ordinal-requires-clause-year
+at_ordinal-requires-clause-year c = let f = found c in rw f.same f.year
+
+pub at_ordinal-requires-clause-ordinal : goal.at_ordinal-requires-clause-ordinal
+at_ordinal-requires-clause-ordinal c = let f = found c in rw f.same f.ordinal
+
 pub returns-clause-has : goal.returns-clause-has
 returns-clause-has c =
-    let same : to_z w32 (of_z w32 c.args.year) ≡ c.args.year = to_z-of_z w32 _ c.ranges.year in
-    let weeks = rw same at c.weeks_in_year.ensures in
-    let fourth = rw same at c.number-fourth.ensures.number in
-    let is : iso_number c.args.year c.args.week (place c.args.weekday) ≡ c.at_number.result = omega arith in
-    let has = HasIsoWeekDate-iso_number c.args.year c.args.week _ (omega (arith, ints)) (omega arith, omega arith) (place-below c.args.weekday) in
-    (omega arith, subst (HasIsoWeekDate c.args.year c.args.week (place c.args.weekday)) is has)
+    let made = c.ordinal_date_of-calendar_year.ensures in
+    let f = fits c.args.year c.args.week c.args.weekday _ _ (omega (arith, ints), omega (arith, ints)) (c.has_week.ensures.0 c.if-not-has_week.false) made.year made.ordinal in
+    let small : FitsSigned w32 c.ordinal_date_of-calendar_year.result.0 = search rules in
+    let date = rw (to_z-of_z w32 _ small, f.year_is, f.ordinal_is) at c.at_ordinal.ensures.date in
+    (c.at_ordinal.ensures.in_range, week_date_of_day c.args.year c.args.week (place c.args.weekday) _ f.year f.week f.below date)
 
 pub returns-clause-every : goal.returns-clause-every
 returns-clause-every c = λ n h has.
@@ -53,22 +122,3 @@ returns-clause-refused c = let here = returns-clause-has c in (λ e. absurd (fal
 
 pub returns-clause-weekday : goal.returns-clause-weekday
 returns-clause-weekday c = let here = returns-clause-has c in (λ e. absurd e, λ all. all.2 _ here.0 here.1)
-
--- a number past the last day is that of no day
-no_day : (c : goal.After-conditional-then-number-gt-LAST_NUMBER) → NoDate (HasIsoWeekDate c.args.year c.args.week (place c.args.weekday))
-no_day c = λ n h has.
-    let same : to_z w32 (of_z w32 c.args.year) ≡ c.args.year = to_z-of_z w32 _ c.ranges.year in
-    let fourth = rw same at c.number-fourth.ensures.number in
-    omega (arith, (in_weeks n _ _ _ h has).number_is, c.if-number-gt-LAST_NUMBER.true)
-
-pub returns-then-number-gt-LAST_NUMBER-clause-every : goal.returns-then-number-gt-LAST_NUMBER-clause-every
-returns-then-number-gt-LAST_NUMBER-clause-every c = λ n h has. absurd (no_day c n h has)
-
-pub returns-then-number-gt-LAST_NUMBER-clause-refused : goal.returns-then-number-gt-LAST_NUMBER-clause-refused
-returns-then-number-gt-LAST_NUMBER-clause-refused c = (λ e. no_day c, λ none. refl)
-
-pub returns-then-number-gt-LAST_NUMBER-clause-weekday : goal.returns-then-number-gt-LAST_NUMBER-clause-weekday
-returns-then-number-gt-LAST_NUMBER-clause-weekday c =
-    let same : to_z w32 (of_z w32 c.args.year) ≡ c.args.year = to_z-of_z w32 _ c.ranges.year in
-    let weeks = rw same at c.weeks_in_year.ensures in
-    (λ e. ((omega (arith, ints), omega (arith, ints)), (omega arith, omega arith), no_day c), λ all. c.conditional-then-number-gt-LAST_NUMBER.ensures)

@@ -1,10 +1,11 @@
-use Rattle.std.proofs.Common.{ap, sym, arith, refl, Ok, ◌≡◌, to_z, of_z, w32}
+use Rattle.std.proofs.Common.{ap, sym, ◌∙◌, arith, refl, Ok, ◌≡◌, ℤ, ℕ, to_z, of_z, w32}
 use Rattle.std.proofs.lemmas.Int.{ints, to_z-of_z}
 use Rattle.std.proofs.lemmas.Bool.{false≢true}
 use Rattle.cal_date.specs.Date.{IsYear, IsOrdinal}
-use Rattle.cal_date.proofs.Dates.{in_range, IsDate-ordinal_number, HasOrdinalDate-ordinal_number, NoDate-ordinal_date}
+use Rattle.cal_date.specs.DateFields.{HasOrdinalDate-ordinal_number}
+use Rattle.cal_date.proofs.Dates.{in_range, IsDate-ordinal_number, NoDate-ordinal_date}
 use Rattle.cal_date.proofs.date.Date.from_ordinal_date.Goals as goal
-use Rattle.cal_date.proofs.date.Date.from_ordinal_date.Goals.{then-ordinal-eq0-via-then-ordinal-eq0, then-ordinal-eq0-via-else-ordinal-eq0+then-ordinal-days_in_year, then-year-lt-MIN_YEAR-via-then-year-lt-MIN_YEAR, then-year-lt-MIN_YEAR-via-else-year-lt-MIN_YEAR+then-year-gt-MAX_YEAR}
+use Rattle.cal_date.proofs.date.Date.from_ordinal_date.Goals.{Else-ordinal-days_in_year, then-ordinal-eq0-via-then-ordinal-eq0, then-ordinal-eq0-via-else-ordinal-eq0+then-ordinal-days_in_year, then-year-lt-MIN_YEAR-via-then-year-lt-MIN_YEAR, then-year-lt-MIN_YEAR-via-else-year-lt-MIN_YEAR+then-year-gt-MAX_YEAR}
 
 no_year : (c : goal.After-unconditional) → ¬ IsYear c.args.year
 no_year c year = elim c.then-year-lt-MIN_YEAR.branch [ then-year-lt-MIN_YEAR-via-then-year-lt-MIN_YEAR w ↦ omega (arith, ints) | then-year-lt-MIN_YEAR-via-else-year-lt-MIN_YEAR+then-year-gt-MAX_YEAR w ↦ omega (arith, ints) ]
@@ -30,24 +31,34 @@ pub returns-then-ordinal-eq0-clause-refused : goal.returns-then-ordinal-eq0-clau
 returns-then-ordinal-eq0-clause-refused c = (λ e. NoDate-ordinal_date _ _ (λ h. no_ordinal c h.1), λ none. refl)
 
 -- past both tests the year and the ordinal are in their ranges
-fits : (c : goal.Else-ordinal-days_in_year) → IsYear c.args.year × IsOrdinal c.args.year c.args.ordinal
+record Fits (year : ℤ) (ordinal : ℕ) : Type 0 where
+  same : to_z w32 (of_z w32 year) ≡ year
+  in_range : IsYear year
+  in_year : IsOrdinal year ordinal
+
+fits : (c : Else-ordinal-days_in_year) → Fits c.args.year c.args.ordinal
 fits c =
     let same : to_z w32 (of_z w32 c.args.year) ≡ c.args.year = to_z-of_z w32 _ c.ranges.year in
     let long = rw same at c.days_in_year.ensures in
-    ((omega (arith, ints), omega (arith, ints)), (omega arith, omega arith))
+    record { same = same; in_range = (omega (arith, ints), omega (arith, ints)); in_year = (omega arith, omega arith) }
+
+pub at_ordinal-requires-clause-year : goal.at_ordinal-requires-clause-year
+at_ordinal-requires-clause-year c = let f = fits c in rw f.same f.in_range
+
+pub at_ordinal-requires-clause-ordinal : goal.at_ordinal-requires-clause-ordinal
+at_ordinal-requires-clause-ordinal c = let f = fits c in rw f.same f.in_year
 
 pub returns-clause-every : goal.returns-clause-every
 returns-clause-every c = λ n h has.
-    let same : to_z w32 (of_z w32 c.args.year) ≡ c.args.year = to_z-of_z w32 _ c.ranges.year in
-    rw same (ap Ok (sym (in_range n _ _ h has).number_is))
+    let f = fits c.before in
+    ap Ok ((rw f.same at c.at_ordinal.ensures.number) ∙ sym (in_range n _ _ h has).number_is)
 
 pub returns-clause-has : goal.returns-clause-has
 returns-clause-has c =
-    let same : to_z w32 (of_z w32 c.args.year) ≡ c.args.year = to_z-of_z w32 _ c.ranges.year in
-    let both = fits c in
-    rw same (IsDate-ordinal_number _ _ both.0 both.1, HasOrdinalDate-ordinal_number _ _ both.0 both.1)
+    let f = fits c.before in
+    rw (c.at_ordinal.ensures.number, f.same) (IsDate-ordinal_number _ _ f.in_range f.in_year, HasOrdinalDate-ordinal_number _ _ f.in_range f.in_year)
 
 pub returns-clause-refused : goal.returns-clause-refused
 returns-clause-refused c =
-    let both = fits c in
-    (λ e. absurd (false≢true e), λ none. absurd (none _ (IsDate-ordinal_number _ _ both.0 both.1) (HasOrdinalDate-ordinal_number _ _ both.0 both.1)))
+    let f = fits c.before in
+    (λ e. absurd (false≢true e), λ none. absurd (none _ (IsDate-ordinal_number _ _ f.in_range f.in_year) (HasOrdinalDate-ordinal_number _ _ f.in_range f.in_year)))

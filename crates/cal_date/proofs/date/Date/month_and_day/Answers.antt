@@ -1,43 +1,68 @@
-use Rattle.std.proofs.Common.{◌≡◌, ◌+◌, arith, ap, sym, to_z, of_z, w32}
-use Rattle.cal_units.specs.Month.{place, number}
-use Rattle.cal_units.specs.MonthCycle.{place-below}
-use Rattle.cal_date.specs.Date.{HasCalendarDate}
-use Rattle.cal_date.specs.CountLaws.{days_of_months, days_in_month-bound}
-use Rattle.cal_date.proofs.Dates.{IsYear-i32}
-use Rattle.cal_date.proofs.Calendar.{past_month, HasCalendarDate-number_of}
+use Rattle.std.proofs.Common.{◌≡◌, ◌+◌, ◌-◌, ◌∙◌, ap, arith}
+use Rattle.cal_units.specs.Month.{place}
+use Rattle.cal_units.specs.MonthCycle.{place-month_at}
+use Rattle.cal_date.specs.ClosedForms.{month_in_part}
+use Rattle.cal_date.proofs.MonthForms.{in_part}
 use Rattle.cal_date.proofs.date.Date.month_and_day.Goals as goal
 
-pub loop-day-init : goal.loop-day-init
-unfolding days_of_months
-loop-day-init c = record { some = omega (arith, c.self.invariant.1.0); sum = omega arith }
+pub overflow_mul-month : goal.overflow_mul-month
+overflow_mul-month c =
+    let part = in_part _ _ _ c.place_in_part-days.ensures.days c.place_in_part-days.ensures.months in
+    omega arith
 
--- the month that holds the day
-found : (c : goal.Then-day-length) → HasCalendarDate c.self.inside.year (number c.loop-day.month) c.loop-day.day c.args.self
-found c =
-    let inside = c.self.inside in
-    let length = rw (IsYear-i32 inside.year c.self.invariant.0) at c.length.ensures in
-    rw (← c.self.view_is)
-    (HasCalendarDate-number_of inside (place c.loop-day.month) c.loop-day.day c.self.invariant (place-below c.loop-day.month)
-    (omega (arith, c.loop-day.invariant.some), omega (arith, length)) c.loop-day.invariant.sum)
+pub overflow_add-month : goal.overflow_add-month
+overflow_add-month c =
+    let part = in_part _ _ _ c.place_in_part-days.ensures.days c.place_in_part-days.ensures.months in
+    omega arith
 
-pub returns-then-day-length-clause-month : goal.returns-then-day-length-clause-month
-returns-then-day-length-clause-month c = sym (ap (λ d. d.month) (found c))
+pub overflow_mul-day : goal.overflow_mul-day
+overflow_mul-day c =
+    let part = in_part _ _ _ c.place_in_part-days.ensures.days c.place_in_part-days.ensures.months in
+    omega arith
 
-pub returns-then-day-length-clause-day : goal.returns-then-day-length-clause-day
-returns-then-day-length-clause-day c = sym (ap (λ d. d.day) (found c))
+pub overflow_sub-day : goal.overflow_sub-day
+overflow_sub-day c =
+    let part = in_part _ _ _ c.place_in_part-days.ensures.days c.place_in_part-days.ensures.months in
+    omega arith
 
-pub loop-day-smaller : goal.loop-day-smaller
-loop-day-smaller c =
-    let some = days_in_month-bound (to_z w32 (of_z w32 c.self.inside.year)) (number c.loop-day.month) (omega arith) (omega (arith, place-below c.loop-day.month)) in
-    omega (arith, c.loop-day.invariant.some)
+pub overflow_sub-day-2 : goal.overflow_sub-day-2
+overflow_sub-day-2 c =
+    let part = in_part _ _ _ c.place_in_part-days.ensures.days c.place_in_part-days.ensures.months in
+    omega arith
 
-pub loop-day-preserved : goal.loop-day-preserved
-loop-day-preserved c =
-    let inside = c.self.inside in
-    let length = rw (IsYear-i32 inside.year c.self.invariant.0) at c.length.ensures in
-    let past = past_month inside.year (place c.loop-day.month) c.loop-day.day inside.ordinal (place-below c.loop-day.month) (omega (arith, length)) c.loop-day.invariant.sum c.self.invariant.1 in
-    let month : place c.next-month.result ≡ place c.loop-day.month + 1 = omega (arith, past.month) in
-    record {
-      some = omega arith;
-      sum = rw (month, c.from-length.ensures, length) past.ordinal_is;
-    }
+pub overflow_sub-month : goal.overflow_sub-month
+overflow_sub-month c =
+    let part = in_part _ _ _ c.place_in_part-days.ensures.days c.place_in_part-days.ensures.months in
+    omega arith
+
+pub overflow_cast-month : goal.overflow_cast-month
+overflow_cast-month c =
+    let part = in_part _ _ _ c.place_in_part-days.ensures.days c.place_in_part-days.ensures.months in
+    omega arith
+
+pub at-requires : goal.at-requires
+at-requires c =
+    let part = in_part _ _ _ c.place_in_part-days.ensures.days c.place_in_part-days.ensures.months in
+    omega arith
+
+pub returns-clause-month : goal.returns-clause-month
+returns-clause-month c =
+    let part = in_part _ _ _ c.place_in_part-days.ensures.days c.place_in_part-days.ensures.months in
+    let k = month_in_part c.place_in_part-days.result.0 + c.place_in_part-days.result.1 - 1 in
+    let there : place c.at.result ≡ k = ap place c.at.ensures ∙ place-month_at k (omega arith) in
+    omega arith
+
+pub returns-clause-day : goal.returns-clause-day
+returns-clause-day c = (in_part _ _ _ c.place_in_part-days.ensures.days c.place_in_part-days.ensures.months).day_is
+
+pub returns-clause-closed_month : goal.returns-clause-closed_month
+returns-clause-closed_month c =
+    let part = in_part _ _ _ c.place_in_part-days.ensures.days c.place_in_part-days.ensures.months in
+    let k = month_in_part c.place_in_part-days.result.0 + c.place_in_part-days.result.1 - 1 in
+    let there : place c.at.result ≡ k = ap place c.at.ensures ∙ place-month_at k (omega arith) in
+    omega (arith, part.closed_month)
+
+pub returns-clause-closed_day : goal.returns-clause-closed_day
+returns-clause-closed_day c =
+    let part = in_part _ _ _ c.place_in_part-days.ensures.days c.place_in_part-days.ensures.months in
+    part.day_is ∙ part.closed_day

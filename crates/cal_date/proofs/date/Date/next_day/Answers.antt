@@ -1,37 +1,52 @@
-use Rattle.std.proofs.Common.{◌≡◌, ◌≢◌, ap, sym, ◌∙◌, arith, to_z, of_z, w32, pos, ◌+ℤ◌, ◌<ℤ◌}
+use Rattle.std.proofs.Common.{◌≡◌, ◌≢◌, ◌∙◌, ap, sym, arith, to_z, of_z, w32}
 use Rattle.std.proofs.lemmas.Int.{ints}
-use Rattle.cal_units.specs.Lengths.{days_in_year}
-use Rattle.cal_date.specs.Date.{last_year, IsYear}
-use Rattle.cal_date.proofs.Dates.{ordinal_number, IsYear-i32}
-use Rattle.cal_date.proofs.Neighbours.{next_in_year, next_in_next_year, last_number}
+use Rattle.cal_date.specs.Date.{last_year, year_at}
+use Rattle.cal_date.proofs.Dates.{IsYear-i32}
+use Rattle.cal_date.proofs.Neighbours.{inside_year, not_last_day, last_of_year, last_of_range, before_next_year}
 use Rattle.cal_date.proofs.date.Date.next_day.Goals as goal
 
-pub returns-then-self-days_in_year : goal.returns-then-self-days_in_year
-returns-then-self-days_in_year c =
-    let inside = c.self.inside in
-    let same = IsYear-i32 inside.year c.self.invariant.0 in
-    let length = rw same at c.days_in_year.ensures in
-    let next = next_in_year inside.year inside.ordinal c.self.invariant.0 c.self.invariant.1 (omega (arith, length)) in
-    rw (← c.self.view_is, same) (next.not_last, next.number_is)
+pub moved_in_year-requires-clause-not_after : goal.moved_in_year-requires-clause-not_after
+moved_in_year-requires-clause-not_after c =
+    let low = c.low_bits-low_bits.ensures in
+    let less = inside_year c.args.self c.low_bits-low_bits.result low.in_range low.bits c.if-low_bits-ne365.true c.if-low_bits-ne878.true in
+    omega (arith, ints)
 
-pub returns-then-self-eq-MAX_YEAR : goal.returns-then-self-eq-MAX_YEAR
-returns-then-self-eq-MAX_YEAR c =
-    let inside = c.self.inside in
-    let same = IsYear-i32 inside.year c.self.invariant.0 in
-    let length = rw same at c.days_in_year.ensures in
-    let year : inside.year ≡ last_year = sym same ∙ ap (to_z w32) c.if-self-eq-MAX_YEAR.true in
-    let last : inside.ordinal ≡ days_in_year inside.year = omega (arith, length, c.self.invariant.1.1) in
-    let number = ap (λ o. ordinal_number inside.year o) last ∙ ap (λ y. ordinal_number y (days_in_year y)) year ∙ last_number in
-    rw (← c.self.view_is) (omega (arith, number))
+pub returns-then-low_bits-ne878 : goal.returns-then-low_bits-ne878
+returns-then-low_bits-ne878 c =
+    let low = c.low_bits-low_bits.ensures in
+    let less = inside_year c.args.self c.low_bits-low_bits.result low.in_range low.bits c.if-low_bits-ne365.true c.if-low_bits-ne878.true in
+    (not_last_day c.args.self low.in_range less, omega (arith, ints))
+
+pub returns-then-year-eq-MAX_YEAR : goal.returns-then-year-eq-MAX_YEAR
+returns-then-year-eq-MAX_YEAR c =
+    let low = c.low_bits-low_bits.ensures in
+    let last = last_of_year c.args.self c.low_bits-low_bits.result low.in_range low.bits c.else-low_bits-ne365.either in
+    let same = ap (λ z. to_z w32 (of_z w32 z)) c.year-year.ensures ∙ IsYear-i32 _ last.year in
+    let year : year_at c.args.self ≡ last_year = sym same ∙ ap (to_z w32) c.if-year-eq-MAX_YEAR.true in
+    omega (arith, last_of_range c.args.self last year)
+
+pub overflow_add-year : goal.overflow_add-year
+overflow_add-year c =
+    let low = c.low_bits-low_bits.ensures in
+    let last = last_of_year c.args.self c.low_bits-low_bits.result low.in_range low.bits c.else-low_bits-ne365.either in
+    let same = ap (λ z. to_z w32 (of_z w32 z)) c.year-year.ensures ∙ IsYear-i32 _ last.year in
+    rw same (grind (arith, ints, last.year.0, last.year.1))
+
+pub at_ordinal-requires-clause-year : goal.at_ordinal-requires-clause-year
+at_ordinal-requires-clause-year c =
+    let low = c.low_bits-low_bits.ensures in
+    let last = last_of_year c.args.self c.low_bits-low_bits.result low.in_range low.bits c.else-low_bits-ne365.either in
+    let same = ap (λ z. to_z w32 (of_z w32 z)) c.year-year.ensures ∙ IsYear-i32 _ last.year in
+    let other : year_at c.args.self ≢ last_year = λ e. c.if-year-eq-MAX_YEAR.false (ap (of_z w32) (c.year-year.ensures ∙ e)) in
+    let next = before_next_year c.args.self last other in
+    rw (same, IsYear-i32 _ next.year) next.year
 
 pub returns : goal.returns
 returns c =
-    let inside = c.self.inside in
-    let same = IsYear-i32 inside.year c.self.invariant.0 in
-    let length = rw same at c.days_in_year.ensures in
-    let year : inside.year ≢ last_year = λ e. c.if-self-eq-MAX_YEAR.false (ap (of_z w32) e) in
-    let less : inside.year <ℤ last_year = omega (arith, ints, c.self.invariant.0.1) in
-    let last : days_in_year inside.year ≡ inside.ordinal = omega (arith, length, c.self.invariant.1.1) in
-    let next = next_in_next_year inside.year c.self.invariant.0 less in
-    let after : IsYear (inside.year +ℤ pos 1) = (omega (arith, ints, c.self.invariant.0.0), omega (arith, ints)) in
-    rw (← c.self.view_is, same, IsYear-i32 (inside.year +ℤ pos 1) after, ← last) (next.not_last, next.number_is)
+    let low = c.low_bits-low_bits.ensures in
+    let last = last_of_year c.args.self c.low_bits-low_bits.result low.in_range low.bits c.else-low_bits-ne365.either in
+    let same = ap (λ z. to_z w32 (of_z w32 z)) c.year-year.ensures ∙ IsYear-i32 _ last.year in
+    let other : year_at c.args.self ≢ last_year = λ e. c.if-year-eq-MAX_YEAR.false (ap (of_z w32) (c.year-year.ensures ∙ e)) in
+    let next = before_next_year c.args.self last other in
+    let number = rw (same, IsYear-i32 _ next.year) at c.at_ordinal.ensures.number in
+    (next.not_last, number ∙ next.number_is)

@@ -1,8 +1,7 @@
-use Rattle.std.proofs.Common.{sym}
-use Rattle.cal_date.specs.DateFields.{HasOrdinalDate-number_of}
+use Rattle.cal_date.proofs.Packed.{at_number, lowest_bits}
 use Rattle.cal_date.proofs.date.Date.ordinal.Goals as goal
 
 pub returns : goal.returns
 returns c =
-    let has = HasOrdinalDate-number_of c.self.inside c.self.invariant in
-    rw (← c.self.view_is) (sym has.1)
+    let at = at_number c.self.inside c.args.self c.self.invariant c.self.view_is in
+    rw at.packed_is (lowest_bits _ _ at.year at.ordinal)

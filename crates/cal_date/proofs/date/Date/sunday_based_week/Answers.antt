@@ -1,4 +1,5 @@
 use Rattle.std.proofs.Common.{◌≡◌, ◌+◌, ◌%◌, arith, lit<}
+use Rattle.cal_date.proofs.Dates.{ordinal-most}
 use Rattle.cal_date.proofs.Weekdays.{weekday_at-is, weekdays_upto-ordinal, days_from_sunday-place}
 use Rattle.cal_date.proofs.date.Date.sunday_based_week.Goals as goal
 
@@ -6,4 +7,10 @@ pub returns : goal.returns
 returns c =
     let n = c.args.self in
     let since : c.from.result ≡ (n + 1) % 7 = omega (arith, weekday_at-is n, days_from_sunday-place c.weekday.result) in
-    weekdays_upto-ordinal 6 c.from.result n c.self.inside c.self.invariant c.self.view_is (lit< tt) (omega arith) (omega arith)
+    rw c.ordinal.ensures (weekdays_upto-ordinal 6 c.from.result n (lit< tt) (omega arith) (omega arith))
+
+pub overflow_add-result : goal.overflow_add-result
+overflow_add-result c = omega (arith, ordinal-most c.args.self)
+
+pub overflow_cast-result : goal.overflow_cast-result
+overflow_cast-result c = omega (arith, ordinal-most c.args.self)

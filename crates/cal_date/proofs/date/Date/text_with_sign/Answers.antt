@@ -1,12 +1,11 @@
-use Rattle.std.proofs.Common.{◌≡◌, ◌∙◌, ◌∷◌, ◌<◌, unsigned_abs, ap, sym, subst, arith}
+use Rattle.std.proofs.Common.{◌≡◌, ◌∙◌, ◌∷◌, ◌<◌, unsigned_abs, refl, ap, sym, subst, arith, to_z, of_z, w32}
 use Rattle.std.proofs.lemmas.Int.{ints}
 use Rattle.std.specs.Str.{IsAscii}
 use Rattle.cal_units.specs.Month.{number}
 use Rattle.cal_units.specs.MonthCycle.{place-below}
 use Rattle.cal_date.specs.Date.{year_at, month_at, day_of_month_at}
-use Rattle.cal_date.specs.DateFields.{HasOrdinalDate-number_of}
 use Rattle.cal_date.proofs.Calendar.{day_of_month-most}
-use Rattle.cal_date.proofs.Dates.{IsYear-i32}
+use Rattle.cal_date.proofs.Dates.{IsYear-i32, in_range}
 use Rattle.cal_date.proofs.DateTexts.{date_digits-ten_bytes, date_digits-ascii}
 use Rattle.cal_date.proofs.date.Date.text_with_sign.Goals as goal
 
@@ -24,17 +23,16 @@ record Parts (c : goal.After-two_digits-4) : Type 0 where
 
 parts : (c : goal.After-two_digits-4) → Parts c
 parts c =
-    let inside = c.self.inside in
-    let same = IsYear-i32 inside.year c.self.invariant.0 in
-    let year : year_at c.args.self ≡ inside.year = ap year_at (sym c.self.view_is) ∙ (HasOrdinalDate-number_of inside c.self.invariant).0 in
+    let at = in_range c.args.self _ _ c.month_and_day-month.ensures.in_range (refl, refl) in
+    let same : to_z w32 (of_z w32 c.year.result) ≡ year_at c.args.self = ap (λ z. to_z w32 (of_z w32 z)) c.year.ensures ∙ IsYear-i32 _ at.year in
     let magnitude = rw same at c.unsigned_abs-year.ensures.value in
     let most = day_of_month-most c.args.self in
     let month : number c.month_and_day-month.result.0 ≡ month_at c.args.self = c.month_and_day-month.ensures.month in
     record {
-      year_is = magnitude ∙ sym (ap unsigned_abs year);
+      year_is = magnitude;
       month_is = c.from-2.ensures ∙ c.from.ensures ∙ month;
       day_is = c.from-3.ensures ∙ c.month_and_day-month.ensures.day;
-      year_below = rw year (omega (arith, ints, c.self.invariant.0.0, c.self.invariant.0.1));
+      year_below = omega (arith, ints, at.year.0, at.year.1);
       month_below = omega (arith, month, place-below c.month_and_day-month.result.0);
       day_below = omega arith;
     }
@@ -49,3 +47,10 @@ pub returns-clause-ascii : goal.returns-clause-ascii
 returns-clause-ascii c =
     let p = parts c in
     subst IsAscii (sym (returns-clause-text c)) (date_digits-ascii _ _ _ p.year_below p.month_below p.day_below)
+
+pub two_digits-requires : goal.two_digits-requires
+two_digits-requires c =
+    let at = in_range c.args.self _ _ c.month_and_day-month.ensures.in_range (refl, refl) in
+    let same : to_z w32 (of_z w32 c.year.result) ≡ year_at c.args.self = ap (λ z. to_z w32 (of_z w32 z)) c.year.ensures ∙ IsYear-i32 _ at.year in
+    let magnitude = rw same at c.unsigned_abs-year.ensures.value in
+    omega (arith, ints, at.year.0, at.year.1)

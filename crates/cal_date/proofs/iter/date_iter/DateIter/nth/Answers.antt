@@ -1,6 +1,6 @@
 use Rattle.std.proofs.Common.{◌≡◌, Some, sym, arith}
 use Rattle.cal_date.specs.DateIter.{walk}
-use Rattle.cal_date.proofs.DateIters.{place_in, slice_get-days_of}
+use Rattle.cal_date.proofs.DateIters.{item-one_year, place_in, slice_get-days_of}
 use Rattle.cal_date.proofs.iter.date_iter.DateIter.nth.Goals as goal
 
 pub overflow_cast-n : goal.overflow_cast-n
@@ -23,3 +23,6 @@ returns-clause-item c =
     let back : c.self.inside.back ≡ Some c.in_ok-back.back = c.in_ok-back.was in
     let at = place_in (walk c.self.inside.front c.self.inside.back) _ _ _ _ c.self.view_is c.self.invariant back c.len.ensures.count c.if-n-len.false in
     rw (← c.self.view_is, c.days_later-item.ensures) (sym (slice_get-days_of (walk c.self.inside.front c.self.inside.back) _ c.args.n back at.within))
+
+pub returns-clause-same_year : goal.returns-clause-same_year
+returns-clause-same_year c = λ back h low. item-one_year _ back _ _ h low (returns-clause-item c)

@@ -1,6 +1,6 @@
 use Rattle.std.proofs.Common.{◌≡◌, ◌+◌, ◌-◌, Some, ◌∙◌, ap, sym, arith}
 use Rattle.cal_date.specs.DateIter.{walk, without_last}
-use Rattle.cal_date.proofs.DateIters.{IsPlace, place_in, slice_get-days_of_back}
+use Rattle.cal_date.proofs.DateIters.{item_back-one_year, IsPlace, place_in, slice_get-days_of_back}
 use Rattle.cal_date.proofs.iter.date_iter.DateIter.nth_back.Goals as goal
 
 at : (c : goal.Else-len-n) → IsPlace c.self.inside.front c.in_ok-back.back c.args.n
@@ -30,3 +30,6 @@ returns-clause-left c =
     let at = place_in (walk c.self.inside.front c.self.inside.back) _ _ _ _ c.self.view_is c.self.invariant c.in_ok-back.was c.len.ensures.count c.if-len-n.false in
     let count : c.in_ok-back.back + 1 - c.days_earlier-item.result ≡ c.args.n + 1 = omega arith in
     c.leave_before.ensures ∙ ap (λ k. without_last k c.args.self.now) count
+
+pub returns-clause-same_year : goal.returns-clause-same_year
+returns-clause-same_year c = λ back h low. item_back-one_year _ back _ _ h low (returns-clause-item c)

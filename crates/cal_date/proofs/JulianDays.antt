@@ -1,0 +1,57 @@
+-- Where a day stands among the years of the range, and its Julian day by the closed form.
+use Rattle.std.proofs.Common.{◌≡◌, ℕ, suc, ◌+◌, ◌-◌, ◌*◌, ◌/◌, ◌≤◌, ap, arith, ℤ, pos, ◌+ℤ◌, ◌-ℤ◌, unsigned_abs}
+use Rattle.std.proofs.lemmas.Int.{ints}
+use Rattle.cal_units.specs.Lengths.{days_in_year}
+use Rattle.cal_date.specs.Date.{first_year, first_julian_day, year_at, ordinal_at, julian_day_at}
+use Rattle.cal_date.specs.CountLaws.{days_of_years, days_of_years-closed, days_of_years-suc}
+use Rattle.cal_date.specs.ClosedForms.{years_counted, julian_day_of}
+use Rattle.cal_date.proofs.Dates.{stands}
+
+-- how many years of the range come before a year
+abbrev pub years_before : ℤ → ℕ
+years_before y = unsigned_abs (y -ℤ first_year)
+
+-- day n has this ordinal in the year that comes after the first k years, with the days of those and of that year by closed forms
+pub record IsAfterYears (k o n : ℕ) : Type 0 where
+  pub days_before : ℕ
+  pub days_of_year : ℕ
+  pub before : days_before + k / 100 ≡ 365 * k + k / 4 + k / 400
+  pub next : days_before + days_of_year + (k + 1) / 100 ≡ 365 * (k + 1) + (k + 1) / 4 + (k + 1) / 400
+  pub least : 1 ≤ o
+  pub most : o ≤ days_of_year
+  pub number_is : n ≡ days_before + (o - 1)
+
+pub after_years : (n : ℕ) → IsAfterYears (years_before (year_at n)) (ordinal_at n) n
+after_years n =
+    let at = stands n in
+    let k = years_before (year_at n) in
+    let year : first_year +ℤ pos k ≡ year_at n = omega (arith, ints, at.year) in
+    let after : suc k ≡ k + 1 = omega arith in
+    record {
+      days_before = days_of_years k;
+      days_of_year = days_in_year (year_at n);
+      before = days_of_years-closed k;
+      next = omega (arith, days_of_years-closed (suc k), days_of_years-suc k, ap days_in_year year);
+      least = at.ordinal.0;
+      most = at.ordinal.1;
+      number_is = at.number_is;
+    }
+
+-- the Julian day of each day by the closed form
+pub julian_day_of-is : (n : ℕ) → julian_day_of (year_at n) (ordinal_at n) ≡ julian_day_at n
+unfolding julian_day_of
+julian_day_of-is n =
+    let at = after_years n in
+    let y = year_at n in
+    let late = (stands n).year in
+    omega (arith, ints)
+
+-- what is taken away in it
+pub julian_day_of-sum : (y : ℤ) (o : ℕ)
+    → julian_day_of y o +ℤ pos 363521075 ≡ pos (1461 * years_counted y / 4 - years_counted y / 100 + years_counted y / 100 / 4 + o)
+unfolding julian_day_of
+julian_day_of-sum y o = omega (arith, ints)
+
+-- the day that has a Julian day
+abbrev pub number_at : ℤ → ℕ
+number_at j = unsigned_abs (j -ℤ first_julian_day)

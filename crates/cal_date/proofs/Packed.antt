@@ -1,0 +1,180 @@
+-- What the packed value of an ordinal date is made of.
+use Rattle.std.proofs.Common.{◌≡◌, inl, inr, refl, Bool, ℕ, ◌*◌, ◌+◌, ◌%◌, ◌≤◌, ◌∙◌, sym, ap, subst, arith, rules, ℤ, pos, neg_ℤ, ◌+ℤ◌, ◌*ℤ◌, ◌≤ℤ◌, unsigned_abs, to_z, of_z, w32, FitsSigned, bit_and}
+use Rattle.std.proofs.lemmas.Int.{ints, to_z-of_z}
+use Rattle.std.proofs.lemmas.Bool.Decides.{nat_tests}
+use Rattle.std.proofs.lemmas.Bool.{cases_Bool}
+use Rattle.std.proofs.lemmas.Nat.{and_mask}
+use lib.Signed.{shr_z}
+use mir.Val.{bool_byte}
+use Rattle.cal_units.specs.Lengths.{is_leap_year, days_in_year}
+use Rattle.cal_date.specs.Date.{first_year, last_year, last_day, year_at, ordinal_at, IsYear, IsOrdinal, IsDate}
+use Rattle.cal_date.specs.DateFields.{packed, leap_mark, year_of, ordinal_of, IsPacked, IsPackedDate, IsPacked-fields, fields-IsPacked, ordinal_number, number_of, HasOrdinalDate-number_of}
+use Rattle.cal_date.specs.declared.date.Date.TheInside.{Inside}
+use Rattle.cal_date.specs.CountLaws.{days_of_years-closed}
+use Rattle.cal_date.proofs.Dates.{IsDate-ordinal_number}
+use Rattle.cal_date.proofs.Years.{days_before-first}
+
+record IsBounded (z : ℤ) : Type 0 where
+  low : neg_ℤ (pos 10_240_000) ≤ℤ z
+  high : z ≤ℤ pos 10_240_000
+
+bounded : (y : ℤ) (o : ℕ) → IsYear y → IsOrdinal y o → IsBounded (packed y o)
+unfolding packed
+bounded y o h f = record { low = grind (arith, ints, nat_tests); high = grind (arith, ints, nat_tests) }
+
+pub packed-i32 : (y : ℤ) (o : ℕ) → IsYear y → IsOrdinal y o → FitsSigned w32 (packed y o)
+packed-i32 y o h f = let b = bounded y o h f in grind (arith, ints)
+
+-- the year and the ordinal are those that were packed
+pub year_of-packed : (y : ℤ) (o : ℕ) → IsYear y → IsOrdinal y o → year_of (packed y o) ≡ y
+unfolding packed year_of
+year_of-packed y o h f = grind (arith, ints, nat_tests)
+
+pub ordinal_of-packed : (y : ℤ) (o : ℕ) → IsYear y → IsOrdinal y o → ordinal_of (packed y o) ≡ o
+unfolding packed ordinal_of
+ordinal_of-packed y o h f = grind (arith, ints, nat_tests)
+
+IsPacked-packed : (y : ℤ) (o : ℕ) → IsYear y → IsOrdinal y o → IsPacked (packed y o)
+IsPacked-packed y o h f =
+    let year = year_of-packed y o h f in
+    let ordinal = ordinal_of-packed y o h f in
+    record {
+      year = subst IsYear (sym year) h;
+      ordinal = subst (IsOrdinal (year_of (packed y o))) (sym ordinal) (subst (λ z. IsOrdinal z o) (sym year) f);
+      packed_is = ap (λ z. packed z o) (sym year) ∙ ap (packed (year_of (packed y o))) (sym ordinal);
+    }
+
+pub IsPackedDate-packed : (y : ℤ) (o : ℕ) → IsYear y → IsOrdinal y o → IsPackedDate (record { packed = packed y o })
+IsPackedDate-packed y o h f = fields-IsPacked (packed y o) (IsPacked-packed y o h f)
+
+pub number_of-packed : (y : ℤ) (o : ℕ) → IsYear y → IsOrdinal y o → number_of (record { packed = packed y o }) ≡ ordinal_number y o
+number_of-packed y o h f = ap (λ z. ordinal_number z (ordinal_of (packed y o))) (year_of-packed y o h f) ∙ ap (ordinal_number y) (ordinal_of-packed y o h f)
+
+-- the fields of a date of that number
+pub record IsPackedAt (p : ℤ) (n : ℕ) : Type 0 where
+  pub in_range : IsDate n
+  pub year : IsYear (year_at n)
+  pub ordinal : IsOrdinal (year_at n) (ordinal_at n)
+  pub number_is : n ≡ ordinal_number (year_at n) (ordinal_at n)
+  pub packed_is : p ≡ packed (year_at n) (ordinal_at n)
+
+at_own_number : (d : Inside) → IsPackedDate d → IsPackedAt d.packed (number_of d)
+at_own_number d h =
+    let is = IsPacked-fields d h in
+    let has = HasOrdinalDate-number_of d h in
+    let year = sym has.0 in
+    let ordinal = sym has.1 in
+    record {
+      in_range = IsDate-ordinal_number _ _ is.year is.ordinal;
+      year = subst IsYear year is.year;
+      ordinal = subst (IsOrdinal (year_at (number_of d))) ordinal (subst (λ z. IsOrdinal z (ordinal_of d.packed)) year is.ordinal);
+      number_is = ap (λ z. ordinal_number z (ordinal_of d.packed)) year ∙ ap (ordinal_number (year_at (number_of d))) ordinal;
+      packed_is = is.packed_is ∙ ap (λ z. packed z (ordinal_of d.packed)) year ∙ ap (packed (year_at (number_of d))) ordinal;
+    }
+
+pub at_number : (d : Inside) (n : ℕ) → IsPackedDate d → number_of d ≡ n → IsPackedAt d.packed n
+at_number d n h is = subst (IsPackedAt d.packed) is (at_own_number d h)
+
+pub packed_at-i32 : (p : ℤ) (n : ℕ) → IsPackedAt p n → to_z w32 (of_z w32 p) ≡ p
+packed_at-i32 p n at = to_z-of_z w32 p (subst (FitsSigned w32) (sym at.packed_is) (packed-i32 (year_at n) (ordinal_at n) at.year at.ordinal))
+
+-- shifted right by 10 bits it is the year; its lowest nine bits are the ordinal, and its low ten bits the leap mark too
+shifted-of : (z : ℤ) → IsBounded z → to_z w32 (of_z w32 (shr_z (to_z w32 (of_z w32 z)) 1024)) ≡ year_of z
+unfolding year_of
+shifted-of z h = search rules
+
+pub shifted : (y : ℤ) (o : ℕ) → IsYear y → IsOrdinal y o → to_z w32 (of_z w32 (shr_z (to_z w32 (of_z w32 (packed y o))) 1024)) ≡ y
+shifted y o h f = shifted-of (packed y o) (bounded y o h f) ∙ year_of-packed y o h f
+
+lowest_bits-of : (z : ℤ) → IsBounded z → unsigned_abs (to_z w32 (bit_and (of_z w32 z) 511)) ≡ ordinal_of z
+unfolding ordinal_of
+lowest_bits-of z h =
+    let mask : bit_and (of_z w32 z) 511 ≡ of_z w32 z % 512 = and_mask (of_z w32 z) 9 in
+    let bits : of_z w32 z % 512 ≡ unsigned_abs (z +ℤ pos 10_240_000) % 512 = grind (arith, ints) in
+    ap (λ n. unsigned_abs (to_z w32 n)) mask ∙ omega (arith, ints)
+
+pub lowest_bits : (y : ℤ) (o : ℕ) → IsYear y → IsOrdinal y o → unsigned_abs (to_z w32 (bit_and (of_z w32 (packed y o)) 511)) ≡ o
+lowest_bits y o h f = lowest_bits-of (packed y o) (bounded y o h f) ∙ ordinal_of-packed y o h f
+
+low_bits-of : (z : ℤ) → IsBounded z → unsigned_abs (to_z w32 (bit_and (of_z w32 z) 1023)) ≡ unsigned_abs (z +ℤ pos 10_240_000) % 1024
+low_bits-of z h =
+    let mask : bit_and (of_z w32 z) 1023 ≡ of_z w32 z % 1024 = and_mask (of_z w32 z) 10 in
+    let bits : of_z w32 z % 1024 ≡ unsigned_abs (z +ℤ pos 10_240_000) % 1024 = grind (arith, ints) in
+    ap (λ n. unsigned_abs (to_z w32 n)) mask ∙ omega (arith, ints)
+
+low_bits-packed : (y : ℤ) (o : ℕ) → IsYear y → IsOrdinal y o → unsigned_abs (packed y o +ℤ pos 10_240_000) % 1024 ≡ leap_mark y + o
+unfolding packed
+low_bits-packed y o h f = grind (arith, ints, nat_tests)
+
+pub low_bits : (y : ℤ) (o : ℕ) → IsYear y → IsOrdinal y o → unsigned_abs (to_z w32 (bit_and (of_z w32 (packed y o)) 1023)) ≡ leap_mark y + o
+low_bits y o h f = low_bits-of (packed y o) (bounded y o h f) ∙ low_bits-packed y o h f
+
+-- it rises with the ordinal
+pub packed-moved : (y : ℤ) (o p : ℕ) (days : ℤ) → pos o +ℤ days ≡ pos p → packed y o +ℤ days ≡ packed y p
+unfolding packed
+packed-moved y o p days e = omega (arith, ints)
+
+pub ordinal_number-moved : (y : ℤ) (o p : ℕ) (days : ℤ) → 1 ≤ o → 1 ≤ p → pos o +ℤ days ≡ pos p → pos (ordinal_number y p) ≡ pos (ordinal_number y o) +ℤ days
+ordinal_number-moved y o p days h f e = omega (arith, ints)
+
+-- the first and the last day of the range
+packed-first : packed first_year 1 ≡ neg_ℤ (pos 10_238_975)
+unfolding packed
+packed-first = refl
+
+packed-last : packed last_year 365 ≡ pos 10_239_341
+unfolding packed
+packed-last = refl
+
+first_of_range : IsYear first_year × IsOrdinal first_year 1
+first_of_range = ((omega (arith, ints), omega (arith, ints)), (omega arith, omega arith))
+
+last_of_range : IsYear last_year × IsOrdinal last_year 365
+last_of_range = ((omega (arith, ints), omega (arith, ints)), (omega arith, omega arith))
+
+pub number_of-first : number_of (record { packed = neg_ℤ (pos 10_238_975) }) ≡ 0
+number_of-first =
+    ap (λ p. ordinal_number (year_of p) (ordinal_of p)) (sym packed-first) ∙ number_of-packed first_year 1 first_of_range.0 first_of_range.1 ∙ omega (arith, days_before-first)
+
+pub number_of-last : number_of (record { packed = pos 10_239_341 }) ≡ last_day
+number_of-last =
+    ap (λ p. ordinal_number (year_of p) (ordinal_of p)) (sym packed-last) ∙ number_of-packed last_year 365 last_of_range.0 last_of_range.1 ∙ omega (arith, days_of_years-closed 19998)
+
+-- a packed value moved by days within the year
+pub record IsMoved (p days : ℤ) (n : ℕ) : Type 0 where
+  pub fits : FitsSigned w32 (p +ℤ days)
+  pub is_packed : IsPackedDate (record { packed = p +ℤ days })
+  pub number_is : pos (number_of (record { packed = p +ℤ days })) ≡ pos n +ℤ days
+
+pub moved : (p days : ℤ) (n : ℕ) → IsPackedAt p n → pos 1 ≤ℤ (pos (ordinal_at n) +ℤ days) → (pos (ordinal_at n) +ℤ days) ≤ℤ pos (days_in_year (year_at n)) → IsMoved p days n
+moved p days n at low high =
+    let y = year_at n in
+    let o = unsigned_abs (pos (ordinal_at n) +ℤ days) in
+    let is : pos (ordinal_at n) +ℤ days ≡ pos o = omega (arith, ints) in
+    let ordinal : IsOrdinal y o = (omega (arith, ints), omega (arith, ints)) in
+    let same : p +ℤ days ≡ packed y o = ap (λ z. z +ℤ days) at.packed_is ∙ packed-moved y (ordinal_at n) o days is in
+    record {
+      fits = subst (FitsSigned w32) (sym same) (packed-i32 y o at.year ordinal);
+      is_packed = subst (λ z. IsPackedDate (record { packed = z })) (sym same) (IsPackedDate-packed y o at.year ordinal);
+      number_is = ap (λ z. pos (ordinal_number (year_of z) (ordinal_of z))) same ∙ ap pos (number_of-packed y o at.year ordinal)
+          ∙ ordinal_number-moved y (ordinal_at n) o days at.ordinal.0 ordinal.0 is ∙ ap (λ k. pos k +ℤ days) (sym at.number_is);
+    }
+
+-- the sum that makes a packed value, in i32
+leap_mark-byte : (y : ℤ) → leap_mark y ≡ 512 * bool_byte (is_leap_year y)
+leap_mark-byte y = elim (cases_Bool (is_leap_year y)) [ inl leap ↦ rw leap refl | inr common ↦ rw common refl ]
+
+bool_byte-most : (b : Bool) → bool_byte b ≤ 1
+bool_byte-most b = elim (cases_Bool b) [ inl is ↦ rw is (omega arith) | inr is ↦ rw is (omega arith) ]
+
+packed-parts : (y leap o z : ℤ) (m k : ℕ) → IsYear y → k ≤ 366 → m ≤ 1 → leap ≡ pos m → o ≡ pos k → z ≡ y *ℤ pos 1024 +ℤ pos (512 * m + k)
+    → to_z w32 (of_z w32 (to_z w32 (of_z w32 (y *ℤ pos 1024)) +ℤ to_z w32 (of_z w32 (to_z w32 (of_z w32 leap) *ℤ pos 512)))) +ℤ to_z w32 (of_z w32 o) ≡ z
+packed-parts y leap o z m k h short low e f g = omega (arith, ints)
+
+pub packed-sum : (y leap o : ℤ) (k : ℕ) → IsYear y → IsOrdinal y k → leap ≡ pos (bool_byte (is_leap_year y)) → o ≡ pos k
+    → to_z w32 (of_z w32 (to_z w32 (of_z w32 (y *ℤ pos 1024)) +ℤ to_z w32 (of_z w32 (to_z w32 (of_z w32 leap) *ℤ pos 512)))) +ℤ to_z w32 (of_z w32 o) ≡ packed y k
+unfolding packed
+packed-sum y leap o k h f mark e =
+    let short : k ≤ 366 = grind (arith, nat_tests) in
+    let is : packed y k ≡ y *ℤ pos 1024 +ℤ pos (512 * bool_byte (is_leap_year y) + k) = ap (λ b. y *ℤ pos 1024 +ℤ pos (b + k)) (leap_mark-byte y) in
+    packed-parts y leap o (packed y k) (bool_byte (is_leap_year y)) k h short (bool_byte-most (is_leap_year y)) mark e is

@@ -1,0 +1,10 @@
+use Rattle.cal_date.proofs.Packed.{at_number, low_bits}
+use Rattle.cal_date.proofs.date.Date.low_bits.Goals as goal
+
+pub returns-clause-bits : goal.returns-clause-bits
+returns-clause-bits c =
+    let at = at_number c.self.inside c.args.self c.self.invariant c.self.view_is in
+    rw at.packed_is (low_bits _ _ at.year at.ordinal)
+
+pub returns-clause-in_range : goal.returns-clause-in_range
+returns-clause-in_range c = (at_number c.self.inside c.args.self c.self.invariant c.self.view_is).in_range

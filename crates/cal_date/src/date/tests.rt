@@ -1,0 +1,34 @@
+//! The packed values, which no call shows.
+use crate::date::Date;
+
+#[test]
+fn packed_values(rt: HostRuntime) {
+    for ((year, ordinal), packed, next) in [
+        ((-9999, 1), -10_238_975, -10_238_974),
+        ((-1, 365), -659, 513),
+        ((0, 1), 513, 514),
+        ((2020, 365), 2_069_357, 2_069_358),
+        ((2020, 366), 2_069_358, 2_069_505),
+    ] {
+        let Ok(date) = Date::from_ordinal_date(year, ordinal) else {
+            panic!(rt; "{year} {ordinal} is refused");
+        };
+        assert_eq!(rt; date.packed, packed);
+        assert_eq!(rt; date.to_ordinal_date(), (year, ordinal));
+        let Some(day_after) = date.next_day() else {
+            panic!(rt; "no day follows {date}");
+        };
+        assert_eq!(rt; day_after.packed, next);
+        assert_eq!(rt; day_after.previous_day(), Some(date));
+    }
+}
+
+#[test]
+fn packed_ends_of_the_range(rt: HostRuntime) {
+    assert_eq!(rt; Date::MIN.packed, -10_238_975);
+    assert_eq!(rt; Date::MAX.packed, 10_239_341);
+    assert_eq!(rt; Date::MIN.to_ordinal_date(), (-9999, 1));
+    assert_eq!(rt; Date::MAX.to_ordinal_date(), (9999, 365));
+    assert_eq!(rt; Date::MIN.previous_day(), None);
+    assert_eq!(rt; Date::MAX.next_day(), None);
+}

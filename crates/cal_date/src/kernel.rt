@@ -1,0 +1,127 @@
+//! The kernel of a Julian day: five numbers, by two multiplications, that give its year, ordinal and leap mark.
+ghost use Rattle.std.specs.Prelude.{◌≡◌, ◌≢◌, ℕ, ◌+◌, ◌*◌, ◌/◌, ◌%◌, ◌^◌, ◌<◌, ◌-ℤ◌};
+ghost use Rattle.cal_units.specs.Lengths.{is_leap_year};
+ghost use Rattle.cal_date.specs.Date.{first_julian_day, IsDate, IsYear, HasJulianDay, HasOrdinalDate};
+ghost use Rattle.cal_date.specs.Move.{IsDateNumber};
+ghost use Rattle.cal_date.specs.ClosedForms.{shifted_day, kernel_by, kernel_of, HasKernel, is_julian_year, year_of_kernel, ordinal_of_kernel, is_leap_by_kernel};
+
+use crate::date::Date;
+
+#[cfg(test)]
+mod tests;
+
+/// What is added to a Julian day: with it, day 0 is 1 January -2379600, a year that 400 divides.
+const DAY_SHIFT: i32 = 867_409_993;
+
+/// What is taken from a year that is counted from -2379600 on.
+const YEAR_SHIFT: i32 = 2_379_600;
+
+/// 2^49 / 146097, rounded down, where 146097 is the days of 400 years: a day times this is its centuries, in parts of
+/// 2^47.
+const CENTURY_FACTOR: u64 = 3_853_261_555;
+
+/// The part of a century of 36525 days that 365 days make up, in parts of 2^32, rounded down.
+const CENTURY_CUT: u32 = 42_920_275;
+
+/// 2^42 / 1461, rounded up, where 1461 is the days of four years: a day times this is its years, in parts of 2^40.
+const YEAR_FACTOR: u64 = 3_010_298_776;
+
+/// The low 32 bits.
+const LOW_HALF: u64 = 0xffff_ffff;
+
+/// The kernel of a Julian day: its century and year, each with the part of it that has gone by.
+///
+/// Days and years are counted from 1 January -2379600 on. Where 146097, the days of 400 years, divides the day, the
+/// century is one low; the date comes out right.
+#[derive(Clone, Copy, PartialEq, Eq, Debug)]
+pub struct JulianKernel {
+    /// The centuries before the day.
+    pub century: u32,
+    /// The part of the century that has gone by, in parts of 2^32.
+    pub century_part: u32,
+    /// The day as it would be counted if every fourth year were a leap year.
+    pub julian: u32,
+    /// The years before the day.
+    pub years: u32,
+    /// The part of the year that has gone by, in parts of 2^32.
+    pub year_part: u32,
+}
+
+/// The kernel of a Julian day, from -1930999 to 5373484.
+///
+/// That of 2451545, 2000-01-01, is 23815, 4294963575, 869879400, 2381600 and 1469893, with the century one low.
+pub fn julian_kernel(julian_day: i32) -> JulianKernel
+    requires { IsDateNumber (julian_day -ℤ first_julian_day) }
+    ensures kernel { result ≡ kernel_of julian_day }
+    ensures date { (n : ℕ) → IsDate n → HasJulianDay julian_day n
+        → HasOrdinalDate (year_of_kernel result) (ordinal_of_kernel result) n }
+    ensures leap { is_leap_by_kernel result ≡ is_leap_year (year_of_kernel result) }
+    ensures century { let day = shifted_day julian_day in day % 146097 ≢ 0 → result.century ≡ 4 * day / 146097 }
+    ensures century_one_low { let day = shifted_day julian_day in
+        day % 146097 ≡ 0 → result.century + 1 ≡ 4 * day / 146097 }
+{
+    kernel_of_day(shifted_day(julian_day))
+}
+
+/// The day of a kernel: the date of the Julian day that has it.
+///
+/// That of the kernel of 2451545 is 2000-01-01.
+pub fn date_of_kernel(kernel: JulianKernel) -> Date
+    requires { (n : ℕ) × IsDate n × HasKernel kernel n }
+    ensures { (n : ℕ) → IsDate n → HasKernel kernel n → result ≡ n }
+{
+    Date::at_ordinal(kernel.year(), kernel.ordinal())
+}
+
+/// The day of a Julian day, counted from 1 January -2379600 on.
+fn shifted_day(julian_day: i32) -> u32
+    requires { IsDateNumber (julian_day -ℤ first_julian_day) }
+    ensures { result ≡ shifted_day julian_day }
+{
+    (julian_day + DAY_SHIFT) as u32
+}
+
+/// The kernel of a day counted from 1 January -2379600 on.
+fn kernel_of_day(day: u32) -> JulianKernel
+    requires { day < 2 ^ 31 }
+    ensures { result ≡ kernel_by day }
+{
+    let centuries = u64::from(day) * CENTURY_FACTOR >> 15;
+    let century = (centuries >> 32) as u32;
+    let julian = day - century / 4 + century;
+    let years = u64::from(julian) * YEAR_FACTOR >> 8;
+    JulianKernel {
+        century,
+        century_part: (centuries & LOW_HALF) as u32,
+        julian,
+        years: (years >> 32) as u32,
+        year_part: (years & LOW_HALF) as u32,
+    }
+}
+
+impl JulianKernel {
+    /// The year of a kernel of a year of the range.
+    fn year(self) -> i32
+        requires { IsYear (year_of_kernel self) }
+        ensures { result ≡ year_of_kernel self }
+    {
+        self.years as i32 - YEAR_SHIFT
+    }
+
+    /// The ordinal: the days of the year that have gone by, and 1. The first year of most centuries begins a day late in
+    /// the Julian count, and needs no 1.
+    fn ordinal(self) -> u16
+        ensures { result ≡ ordinal_of_kernel self }
+    {
+        let days = (u64::from(self.year_part) * 1461 >> 34) as u16;
+        days + u16::from(self.is_julian_year())
+    }
+
+    /// Whether the year has the days that it has where every fourth year is a leap year: all years but the first of a
+    /// century that 4 does not divide.
+    fn is_julian_year(self) -> bool
+        ensures { result ≡ is_julian_year self }
+    {
+        self.century_part > CENTURY_CUT || self.century % 4 == 0
+    }
+}

@@ -1,0 +1,53 @@
+//! Kernels and their dates, each computed apart from the code, and callers that know no more than a stated condition.
+ghost use Rattle.std.specs.Prelude.{ℕ, ◌-ℤ◌};
+ghost use Rattle.cal_date.specs.ClosedForms.{HasKernel};
+ghost use Rattle.cal_date.specs.Date.{first_julian_day, IsDate};
+ghost use Rattle.cal_date.specs.Move.{IsDateNumber};
+
+use crate::kernel::{JulianKernel, date_of_kernel, julian_kernel};
+
+fn ordinal_date(kernel: JulianKernel) -> (i32, u16)
+    requires { (n : ℕ) × IsDate n × HasKernel kernel n }
+{
+    date_of_kernel(kernel).to_ordinal_date()
+}
+
+fn dated(julian_day: i32) -> (JulianKernel, (i32, u16))
+    requires { IsDateNumber (julian_day -ℤ first_julian_day) }
+{
+    let kernel = julian_kernel(julian_day);
+    (kernel, ordinal_date(kernel))
+}
+
+fn kernel(
+    century: u32,
+    century_part: u32,
+    julian: u32,
+    years: u32,
+    year_part: u32,
+) -> JulianKernel {
+    JulianKernel {
+        century,
+        century_part,
+        julian,
+        years,
+        year_part,
+    }
+}
+
+#[test]
+fn at_both_ends(rt: HostRuntime) {
+    let first = kernel(23_696, 43_035_047, 865_496_766, 2_369_601, 10_281_722);
+    assert_eq!(rt; dated(-1_930_999), (first, (-9999, 1)));
+    let last = kernel(23_895, 4_294_845_970, 872_801_399, 2_389_599, 4_284_683_147);
+    assert_eq!(rt; dated(5_373_484), (last, (9999, 365)));
+}
+
+// On the first of these days the century is one low. On the second its part is below the cut, and 4 divides it.
+#[test]
+fn at_the_start_of_four_centuries(rt: HostRuntime) {
+    let first = kernel(23_815, 4_294_963_575, 869_879_400, 2_381_600, 1_469_893);
+    assert_eq!(rt; dated(2_451_545), (first, (2000, 1)));
+    let second = kernel(23_816, 113_871, 869_879_401, 2_381_600, 13_228_873);
+    assert_eq!(rt; dated(2_451_546), (second, (2000, 2)));
+}
