@@ -167,7 +167,7 @@ HasOrdinalDate-kernel n h =
 leap_by_count : (y : ℤ) (c : ℕ) → pos c ≡ y +ℤ pos 2379600 → ((c % 4 == 0) && is_julian c) ≡ is_leap_year y
 leap_by_count y c e = grind (arith, ints, nat_tests)
 
-pub is_leap_by_kernel-is : (n : ℕ) → IsDate n → is_leap_by_kernel (kernel_of (julian_day_at n)) ≡ is_leap_year (year_at n)
+is_leap_by_kernel-is : (n : ℕ) → IsDate n → is_leap_by_kernel (kernel_of (julian_day_at n)) ≡ is_leap_year (year_at n)
 unfolding kernel_of
 is_leap_by_kernel-is n h =
     let c = unsigned_abs (year_at n +ℤ pos 2379600) in
@@ -180,6 +180,11 @@ is_leap_by_kernel-is n h =
 pub in_range-kernel : (k : JulianKernel) (n : ℕ) → IsDate n → HasKernel k n → IsInRange (year_of_kernel k) (ordinal_of_kernel k) n
 in_range-kernel k n h has =
     in_range n (year_of_kernel k) (ordinal_of_kernel k) h (subst (λ k. HasOrdinalDate (year_of_kernel k) (ordinal_of_kernel k) n) has (HasOrdinalDate-kernel n h))
+
+-- and is in a leap year where that says so
+pub leap_by_kernel-is : (k : JulianKernel) (n : ℕ) → IsDate n → HasKernel k n → is_leap_by_kernel k ≡ is_leap_year (year_of_kernel k)
+leap_by_kernel-is k n h has =
+    subst (λ k. is_leap_by_kernel k ≡ is_leap_year (year_of_kernel k)) has (is_leap_by_kernel-is n h ∙ ap is_leap_year (HasOrdinalDate-kernel n h).0)
 
 -- the day of the range that has a Julian day, and the kernel of that
 pub record HasJulianKernel (j : ℤ) (k : JulianKernel) (n : ℕ) : Type 0 where

@@ -4,7 +4,7 @@ ghost use Rattle.cal_date.specs.Date.{last_day, year_at, ordinal_at, julian_day_
 ghost use Rattle.cal_date.specs.Order.{IsBefore, ordinal_date_at};
 ghost use Rattle.cal_date.specs.ClosedForms.{julian_day_of, kernel_of, year_of_kernel, ordinal_of_kernel};
 ghost use Rattle.cal_date.specs.DateFields.{leap_mark, ordinal_number};
-ghost use Rattle.cal_units.specs.Lengths.{days_in_year};
+ghost use Rattle.cal_units.specs.Lengths.{days_in_year, is_leap_year};
 ghost use Rattle.cal_units.specs.Refusal.{refusal, IsRefused};
 ghost use Rattle.cal_date.specs.Refusals.{year_out_of_range, ordinal_out_of_range, julian_day_out_of_range};
 
@@ -196,8 +196,20 @@ impl Date {
         ensures date { HasOrdinalDate year ordinal result }
         ensures in_range { IsDate result }
     {
+        Date::from_parts(year, is_leap_year(year), ordinal)
+    }
+
+    /// The day of that year of the range, a leap year or not, with that ordinal of the year.
+    pub(crate) fn from_parts(year: i32, leap: bool, ordinal: u16) -> Self
+        requires year { IsYear year }
+        requires leap { leap ≡ is_leap_year year }
+        requires ordinal { IsOrdinal year ordinal }
+        ensures number { result ≡ ordinal_number year ordinal }
+        ensures date { HasOrdinalDate year ordinal result }
+        ensures in_range { IsDate result }
+    {
         Date {
-            packed: year * 1024 + i32::from(is_leap_year(year)) * LEAP_MARK + i32::from(ordinal),
+            packed: year * 1024 + i32::from(leap) * LEAP_MARK + i32::from(ordinal),
         }
     }
 

@@ -47,9 +47,11 @@ pub struct JulianKernel {
     pub year_part: u32,
 }
 
-/// The kernel of a Julian day, from -1930999 to 5373484.
+/// The kernel of a Julian day.
 ///
-/// That of 2451545, 2000-01-01, is 23815, 4294963575, 869879400, 2381600 and 1469893, with the century one low.
+/// A day of the range must have that Julian day: it is from -1930999 to 5373484.
+///
+/// The kernel of 2451545, 2000-01-01, is 23815, 4294963575, 869879400, 2381600 and 1469893, with the century one low.
 pub fn julian_kernel(julian_day: i32) -> JulianKernel
     requires { IsDateNumber (julian_day -ℤ first_julian_day) }
     ensures kernel { result ≡ kernel_of julian_day }
@@ -63,14 +65,16 @@ pub fn julian_kernel(julian_day: i32) -> JulianKernel
     kernel_of_day(shifted_day(julian_day))
 }
 
-/// The day of a kernel: the date of the Julian day that has it.
+/// The date of a kernel.
 ///
-/// That of the kernel of 2451545 is 2000-01-01.
+/// A day of the range must have that kernel, with these five values and no others; the date is this day's.
+///
+/// The date of the kernel of 2451545 is 2000-01-01.
 pub fn date_of_kernel(kernel: JulianKernel) -> Date
     requires { (n : ℕ) × IsDate n × HasKernel kernel n }
     ensures { (n : ℕ) → IsDate n → HasKernel kernel n → result ≡ n }
 {
-    Date::at_ordinal(kernel.year(), kernel.ordinal())
+    Date::from_parts(kernel.year(), kernel.is_leap_year(), kernel.ordinal())
 }
 
 /// The day of a Julian day, counted from 1 January -2379600 on.
@@ -115,6 +119,13 @@ impl JulianKernel {
     {
         let days = (u64::from(self.year_part) * 1461 >> 34) as u16;
         days + u16::from(self.is_julian_year())
+    }
+
+    /// Whether the year is a leap year.
+    fn is_leap_year(self) -> bool
+        ensures { result ≡ is_leap_by_kernel self }
+    {
+        self.years % 4 == 0 && self.is_julian_year()
     }
 
     /// Whether the year has the days that it has where every fourth year is a leap year: all years but the first of a

@@ -17,7 +17,12 @@ pub use date_adjustment::DateAdjustment;
 pub fn is_leap_year(year: i32) -> bool
     ensures { result ≡ is_leap_year year }
 {
-    year % 4 == 0 && (year % 100 != 0 || year % 400 == 0)
+    // Of the multiples of 100, those of 16 are the multiples of 400. Both tests are masks, so the choice needs no branch.
+    if year % 100 == 0 {
+        year % 16 == 0
+    } else {
+        year % 4 == 0
+    }
 }
 
 /// The number of days of the year: 366 in a leap year, else 365.

@@ -1,5 +1,5 @@
 //! Bytes that go out in one write.
-ghost use Rattle.std.specs.Prelude.{◌≡◌, ◌++◌, [], if◌then◌else◌};
+ghost use Rattle.std.specs.Prelude.{◌≡◌, ◌↔◌, ◌+◌, ◌≤◌, ◌++◌, [], length, if◌then◌else◌, IsTrue};
 
 use std::marker::Model;
 
@@ -43,7 +43,8 @@ impl Gathered {
 
     /// Appends the bytes, and returns whether there was room for them. Without room nothing changes.
     pub fn append(&mut self, bytes: &[u8]) -> bool
-        ensures { self.new ≡ (if result then self.old ++ bytes.now else self.old) }
+        ensures room { IsTrue result ↔ (length self.old + length bytes.now ≤ 4096) }
+        ensures appended { self.new ≡ (if result then self.old ++ bytes.now else self.old) }
     {
         if bytes.len() > CAPACITY - self.filled {
             return false;

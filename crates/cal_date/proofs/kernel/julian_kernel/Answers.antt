@@ -1,9 +1,8 @@
 use Rattle.std.proofs.Common.{◌≡◌, sym, subst, ap, arith, ◌∙◌, ◌-ℤ◌, unsigned_abs, to_z, of_z, w32}
 use Rattle.std.proofs.lemmas.Int.{ints, to_z-of_z}
-use Rattle.cal_units.specs.Lengths.{is_leap_year}
 use Rattle.cal_date.specs.Date.{first_julian_day, IsDate, HasOrdinalDate, julian_day_at}
-use Rattle.cal_date.specs.ClosedForms.{kernel_by, kernel_of, year_of_kernel, ordinal_of_kernel, is_leap_by_kernel}
-use Rattle.cal_date.proofs.Kernels.{HasOrdinalDate-kernel, is_leap_by_kernel-is}
+use Rattle.cal_date.specs.ClosedForms.{kernel_by, kernel_of, year_of_kernel, ordinal_of_kernel}
+use Rattle.cal_date.proofs.Kernels.{HasOrdinalDate-kernel, leap_by_kernel-is}
 use Rattle.cal_date.proofs.kernel.julian_kernel.Goals as goal
 
 pub returns-clause-kernel : goal.returns-clause-kernel
@@ -24,5 +23,4 @@ returns-clause-leap c =
     let high = c.requires.not_after in
     let day : IsDate n = omega (arith, ints) in
     let same = ap kernel_of (let e : julian_day_at n ≡ c.args.julian_day = omega (arith, ints) in e) ∙ sym (returns-clause-kernel c) in
-    let year = HasOrdinalDate-kernel n day in
-    subst (λ k. is_leap_by_kernel k ≡ is_leap_year (year_of_kernel k)) same (is_leap_by_kernel-is n day ∙ ap is_leap_year year.0)
+    leap_by_kernel-is _ n day same

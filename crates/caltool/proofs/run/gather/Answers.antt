@@ -9,14 +9,14 @@ use Rattle.caltool.proofs.run.gather.Goals as goal
 
 pub returns-in_err-write_all-clause-front : goal.returns-in_err-write_all-clause-front
 returns-in_err-write_all-clause-front g c =
-    let kept = rw c.if-append.false at c.append.ensures in
+    let kept = rw c.if-append.false at c.append.ensures.appended in
     let P : List ℕ → Type 0 = λ bytes. AppendsFront (g.W.Write.contents c.args.writer.now) (g.W.Write.contents c.write_all.new.writer) bytes in
     let front = front_of_longer _ _ c.args.gathered.now c.args.bytes.now (subst P (c.as_bytes.ensures ∙ kept) c.in_err-write_all.ensures.front) in
     search (rules, front)
 
 pub returns-clause-ok : goal.returns-clause-ok
 returns-clause-ok g c =
-    let kept = rw c.if-append.false at c.append.ensures in
+    let kept = rw c.if-append.false at c.append.ensures.appended in
     let P : List ℕ → Type 0 = λ bytes. Appends (g.W.Write.contents c.args.writer.now) (g.W.Write.contents c.write_all.new.writer) bytes in
     let first = subst P (c.as_bytes.ensures ∙ kept) c.in_ok-write_all.ensures.ok in
     let all : List ℕ = c.args.gathered.now ++ c.args.bytes.now in
@@ -28,7 +28,7 @@ returns-clause-ok g c =
 
 pub returns-clause-front : goal.returns-clause-front
 returns-clause-front g c =
-    let kept = rw c.if-append.false at c.append.ensures in
+    let kept = rw c.if-append.false at c.append.ensures.appended in
     let P : List ℕ → Type 0 = λ bytes. Appends (g.W.Write.contents c.args.writer.now) (g.W.Write.contents c.write_all.new.writer) bytes in
     let first = subst P (c.as_bytes.ensures ∙ kept) c.in_ok-write_all.ensures.ok in
     let all : List ℕ = c.args.gathered.now ++ c.args.bytes.now in

@@ -5,15 +5,14 @@ use Rattle.cal_date.specs.Date.{IsDate, HasOrdinalDate}
 use Rattle.cal_date.specs.DateFields.{packed, HasOrdinalDate-ordinal_number}
 use Rattle.cal_date.proofs.Dates.{IsYear-i32, IsDate-ordinal_number}
 use Rattle.cal_date.proofs.Packed.{packed-i32, IsPackedDate-packed, number_of-packed, packed-sum}
-use Rattle.cal_date.proofs.date.Date.at_ordinal.Goals as goal
+use Rattle.cal_date.proofs.date.Date.from_parts.Goals as goal
 use mir.Val.{bool_byte}
 
 -- the sum is the packed value
 sum : (c : goal.After-from-2)
     → to_z w32 (of_z w32 (to_z w32 (of_z w32 (c.args.year *ℤ pos 1024)) +ℤ to_z w32 (of_z w32 (to_z w32 (of_z w32 c.from.result) *ℤ pos 512)))) +ℤ to_z w32 (of_z w32 c.from-2.result) ≡ packed c.args.year c.args.ordinal
 sum c =
-    let same = IsYear-i32 c.args.year c.requires.year in
-    let leap : c.from.result ≡ pos (bool_byte (is_leap_year c.args.year)) = c.from.ensures ∙ ap (λ b. pos (bool_byte b)) (c.is_leap_year.ensures ∙ ap is_leap_year same) in
+    let leap : c.from.result ≡ pos (bool_byte (is_leap_year c.args.year)) = c.from.ensures ∙ ap (λ b. pos (bool_byte b)) c.requires.leap in
     packed-sum c.args.year c.from.result c.from-2.result c.args.ordinal c.requires.year c.requires.ordinal leap c.from-2.ensures
 
 pub overflow_add-result-2 : goal.overflow_add-result-2
