@@ -47,6 +47,7 @@ impl Date {
 
         // It is refused exactly where no day has it.
         ensures refused { IsErr result ↔ NoDate (HasCalendarDate (year_at self) (number month) (day_of_month_at self)) }
+        ensures reason { IfErr result (λ e. refusal e ≡ day_out_of_range) }
         ensures day { IsRefused day_out_of_range result ↔ ¬ IsDayOfMonth (year_at self) (number month) (day_of_month_at self) }
     {
         Self::from_calendar_date(self.year(), month, self.day())
@@ -61,6 +62,7 @@ impl Date {
 
         // It is refused exactly where no day has it.
         ensures refused { IsErr result ↔ NoDate (HasCalendarDate (year_at self) (month_at self) day) }
+        ensures reason { IfErr result (λ e. refusal e ≡ day_out_of_range) }
         ensures day { IsRefused day_out_of_range result ↔ ¬ IsDayOfMonth (year_at self) (month_at self) day }
     {
         Self::from_calendar_date(self.year(), self.month(), day)
@@ -75,6 +77,7 @@ impl Date {
 
         // It is refused exactly where no day has it.
         ensures refused { IsErr result ↔ NoDate (HasOrdinalDate (year_at self) ordinal) }
+        ensures reason { IfErr result (λ e. refusal e ≡ ordinal_out_of_range) }
         ensures ordinal { IsRefused ordinal_out_of_range result ↔ ¬ IsOrdinal (year_at self) ordinal }
     {
         let (year, _) = self.to_ordinal_date();
