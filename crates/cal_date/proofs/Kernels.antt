@@ -176,6 +176,25 @@ is_leap_by_kernel-is n h =
     let years = years_at-is c (ordinal_at n) (shifted_day (julian_day_at n)) at in
     rw (is_julian_year-is c (ordinal_at n) (shifted_day (julian_day_at n)) at, years) (leap_by_count (year_at n) c (omega (arith, ints)))
 
+-- What the kernel gives on a day that is n in its count, where the century is one low: the Julian number, the year, the ordinal and the leap
+-- mark are right all the same.
+pub record IsOneLow (d n : ℕ) : Type 0 where
+  pub century : century_at n + 1 ≡ 4 * n / 146097
+  pub julian : julian_at n ≡ n - 4 * n / 146097 / 4 + 4 * n / 146097
+  pub date : HasOrdinalDate (year_of_kernel (kernel_by n)) (ordinal_of_kernel (kernel_by n)) d
+  pub leap : is_leap_by_kernel (kernel_by n) ≡ is_leap_year (year_at d)
+
+pub century_one_low : (d : ℕ) → IsDate d → shifted_day (julian_day_at d) % 146097 ≡ 0 → IsOneLow d (shifted_day (julian_day_at d))
+unfolding kernel_of
+century_one_low d h divides =
+    let n = shifted_day (julian_day_at d) in
+    record {
+      century = century_at-one_low n (omega (arith, ints)) (omega (arith, ints)) divides;
+      julian = julian_at-is n (omega (arith, ints)) (omega (arith, ints));
+      date = HasOrdinalDate-kernel d h;
+      leap = is_leap_by_kernel-is d h;
+    }
+
 -- each day of the range with a kernel has the year and the ordinal that it gives
 pub in_range-kernel : (k : JulianKernel) (n : ℕ) → IsDate n → HasKernel k n → IsInRange (year_of_kernel k) (ordinal_of_kernel k) n
 in_range-kernel k n h has =

@@ -33,7 +33,7 @@ day_after-next_year : (y : ℤ) → day_after (calendar_day y 12 31) ≡ calenda
 unfolding day_after days_in_month
 day_after-next_year y = refl
 
-pub days_in_month-bound : (y : ℤ) (m : ℕ) → 0 < m → m ≤ 12 → 28 ≤ days_in_month y m
+days_in_month-bound : (y : ℤ) (m : ℕ) → 0 < m → m ≤ 12 → 28 ≤ days_in_month y m
 unfolding days_in_month
 days_in_month-bound y m low high = grind (arith, nat_tests)
 
@@ -87,7 +87,7 @@ month_start n y (suc k) e h =
     }
 
 -- the months make up the year
-pub days_of_months-all : (y : ℤ) → days_of_months y 12 ≡ days_in_year y
+days_of_months-all : (y : ℤ) → days_of_months y 12 ≡ days_in_year y
 unfolding days_of_months days_in_month
 days_of_months-all y = grind (arith, nat_tests)
 

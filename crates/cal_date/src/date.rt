@@ -110,6 +110,8 @@ impl Date {
     pub fn from_julian_day(julian_day: i32) -> Result<Self, ComponentRange>
         ensures every { (n : ℕ) → IsDate n → HasJulianDay julian_day n → result ≡ Ok n }
         ensures has { IfOk result (λ n. IsDate n × HasJulianDay julian_day n) }
+        ensures refused { IsErr result ↔ NoDate (HasJulianDay julian_day) }
+        ensures reason { IfErr result (λ e. refusal e ≡ julian_day_out_of_range) }
         ensures julian_day { IsRefused julian_day_out_of_range result ↔ NoDate (HasJulianDay julian_day) }
         ensures closed_form { let kernel = kernel_of julian_day in
             IfOk result (HasOrdinalDate (year_of_kernel kernel) (ordinal_of_kernel kernel)) }
@@ -163,6 +165,8 @@ impl Date {
         ensures { SomeIff result (self < last_day) (self + 1) }
     {
         let low_bits = self.low_bits();
+
+        // 31 December of a common year, and of a leap year.
         if low_bits != 365 && low_bits != 878 {
             return Some(self.moved_in_year(1));
         }
@@ -178,6 +182,8 @@ impl Date {
         ensures { SomeIff result (0 < self) (self - 1) }
     {
         let low_bits = self.low_bits();
+
+        // 1 January of a common year, and of a leap year.
         if low_bits != 1 && low_bits != 513 {
             return Some(self.moved_in_year(-1));
         }

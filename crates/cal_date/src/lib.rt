@@ -12,6 +12,7 @@ mod laws;
 
 pub use date::Date;
 pub use iter::DateIter;
+pub use kernel::{JulianKernel, date_of_kernel, julian_kernel};
 
 #[cfg(test)]
 mod tests;

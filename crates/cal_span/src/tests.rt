@@ -107,31 +107,18 @@ fn scaled_by_u32(a: SignedDuration, b: SignedDuration, k: u32) -> [SignedDuratio
 }
 
 #[test]
-fn the_units_and_the_limits(rt: HostRuntime) -> Result<(), Fail> {
-    let nanoseconds = [
-        1,
-        1_000,
-        1_000_000,
-        1_000_000_000,
-        60_000_000_000,
-        3_600_000_000_000,
-        86_400_000_000_000,
-        604_800_000_000_000,
-    ];
-    for (unit, nanoseconds) in units().iter().zip(&nanoseconds) {
-        assert_eq!(rt; unit.whole_nanoseconds(), *nanoseconds);
-    }
+fn constants_and_clones_are_given_back(rt: HostRuntime) -> Result<(), Fail> {
+    let [nanosecond, _, _, _, _, _, _, week] = units();
+    assert_eq!(rt;
+        (nanosecond, week),
+        (SignedDuration::NANOSECOND, SignedDuration::WEEK)
+    );
     let [zero, min, max] = limits();
+    assert_eq!(rt;
+        (zero, min),
+        (SignedDuration::default(), SignedDuration::MIN)
+    );
     assert_eq!(rt; cloned(max)?, max);
-    assert_eq!(rt; zero, SignedDuration::default());
-    assert_eq!(rt;
-        min.whole_nanoseconds(),
-        -9_223_372_036_854_775_808_999_999_999
-    );
-    assert_eq!(rt;
-        max.whole_nanoseconds(),
-        9_223_372_036_854_775_807_999_999_999
-    );
     Ok(())
 }
 

@@ -4,6 +4,7 @@ pub use Rattle.cal_units.specs.Counted
 pub use Rattle.cal_units.specs.Lengths
 pub use Rattle.cal_units.specs.Month
 pub use Rattle.cal_units.specs.MonthCycle
+pub use Rattle.cal_units.specs.Name
 pub use Rattle.cal_units.specs.Refusal
 pub use Rattle.cal_units.specs.Walk
 pub use Rattle.cal_units.specs.Weekday
@@ -13,6 +14,7 @@ pub use Rattle.cal_span.specs.SignedDuration
 pub use Rattle.cal_clock.specs.Time
 pub use Rattle.cal_clock.specs.UtcOffset
 pub use Rattle.cal_date.specs.CalendarDay
+pub use Rattle.cal_date.specs.ClosedForms
 pub use Rattle.cal_date.specs.Date
 pub use Rattle.cal_date.specs.DateIter
 pub use Rattle.cal_date.specs.DateLimits

@@ -22,7 +22,7 @@ impl Date {
     {
         let days = duration.whole_days();
 
-        // The days of the year before the moved day. A sum that wraps is far above the length of a year.
+        // The days of the year before the moved day. Below zero, and so taken as 2^64 more, they are far above the length of a year.
         let place = days
             .cast_unsigned()
             .wrapping_add(u64::from(self.ordinal()) - 1);
@@ -48,7 +48,7 @@ impl Date {
     {
         let days = duration.whole_days();
 
-        // As in `checked_add`, by a difference that may wrap.
+        // As in `checked_add`.
         let place = (u64::from(self.ordinal()) - 1).wrapping_sub(days.cast_unsigned());
         if let Some(date) = self.in_same_year(place) {
             return Some(date);
@@ -62,7 +62,7 @@ impl Date {
 
     /// The day that many whole days later, or the end of the range that is nearest to it.
     ///
-    /// [`Self::MAX`] and one day more are [`Self::MAX`].
+    /// Only the whole days of the duration count, cut toward zero: [`Self::MAX`] and one day more are [`Self::MAX`].
     pub fn saturating_add(self, duration: SignedDuration) -> Self
         ensures { result ≡ date_nearest (pos self +ℤ whole_days duration) }
     {
@@ -72,7 +72,7 @@ impl Date {
 
     /// The day that many whole days earlier, or the end of the range that is nearest to it.
     ///
-    /// [`Self::MIN`] less one day is [`Self::MIN`].
+    /// Only the whole days of the duration count, cut toward zero: [`Self::MIN`] less one day is [`Self::MIN`].
     pub fn saturating_sub(self, duration: SignedDuration) -> Self
         ensures { result ≡ date_nearest (pos self -ℤ whole_days duration) }
     {
@@ -112,7 +112,7 @@ impl Add<SignedDuration> for Date {
 
     ghost add_gives = { λ n v moved. pos moved ≡ pos n +ℤ whole_days v };
 
-    /// The day that many whole days later, for a caller who knows that it is in the range.
+    /// The day that many whole days later, cut toward zero, for a caller who knows that it is in the range.
     fn add(self, duration: SignedDuration) -> Self {
         self.checked_add(duration).unwrap()
     }
@@ -135,7 +135,7 @@ impl Sub<SignedDuration> for Date {
 
     ghost sub_gives = { λ n v moved. pos moved ≡ pos n -ℤ whole_days v };
 
-    /// The day that many whole days earlier, for a caller who knows that it is in the range.
+    /// The day that many whole days earlier, cut toward zero, for a caller who knows that it is in the range.
     fn sub(self, duration: SignedDuration) -> Self {
         self.checked_sub(duration).unwrap()
     }

@@ -72,7 +72,8 @@ impl Date {
         self.checked_prev_occurrence(weekday).unwrap()
     }
 
-    /// The `n`-th of the days after this one that have the weekday, counted from 1, for a caller who knows that there is one.
+    /// The `n`-th of the days after this one that have the weekday, counted from 1, for a caller who knows that there is one:
+    /// `n` is not 0, and the day is not past [`Self::MAX`].
     pub fn nth_next_occurrence(self, weekday: Weekday, n: u8) -> Self
         requires { IsSome (kth n (next_occurrences (place weekday) self)) }
         ensures { kth n (next_occurrences (place weekday) self) ≡ Some result }
@@ -81,7 +82,7 @@ impl Date {
     }
 
     /// The `n`-th of the days before this one that have the weekday, counted from 1 at the nearest, for a caller who knows
-    /// that there is one.
+    /// that there is one: `n` is not 0, and the day is not before [`Self::MIN`].
     pub fn nth_prev_occurrence(self, weekday: Weekday, n: u8) -> Self
         requires { IsSome (kth n (prev_occurrences (place weekday) self)) }
         ensures { kth n (prev_occurrences (place weekday) self) ≡ Some result }

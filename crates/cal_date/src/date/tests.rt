@@ -29,6 +29,4 @@ fn packed_ends_of_the_range(rt: HostRuntime) {
     assert_eq!(rt; Date::MAX.packed, 10_239_341);
     assert_eq!(rt; Date::MIN.to_ordinal_date(), (-9999, 1));
     assert_eq!(rt; Date::MAX.to_ordinal_date(), (9999, 365));
-    assert_eq!(rt; Date::MIN.previous_day(), None);
-    assert_eq!(rt; Date::MAX.next_day(), None);
 }

@@ -62,7 +62,7 @@ impl DateIter {
 
     /// The day `n` places on from the front, or `None` where fewer than `n + 1` days are left.
     ///
-    /// That day and those before it are taken from the walk. `nth(0)` is `next()`.
+    /// That day and those before it are taken from the walk; after `None` no days are left. `nth(0)` is `next()`.
     pub fn nth(&mut self, n: usize) -> Option<Date>
         ensures item { result ≡ slice_get (days_of self.old) n }
         ensures left { self.new ≡ without_first (n + 1) self.old }
@@ -85,7 +85,7 @@ impl DateIter {
 
     /// The day `n` places back from the back, or `None` where fewer than `n + 1` days are left.
     ///
-    /// That day and those after it are taken from the walk. `nth_back(0)` is `next_back()`.
+    /// That day and those after it are taken from the walk; after `None` no days are left. `nth_back(0)` is `next_back()`.
     pub fn nth_back(&mut self, n: usize) -> Option<Date>
         ensures item { result ≡ slice_get (reverse (days_of self.old)) n }
         ensures left { self.new ≡ without_last (n + 1) self.old }

@@ -43,6 +43,17 @@ fn at_both_ends(rt: HostRuntime) {
     assert_eq!(rt; dated(5_373_484), (last, (9999, 365)));
 }
 
+// The year is the first of a century that 4 does not divide: on its days the ordinal needs no 1, and on the day after them it does.
+#[test]
+fn around_the_first_year_of_a_century(rt: HostRuntime) {
+    let first = kernel(23_815, 25_677, 869_842_876, 2_381_500, 13_228_811);
+    assert_eq!(rt; dated(2_415_021), (first, (1900, 1)));
+    let last = kernel(23_815, 42_829_242, 869_843_240, 2_381_500, 4_293_497_383);
+    assert_eq!(rt; dated(2_415_385), (last, (1900, 365)));
+    let next = kernel(23_815, 42_946_834, 869_843_241, 2_381_501, 10_289_067);
+    assert_eq!(rt; dated(2_415_386), (next, (1901, 1)));
+}
+
 // On the first of these days the century is one low. On the second its part is below the cut, and 4 divides it.
 #[test]
 fn at_the_start_of_four_centuries(rt: HostRuntime) {

@@ -1,7 +1,5 @@
-//! Every day of the range, by a date that goes on from day to day, and the closed forms on days computed apart from the
-//! code.
+//! Every day of the range, by a date that goes on from day to day.
 use crate::Date;
-use cal_units::{Month, Weekday};
 
 /// The days of the months, January first, in a year that is no leap year.
 const LENGTHS: [u8; 12] = [31, 28, 31, 30, 31, 30, 31, 31, 30, 31, 30, 31];
@@ -68,38 +66,4 @@ fn every_day_of_the_range(rt: HostRuntime) {
     assert_eq!(rt; (running.year, running.month, running.day), (10_000, 1, 1));
     assert!(rt; Date::from_julian_day(-1_931_000).is_err());
     assert!(rt; Date::from_julian_day(5_373_485).is_err());
-}
-
-#[test]
-fn julian_days(rt: HostRuntime) {
-    for (year, ordinal, julian_day) in [
-        (-9999, 1, -1_930_999),
-        (-4713, 328, 0),
-        (2000, 1, 2_451_545),
-        (9999, 365, 5_373_484),
-    ] {
-        let Ok(date) = Date::from_ordinal_date(year, ordinal) else {
-            panic!(rt; "{year} {ordinal} is refused");
-        };
-        assert_eq!(rt; date.to_julian_day(), julian_day);
-    }
-}
-
-#[test]
-fn iso_week_dates(rt: HostRuntime) {
-    for (year, ordinal, week_date) in [
-        (2019, 277, (2019, 40, Weekday::Friday)),
-        (2020, 1, (2020, 1, Weekday::Wednesday)),
-        (2020, 366, (2020, 53, Weekday::Thursday)),
-        (2021, 1, (2020, 53, Weekday::Friday)),
-        (2019, 364, (2020, 1, Weekday::Monday)),
-        (9999, 365, (9999, 52, Weekday::Friday)),
-    ] {
-        let Ok(date) = Date::from_ordinal_date(year, ordinal) else {
-            panic!(rt; "{year} {ordinal} is refused");
-        };
-        assert_eq!(rt; date.to_iso_week_date(), week_date);
-        let (year, week, weekday) = week_date;
-        assert_eq!(rt; Date::from_iso_week_date(year, week, weekday), Ok(date));
-    }
 }

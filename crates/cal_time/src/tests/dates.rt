@@ -53,20 +53,19 @@ fn parts(rt: HostRuntime) {
 
 #[test]
 fn days_have_iso_week_dates(rt: HostRuntime) {
-    for ((year, ordinal), (iso_year, week, weekday)) in [
-        ((-9999, 1), (-9999, 1, Weekday::Monday)),
-        ((2000, 1), (1999, 52, Weekday::Saturday)),
-        ((2019, 1), (2019, 1, Weekday::Tuesday)),
-        ((2019, 277), (2019, 40, Weekday::Friday)),
-        ((2019, 364), (2020, 1, Weekday::Monday)),
-        ((2020, 1), (2020, 1, Weekday::Wednesday)),
-        ((2020, 366), (2020, 53, Weekday::Thursday)),
-        ((2021, 1), (2020, 53, Weekday::Friday)),
-        ((9999, 365), (9999, 52, Weekday::Friday)),
+    for ((year, month, day), ordinal, (iso_year, week, weekday)) in [
+        ((-9999, 1, 1), 1, (-9999, 1, Weekday::Monday)),
+        ((2000, 1, 1), 1, (1999, 52, Weekday::Saturday)),
+        ((2019, 1, 1), 1, (2019, 1, Weekday::Tuesday)),
+        ((2019, 10, 4), 277, (2019, 40, Weekday::Friday)),
+        ((2019, 12, 30), 364, (2020, 1, Weekday::Monday)),
+        ((2020, 1, 1), 1, (2020, 1, Weekday::Wednesday)),
+        ((2020, 12, 31), 366, (2020, 53, Weekday::Thursday)),
+        ((2021, 1, 1), 1, (2020, 53, Weekday::Friday)),
+        ((9999, 12, 31), 365, (9999, 52, Weekday::Friday)),
     ] {
-        let Ok(date) = Date::from_ordinal_date(year, ordinal) else {
-            panic!(rt; "{year} {ordinal} is refused");
-        };
+        let date = date(&rt, year, month, day);
+        assert_eq!(rt; date.to_ordinal_date(), (year, ordinal));
         let Ok(same) = Date::from_iso_week_date(iso_year, week, weekday) else {
             panic!(rt; "{iso_year} {week} {weekday} is refused");
         };

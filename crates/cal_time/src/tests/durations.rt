@@ -50,6 +50,14 @@ fn making(rt: HostRuntime) {
         ),
         (SignedDuration::microseconds(-1_500_000), (-1, -500_000_000)),
         (SignedDuration::nanoseconds_i128(-1_000_000_001), (-1, -1)),
+        (
+            SignedDuration::nanoseconds_i128(-9_223_372_036_854_775_808_999_999_999),
+            (i64::MIN, -999_999_999),
+        ),
+        (
+            SignedDuration::nanoseconds_i128(9_223_372_036_854_775_807_999_999_999),
+            (i64::MAX, 999_999_999),
+        ),
     ] {
         assert_eq!(rt; fields(duration), parts);
     }

@@ -109,7 +109,11 @@ fn are_told_by_their_numbers<T: Counted>(values: &[T]) -> bool {
 
 #[test]
 fn values_are_ordered_and_hashed_by_their_numbers(rt: HostRuntime) {
-    assert!(rt; are_told_by_their_numbers(&days(&rt)));
+    let leap_day = date(&rt, 2000, 2, 29);
+    let Some(same) = date(&rt, 2000, 3, 1).previous_day() else {
+        panic!(rt; "no day comes before 1 March");
+    };
+    assert!(rt; are_told_by_their_numbers(&[Date::MIN, leap_day, same, Date::MAX]));
     assert!(rt;
         are_told_by_their_numbers(&[
             SignedDuration::MIN,
@@ -214,6 +218,31 @@ fn turns_of_a_cycle_are_undone(rt: HostRuntime) {
     }
 }
 
+/// Whether the walk over these days gives each of them once, taken from the front at each turn that says so, else from
+/// the back.
+fn gives_each_day_once(days: &[Date], turns: &[bool]) -> bool {
+    let (Some(first), Some(last)) = (days.first(), days.last()) else {
+        return false;
+    };
+    let mut walk = first.iter_to(*last);
+    let mut left = days;
+    for is_from_front in turns {
+        let (item, cut) = if *is_from_front {
+            (walk.next(), left.split_first())
+        } else {
+            (walk.next_back(), left.split_last())
+        };
+        let Some((day, rest)) = cut else {
+            return false;
+        };
+        if item != Some(*day) || walk.len() != rest.len() {
+            return false;
+        }
+        left = rest;
+    }
+    left.is_empty() && walk.next().is_none() && walk.next_back().is_none()
+}
+
 #[test]
 fn a_walk_gives_each_day_once_from_whichever_end(rt: HostRuntime) {
     let days = [
@@ -228,21 +257,12 @@ fn a_walk_gives_each_day_once_from_whichever_end(rt: HostRuntime) {
         [true, false, false, true],
         [false, true, false, true],
     ] {
-        let mut walk = days[0].iter_to(days[3]);
-        let mut left: &[Date] = &days;
-        for is_from_front in turns {
-            let (item, cut) = if is_from_front {
-                (walk.next(), left.split_first())
-            } else {
-                (walk.next_back(), left.split_last())
-            };
-            let Some((day, rest)) = cut else {
-                panic!(rt; "there are more than four days");
-            };
-            assert_eq!(rt; item, Some(*day));
-            assert_eq!(rt; walk.len(), rest.len());
-            left = rest;
-        }
-        assert_eq!(rt; walk.next(), None);
+        assert!(rt; gives_each_day_once(&days, &turns));
+    }
+    let first = [Date::MIN, date(&rt, -9999, 1, 2)];
+    let last = [date(&rt, 9999, 12, 31)];
+    for is_from_front in [true, false] {
+        assert!(rt; gives_each_day_once(&first, &[is_from_front, true]));
+        assert!(rt; gives_each_day_once(&last, &[is_from_front]));
     }
 }

@@ -1,9 +1,9 @@
 //! Walks over days, from both ends.
 ghost use Rattle.std.specs.Iterator.{IsFinite};
 
-use crate::Date;
 use crate::iter::DateIter;
 use crate::tests::date;
+use crate::Date;
 
 /// How many items an iterator gives.
 fn count_items<I: Iterator + Drop>(items: I) -> usize
@@ -45,6 +45,16 @@ fn what_a_walk_tells(rt: HostRuntime) {
     assert!(rt; walk.clone().is_sorted());
     assert!(rt; walk.clone() == walk);
     assert_eq!(rt; walk.take(3).last(), Some(date(&rt, 2020, 1, 1)));
+}
+
+#[test]
+fn a_loop_over_a_walk(rt: HostRuntime) {
+    let mut julian_day = 2_458_848;
+    for date in date(&rt, 2019, 12, 30).iter_to(date(&rt, 2020, 1, 2)) {
+        assert_eq!(rt; date.to_julian_day(), julian_day);
+        julian_day = date.to_julian_day().wrapping_add(1);
+    }
+    assert_eq!(rt; julian_day, 2_458_852);
 }
 
 #[test]

@@ -1,5 +1,6 @@
 use Rattle.std.proofs.Common.{◌∙◌, ◌-ℤ◌, sym, ap, subst, arith, Ok, w32}
 use Rattle.std.proofs.lemmas.Int.{ints, to_z-of_z}
+use Rattle.std.proofs.lemmas.Bool.{false≢true}
 use Rattle.cal_date.specs.Date.{first_julian_day, HasOrdinalDate}
 use Rattle.cal_date.specs.Move.{IsDateNumber}
 use Rattle.cal_date.specs.ClosedForms.{kernel_of, year_of_kernel, ordinal_of_kernel}
@@ -28,6 +29,9 @@ returns-clause-every c = λ n h has.
 
 pub returns-clause-has : goal.returns-clause-has
 returns-clause-has c = let at = there c in (at.date, at.has_day)
+
+pub returns-clause-refused : goal.returns-clause-refused
+returns-clause-refused c = let at = there c in (λ e. absurd (false≢true e), λ none. absurd (none c.date_of_kernel.result at.date at.has_day))
 
 pub returns-clause-julian_day : goal.returns-clause-julian_day
 returns-clause-julian_day c = let at = there c in (λ h. absurd h, λ none. absurd (none c.date_of_kernel.result at.date at.has_day))
