@@ -176,7 +176,7 @@ fn takes_4096_bytes(rt: HostRuntime) -> Result<(), Fail> {
     assert_eq!(rt; outcome, Ok(()));
     assert_eq!(rt; written.len(), 4096 * 9);
     for line in written.chunks(9) {
-        assert_eq!(rt; line, b"bad line\n");
+        assert_eq!(rt; line, b"bad line\n".as_slice());
     }
     let (outcome, written) = answers(rt.alloc(), &[b'\n'; 4097])?;
     assert_eq!(rt; outcome, Err(Fault::TooLong));
