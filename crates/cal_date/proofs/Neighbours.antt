@@ -141,12 +141,8 @@ low_bits-leap n low h bits =
     let least = (stands n).ordinal.0 in
     grind (arith, nat_tests)
 
-year_length : (y : ℤ) → 365 + bool_byte (is_leap_year y) ≡ days_in_year y
+pub year_length : (y : ℤ) → 365 + bool_byte (is_leap_year y) ≡ days_in_year y
 year_length y = elim (cases_Bool (is_leap_year y)) [ inl leap ↦ rw leap refl | inr common ↦ rw common refl ]
-
--- so is the length of its year
-pub low_bits-length : (n low : ℕ) → IsDate n → low ≡ leap_mark (year_at n) + ordinal_at n → 365 + bool_byte (nat_lt 512 low) ≡ days_in_year (year_at n)
-low_bits-length n low h bits = ap (λ b. 365 + bool_byte b) (low_bits-leap n low h bits) ∙ year_length (year_at n)
 
 -- days of one year are as far from one another as their ordinals
 pub same_year : (m n : ℕ) → year_at m ≡ year_at n → m + ordinal_at n ≡ n + ordinal_at m

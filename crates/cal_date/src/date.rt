@@ -227,6 +227,14 @@ impl Date {
         (self.packed & LOW_BITS) as u32
     }
 
+    /// Whether the year of the day is a leap year, by its mark.
+    fn is_in_leap_year(self) -> bool
+        ensures leap { result ≡ is_leap_year (year_at self) }
+        ensures in_range { IsDate self }
+    {
+        self.low_bits() > LEAP_MARK as u32
+    }
+
     /// The day so many days later, or earlier where they are below zero, which is of the same year.
     fn moved_in_year(self, days: i32) -> Self
         requires not_before { pos 1 ≤ℤ (pos (ordinal_at self) +ℤ days) }
@@ -243,7 +251,7 @@ impl Date {
         ensures day { SomeIff result (place < days_in_year (year_at self)) (ordinal_number (year_at self) (place + 1)) }
         ensures in_range { IsDate self }
     {
-        let length = 365 + u64::from(self.low_bits() > 512);
+        let length = 365 + u64::from(self.is_in_leap_year());
         if place < length {
             Some(self.moved_in_year(place as i32 + 1 - i32::from(self.ordinal())))
         } else {

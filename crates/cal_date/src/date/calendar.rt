@@ -99,7 +99,7 @@ impl Date {
         ensures in_range { IsDate self }
     {
         let ordinal = u32::from(self.ordinal());
-        let february_end = 59 + u32::from(self.low_bits() > 512);
+        let february_end = 59 + u32::from(self.is_in_leap_year());
         if ordinal <= february_end {
             (ordinal, 0)
         } else {

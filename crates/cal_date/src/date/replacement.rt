@@ -92,7 +92,7 @@ impl Date {
     {
         let ordinal = self.ordinal();
         let is_leap = is_leap_year(year);
-        let was_leap = self.low_bits() > 512;
+        let was_leap = self.is_in_leap_year();
 
         // Up to 28 February all years have the same ordinals. From March on a leap year is one ahead.
         if is_leap == was_leap || ordinal < 60 {

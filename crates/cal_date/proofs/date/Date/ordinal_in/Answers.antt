@@ -2,17 +2,19 @@ use Rattle.std.proofs.Common.{◌≡◌, ◌⊎◌, ◌<◌, ◌+◌, ◌-◌, �
 use Rattle.std.proofs.lemmas.Int.{to_z-of_z}
 use Rattle.cal_units.specs.Lengths.{is_leap_year}
 use Rattle.cal_date.specs.Date.{year_at, ordinal_at}
-use Rattle.cal_date.proofs.Neighbours.{low_bits-leap}
+use Rattle.cal_date.proofs.Dates.{year-most, ordinal-most}
 use Rattle.cal_date.proofs.Replacements.{beq-alike, beq-unlike, replaced-same, replaced-later, replaced-earlier, not_replaced}
 use Rattle.cal_date.proofs.date.Date.ordinal_in.Goals as goal
+
+pub overflow_add-result : goal.overflow_add-result
+overflow_add-result c = omega (arith, c.ordinal-ordinal.ensures, ordinal-most c.args.self, year-most (year_at c.args.self))
 
 pub returns-then-ordinal-lt60 : goal.returns-then-ordinal-lt60
 returns-then-ordinal-lt60 c =
     let n = c.args.self in
     let z = c.args.year in
     let leap : c.is_leap_year-is_leap.result ≡ is_leap_year z = c.is_leap_year-is_leap.ensures ∙ ap is_leap_year (to_z-of_z w32 z c.ranges.year) in
-    let low = c.low_bits-was_leap.ensures in
-    let mark = low_bits-leap n c.low_bits-was_leap.result low.in_range low.bits in
+    let mark = c.is_in_leap_year-was_leap.ensures.leap in
     let either : (is_leap_year (year_at n) ≡ is_leap_year z) ⊎ (ordinal_at n < 60) =
     elim c.if-ordinal-lt60.either [
       | inl alike ↦ inl (sym mark ∙ sym (beq-alike _ _ alike) ∙ leap)
@@ -26,8 +28,7 @@ returns-then-is_leap c =
     let n = c.args.self in
     let z = c.args.year in
     let leap : c.is_leap_year-is_leap.result ≡ is_leap_year z = c.is_leap_year-is_leap.ensures ∙ ap is_leap_year (to_z-of_z w32 z c.ranges.year) in
-    let low = c.low_bits-was_leap.ensures in
-    let mark = low_bits-leap n c.low_bits-was_leap.result low.in_range low.bits in
+    let mark = c.is_in_leap_year-was_leap.ensures.leap in
     let unlike = beq-unlike _ _ c.if-ordinal-lt60.false.0 in
     let was : is_leap_year (year_at n) ≡ not c.is_leap_year-is_leap.result = sym mark ∙ unlike in
     let is = replaced-later z n (omega (arith, c.if-ordinal-lt60.false.1, c.ordinal-ordinal.ensures)) (was ∙ ap not c.if-is_leap.true) (sym leap ∙ c.if-is_leap.true) in
@@ -38,8 +39,7 @@ returns-then-ordinal-gt60 c =
     let n = c.args.self in
     let z = c.args.year in
     let leap : c.is_leap_year-is_leap.result ≡ is_leap_year z = c.is_leap_year-is_leap.ensures ∙ ap is_leap_year (to_z-of_z w32 z c.ranges.year) in
-    let low = c.low_bits-was_leap.ensures in
-    let mark = low_bits-leap n c.low_bits-was_leap.result low.in_range low.bits in
+    let mark = c.is_in_leap_year-was_leap.ensures.leap in
     let unlike = beq-unlike _ _ c.if-ordinal-lt60.false.0 in
     let was : is_leap_year (year_at n) ≡ not c.is_leap_year-is_leap.result = sym mark ∙ unlike in
     let is = replaced-earlier z n (omega (arith, c.ordinal-ordinal.ensures)) (was ∙ ap not c.if-is_leap.false) (sym leap ∙ c.if-is_leap.false) in
@@ -50,8 +50,7 @@ returns-else-ordinal-gt60 c =
     let n = c.args.self in
     let z = c.args.year in
     let leap : c.is_leap_year-is_leap.result ≡ is_leap_year z = c.is_leap_year-is_leap.ensures ∙ ap is_leap_year (to_z-of_z w32 z c.ranges.year) in
-    let low = c.low_bits-was_leap.ensures in
-    let mark = low_bits-leap n c.low_bits-was_leap.result low.in_range low.bits in
+    let mark = c.is_in_leap_year-was_leap.ensures.leap in
     let unlike = beq-unlike _ _ c.if-ordinal-lt60.false.0 in
     let was : is_leap_year (year_at n) ≡ not c.is_leap_year-is_leap.result = sym mark ∙ unlike in
     let sixty : ordinal_at n ≡ 60 = omega (arith, c.if-ordinal-lt60.false.1, c.ordinal-ordinal.ensures) in
