@@ -1,5 +1,5 @@
 //! Text of a fixed length at most, which lies in the value itself.
-ghost use Rattle.std.specs.Prelude.{◌≡◌, ◌++◌, []};
+ghost use Rattle.std.specs.Prelude.{◌≡◌, ◌↔◌, ◌+◌, ◌<◌, ◌++◌, [], length, IsErr};
 
 use std::fmt;
 use std::marker::Model;
@@ -46,7 +46,10 @@ impl Text {
 impl fmt::Write for Text {
     ghost write_str_gives = { λ old s new. new ≡ old ++ s };
 
-    fn write_str(&mut self, s: &str) -> fmt::Result {
+    /// Appends the text, and fails where there is no room for it.
+    fn write_str(&mut self, s: &str) -> fmt::Result
+        ensures room { IsErr result ↔ (64 < length self.old + length s.now) }
+    {
         let end = self.filled + s.len();
         if end > CAPACITY {
             return Err(fmt::Error);
