@@ -1,5 +1,5 @@
 //! Text of a fixed length at most, which lies in the value itself.
-ghost use Rattle.std.specs.Prelude.{◌≡◌, ◌↔◌, ◌+◌, ◌<◌, ◌++◌, [], length, IsErr};
+ghost use Rattle.std.specs.Prelude.{◌≡◌, ◌↔◌, ◌+◌, ◌<◌, ◌++◌, [], length, IsOk, IsErr};
 
 use std::fmt;
 use std::marker::Model;
@@ -48,6 +48,7 @@ impl fmt::Write for Text {
 
     /// Appends the text, and fails where there is no room for it.
     fn write_str(&mut self, s: &str) -> fmt::Result
+        ensures ok { IsOk result → self.new ≡ self.old ++ s.now }
         ensures room { IsErr result ↔ (64 < length self.old + length s.now) }
     {
         let end = self.filled + s.len();

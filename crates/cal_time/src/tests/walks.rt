@@ -1,9 +1,9 @@
 //! Walks over days, from both ends.
 ghost use Rattle.std.specs.Iterator.{IsFinite};
 
+use crate::Date;
 use crate::iter::DateIter;
 use crate::tests::date;
-use crate::Date;
 
 /// How many items an iterator gives.
 fn count_items<I: Iterator + Drop>(items: I) -> usize
