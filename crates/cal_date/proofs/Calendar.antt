@@ -5,7 +5,7 @@ use Rattle.cal_units.specs.Lengths.{days_in_month}
 use Rattle.cal_date.specs.CalendarDay.{calendar_day}
 use Rattle.cal_date.specs.Date.{first_year, day_at, year_at, month_at, day_of_month_at, ordinal_at, IsYear, IsDate, IsOrdinal, IsDayOfMonth, HasCalendarDate, NoDate}
 use Rattle.cal_date.specs.CountLaws.{days_of_months, days_before, in_months, place_in_year, year_start-days_before}
-use Rattle.cal_date.specs.DateFields.{ordinal_number}
+use Rattle.cal_date.specs.PackedDate.{ordinal_number}
 use Rattle.cal_date.proofs.Dates.{stands, in_range}
 
 -- the ordinal of so many months and days into a year, and its number
@@ -94,3 +94,9 @@ day_of_month-most n =
     let at = in_month_of n in
     let most : days_in_month (year_at n) (at.months + 1) ≤ 31 = grind (arith, nat_tests) in
     omega (arith, at.stands.day.1)
+
+-- the day of the month is one that the month has
+pub day_of_month-range : (n : ℕ) → IsDayOfMonth (year_at n) (month_at n) (day_of_month_at n)
+day_of_month-range n =
+    let at = in_month_of n in
+    subst (λ m. IsDayOfMonth (year_at n) m (day_of_month_at n)) (sym at.month_is) at.stands.day

@@ -7,7 +7,7 @@ use Rattle.std.proofs.lemmas.Bool.Decides.{nat_tests}
 use Rattle.cal_units.specs.Lengths.{days_in_year}
 use Rattle.cal_date.specs.Date.{first_year, IsOrdinal}
 use Rattle.cal_date.specs.CountLaws.{days_of_years, days_before, days_of_years-closed}
-use Rattle.cal_date.specs.DateFields.{packed, leap_mark, year_of, ordinal_of, number_of, ordinal_number, IsPacked, IsPackedDate, IsPacked-fields, packed_at, packed_at-number_of}
+use Rattle.cal_date.specs.PackedDate.{packed, leap_mark, year_of, ordinal_of, number_of, ordinal_number, IsPacked, IsPackedDate, IsPacked-fields, packed_at, packed_at-number_of}
 use Rattle.cal_date.specs.declared.date.Date.TheInside.{Inside}
 use Rattle.cal_date.proofs.Packed.{packed-i32}
 use Rattle.cal_date.proofs.Years.{days_before-next}

@@ -5,7 +5,7 @@ use Rattle.std.proofs.lemmas.Int.{ints, to_z-of_z}
 use Rattle.cal_units.specs.Lengths.{days_in_year}
 use Rattle.cal_date.specs.Date.{first_year, year_at, ordinal_at, IsYear, IsDate, IsOrdinal, HasOrdinalDate, NoDate}
 use Rattle.cal_date.specs.CountLaws.{days_of_years, in_year, year_start, days_of_years-closed}
-use Rattle.cal_date.specs.DateFields.{ordinal_number}
+use Rattle.cal_date.specs.PackedDate.{ordinal_number}
 use Rattle.cal_date.proofs.Years.{year_of, IsYear-days_before, days_before-IsYear}
 
 -- where a number stands

@@ -7,13 +7,12 @@ use Rattle.cal_units.specs.Lengths.{days_in_year}
 use Rattle.cal_units.specs.Weeks.{first_weekday, weeks_in_year}
 use Rattle.cal_units.proofs.Weeks.{weeks_in_year-is}
 use Rattle.cal_date.specs.Date.{first_year, last_year, year_at, ordinal_at, weekday_at, IsYear, IsOrdinal, HasOrdinalDate, NoDate}
-use Rattle.cal_date.specs.CountLaws.{days_before, days_of_years-closed}
+use Rattle.cal_date.specs.CountLaws.{years_before, days_before, days_of_years-closed}
 use Rattle.cal_date.specs.IsoWeekDate.{IsWeek, HasIsoWeekDate}
 use Rattle.cal_date.specs.ClosedForms.{week_quotient, iso_year_of, iso_week_of, fourth_weekday, year_of_week, ordinal_of_week}
-use Rattle.cal_date.specs.DateFields.{ordinal_number}
+use Rattle.cal_date.specs.PackedDate.{ordinal_number}
 use Rattle.cal_date.proofs.Dates.{StandsAt, stands, in_range}
 use Rattle.cal_date.proofs.IsoWeeks.{iso_number, in_weeks, HasIsoWeekDate-iso_number, HasIsoWeekDate-same_year, HasIsoWeekDate-next_year, HasIsoWeekDate-previous_year, has_year_before}
-use Rattle.cal_date.proofs.JulianDays.{years_before}
 use Rattle.cal_date.proofs.Rising.{has_ordinal_number}
 use Rattle.cal_date.proofs.Weekdays.{weekday_at-is, first_weekday-days_before, weeks_in_year-days_before}
 use Rattle.cal_date.proofs.Years.{days_before-next}

@@ -8,7 +8,7 @@ use Rattle.cal_units.specs.Weeks.{weeks_in_year}
 use Rattle.cal_units.proofs.Weeks.{weeks_in_year-is}
 use Rattle.cal_date.specs.Date.{first_year, year_at, ordinal_at, weekday_at, IsYear, IsDate}
 use Rattle.cal_date.specs.CountLaws.{days_of_years, days_before, in_year, year_start-days_before}
-use Rattle.cal_date.specs.DateFields.{ordinal_number}
+use Rattle.cal_date.specs.PackedDate.{ordinal_number}
 use Rattle.cal_date.specs.IsoWeekDate.{weekdays_upto, thursday_of, iso_year_at, iso_week_at, IsWeek, HasIsoWeekDate}
 use Rattle.cal_date.specs.Order.{IsBefore, iso_week_date_at}
 use Rattle.cal_date.proofs.Years.{days_before-next}
@@ -50,6 +50,10 @@ stands_in_week n =
       week = (omega arith, omega arith);
       number_is = omega arith;
     }
+
+-- its week is one of its ISO year
+pub iso_week_at-range : (n : ℕ) → IsWeek (iso_year_at n) (iso_week_at n)
+iso_week_at-range n = (stands_in_week n).week
 
 -- the number of an ISO week date has it
 pub HasIsoWeekDate-iso_number : (y : ℤ) (w wd : ℕ) → first_year ≤ℤ y → IsWeek y w → wd < 7 → HasIsoWeekDate y w wd (iso_number y w wd)

@@ -3,13 +3,9 @@ use Rattle.std.proofs.Common.{◌≡◌, ℕ, suc, ◌+◌, ◌-◌, ◌*◌, �
 use Rattle.std.proofs.lemmas.Int.{ints}
 use Rattle.cal_units.specs.Lengths.{days_in_year}
 use Rattle.cal_date.specs.Date.{first_year, first_julian_day, year_at, ordinal_at, julian_day_at}
-use Rattle.cal_date.specs.CountLaws.{days_of_years, days_of_years-closed, days_of_years-suc}
+use Rattle.cal_date.specs.CountLaws.{days_of_years, years_before, days_of_years-closed, days_of_years-suc}
 use Rattle.cal_date.specs.ClosedForms.{years_counted, julian_day_of}
 use Rattle.cal_date.proofs.Dates.{stands}
-
--- how many years of the range come before a year
-abbrev pub years_before : ℤ → ℕ
-years_before y = unsigned_abs (y -ℤ first_year)
 
 -- day n has this ordinal in the year that comes after the first k years, with the days of those and of that year by closed forms
 pub record IsAfterYears (k o n : ℕ) : Type 0 where

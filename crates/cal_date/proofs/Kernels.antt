@@ -6,11 +6,12 @@ use Rattle.std.proofs.lemmas.Int.{ints}
 use Rattle.std.proofs.lemmas.Bool.Decides.{nat_tests}
 use Rattle.cal_units.specs.Lengths.{is_leap_year}
 use Rattle.cal_date.specs.Date.{first_year, first_julian_day, year_at, ordinal_at, julian_day_at, IsDate, HasOrdinalDate, HasJulianDay}
+use Rattle.cal_date.specs.CountLaws.{years_before}
 use Rattle.cal_date.specs.ClosedForms.{shifted_day, century_at, century_part_at, julian_at, years_at, year_part_at, kernel_by, kernel_of, HasKernel, is_julian_year, year_of_kernel, ordinal_of_kernel, is_leap_by_kernel}
 use Rattle.cal_date.specs.Move.{IsDateNumber}
 use Rattle.cal_date.specs.declared.kernel.JulianKernel.{JulianKernel}
 use Rattle.cal_date.proofs.Dates.{stands, IsInRange, in_range}
-use Rattle.cal_date.proofs.JulianDays.{years_before, IsAfterYears, after_years, number_at}
+use Rattle.cal_date.proofs.JulianDays.{IsAfterYears, after_years, number_at}
 
 -- ---- the first multiplication, by a factor that is 20477 / 146097 less than 2 ^ 49 / 146097
 -- a day with r quarter days of 146097 past c centuries is in century c; where r is 146097 the quotient would be one more

@@ -1,8 +1,8 @@
 -- What the day nearest to a number is, inside the range and past either end.
-use Rattle.std.proofs.Common.{◌≡◌, ℕ, ℤ, pos, ◌+ℤ◌, ◌-ℤ◌, ◌≤ℤ◌, FitsSigned, w64, arith}
-use Rattle.std.specs.Int.{saturate_signed}
+use Rattle.std.proofs.Common.{◌≡◌, ℕ, ℤ, pos, negsuc, ◌≤ℤ◌, ◌<ℤ◌, arith}
 use Rattle.std.proofs.lemmas.Int.{ints, clamps, by_lt_z}
-use Rattle.cal_date.specs.Date.{first_julian_day, last_day, IsDate}
+use Rattle.cal_span.specs.SignedDuration.{whole_days}
+use Rattle.cal_date.specs.Date.{last_day, IsDate}
 use Rattle.cal_date.specs.Move.{IsDateNumber, date_nearest}
 
 pub date_nearest-inside : (z : ℤ) → IsDateNumber z → pos (date_nearest z) ≡ z
@@ -30,13 +30,11 @@ number-date_nearest n z h e = (record { not_before = omega (arith, ints); not_af
 pub IsDate-date_nearest : (z : ℤ) → IsDate (date_nearest z)
 IsDate-date_nearest z = omega (arith, ints, clamps)
 
--- the Julian day of a day of the range fits
-pub FitsSigned-julian_day : (z j : ℤ) → IsDateNumber z → j ≡ first_julian_day +ℤ z → FitsSigned w64 j
-FitsSigned-julian_day z j h e =
-    let low = h.not_before in
-    let high = h.not_after in
-    grind (arith, ints)
+-- the whole days of a duration have its sign
+pub whole_days-negative : (v : ℤ) → v <ℤ pos 0 → whole_days v ≤ℤ pos 0
+whole_days-negative (pos i) h = absurd (omega (arith, ints))
+whole_days-negative (negsuc i) h = omega (arith, ints)
 
--- a Julian day that is cut off at 64 bits leads to the same end of the range
-pub date_nearest-saturated : (z j : ℤ) → j ≡ first_julian_day +ℤ z → date_nearest (saturate_signed w64 j -ℤ first_julian_day) ≡ date_nearest z
-date_nearest-saturated z j e = grind (arith, ints, clamps)
+pub whole_days-not_negative : (v : ℤ) → pos 0 ≤ℤ v → pos 0 ≤ℤ whole_days v
+whole_days-not_negative (pos i) h = omega (arith, ints)
+whole_days-not_negative (negsuc i) h = absurd (omega (arith, ints))

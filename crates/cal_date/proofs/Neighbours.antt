@@ -7,7 +7,7 @@ use Rattle.std.proofs.lemmas.Int.{ints}
 use Rattle.cal_units.specs.Lengths.{is_leap_year, days_in_year}
 use Rattle.cal_date.specs.Date.{first_year, last_year, last_day, year_at, ordinal_at, IsYear, IsOrdinal, IsDate, HasOrdinalDate}
 use Rattle.cal_date.specs.CountLaws.{days_before, in_year, year_start-days_before}
-use Rattle.cal_date.specs.DateFields.{leap_mark, ordinal_number}
+use Rattle.cal_date.specs.PackedDate.{leap_mark, ordinal_number}
 use Rattle.cal_date.proofs.Dates.{stands, in_range, ordinal-most, IsDate-ordinal_number}
 use Rattle.cal_date.proofs.Years.{days_before-first, days_before-last, days_before-next}
 

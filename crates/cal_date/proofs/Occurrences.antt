@@ -1,12 +1,7 @@
 -- The days with a weekday come every seven days, in both directions.
-use Rattle.std.proofs.Common.{◌≡◌, ◌≢◌, ℕ, zero, suc, ◌+◌, ◌-◌, ◌*◌, ◌%◌, ◌<◌, ◌≤◌, refl, ap, ◌∙◌, arith, List, [], ◌∷◌, filter, slice_get, Some, None, Option, true, false, if◌then◌else◌, nat_lt, nat_le, inl, inr, SomeIff, ℤ, pos, ◌+ℤ◌, ◌-ℤ◌, ◌*ℤ◌}
-use Rattle.std.proofs.lemmas.Bool.{cases_lt}
-use Rattle.std.proofs.lemmas.Int.{ints}
+use Rattle.std.proofs.Common.{◌≡◌, ◌≢◌, ℕ, zero, suc, ◌+◌, ◌-◌, ◌*◌, ◌%◌, ◌<◌, ◌≤◌, refl, ap, ◌∙◌, arith, List, [], ◌∷◌, filter, slice_get, Some, None, true, false, if◌then◌else◌, nat_lt, nat_le, Option, SomeIff, IfSome}
 use Rattle.std.proofs.lemmas.Bool.Decides.{nat_tests}
-use Rattle.cal_span.specs.SignedDuration.{day, whole_days}
-use Rattle.cal_date.specs.Date.{last_day, weekday_at, IsDate}
-use Rattle.cal_date.specs.Move.{IsDateNumber, date_nearest}
-use Rattle.cal_date.proofs.Moves.{date_nearest-inside}
+use Rattle.cal_date.specs.Date.{last_day, weekday_at}
 use Rattle.cal_date.specs.Occurrence.{days_from, days_before_back, is_on, next_occurrences, prev_occurrences, kth}
 use Rattle.cal_date.proofs.Weekdays.{weekday_at-is}
 
@@ -79,33 +74,31 @@ kth-prev_occurrences w n k m low high below e =
     let there : (w + (k - 1) + 1) % 7 ≡ n % 7 = omega (arith, weekday_at-is n) in
     in_days_before w n (k - 1) m below (omega arith) there ∙ grind (arith, nat_tests)
 
--- so a move by these days answers it
-pub next_by_move : (n j : ℕ) (z : ℤ) (r : Option ℕ) → z ≡ pos n +ℤ pos j → SomeIff r (IsDateNumber z) (date_nearest z)
-    → r ≡ (if nat_le (n + j) last_day then Some (n + j) else None)
-next_by_move n j z None e h =
-    let past : last_day < n + j = elim (cases_lt last_day (n + j)) [ inl past ↦ past | inr in_range ↦ absurd (h (record { not_before = omega (arith, ints); not_after = omega (arith, ints) })) ] in
-    grind (arith, nat_tests)
-next_by_move n j z (Some x) e h =
-    let is : pos x ≡ z = ap pos h.1 ∙ date_nearest-inside z h.0 in
-    let high = h.0.not_after in
-    let same : x ≡ n + j = omega (arith, ints) in
-    let in_range : n + j ≤ last_day = omega (arith, ints) in
-    rw same (grind (arith, nat_tests))
+-- the days to the first one after a day, by one remainder, and those back to the first one before it
+pub days_to_next : (w n p : ℕ) → w < 7 → n ≤ last_day → last_day < p → p % 7 ≡ 0 → (weekday_at n + ((w + p - 1 - n) % 7 + 1)) % 7 ≡ w
+days_to_next w n p below h past whole = let is = weekday_at-is n in omega arith
 
-pub prev_by_move : (n j : ℕ) (z : ℤ) (r : Option ℕ) → IsDate n → z ≡ pos n -ℤ pos j → SomeIff r (IsDateNumber z) (date_nearest z)
-    → r ≡ (if nat_le j n then Some (n - j) else None)
-prev_by_move n j z None d e h =
-    let past : n < j = elim (cases_lt n j) [ inl past ↦ past | inr in_range ↦ absurd (h (record { not_before = omega (arith, ints); not_after = omega (arith, ints) })) ] in
-    grind (arith, nat_tests)
-prev_by_move n j z (Some x) d e h =
-    let is : pos x ≡ z = ap pos h.1 ∙ date_nearest-inside z h.0 in
-    let low = h.0.not_before in
-    let in_range : j ≤ n = omega (arith, ints) in
-    let same : x ≡ n - j = omega (arith, ints) in
-    rw same (grind (arith, nat_tests))
+pub days_to_prev : (w n : ℕ) → w < 7 → (w + ((n + 6 - w) % 7 + 1)) % 7 ≡ weekday_at n
+days_to_prev w n below = let is = weekday_at-is n in omega arith
 
--- the whole days of so many days
-pub whole_days-days : (j : ℕ) (d v : ℤ) → d ≡ pos j → v ≡ d *ℤ pos day → whole_days v ≡ pos j
-whole_days-days j d v e h =
-    let is : v ≡ pos (j * day) = h ∙ ap (λ z. z *ℤ pos day) e in
-    rw is (ap pos (omega arith))
+-- a day found by these days is the occurrence, and has the weekday
+pub next_found : (w n m k p : ℕ) (r : Option ℕ) → w < 7 → n ≤ last_day → last_day < p → p % 7 ≡ 0 → k ≡ n + ((w + p - 1 - n) % 7 + 1 + 7 * m)
+    → SomeIff r (k ≤ last_day) k → r ≡ kth (suc m) (next_occurrences w n)
+next_found w n m k p None below h past whole e none =
+    let law = kth-next_occurrences w n ((w + p - 1 - n) % 7 + 1) m (omega arith) (omega arith) (days_to_next w n p below h past whole) in
+    rw law (grind (arith, nat_tests))
+next_found w n m k p (Some x) below h past whole e some =
+    let law = kth-next_occurrences w n ((w + p - 1 - n) % 7 + 1) m (omega arith) (omega arith) (days_to_next w n p below h past whole) in
+    rw law (grind (arith, nat_tests))
+
+pub next_weekday : (w n m k p : ℕ) (r : Option ℕ) → w < 7 → n ≤ last_day → last_day < p → p % 7 ≡ 0 → k ≡ n + ((w + p - 1 - n) % 7 + 1 + 7 * m)
+    → SomeIff r (k ≤ last_day) k → IfSome r (λ later. weekday_at later ≡ w)
+next_weekday w n m k p None below h past whole e none = tt
+next_weekday w n m k p (Some x) below h past whole e some =
+    let is = weekday_at-is x in
+    let same = some.1 in
+    omega arith
+
+pub prev_found : (w n m : ℕ) → w < 7
+    → kth (suc m) (prev_occurrences w n) ≡ (if nat_le ((n + 6 - w) % 7 + 1 + 7 * m) n then Some (n - ((n + 6 - w) % 7 + 1 + 7 * m)) else None)
+prev_found w n m below = kth-prev_occurrences w n ((n + 6 - w) % 7 + 1) m (omega arith) (omega arith) below (days_to_prev w n below)

@@ -8,15 +8,13 @@ use lib.Signed.{shr_z}
 use mir.Val.{bool_byte}
 use Rattle.cal_units.specs.Lengths.{is_leap_year, days_in_year}
 use Rattle.cal_date.specs.Date.{first_year, last_year, last_day, year_at, ordinal_at, IsYear, IsOrdinal, IsDate}
-use Rattle.cal_date.specs.DateFields.{packed, leap_mark, year_of, ordinal_of, IsPacked, IsPackedDate, IsPacked-fields, fields-IsPacked, ordinal_number, number_of, HasOrdinalDate-number_of}
+use Rattle.cal_date.specs.PackedDate.{packed, raised_by, leap_mark, year_of, ordinal_of, IsPacked, IsPackedDate, IsPacked-fields, fields-IsPacked, ordinal_number, number_of, HasOrdinalDate-number_of}
 use Rattle.cal_date.specs.declared.date.Date.TheInside.{Inside}
-use Rattle.cal_date.specs.CountLaws.{days_of_years-closed}
 use Rattle.cal_date.proofs.Dates.{IsDate-ordinal_number}
-use Rattle.cal_date.proofs.Years.{days_before-first}
 
 record IsBounded (z : ℤ) : Type 0 where
-  low : neg_ℤ (pos 10_240_000) ≤ℤ z
-  high : z ≤ℤ pos 10_240_000
+  low : neg_ℤ (pos (raised_by * 1024)) ≤ℤ z
+  high : z ≤ℤ pos (raised_by * 1024)
 
 bounded : (y : ℤ) (o : ℕ) → IsYear y → IsOrdinal y o → IsBounded (packed y o)
 unfolding packed
@@ -90,19 +88,19 @@ lowest_bits-of : (z : ℤ) → IsBounded z → unsigned_abs (to_z w32 (bit_and (
 unfolding ordinal_of
 lowest_bits-of z h =
     let mask : bit_and (of_z w32 z) 511 ≡ of_z w32 z % 512 = and_mask (of_z w32 z) 9 in
-    let bits : of_z w32 z % 512 ≡ unsigned_abs (z +ℤ pos 10_240_000) % 512 = grind (arith, ints) in
+    let bits : of_z w32 z % 512 ≡ unsigned_abs (z +ℤ pos (raised_by * 1024)) % 512 = grind (arith, ints) in
     ap (λ n. unsigned_abs (to_z w32 n)) mask ∙ omega (arith, ints)
 
 pub lowest_bits : (y : ℤ) (o : ℕ) → IsYear y → IsOrdinal y o → unsigned_abs (to_z w32 (bit_and (of_z w32 (packed y o)) 511)) ≡ o
 lowest_bits y o h f = lowest_bits-of (packed y o) (bounded y o h f) ∙ ordinal_of-packed y o h f
 
-low_bits-of : (z : ℤ) → IsBounded z → unsigned_abs (to_z w32 (bit_and (of_z w32 z) 1023)) ≡ unsigned_abs (z +ℤ pos 10_240_000) % 1024
+low_bits-of : (z : ℤ) → IsBounded z → unsigned_abs (to_z w32 (bit_and (of_z w32 z) 1023)) ≡ unsigned_abs (z +ℤ pos (raised_by * 1024)) % 1024
 low_bits-of z h =
     let mask : bit_and (of_z w32 z) 1023 ≡ of_z w32 z % 1024 = and_mask (of_z w32 z) 10 in
-    let bits : of_z w32 z % 1024 ≡ unsigned_abs (z +ℤ pos 10_240_000) % 1024 = grind (arith, ints) in
+    let bits : of_z w32 z % 1024 ≡ unsigned_abs (z +ℤ pos (raised_by * 1024)) % 1024 = grind (arith, ints) in
     ap (λ n. unsigned_abs (to_z w32 n)) mask ∙ omega (arith, ints)
 
-low_bits-packed : (y : ℤ) (o : ℕ) → IsYear y → IsOrdinal y o → unsigned_abs (packed y o +ℤ pos 10_240_000) % 1024 ≡ leap_mark y + o
+low_bits-packed : (y : ℤ) (o : ℕ) → IsYear y → IsOrdinal y o → unsigned_abs (packed y o +ℤ pos (raised_by * 1024)) % 1024 ≡ leap_mark y + o
 unfolding packed
 low_bits-packed y o h f = grind (arith, ints, nat_tests)
 
@@ -116,29 +114,6 @@ packed-moved y o p days e = omega (arith, ints)
 
 pub ordinal_number-moved : (y : ℤ) (o p : ℕ) (days : ℤ) → 1 ≤ o → 1 ≤ p → pos o +ℤ days ≡ pos p → pos (ordinal_number y p) ≡ pos (ordinal_number y o) +ℤ days
 ordinal_number-moved y o p days h f e = omega (arith, ints)
-
--- the first and the last day of the range
-packed-first : packed first_year 1 ≡ neg_ℤ (pos 10_238_975)
-unfolding packed
-packed-first = refl
-
-packed-last : packed last_year 365 ≡ pos 10_239_341
-unfolding packed
-packed-last = refl
-
-first_of_range : IsYear first_year × IsOrdinal first_year 1
-first_of_range = ((omega (arith, ints), omega (arith, ints)), (omega arith, omega arith))
-
-last_of_range : IsYear last_year × IsOrdinal last_year 365
-last_of_range = ((omega (arith, ints), omega (arith, ints)), (omega arith, omega arith))
-
-pub number_of-first : number_of (record { packed = neg_ℤ (pos 10_238_975) }) ≡ 0
-number_of-first =
-    ap (λ p. ordinal_number (year_of p) (ordinal_of p)) (sym packed-first) ∙ number_of-packed first_year 1 first_of_range.0 first_of_range.1 ∙ omega (arith, days_before-first)
-
-pub number_of-last : number_of (record { packed = pos 10_239_341 }) ≡ last_day
-number_of-last =
-    ap (λ p. ordinal_number (year_of p) (ordinal_of p)) (sym packed-last) ∙ number_of-packed last_year 365 last_of_range.0 last_of_range.1 ∙ omega (arith, days_of_years-closed 19998)
 
 -- a packed value moved by days within the year
 pub record IsMoved (p days : ℤ) (n : ℕ) : Type 0 where

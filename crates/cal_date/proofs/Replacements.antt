@@ -8,7 +8,7 @@ use Rattle.cal_units.specs.declared.error.ComponentRange.{ComponentRange}
 use Rattle.std.specs.Prelude.{Result, Ok, Err, IfErr}
 use Rattle.cal_date.specs.Date.{year_at, month_at, day_of_month_at, ordinal_at, IsDate, IsYear, IsOrdinal, IsDayOfMonth, HasCalendarDate}
 use Rattle.cal_date.specs.CountLaws.{days_of_months}
-use Rattle.cal_date.specs.DateFields.{ordinal_number}
+use Rattle.cal_date.specs.PackedDate.{ordinal_number}
 use Rattle.cal_date.proofs.Dates.{IsDate-ordinal_number}
 use Rattle.cal_date.proofs.Calendar.{ordinal_in, IsInMonthOf, in_month_of, stands_at, calendar_in_range, IsOrdinal-ordinal_in}
 use Rattle.cal_date.proofs.Months.{each_month}

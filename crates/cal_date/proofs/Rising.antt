@@ -9,7 +9,7 @@ use Rattle.cal_date.specs.CalendarDay.{CalendarDay, calendar_day, day_after}
 use Rattle.cal_date.specs.CountLaws.{days_before, day_at-suc, in_year, year_start-days_before}
 use Rattle.cal_date.specs.Date.{first_year, day_at, year_at, ordinal_at, IsOrdinal, HasOrdinalDate}
 use Rattle.cal_date.specs.Order.{IsBefore, ordinal_date_at, calendar_date_at}
-use Rattle.cal_date.specs.DateFields.{ordinal_number}
+use Rattle.cal_date.specs.PackedDate.{ordinal_number}
 use Rattle.cal_date.proofs.Dates.{stands}
 use Rattle.cal_date.proofs.Order.{Rises}
 use Rattle.cal_date.proofs.Years.{days_before-next}

@@ -1,29 +1,22 @@
--- Moves within a year, by the days of the year before the day, as a u64.
-use Rattle.std.proofs.Common.{◌≡◌, ◌∙◌, ℕ, ◌+◌, ◌-◌, ◌%◌, ◌<◌, ◌≤◌, refl, sym, ap, subst, arith, ℤ, pos, ◌+ℤ◌, ◌-ℤ◌, of_z, w64, FitsSigned}
+-- Moves by days that are taken as a u64, those below zero as 2^64 more: within a year by the days of the year before the day, and
+-- else by its number.
+use Rattle.std.proofs.Common.{◌≡◌, ◌∙◌, zero, suc, ℕ, ◌+◌, ◌-◌, ◌%◌, ◌<◌, ◌≤◌, ◌⊎◌, inl, inr, refl, sym, ap, subst, arith, ℤ, pos, negsuc, neg_ℤ, ◌+ℤ◌, ◌-ℤ◌, unsigned_abs, of_z, w64, FitsSigned, Option, Some, None, SomeIff, IsSomeAnd}
 use Rattle.std.proofs.lemmas.Int.{ints}
 use Rattle.cal_units.specs.Lengths.{days_in_year}
 use Rattle.cal_date.specs.Date.{year_at, ordinal_at, IsOrdinal, IsDate}
-use Rattle.cal_date.specs.DateFields.{ordinal_number, HasOrdinalDate-ordinal_number}
+use Rattle.cal_date.specs.PackedDate.{ordinal_number, HasOrdinalDate-ordinal_number}
 use Rattle.cal_date.specs.Move.{IsDateNumber, IsOrdinalNumber, date_nearest}
 use Rattle.cal_date.proofs.Dates.{year-most, in_range, IsDate-ordinal_number}
 use Rattle.cal_date.proofs.Moves.{number-date_nearest}
 
--- a sum or a difference that wraps is far above the places of a year; one that does not is the place of the moved ordinal
+-- a sum that wraps is far above the places of a year; one that does not is the place of the moved ordinal
 pub place-added : (w : ℤ) (o : ℕ) → FitsSigned w64 w → 1 ≤ o → o ≤ 366 → (of_z w64 w + (o - 1)) % 18446744073709551616 < 366
     → pos ((of_z w64 w + (o - 1)) % 18446744073709551616 + 1) ≡ pos o +ℤ w
 place-added w o fits low high near = grind (arith, ints)
 
-pub place-subtracted : (w : ℤ) (o : ℕ) → FitsSigned w64 w → 1 ≤ o → o ≤ 366 → (o - 1 + (18446744073709551616 - of_z w64 w)) % 18446744073709551616 < 366
-    → pos ((o - 1 + (18446744073709551616 - of_z w64 w)) % 18446744073709551616 + 1) ≡ pos o -ℤ w
-place-subtracted w o fits low high near = grind (arith, ints)
-
 -- and each ordinal of the year has its place
 pub place-added-in_year : (y w : ℤ) (o : ℕ) → FitsSigned w64 w → 1 ≤ o → o ≤ 366 → IsOrdinalNumber y (pos o +ℤ w) → (of_z w64 w + (o - 1)) % 18446744073709551616 < days_in_year y
 place-added-in_year y w o fits low high h = let first = h.not_before in let last = h.not_after in let most = year-most y in grind (arith, ints)
-
-pub place-subtracted-in_year : (y w : ℤ) (o : ℕ) → FitsSigned w64 w → 1 ≤ o → o ≤ 366 → IsOrdinalNumber y (pos o -ℤ w)
-    → (o - 1 + (18446744073709551616 - of_z w64 w)) % 18446744073709551616 < days_in_year y
-place-subtracted-in_year y w o fits low high h = let first = h.not_before in let last = h.not_after in let most = year-most y in grind (arith, ints)
 
 -- the day d of the year of day n that has the ordinal p + 1, which is z as a whole number; m is the number that day n moves to
 pub record IsNear (n d : ℕ) (m z : ℤ) : Type 0 where
@@ -41,3 +34,52 @@ near n d p m z h within is ordinal move =
       day = number-date_nearest d m date number;
       same_year = (ap year_at is ∙ has.0, ap pos (ap ordinal_at is ∙ has.1) ∙ ordinal);
     }
+
+-- and so it is of the numbers of the days
+pub number-added : (w : ℤ) (n : ℕ) → FitsSigned w64 w → IsDate n → IsDate ((of_z w64 w + n) % 18446744073709551616)
+    → pos ((of_z w64 w + n) % 18446744073709551616) ≡ pos n +ℤ w
+number-added w n fits h near = grind (arith, ints)
+
+pub number-added-in_range : (w : ℤ) (n : ℕ) → FitsSigned w64 w → IsDate n → IsDateNumber (pos n +ℤ w) → IsDate ((of_z w64 w + n) % 18446744073709551616)
+number-added-in_range w n fits h is = let first = is.not_before in let last = is.not_after in grind (arith, ints)
+
+-- a day found by its number is the moved one
+pub moved_by_number : (n k : ℕ) (w : ℤ) (r : Option ℕ) → FitsSigned w64 w → IsDate n → k ≡ (of_z w64 w + n) % 18446744073709551616 → SomeIff r (IsDate k) k
+    → SomeIff r (IsDateNumber (pos n +ℤ w)) (date_nearest (pos n +ℤ w))
+moved_by_number n k w None fits h e none = λ is. none (subst IsDate (sym e) (number-added-in_range w n fits h is))
+moved_by_number n k w (Some d) fits h e some =
+    let number = number-added w n fits h (subst IsDate e some.0) in
+    number-date_nearest d (pos n +ℤ w) (subst IsDate (sym some.1) some.0) (sym number ∙ ap pos (sym e) ∙ ap pos (sym some.1))
+
+found_in_year : (n : ℕ) (w : ℤ) (r : Option ℕ) (d : ℕ) → IsNear n d (pos n +ℤ w) (pos (ordinal_at n) +ℤ w) → SomeIff r (IsDateNumber (pos n +ℤ w)) (date_nearest (pos n +ℤ w))
+    → IsSomeAnd r (λ d. (year_at d ≡ year_at n) × (pos (ordinal_at d) ≡ pos (ordinal_at n) +ℤ w))
+found_in_year n w None d here none = absurd (none here.day.0)
+found_in_year n w (Some x) d here some =
+    let same : x ≡ d = some.1 ∙ sym here.day.1 in
+    (ap year_at same ∙ here.same_year.0, ap pos (ap ordinal_at same) ∙ here.same_year.1)
+
+-- where the moved ordinal is one of the year, the moved day has it
+pub moved_in_year : (n : ℕ) (w : ℤ) (r : Option ℕ) → IsDate n → SomeIff r (IsDateNumber (pos n +ℤ w)) (date_nearest (pos n +ℤ w))
+    → IsOrdinalNumber (year_at n) (pos (ordinal_at n) +ℤ w) → IsSomeAnd r (λ d. (year_at d ≡ year_at n) × (pos (ordinal_at d) ≡ pos (ordinal_at n) +ℤ w))
+moved_in_year n w r h moves is =
+    let z = pos (ordinal_at n) +ℤ w in
+    let p = unsigned_abs z - 1 in
+    let low = is.not_before in
+    let high = is.not_after in
+    let to : pos (p + 1) ≡ z = omega (arith, ints) in
+    let here = near n (ordinal_number (year_at n) (p + 1)) p (pos n +ℤ w) z h (omega (arith, ints)) refl to (omega (arith, ints)) in
+    found_in_year n w r (ordinal_number (year_at n) (p + 1)) here moves
+
+-- days that cannot be negated lead past the range, and past the year
+pub past_by_least : (n : ℕ) (w : ℤ) → FitsSigned w64 w → ¬ FitsSigned w64 (neg_ℤ w) → IsDate n → ¬ IsDateNumber (pos n -ℤ w)
+past_by_least n w fits least h is = let low = is.not_before in let high = is.not_after in least (grind (arith, ints))
+
+pub past_year_by_least : (y w : ℤ) (o : ℕ) → FitsSigned w64 w → ¬ FitsSigned w64 (neg_ℤ w) → o ≤ 366 → ¬ IsOrdinalNumber y (pos o -ℤ w)
+past_year_by_least y w o fits least most is = let low = is.not_before in let high = is.not_after in let days = year-most y in least (grind (arith, ints))
+
+-- the same for days taken away
+pub moved_back_in_year : (n : ℕ) (w v : ℤ) (r : Option ℕ) → IsDate n → v ≡ neg_ℤ w → SomeIff r (IsDateNumber (pos n +ℤ v)) (date_nearest (pos n +ℤ v))
+    → IsOrdinalNumber (year_at n) (pos (ordinal_at n) -ℤ w) → IsSomeAnd r (λ d. (year_at d ≡ year_at n) × (pos (ordinal_at d) ≡ pos (ordinal_at n) -ℤ w))
+moved_back_in_year n w v r h e moves =
+    let same : pos (ordinal_at n) +ℤ v ≡ pos (ordinal_at n) -ℤ w = ap (λ z. pos (ordinal_at n) +ℤ z) e ∙ omega (arith, ints) in
+    subst (λ z. IsOrdinalNumber (year_at n) z → IsSomeAnd r (λ d. (year_at d ≡ year_at n) × (pos (ordinal_at d) ≡ z))) same (moved_in_year n v r h moves)

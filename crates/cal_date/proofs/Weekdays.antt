@@ -1,5 +1,5 @@
 -- The weekday of each day by a remainder, and how often a weekday comes in the first days of a year.
-use Rattle.std.proofs.Common.{◌≡◌, ℕ, zero, suc, ◌+◌, ◌-◌, ◌/◌, ◌%◌, ◌<◌, ◌≤◌, refl, sym, ap, ◌∙◌, arith, ℤ, pos, ◌+ℤ◌, ◌-ℤ◌, ◌≤ℤ◌, unsigned_abs, Bool, false, add-zero, inl, inr, lit<}
+use Rattle.std.proofs.Common.{◌≡◌, ℕ, zero, suc, ◌+◌, ◌-◌, ◌*◌, ◌/◌, ◌%◌, ◌<◌, ◌≤◌, refl, sym, ap, ◌∙◌, arith, ℤ, pos, ◌+ℤ◌, ◌-ℤ◌, ◌≤ℤ◌, unsigned_abs, Bool, false, add-zero, inl, inr, lit<}
 use Rattle.std.specs.Prelude.{if◌then◌else◌, ◌==◌}
 use Rattle.std.specs.Ordering.{int_eq}
 use Rattle.std.proofs.lemmas.Bool.{cases_Bool}
@@ -24,7 +24,9 @@ weekday_at-is (suc n) = let before : weekday_at n ≡ n % 7 = weekday_at-is n in
 
 -- the first of January of each year of the range, by both counts
 first_weekday-count : (k : ℕ) → first_weekday (first_year +ℤ pos k) ≡ days_of_years k % 7
-first_weekday-count zero = first_weekday-is (first_year +ℤ pos 0) 26 400 (omega (arith, ints)) ∙ (unfold days_of_years in refl)
+first_weekday-count zero =
+    let k = unsigned_abs first_year in
+    first_weekday-is (first_year +ℤ pos 0) k (400 * k - (k + 1)) (omega (arith, ints)) ∙ (unfold days_of_years in refl)
 first_weekday-count (suc k) =
     let before = first_weekday-count k in
     let next = first_weekday-next (first_year +ℤ pos k) in

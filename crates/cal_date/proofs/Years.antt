@@ -5,7 +5,7 @@ use Rattle.std.proofs.lemmas.Int.{ints}
 use Rattle.cal_units.specs.Lengths.{days_in_year}
 use Rattle.cal_date.specs.CalendarDay.{calendar_day}
 use Rattle.cal_date.specs.Date.{first_year, last_year, last_day, day_at, IsYear}
-use Rattle.cal_date.specs.CountLaws.{days_of_years, days_before, year_start, year_end, days_of_years-closed, days_of_years-suc}
+use Rattle.cal_date.specs.CountLaws.{days_of_years, years_before, days_before, year_start, year_end, days_of_years-closed, days_of_years-suc}
 
 -- each number stands in a year
 pub year_of : (k n : ℕ) → n < days_of_years k → (i : ℕ) × (j : ℕ) × (i < k) × (j < days_in_year (first_year +ℤ pos i)) × (n ≡ days_of_years i + j)
@@ -40,11 +40,11 @@ days_before-IsYear y h =
 
 -- the last year ends with the last day of the range
 pub days_before-last : days_before last_year + days_in_year last_year ≡ last_day + 1
-days_before-last = omega (arith, days_of_years-closed 19998)
+days_before-last = omega (arith, days_of_years-closed (years_before last_year))
 
 -- the last day of the range is the last of its last year
 pub day_at-last_day : day_at last_day ≡ calendar_day last_year 12 31
 day_at-last_day =
-    let end = year_end (days_of_years 19998) last_year (year_start 19998) in
-    let sums : days_of_years 19998 + 364 ≡ last_day = omega (arith, days_of_years-closed 19998) in
+    let end = year_end (days_of_years (years_before last_year)) last_year (year_start (years_before last_year)) in
+    let sums : days_of_years (years_before last_year) + 364 ≡ last_day = omega (arith, days_of_years-closed (years_before last_year)) in
     ap day_at (sym sums) ∙ end.day_is

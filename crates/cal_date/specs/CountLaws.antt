@@ -189,9 +189,12 @@ year_start (suc k) =
     let same : (first_year +ℤ pos k) +ℤ pos 1 ≡ first_year +ℤ pos (suc k) = omega (arith, ints) in
     rw same at next
 
--- the days of the range before a year
+-- the years of the range before a year, and their days
+abbrev pub years_before : ℤ → ℕ
+years_before y = unsigned_abs (y -ℤ first_year)
+
 abbrev pub days_before : ℤ → ℕ
-days_before y = days_of_years (unsigned_abs (y -ℤ first_year))
+days_before y = days_of_years (years_before y)
 
 pub year_start-days_before : (y : ℤ) → first_year ≤ℤ y → IsYearStart (days_before y) y
 year_start-days_before y h =

@@ -3,19 +3,19 @@ use Rattle.std.specs.Prelude.{◌≡◌, ℕ, zero, suc, ◌+◌, ◌%◌, ◌�
 use Rattle.cal_units.specs.Lengths.{days_in_year, days_in_month}
 use Rattle.cal_date.specs.CalendarDay.{CalendarDay, calendar_day, day_after, is_first_of_january}
 
--- The range: the years -9999 to 9999. Day 0 is 1 January of its first year, and has this Julian day;
+-- The range: the years -999999 to 999999. Day 0 is 1 January of its first year, and has this Julian day;
 -- that its last day is 31 December of its last year is a law, day_at-last_day.
 abbrev pub first_year : ℤ
-first_year = neg_ℤ (pos 9999)
+first_year = neg_ℤ (pos 999999)
 
 abbrev pub last_year : ℤ
-last_year = pos 9999
+last_year = pos 999999
 
 abbrev pub first_julian_day : ℤ
-first_julian_day = neg_ℤ (pos 1930999)
+first_julian_day = neg_ℤ (pos 363521074)
 
 abbrev pub last_day : ℕ
-last_day = 7304483
+last_day = 730484633
 
 -- a year of the range
 abbrev pub IsYear : ℤ → Type 0

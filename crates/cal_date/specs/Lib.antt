@@ -2,7 +2,7 @@ pub mod CalendarDay
 pub mod ClosedForms
 pub mod CountLaws
 pub mod Date
-pub mod DateFields
+pub mod PackedDate
 pub mod DateIter
 pub mod DateLimits
 pub mod DateText

@@ -1,9 +1,9 @@
 //! Dates.
-ghost use Rattle.std.specs.Prelude.{◌≡◌, ℕ, ◌+◌, ◌-◌, ◌<◌, pos, ◌+ℤ◌, ◌<ℤ◌, ◌≤ℤ◌, ◌↔◌, IfOk, IfErr, IsErr, SomeIff, ◌⊎◌, Ok, [], ◌∷◌};
+ghost use Rattle.std.specs.Prelude.{◌≡◌, ℕ, ◌+◌, ◌-◌, ◌<◌, ◌≤◌, pos, ◌+ℤ◌, ◌<ℤ◌, ◌≤ℤ◌, ◌↔◌, IfOk, IfErr, IsErr, SomeIff, ◌⊎◌, Ok, [], ◌∷◌};
 ghost use Rattle.cal_date.specs.Date.{last_day, year_at, ordinal_at, julian_day_at, IsDate, IsYear, IsOrdinal, HasOrdinalDate, HasJulianDay, NoDate};
 ghost use Rattle.cal_date.specs.Order.{IsBefore, ordinal_date_at};
 ghost use Rattle.cal_date.specs.ClosedForms.{julian_day_of, kernel_of, year_of_kernel, ordinal_of_kernel};
-ghost use Rattle.cal_date.specs.DateFields.{leap_mark, ordinal_number};
+ghost use Rattle.cal_date.specs.PackedDate.{leap_mark, ordinal_number};
 ghost use Rattle.cal_units.specs.Lengths.{days_in_year, is_leap_year};
 ghost use Rattle.cal_units.specs.Refusal.{refusal, IsRefused};
 ghost use Rattle.cal_date.specs.Refusals.{year_out_of_range, ordinal_out_of_range, julian_day_out_of_range};
@@ -17,19 +17,24 @@ mod arithmetic;
 mod calendar;
 mod display;
 mod iso_week;
+mod number;
 mod occurrences;
 mod order;
 mod replacement;
 #[cfg(test)]
 mod tests;
 
-const MIN_YEAR: i32 = -9999;
+const MIN_YEAR: i32 = -999_999;
 
-const MAX_YEAR: i32 = 9999;
+const MAX_YEAR: i32 = 999_999;
 
-const MIN_JULIAN_DAY: i32 = -1_930_999;
+/// The Julian day of the first day of the range, which has number 0.
+const MIN_JULIAN_DAY: i32 = -363_521_074;
 
-const MAX_JULIAN_DAY: i32 = 5_373_484;
+/// The number of the last day.
+const LAST_DAY: i32 = 730_484_633;
+
+const MAX_JULIAN_DAY: i32 = MIN_JULIAN_DAY + LAST_DAY;
 
 /// The leap mark of a packed date.
 const LEAP_MARK: i32 = 512;
@@ -56,7 +61,7 @@ impl Model for Date {
 
     ghost Value = { ℕ };
 
-    ghost use Rattle.cal_date.specs.DateFields.{number_of, IsPackedDate, fields_at, fields_at-number_of};
+    ghost use Rattle.cal_date.specs.PackedDate.{number_of, IsPackedDate, fields_at, fields_at-number_of};
 
     ghost view = { number_of };
 
@@ -70,11 +75,11 @@ impl Model for Date {
 impl Date {
     /// The first day, -9999-01-01, whose Julian day is -1930999.
     pub const MIN: Date = Date {
-        packed: -10_238_975,
+        packed: -1_023_998_975,
     };
 
     /// The last day, 9999-12-31, whose Julian day is 5373484.
-    pub const MAX: Date = Date { packed: 10_239_341 };
+    pub const MAX: Date = Date { packed: 1_023_999_341 };
 
     /// The day of the year that has this ordinal.
     ///
@@ -122,16 +127,21 @@ impl Date {
         Ok(date_of_kernel(julian_kernel(julian_day)))
     }
 
-    /// The year, from -9999 to 9999.
+    /// The year, from -999999 to 999999. That of [`Self::MIN`] is -999999.
     pub fn year(self) -> i32
-        ensures { result ≡ year_at self }
+        ensures counted { result ≡ year_at self }
+        ensures range { IsYear result }
+        ensures in_range { IsDate self }
     {
         self.packed >> 10
     }
 
-    /// The place of the day in its year, from 1 to 365, or 366 in a leap year.
+    /// The place of the day in its year, from 1 to 365, or 366 in a leap year. That of 2020-12-31 is 366.
     pub fn ordinal(self) -> u16
-        ensures { result ≡ ordinal_at self }
+        ensures counted { result ≡ ordinal_at self }
+        ensures range { IsOrdinal (year_at self) result }
+        ensures most { result ≤ 366 }
+        ensures in_range { IsDate self }
     {
         (self.packed & ORDINAL_BITS) as u16
     }
@@ -140,9 +150,9 @@ impl Date {
     pub fn to_ordinal_date(self) -> (i32, u16)
         ensures date { HasOrdinalDate result.0 result.1 self }
         ensures order { (n : ℕ) → IsDate n → (n < self) ↔ IsBefore (ordinal_date_at n) (result.0 ∷ pos result.1 ∷ []) }
+        ensures range { IsYear result.0 × IsOrdinal result.0 result.1 × (result.1 ≤ 366) }
         ensures in_range { IsDate self }
     {
-        self.is_in_range();
         (self.year(), self.ordinal())
     }
 
@@ -150,19 +160,20 @@ impl Date {
     pub fn to_julian_day(self) -> i32
         ensures day { result ≡ julian_day_at self }
         ensures order { (n : ℕ) → IsDate n → (n < self) ↔ (julian_day_at n <ℤ result) }
+        ensures has { HasJulianDay result self }
         ensures in_range { IsDate self }
         ensures closed_form { result ≡ julian_day_of (year_at self) (ordinal_at self) }
     {
-        let (year, ordinal) = self.year_and_ordinal();
-        let years = (year + 999_999) as u32;
+        let years = (self.year() + 999_999) as u32;
         let centuries = years / 100;
-        let days = 1461 * years / 4 - centuries + centuries / 4 + u32::from(ordinal);
+        let days = 1461 * years / 4 - centuries + centuries / 4 + u32::from(self.ordinal());
         days as i32 - 363_521_075
     }
 
     /// The day after, or `None` after [`Self::MAX`] alone. That of 2019-12-31 is 2020-01-01.
     pub fn next_day(self) -> Option<Self>
-        ensures { SomeIff result (self < last_day) (self + 1) }
+        ensures day { SomeIff result (self < last_day) (self + 1) }
+        ensures in_range { IsDate self }
     {
         let low_bits = self.low_bits();
 
@@ -179,7 +190,8 @@ impl Date {
 
     /// The day before, or `None` before [`Self::MIN`] alone. That of 2020-01-01 is 2019-12-31.
     pub fn previous_day(self) -> Option<Self>
-        ensures { SomeIff result (0 < self) (self - 1) }
+        ensures day { SomeIff result (0 < self) (self - 1) }
+        ensures in_range { IsDate self }
     {
         let low_bits = self.low_bits();
 
@@ -247,7 +259,7 @@ impl Date {
     }
 
     /// The day of the same year that has so many days of the year before it, or `None` where the year has no such day.
-    fn in_same_year(self, place: u64) -> Option<Self>
+    fn of_same_year(self, place: u64) -> Option<Self>
         ensures day { SomeIff result (place < days_in_year (year_at self)) (ordinal_number (year_at self) (place + 1)) }
         ensures in_range { IsDate self }
     {
@@ -257,31 +269,5 @@ impl Date {
         } else {
             None
         }
-    }
-
-    /// The year of the range and the ordinal, of which every other part is made.
-    fn year_and_ordinal(self) -> (i32, u16)
-        ensures date { HasOrdinalDate result.0 result.1 self }
-        ensures year { IsYear result.0 }
-        ensures ordinal { IsOrdinal result.0 result.1 }
-        ensures in_range { IsDate self }
-    {
-        self.to_ordinal_date()
-    }
-
-    /// The day of that number.
-    fn at_number(number: u32) -> Self
-        requires { IsDate number }
-        ensures { result ≡ number }
-    {
-        date_of_kernel(julian_kernel(MIN_JULIAN_DAY + number as i32))
-    }
-
-    /// The number of the day: the days from the first one on that come before it.
-    fn number(self) -> u32
-        ensures number { result ≡ self }
-        ensures in_range { IsDate self }
-    {
-        (self.to_julian_day() - MIN_JULIAN_DAY) as u32
     }
 }

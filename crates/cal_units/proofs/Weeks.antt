@@ -111,6 +111,9 @@ weeks_in_year-is y =
     let count = thursdays-is (first_weekday y) (days_in_year y) in
     grind (arith, nat_tests)
 
+pub weeks_in_year-most : (y : ℤ) → weeks_in_year y ≤ 53
+weeks_in_year-most y = let is = weeks_in_year-is y in grind (arith, nat_tests)
+
 -- what shows the weeks of a year from the weekdays that it and the next one begin on
 pub ruleset weeks = (weeks_in_year-is, ints, nat_tests)
 

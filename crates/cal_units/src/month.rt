@@ -1,5 +1,5 @@
 //! The months.
-ghost use Rattle.std.specs.Prelude.{◌≡◌, ◌+◌, ◌%◌, ◌==◌, Some};
+ghost use Rattle.std.specs.Prelude.{◌≡◌, ◌+◌, ◌%◌, ◌≤◌, ◌==◌, Some};
 ghost use Rattle.std.specs.Cmp.{partial_order_from_own_ties};
 ghost use Rattle.std.specs.Cmp.Rules.{comparing};
 ghost use Rattle.std.specs.Fmt.{padded};
@@ -41,7 +41,8 @@ pub enum Month {
 impl Month {
     /// The number of days of the month in this year, from 28 to 31.
     pub fn length(self, year: i32) -> u8
-        ensures { result ≡ days_in_month year (number self) }
+        ensures value { result ≡ days_in_month year (number self) }
+        ensures range { (28 ≤ result) × (result ≤ 31) }
     {
         days_in_month(self, year)
     }

@@ -1,5 +1,5 @@
 //! Lengths of years and months in days and weeks, for every year, and the carry of a clock into the day.
-ghost use Rattle.std.specs.Prelude.{◌≡◌, ◌^◌, ◌≤ℤ◌, neg_ℤ, pos};
+ghost use Rattle.std.specs.Prelude.{◌≡◌, ◌^◌, ◌≤◌, ◌≤ℤ◌, neg_ℤ, pos};
 ghost use Rattle.cal_units.specs.Lengths.{is_leap_year, days_in_year, days_in_month};
 ghost use Rattle.cal_units.specs.Month.{number};
 ghost use Rattle.cal_units.specs.Weeks.{first_weekday, weeks_in_year};
@@ -27,7 +27,8 @@ pub fn is_leap_year(year: i32) -> bool
 
 /// The number of days of the year: 366 in a leap year, else 365.
 pub fn days_in_year(year: i32) -> u16
-    ensures { result ≡ days_in_year year }
+    ensures value { result ≡ days_in_year year }
+    ensures range { (365 ≤ result) × (result ≤ 366) }
 {
     if is_leap_year(year) { 366 } else { 365 }
 }
@@ -37,7 +38,8 @@ pub fn days_in_year(year: i32) -> u16
 /// ISO 8601 gives each week to the year that holds its Thursday, so these are the Thursdays of the year: 53 for 2020, 52 for 2019.
 #[tactic(auto, using(crate::proofs::Weeks::weeks))]
 pub fn weeks_in_year(year: i32) -> u8
-    ensures { result ≡ weeks_in_year year }
+    ensures value { result ≡ weeks_in_year year }
+    ensures range { (52 ≤ result) × (result ≤ 53) }
 {
     let year = i64::from(year);
     let begins_on = first_weekday(year);
@@ -56,7 +58,8 @@ pub fn weeks_in_year(year: i32) -> u8
 /// For February it is 29 in 2000 and 28 in 1900.
 #[tactic(auto, unfolding(crate::specs::Lengths::days_in_month))]
 pub fn days_in_month(month: Month, year: i32) -> u8
-    ensures { result ≡ days_in_month year (number month) }
+    ensures value { result ≡ days_in_month year (number month) }
+    ensures range { (28 ≤ result) × (result ≤ 31) }
 {
     match month {
         Month::February if is_leap_year(year) => 29,
@@ -68,7 +71,8 @@ pub fn days_in_month(month: Month, year: i32) -> u8
 
 /// The number of days of the month in this year, from 28 to 31, as `days_in_month` gives it.
 pub fn days_in_year_month(year: i32, month: Month) -> u8
-    ensures { result ≡ days_in_month year (number month) }
+    ensures value { result ≡ days_in_month year (number month) }
+    ensures range { (28 ≤ result) × (result ≤ 31) }
 {
     days_in_month(month, year)
 }

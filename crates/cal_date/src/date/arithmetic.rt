@@ -1,7 +1,7 @@
 //! Dates moved on and back by durations, and the durations between dates.
 ghost use Rattle.std.specs.Prelude.{◌≡◌, pos, ◌+ℤ◌, ◌-ℤ◌, ◌*ℤ◌, SomeIff, IsSomeAnd};
 ghost use Rattle.cal_span.specs.SignedDuration.{day, whole_days};
-ghost use Rattle.cal_date.specs.Date.{first_julian_day, year_at, ordinal_at, IsDate};
+ghost use Rattle.cal_date.specs.Date.{year_at, ordinal_at, IsDate};
 ghost use Rattle.cal_date.specs.Move.{IsDateNumber, IsOrdinalNumber, date_nearest};
 
 use crate::date::Date;
@@ -20,20 +20,7 @@ impl Date {
             × (pos (ordinal_at n) ≡ pos (ordinal_at self) +ℤ whole_days duration)) }
         ensures in_range { IsDate self }
     {
-        let days = duration.whole_days();
-
-        // The days of the year before the moved day. Below zero, and so taken as 2^64 more, they are far above the length of a year.
-        let place = days
-            .cast_unsigned()
-            .wrapping_add(u64::from(self.ordinal()) - 1);
-        if let Some(date) = self.in_same_year(place) {
-            return Some(date);
-        }
-        let julian_day = i64::from(self.to_julian_day());
-        match julian_day.checked_add(days) {
-            Some(moved) => Self::at_julian_day(moved),
-            None => None,
-        }
+        self.moved(duration.whole_days())
     }
 
     /// The day that many whole days earlier, or `None` where it is no day of the range.
@@ -46,62 +33,52 @@ impl Date {
             × (pos (ordinal_at n) ≡ pos (ordinal_at self) -ℤ whole_days duration)) }
         ensures in_range { IsDate self }
     {
-        let days = duration.whole_days();
-
-        // As in `checked_add`.
-        let place = (u64::from(self.ordinal()) - 1).wrapping_sub(days.cast_unsigned());
-        if let Some(date) = self.in_same_year(place) {
-            return Some(date);
-        }
-        let julian_day = i64::from(self.to_julian_day());
-        match julian_day.checked_sub(days) {
-            Some(moved) => Self::at_julian_day(moved),
-            None => None,
-        }
+        // Days that cannot be negated lead past the range from every day.
+        let days = duration.whole_days().checked_neg()?;
+        self.moved(days)
     }
 
     /// The day that many whole days later, or the end of the range that is nearest to it.
     ///
     /// Only the whole days of the duration count, cut toward zero: [`Self::MAX`] and one day more are [`Self::MAX`].
     pub fn saturating_add(self, duration: SignedDuration) -> Self
-        ensures { result ≡ date_nearest (pos self +ℤ whole_days duration) }
+        ensures day { result ≡ date_nearest (pos self +ℤ whole_days duration) }
+        ensures in_range { IsDate self }
     {
-        let julian_day = i64::from(self.to_julian_day());
-        Self::nearest_to(julian_day.saturating_add(duration.whole_days()))
+        match self.checked_add(duration) {
+            Some(date) => date,
+            None if duration.is_negative() => Self::MIN,
+            None => Self::MAX,
+        }
     }
 
     /// The day that many whole days earlier, or the end of the range that is nearest to it.
     ///
     /// Only the whole days of the duration count, cut toward zero: [`Self::MIN`] less one day is [`Self::MIN`].
     pub fn saturating_sub(self, duration: SignedDuration) -> Self
-        ensures { result ≡ date_nearest (pos self -ℤ whole_days duration) }
+        ensures day { result ≡ date_nearest (pos self -ℤ whole_days duration) }
+        ensures in_range { IsDate self }
     {
-        let julian_day = i64::from(self.to_julian_day());
-        Self::nearest_to(julian_day.saturating_sub(duration.whole_days()))
-    }
-
-    /// The day that has this Julian day, or `None` where it is no day of the range.
-    fn at_julian_day(julian_day: i64) -> Option<Self>
-        ensures { SomeIff result (IsDateNumber (julian_day -ℤ first_julian_day)) (date_nearest (julian_day -ℤ first_julian_day)) }
-    {
-        let Ok(julian_day) = i32::try_from(julian_day) else {
-            return None;
-        };
-        match Self::from_julian_day(julian_day) {
-            Ok(date) => Some(date),
-            Err(_) => None,
-        }
-    }
-
-    /// The day of the range that is nearest to this Julian day.
-    fn nearest_to(julian_day: i64) -> Self
-        ensures { result ≡ date_nearest (julian_day -ℤ first_julian_day) }
-    {
-        match Self::at_julian_day(julian_day) {
+        match self.checked_sub(duration) {
             Some(date) => date,
-            None if julian_day < 0 => Self::MIN,
-            None => Self::MAX,
+            None if duration.is_negative() => Self::MAX,
+            None => Self::MIN,
         }
+    }
+
+    /// The day so many days later, or earlier where they are below zero, or `None` where it is no day of the range.
+    fn moved(self, days: i64) -> Option<Self>
+        ensures day { SomeIff result (IsDateNumber (pos self +ℤ days)) (date_nearest (pos self +ℤ days)) }
+        ensures in_range { IsDate self }
+    {
+        // Days below zero are taken as 2^64 more. So is a sum below zero, which is then far above the length of a year and the
+        // number of the last day.
+        let days = days.cast_unsigned();
+        let place = days.wrapping_add(u64::from(self.ordinal()) - 1);
+        if let Some(date) = self.of_same_year(place) {
+            return Some(date);
+        }
+        Self::checked_at_number(days.wrapping_add(u64::from(self.number())))
     }
 }
 
@@ -110,7 +87,7 @@ impl Add<SignedDuration> for Date {
 
     ghost can_add = { λ n v. IsDateNumber (pos n +ℤ whole_days v) };
 
-    ghost add_gives = { λ n v moved. pos moved ≡ pos n +ℤ whole_days v };
+    ghost add_gives = { λ n v moved. (pos moved ≡ pos n +ℤ whole_days v) × IsDate n };
 
     /// The day that many whole days later, cut toward zero, for a caller who knows that it is in the range.
     fn add(self, duration: SignedDuration) -> Self {
@@ -121,7 +98,7 @@ impl Add<SignedDuration> for Date {
 impl AddAssign<SignedDuration> for Date {
     ghost can_add_assign = { λ n v. IsDateNumber (pos n +ℤ whole_days v) };
 
-    ghost add_assign_gives = { λ n v moved. pos moved ≡ pos n +ℤ whole_days v };
+    ghost add_assign_gives = { λ n v moved. (pos moved ≡ pos n +ℤ whole_days v) × IsDate n };
 
     fn add_assign(&mut self, duration: SignedDuration) {
         *self = *self + duration;
@@ -133,7 +110,7 @@ impl Sub<SignedDuration> for Date {
 
     ghost can_sub = { λ n v. IsDateNumber (pos n -ℤ whole_days v) };
 
-    ghost sub_gives = { λ n v moved. pos moved ≡ pos n -ℤ whole_days v };
+    ghost sub_gives = { λ n v moved. (pos moved ≡ pos n -ℤ whole_days v) × IsDate n };
 
     /// The day that many whole days earlier, cut toward zero, for a caller who knows that it is in the range.
     fn sub(self, duration: SignedDuration) -> Self {
@@ -144,7 +121,7 @@ impl Sub<SignedDuration> for Date {
 impl SubAssign<SignedDuration> for Date {
     ghost can_sub_assign = { λ n v. IsDateNumber (pos n -ℤ whole_days v) };
 
-    ghost sub_assign_gives = { λ n v moved. pos moved ≡ pos n -ℤ whole_days v };
+    ghost sub_assign_gives = { λ n v moved. (pos moved ≡ pos n -ℤ whole_days v) × IsDate n };
 
     fn sub_assign(&mut self, duration: SignedDuration) {
         *self = *self - duration;
@@ -154,7 +131,7 @@ impl SubAssign<SignedDuration> for Date {
 impl Sub for Date {
     type Output = SignedDuration;
 
-    ghost sub_gives = { λ m n v. v ≡ (pos m -ℤ pos n) *ℤ pos day };
+    ghost sub_gives = { λ m n v. (v ≡ (pos m -ℤ pos n) *ℤ pos day) × IsDate m × IsDate n };
 
     /// The days between, below zero where the other day is later: 2020-01-01 less 2019-12-31 is one day.
     fn sub(self, other: Self) -> SignedDuration {

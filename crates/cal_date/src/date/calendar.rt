@@ -1,5 +1,5 @@
 //! Dates by year, month and day of the month.
-ghost use Rattle.std.specs.Prelude.{◌≡◌, ℕ, ◌<◌, pos, ◌↔◌, ◌⊎◌, IfOk, IfErr, IsErr, Ok, [], ◌∷◌};
+ghost use Rattle.std.specs.Prelude.{◌≡◌, ℕ, ◌<◌, ◌≤◌, pos, ◌↔◌, ◌⊎◌, IfOk, IfErr, IsErr, Ok, [], ◌∷◌};
 ghost use Rattle.cal_units.specs.Month.{place, number};
 ghost use Rattle.cal_units.specs.Refusal.{refusal, IsRefused};
 ghost use Rattle.cal_units.specs.Lengths.{is_leap_year};
@@ -44,7 +44,7 @@ impl Date {
         Ok(Date::at_ordinal(year, days_before_month(month, year) + u16::from(day)))
     }
 
-    /// The month.
+    /// The month. That of 2020-02-29 is February.
     pub fn month(self) -> Month
         ensures counted { number result ≡ month_at self }
         ensures closed_form { number result ≡ month_of_ordinal (is_leap_year (year_at self)) (ordinal_at self) }
@@ -54,9 +54,11 @@ impl Date {
         month
     }
 
-    /// The day of the month, from 1 to at most 31.
+    /// The day of the month, from 1 to the length of the month, at most 31. That of 2020-02-29 is 29.
     pub fn day(self) -> u8
         ensures counted { result ≡ day_of_month_at self }
+        ensures range { IsDayOfMonth (year_at self) (month_at self) result }
+        ensures most { result ≤ 31 }
         ensures closed_form { result ≡ day_of_ordinal (is_leap_year (year_at self)) (ordinal_at self) }
         ensures in_range { IsDate self }
     {
@@ -69,6 +71,8 @@ impl Date {
         ensures date { HasCalendarDate result.0 (number result.1) result.2 self }
         ensures order { (n : ℕ) → IsDate n
             → (n < self) ↔ IsBefore (calendar_date_at n) (result.0 ∷ pos (number result.1) ∷ pos result.2 ∷ []) }
+        ensures range { IsYear result.0 × IsDayOfMonth result.0 (number result.1) result.2 × (result.2 ≤ 31) }
+        ensures in_range { IsDate self }
     {
         let (month, day) = self.month_and_day();
         (self.year(), month, day)
@@ -81,6 +85,8 @@ impl Date {
     pub(super) fn month_and_day(self) -> (Month, u8)
         ensures month { number result.0 ≡ month_at self }
         ensures day { result.1 ≡ day_of_month_at self }
+        ensures range { IsDayOfMonth (year_at self) (month_at self) result.1 }
+        ensures most { result.1 ≤ 31 }
         ensures closed_month { number result.0 ≡ month_of_ordinal (is_leap_year (year_at self)) (ordinal_at self) }
         ensures closed_day { result.1 ≡ day_of_ordinal (is_leap_year (year_at self)) (ordinal_at self) }
         ensures in_range { IsDate self }

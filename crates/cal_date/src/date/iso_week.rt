@@ -5,7 +5,7 @@ ghost use Rattle.cal_units.specs.Weekday.{place};
 ghost use Rattle.cal_units.specs.Weeks.{first_weekday};
 ghost use Rattle.cal_date.specs.ClosedForms.{iso_year_of, iso_week_of, year_of_week, ordinal_of_week};
 ghost use Rattle.cal_date.specs.Date.{year_at, ordinal_at, weekday_at, IsDate, IsYear, IsOrdinal, HasOrdinalDate, NoDate};
-ghost use Rattle.cal_date.specs.IsoWeekDate.{weekdays_upto, iso_week_at, IsWeek, HasIsoWeekDate};
+ghost use Rattle.cal_date.specs.IsoWeekDate.{weekdays_upto, iso_year_at, iso_week_at, IsWeek, HasIsoWeekDate};
 ghost use Rattle.cal_date.specs.Order.{IsBefore, iso_week_date_at};
 ghost use Rattle.cal_date.specs.Refusals.{year_out_of_range, week_out_of_range, weekday_out_of_range};
 
@@ -51,17 +51,20 @@ impl Date {
         Ok(Date::at_ordinal(calendar_year, ordinal))
     }
 
-    /// The weekday.
+    /// The weekday. That of 2021-01-01 is Friday.
     pub fn weekday(self) -> Weekday
-        ensures { place result ≡ weekday_at self }
+        ensures counted { place result ≡ weekday_at self }
+        ensures in_range { IsDate self }
     {
-        let (year, ordinal) = self.year_and_ordinal();
-        Weekday::at(weekday_place(year, ordinal))
+        Weekday::at(weekday_place(self.year(), self.ordinal()))
     }
 
     /// The week of the ISO week date, from 1 to 53. That of 2021-01-01 is 53, as its week belongs to 2020.
     pub fn iso_week(self) -> u8
-        ensures { result ≡ iso_week_at self }
+        ensures counted { result ≡ iso_week_at self }
+        ensures range { IsWeek (iso_year_at self) result }
+        ensures most { result ≤ 53 }
+        ensures in_range { IsDate self }
     {
         let (_, week, _) = self.to_iso_week_date();
         week
@@ -72,29 +75,33 @@ impl Date {
     /// The ISO year too is from -9999 to 9999.
     pub fn to_iso_week_date(self) -> (i32, u8, Weekday)
         ensures date { HasIsoWeekDate result.0 result.1 (place result.2) self }
-        ensures in_range { IsYear result.0 }
+        ensures range { IsYear result.0 × IsWeek result.0 result.1 × (result.1 ≤ 53) }
+        ensures in_range { IsDate self }
         ensures order { (n : ℕ) → IsDate n
             → (n < self) ↔ IsBefore (iso_week_date_at n) (result.0 ∷ pos result.1 ∷ pos (place result.2) ∷ []) }
         ensures closed_form { let day = weekday_at self + 1 in
             (result.0 ≡ iso_year_of (year_at self) (ordinal_at self) day)
             × (result.1 ≡ iso_week_of (year_at self) (ordinal_at self) day) }
     {
-        let (year, ordinal) = self.year_and_ordinal();
         let weekday = self.weekday();
-        let (iso_year, week) = iso_week_of(year, ordinal, weekday);
+        let (iso_year, week) = iso_year_and_week(self.year(), self.ordinal(), weekday);
         (iso_year, week, weekday)
     }
 
     /// The weeks from Sunday on that have begun in the year up to the day: the Sundays of the year up to it, from 0 to 53.
     pub fn sunday_based_week(self) -> u8
-        ensures { result ≡ weekdays_upto 6 self }
+        ensures counted { result ≡ weekdays_upto 6 self }
+        ensures most { result ≤ 53 }
+        ensures in_range { IsDate self }
     {
         ((self.ordinal() + 6 - u16::from(self.weekday().number_days_from_sunday())) / 7) as u8
     }
 
     /// The weeks from Monday on that have begun in the year up to the day: the Mondays of the year up to it, from 0 to 53.
     pub fn monday_based_week(self) -> u8
-        ensures { result ≡ weekdays_upto 0 self }
+        ensures counted { result ≡ weekdays_upto 0 self }
+        ensures most { result ≤ 53 }
+        ensures in_range { IsDate self }
     {
         ((self.ordinal() + 6 - u16::from(self.weekday().number_days_from_monday())) / 7) as u8
     }
@@ -125,7 +132,7 @@ fn weekday_place(year: i32, ordinal: u16) -> u8
 }
 
 /// The ISO year and the week of the day of a year of the range that has this ordinal and this weekday.
-fn iso_week_of(year: i32, ordinal: u16, weekday: Weekday) -> (i32, u8)
+fn iso_year_and_week(year: i32, ordinal: u16, weekday: Weekday) -> (i32, u8)
     requires year { IsYear year }
     requires ordinal { IsOrdinal year ordinal }
     ensures year { result.0 ≡ iso_year_of year ordinal (place weekday + 1) }

@@ -1,18 +1,24 @@
 //! The days with a weekday after a date, and before it.
-ghost use Rattle.std.specs.Prelude.{◌≡◌, ◌+◌, ◌%◌, ◌≤◌, Some, IsSome};
+ghost use Rattle.std.specs.Prelude.{◌≡◌, ◌+◌, ◌-◌, ◌*◌, ◌<◌, ◌≤◌, Some, IsSome, IfSome};
 ghost use Rattle.cal_units.specs.Weekday.{place};
+ghost use Rattle.cal_date.specs.Date.{weekday_at, IsDate};
 ghost use Rattle.cal_date.specs.Occurrence.{next_occurrences, prev_occurrences, kth};
 
-use crate::date::Date;
-use cal_span::SignedDuration;
+use crate::date::{Date, LAST_DAY};
 use cal_units::Weekday;
+
+/// The days of so many whole weeks that they reach past the last day.
+const PAST_LAST_DAY: u32 = 7 * (LAST_DAY as u32 / 7 + 1);
 
 impl Date {
     /// The first day after this one that has the weekday, or `None` where it is past [`Self::MAX`].
     ///
     /// The next Monday after 2023-06-28 is 2023-07-03, and that after a Monday is seven days later.
     pub fn checked_next_occurrence(self, weekday: Weekday) -> Option<Self>
-        ensures { result ≡ kth 1 (next_occurrences (place weekday) self) }
+        ensures day { result ≡ kth 1 (next_occurrences (place weekday) self) }
+        ensures weekday { IfSome result (λ n. weekday_at n ≡ place weekday) }
+        ensures within { IfSome result (λ n. (self < n) × (n ≤ self + 7) × IsDate n) }
+        ensures in_range { IsDate self }
     {
         self.checked_nth_next_occurrence(weekday, 1)
     }
@@ -21,7 +27,10 @@ impl Date {
     ///
     /// The Monday before 2023-06-19 is 2023-06-12, as 2023-06-19 is a Monday itself.
     pub fn checked_prev_occurrence(self, weekday: Weekday) -> Option<Self>
-        ensures { result ≡ kth 1 (prev_occurrences (place weekday) self) }
+        ensures day { result ≡ kth 1 (prev_occurrences (place weekday) self) }
+        ensures weekday { IfSome result (λ n. weekday_at n ≡ place weekday) }
+        ensures within { IfSome result (λ n. (n < self) × (self ≤ n + 7)) }
+        ensures in_range { IsDate self }
     {
         self.checked_nth_prev_occurrence(weekday, 1)
     }
@@ -31,14 +40,23 @@ impl Date {
     ///
     /// The fifth Monday after 2023-06-25 is 2023-07-24.
     pub fn checked_nth_next_occurrence(self, weekday: Weekday, n: u8) -> Option<Self>
-        ensures { result ≡ kth n (next_occurrences (place weekday) self) }
+        ensures day { result ≡ kth n (next_occurrences (place weekday) self) }
+
+        // It comes in the n-th week after the day.
+        ensures weekday { IfSome result (λ later. weekday_at later ≡ place weekday) }
+        ensures within { IfSome result (λ later. (self + 7 * (n - 1) < later) × (later ≤ self + 7 * n) × IsDate later) }
+        ensures in_range { IsDate self }
     {
-        let first = days_until(self.weekday(), weekday);
+        let number = self.number();
         if n == 0 {
             return None;
         }
-        let days = u16::from(first) + 7 * (u16::from(n) - 1);
-        self.checked_add(SignedDuration::days(i64::from(days)))
+        let weekday = u32::from(weekday.number_days_from_monday());
+
+        // The first day of the range is a Monday.
+        let first = (weekday + PAST_LAST_DAY - 1 - number) % 7 + 1;
+        let days = first + 7 * (u32::from(n) - 1);
+        Self::checked_at_number(u64::from(number + days))
     }
 
     /// The `n`-th of the days before this one that have the weekday, counted from 1 at the nearest, or `None` where it is
@@ -46,56 +64,78 @@ impl Date {
     ///
     /// The third Monday before 2023-06-27 is 2023-06-12.
     pub fn checked_nth_prev_occurrence(self, weekday: Weekday, n: u8) -> Option<Self>
-        ensures { result ≡ kth n (prev_occurrences (place weekday) self) }
+        ensures day { result ≡ kth n (prev_occurrences (place weekday) self) }
+
+        // It comes in the n-th week before the day.
+        ensures weekday { IfSome result (λ earlier. weekday_at earlier ≡ place weekday) }
+        ensures within { IfSome result (λ earlier. (earlier + 7 * (n - 1) < self) × (self ≤ earlier + 7 * n)) }
+        ensures in_range { IsDate self }
     {
-        let first = days_until(weekday, self.weekday());
+        let number = self.number();
         if n == 0 {
             return None;
         }
-        let days = u16::from(first) + 7 * (u16::from(n) - 1);
-        self.checked_sub(SignedDuration::days(i64::from(days)))
+        let weekday = u32::from(weekday.number_days_from_monday());
+        let first = (number + 6 - weekday) % 7 + 1;
+        let days = first + 7 * (u32::from(n) - 1);
+        if days <= number {
+            Some(Self::at_number(number - days))
+        } else {
+            None
+        }
     }
 
     /// The first day after this one that has the weekday, for a caller who knows that there is one.
+    ///
+    /// The next Monday after 2023-06-28 is 2023-07-03.
     pub fn next_occurrence(self, weekday: Weekday) -> Self
         requires { IsSome (kth 1 (next_occurrences (place weekday) self)) }
-        ensures { kth 1 (next_occurrences (place weekday) self) ≡ Some result }
+        ensures day { kth 1 (next_occurrences (place weekday) self) ≡ Some result }
+        ensures weekday { weekday_at result ≡ place weekday }
+        ensures within { (self < result) × (result ≤ self + 7) }
+        ensures in_range { IsDate self }
     {
         self.checked_next_occurrence(weekday).unwrap()
     }
 
     /// The last day before this one that has the weekday, for a caller who knows that there is one.
+    ///
+    /// The Monday before 2023-06-19 is 2023-06-12.
     pub fn prev_occurrence(self, weekday: Weekday) -> Self
         requires { IsSome (kth 1 (prev_occurrences (place weekday) self)) }
-        ensures { kth 1 (prev_occurrences (place weekday) self) ≡ Some result }
+        ensures day { kth 1 (prev_occurrences (place weekday) self) ≡ Some result }
+        ensures weekday { weekday_at result ≡ place weekday }
+        ensures within { (result < self) × (self ≤ result + 7) }
+        ensures in_range { IsDate self }
     {
         self.checked_prev_occurrence(weekday).unwrap()
     }
 
     /// The `n`-th of the days after this one that have the weekday, counted from 1, for a caller who knows that there is one:
     /// `n` is not 0, and the day is not past [`Self::MAX`].
+    ///
+    /// The fifth Monday after 2023-06-25 is 2023-07-24.
     pub fn nth_next_occurrence(self, weekday: Weekday, n: u8) -> Self
         requires { IsSome (kth n (next_occurrences (place weekday) self)) }
-        ensures { kth n (next_occurrences (place weekday) self) ≡ Some result }
+        ensures day { kth n (next_occurrences (place weekday) self) ≡ Some result }
+        ensures weekday { weekday_at result ≡ place weekday }
+        ensures within { (self + 7 * (n - 1) < result) × (result ≤ self + 7 * n) }
+        ensures in_range { IsDate self }
     {
         self.checked_nth_next_occurrence(weekday, n).unwrap()
     }
 
     /// The `n`-th of the days before this one that have the weekday, counted from 1 at the nearest, for a caller who knows
     /// that there is one: `n` is not 0, and the day is not before [`Self::MIN`].
+    ///
+    /// The third Monday before 2023-06-27 is 2023-06-12.
     pub fn nth_prev_occurrence(self, weekday: Weekday, n: u8) -> Self
         requires { IsSome (kth n (prev_occurrences (place weekday) self)) }
-        ensures { kth n (prev_occurrences (place weekday) self) ≡ Some result }
+        ensures day { kth n (prev_occurrences (place weekday) self) ≡ Some result }
+        ensures weekday { weekday_at result ≡ place weekday }
+        ensures within { (result + 7 * (n - 1) < self) × (self ≤ result + 7 * n) }
+        ensures in_range { IsDate self }
     {
         self.checked_nth_prev_occurrence(weekday, n).unwrap()
     }
-}
-
-/// The days from one weekday to the next day that has the other, from 1 to 7: a whole week to the same weekday.
-fn days_until(from: Weekday, to: Weekday) -> u8
-    ensures least { 1 ≤ result }
-    ensures most { result ≤ 7 }
-    ensures there { (place from + result) % 7 ≡ place to }
-{
-    (to.number_days_from_monday() + 6 - from.number_days_from_monday()) % 7 + 1
 }

@@ -1,58 +1,14 @@
 //! The order, the hash and the number of dates.
-ghost use Rattle.std.specs.Prelude.{◌≡◌, ◌+◌, ◌-◌, ◌≤◌, ◌==◌};
+ghost use Rattle.std.specs.Prelude.{◌==◌};
 ghost use Rattle.std.specs.Ordering.{nat_cmp, as_partial_cmp};
 ghost use Rattle.std.specs.Cmp.{partial_order_from_own_ties};
 ghost use Rattle.std.specs.Cmp.Rules.{comparing, hashing};
 ghost use Rattle.std.proofs.Common.{rules};
-ghost use Rattle.cal_date.specs.Date.{IsDate};
 
 use crate::date::Date;
 use cal_units::Counted;
 use std::cmp::Ordering;
 use std::hash::{Hash, Hasher};
-
-impl Date {
-    /// States that the day is one of the range. It does nothing.
-    pub(crate) fn is_in_range(self)
-        ensures { IsDate self }
-    {
-        let _ = &self.packed;
-    }
-
-    /// How many days after this day `later` comes, which does not come before it.
-    pub(crate) fn days_until(self, later: Self) -> u32
-        requires { self ≤ later }
-        ensures { result ≡ later - self }
-    {
-        if self.year() == later.year() {
-            return u32::from(later.ordinal() - self.ordinal());
-        }
-        later.number() - self.number()
-    }
-
-    /// The day that comes so many days after this one.
-    pub(crate) fn days_later(self, days: u32) -> Self
-        requires { IsDate (self + days) }
-        ensures { result ≡ self + days }
-    {
-        match self.in_same_year(u64::from(self.ordinal()) - 1 + u64::from(days)) {
-            Some(date) => date,
-            None => Date::at_number(self.number() + days),
-        }
-    }
-
-    /// The day that comes so many days before this one.
-    pub(crate) fn days_earlier(self, days: u32) -> Self
-        requires { days ≤ self }
-        ensures { result ≡ self - days }
-    {
-        // Where the year begins in between, the difference wraps, far above the length of a year.
-        match self.in_same_year((u64::from(self.ordinal()) - 1).wrapping_sub(u64::from(days))) {
-            Some(date) => date,
-            None => Date::at_number(self.number() - days),
-        }
-    }
-}
 
 impl PartialEq for Date {
     ghost eq = { ◌==◌ };
@@ -94,7 +50,7 @@ impl PartialOrd for Date {
 
 impl Hash for Date {
     ghost use Rattle.std.specs.Hash as fed;
-    ghost use Rattle.cal_date.specs.DateFields.{packed_at};
+    ghost use Rattle.cal_date.specs.PackedDate.{packed_at};
 
     ghost hash_input = { λ n. fed.i32 (packed_at n) };
 

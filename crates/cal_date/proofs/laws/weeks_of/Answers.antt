@@ -6,5 +6,5 @@ use Rattle.cal_date.proofs.laws.weeks_of.Goals as goal
 pub returns : goal.returns
 returns c =
     let same = IsYear-i32 c.args.year c.requires in
-    let weeks = rw same at c.weeks_in_year.ensures in
+    let weeks = rw same at c.weeks_in_year.ensures.value in
     weeks ∙ weeks_in_year-count c.args.year c.requires

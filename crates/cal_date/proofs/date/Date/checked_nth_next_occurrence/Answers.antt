@@ -1,21 +1,19 @@
-use Rattle.std.proofs.Common.{◌≡◌, ◌+◌, ◌-◌, ◌*◌, ◌%◌, suc, pos, ◌+ℤ◌, ap, sym, ◌∙◌, arith, to_z, of_z, w64}
-use Rattle.std.proofs.lemmas.Int.{ints}
+use Rattle.std.proofs.Common.{◌≡◌, ◌+◌, ◌-◌, ◌*◌, ◌/◌, suc, ap, ◌∙◌, arith}
 use Rattle.cal_units.specs.Weekday.{place}
-use Rattle.cal_span.specs.SignedDuration.{whole_days}
-use Rattle.cal_date.specs.Date.{weekday_at}
+use Rattle.cal_units.specs.WeekdayCycle.{place-below}
+use Rattle.cal_date.specs.Date.{last_day}
 use Rattle.cal_date.specs.Occurrence.{next_occurrences, kth}
-use Rattle.cal_date.proofs.Occurrences.{kth-next_occurrences, next_by_move, whole_days-days}
+use Rattle.cal_date.proofs.Occurrences.{next_found, next_weekday}
 use Rattle.cal_date.proofs.date.Date.checked_nth_next_occurrence.Goals as goal
 
-pub returns : goal.returns
-returns c =
-    let k = c.days_until-first.result in
-    let m = c.args.n - 1 in
-    let step = c.days_until-first.ensures in
-    let there : (weekday_at c.args.self + k) % 7 ≡ place c.args.weekday = rw (← c.weekday.ensures) step.there in
-    let number : to_z w64 (of_z w64 c.from-3.result) ≡ pos (k + 7 * m) = omega (arith, ints) in
-    let days = whole_days-days (k + 7 * m) (to_z w64 (of_z w64 c.from-3.result)) c.days.result number c.days.ensures in
-    let moved = next_by_move c.args.self (k + 7 * m) (pos c.args.self +ℤ whole_days c.days.result) c.checked_add.result (ap (λ z. pos c.args.self +ℤ z) days) c.checked_add.ensures.day in
-    let law = kth-next_occurrences (place c.args.weekday) c.args.self k m step.least step.most there in
-    let count : suc m ≡ c.args.n = omega arith in
-    moved ∙ sym law ∙ ap (λ n. kth n (next_occurrences (place c.args.weekday) c.args.self)) count
+pub returns-clause-day : goal.returns-clause-day
+returns-clause-day c =
+    let w = place c.args.weekday in
+    let count : suc (c.args.n - 1) ≡ c.args.n = omega arith in
+    next_found w c.args.self (c.args.n - 1) _ (7 * (last_day / 7 + 1)) c.checked_at_number.result (place-below c.args.weekday) (omega arith) (omega arith) (omega arith) (omega arith) c.checked_at_number.ensures
+    ∙ ap (λ n. kth n (next_occurrences w c.args.self)) count
+
+pub returns-clause-weekday : goal.returns-clause-weekday
+returns-clause-weekday c =
+    let w = place c.args.weekday in
+    next_weekday w c.args.self (c.args.n - 1) _ (7 * (last_day / 7 + 1)) c.checked_at_number.result (place-below c.args.weekday) (omega arith) (omega arith) (omega arith) (omega arith) c.checked_at_number.ensures

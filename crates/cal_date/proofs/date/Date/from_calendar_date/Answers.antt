@@ -6,7 +6,7 @@ use Rattle.cal_units.specs.Lengths.{days_in_year}
 use Rattle.cal_units.specs.Month.{place, number}
 use Rattle.cal_units.specs.MonthCycle.{place-below}
 use Rattle.cal_date.specs.Date.{IsYear, IsOrdinal, IsDayOfMonth}
-use Rattle.cal_date.specs.DateFields.{ordinal_number}
+use Rattle.cal_date.specs.PackedDate.{ordinal_number}
 use Rattle.cal_date.proofs.Dates.{IsDate-ordinal_number}
 use Rattle.cal_date.proofs.Calendar.{ordinal_in, stands_at, calendar_in_range, IsOrdinal-ordinal_in, NoDate-calendar_date}
 use Rattle.cal_date.proofs.date.Date.from_calendar_date.Goals as goal
@@ -26,7 +26,7 @@ no_day c day =
     let same : to_z w32 (of_z w32 c.args.year) ≡ c.args.year = to_z-of_z w32 _ c.ranges.year in
     elim c.then-day-eq0.branch [
       | then-day-eq0-via-then-day-eq0 w ↦ omega arith
-      | then-day-eq0-via-else-day-eq0+then-day-length w ↦ let long = rw same at w.length.ensures in omega arith
+      | then-day-eq0-via-else-day-eq0+then-day-length w ↦ let long = rw same at w.length.ensures.value in omega arith
     ]
 
 pub returns-then-day-eq0-clause-every : goal.returns-then-day-eq0-clause-every
@@ -46,7 +46,7 @@ record Fits (c : After-from) : Type 0 where
 fits : (c : After-from) → Fits c
 fits c =
     let same : to_z w32 (of_z w32 c.args.year) ≡ c.args.year = to_z-of_z w32 _ c.ranges.year in
-    let long = rw same at c.length.ensures in
+    let long = rw same at c.length.ensures.value in
     let before = rw same at c.days_before_month.ensures in
     let year : IsYear c.args.year = (omega (arith, ints), omega (arith, ints)) in
     let day : IsDayOfMonth c.args.year (number c.args.month) c.args.day = (omega arith, omega arith) in

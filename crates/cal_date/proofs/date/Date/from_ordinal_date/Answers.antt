@@ -2,7 +2,7 @@ use Rattle.std.proofs.Common.{ap, sym, ◌∙◌, arith, refl, Ok, ◌≡◌, �
 use Rattle.std.proofs.lemmas.Int.{ints, to_z-of_z}
 use Rattle.std.proofs.lemmas.Bool.{false≢true}
 use Rattle.cal_date.specs.Date.{IsYear, IsOrdinal}
-use Rattle.cal_date.specs.DateFields.{HasOrdinalDate-ordinal_number}
+use Rattle.cal_date.specs.PackedDate.{HasOrdinalDate-ordinal_number}
 use Rattle.cal_date.proofs.Dates.{in_range, IsDate-ordinal_number, NoDate-ordinal_date}
 use Rattle.cal_date.proofs.date.Date.from_ordinal_date.Goals as goal
 use Rattle.cal_date.proofs.date.Date.from_ordinal_date.Goals.{Else-ordinal-days_in_year, then-ordinal-eq0-via-then-ordinal-eq0, then-ordinal-eq0-via-else-ordinal-eq0+then-ordinal-days_in_year, then-year-lt-MIN_YEAR-via-then-year-lt-MIN_YEAR, then-year-lt-MIN_YEAR-via-else-year-lt-MIN_YEAR+then-year-gt-MAX_YEAR}
@@ -21,7 +21,7 @@ no_ordinal c ordinal =
     let same : to_z w32 (of_z w32 c.args.year) ≡ c.args.year = to_z-of_z w32 _ c.ranges.year in
     elim c.then-ordinal-eq0.branch [
       | then-ordinal-eq0-via-then-ordinal-eq0 w ↦ omega arith
-      | then-ordinal-eq0-via-else-ordinal-eq0+then-ordinal-days_in_year w ↦ let long = rw same at w.days_in_year.ensures in omega arith
+      | then-ordinal-eq0-via-else-ordinal-eq0+then-ordinal-days_in_year w ↦ let long = rw same at w.days_in_year.ensures.value in omega arith
     ]
 
 pub returns-then-ordinal-eq0-clause-every : goal.returns-then-ordinal-eq0-clause-every
@@ -39,7 +39,7 @@ record Fits (year : ℤ) (ordinal : ℕ) : Type 0 where
 fits : (c : Else-ordinal-days_in_year) → Fits c.args.year c.args.ordinal
 fits c =
     let same : to_z w32 (of_z w32 c.args.year) ≡ c.args.year = to_z-of_z w32 _ c.ranges.year in
-    let long = rw same at c.days_in_year.ensures in
+    let long = rw same at c.days_in_year.ensures.value in
     record { same = same; in_range = (omega (arith, ints), omega (arith, ints)); in_year = (omega arith, omega arith) }
 
 pub at_ordinal-requires-clause-year : goal.at_ordinal-requires-clause-year

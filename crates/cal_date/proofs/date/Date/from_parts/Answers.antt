@@ -2,7 +2,7 @@ use Rattle.std.proofs.Common.{◌≡◌, ◌∙◌, ◌+ℤ◌, ◌*ℤ◌, sym,
 use Rattle.std.proofs.lemmas.Int.{to_z-of_z}
 use Rattle.cal_units.specs.Lengths.{is_leap_year}
 use Rattle.cal_date.specs.Date.{IsDate, HasOrdinalDate}
-use Rattle.cal_date.specs.DateFields.{packed, HasOrdinalDate-ordinal_number}
+use Rattle.cal_date.specs.PackedDate.{packed, HasOrdinalDate-ordinal_number}
 use Rattle.cal_date.proofs.Dates.{IsYear-i32, IsDate-ordinal_number}
 use Rattle.cal_date.proofs.Packed.{packed-i32, IsPackedDate-packed, number_of-packed, packed-sum}
 use Rattle.cal_date.proofs.date.Date.from_parts.Goals as goal

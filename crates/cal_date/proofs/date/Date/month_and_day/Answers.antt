@@ -2,6 +2,7 @@ use Rattle.std.proofs.Common.{◌≡◌, ◌+◌, ◌-◌, ◌∙◌, ap, arith}
 use Rattle.cal_units.specs.Month.{place}
 use Rattle.cal_units.specs.MonthCycle.{place-month_at}
 use Rattle.cal_date.specs.ClosedForms.{month_in_part}
+use Rattle.cal_date.proofs.Calendar.{day_of_month-range, day_of_month-most}
 use Rattle.cal_date.proofs.MonthForms.{in_part}
 use Rattle.cal_date.proofs.date.Date.month_and_day.Goals as goal
 
@@ -66,3 +67,14 @@ pub returns-clause-closed_day : goal.returns-clause-closed_day
 returns-clause-closed_day c =
     let part = in_part _ _ _ c.place_in_part-days.ensures.days c.place_in_part-days.ensures.months in
     part.day_is ∙ part.closed_day
+
+pub returns-clause-range : goal.returns-clause-range
+returns-clause-range c =
+    let is = day_of_month-range c.args.self in
+    let part = in_part _ _ _ c.place_in_part-days.ensures.days c.place_in_part-days.ensures.months in
+    (omega (arith, part.day_is, is.0), omega (arith, part.day_is, is.1))
+
+pub returns-clause-most : goal.returns-clause-most
+returns-clause-most c =
+    let part = in_part _ _ _ c.place_in_part-days.ensures.days c.place_in_part-days.ensures.months in
+    omega (arith, part.day_is, day_of_month-most c.args.self)

@@ -7,7 +7,7 @@ use Rattle.cal_date.proofs.Replacements.{beq-alike, beq-unlike, replaced-same, r
 use Rattle.cal_date.proofs.date.Date.ordinal_in.Goals as goal
 
 pub overflow_add-result : goal.overflow_add-result
-overflow_add-result c = omega (arith, c.ordinal-ordinal.ensures, ordinal-most c.args.self, year-most (year_at c.args.self))
+overflow_add-result c = omega (arith, c.ordinal-ordinal.ensures.counted, ordinal-most c.args.self, year-most (year_at c.args.self))
 
 pub returns-then-ordinal-lt60 : goal.returns-then-ordinal-lt60
 returns-then-ordinal-lt60 c =
@@ -18,10 +18,10 @@ returns-then-ordinal-lt60 c =
     let either : (is_leap_year (year_at n) ≡ is_leap_year z) ⊎ (ordinal_at n < 60) =
     elim c.if-ordinal-lt60.either [
       | inl alike ↦ inl (sym mark ∙ sym (beq-alike _ _ alike) ∙ leap)
-      | inr early ↦ inr (omega (arith, early.1, c.ordinal-ordinal.ensures))
+      | inr early ↦ inr (omega (arith, early.1, c.ordinal-ordinal.ensures.counted))
     ] in
     let is = replaced-same z n either in
-    (is.day, c.ordinal-ordinal.ensures ∙ is.ordinal_is)
+    (is.day, c.ordinal-ordinal.ensures.counted ∙ is.ordinal_is)
 
 pub returns-then-is_leap : goal.returns-then-is_leap
 returns-then-is_leap c =
@@ -31,8 +31,8 @@ returns-then-is_leap c =
     let mark = c.is_in_leap_year-was_leap.ensures.leap in
     let unlike = beq-unlike _ _ c.if-ordinal-lt60.false.0 in
     let was : is_leap_year (year_at n) ≡ not c.is_leap_year-is_leap.result = sym mark ∙ unlike in
-    let is = replaced-later z n (omega (arith, c.if-ordinal-lt60.false.1, c.ordinal-ordinal.ensures)) (was ∙ ap not c.if-is_leap.true) (sym leap ∙ c.if-is_leap.true) in
-    (is.day, ap (λ o. o + 1) c.ordinal-ordinal.ensures ∙ is.ordinal_is)
+    let is = replaced-later z n (omega (arith, c.if-ordinal-lt60.false.1, c.ordinal-ordinal.ensures.counted)) (was ∙ ap not c.if-is_leap.true) (sym leap ∙ c.if-is_leap.true) in
+    (is.day, ap (λ o. o + 1) c.ordinal-ordinal.ensures.counted ∙ is.ordinal_is)
 
 pub returns-then-ordinal-gt60 : goal.returns-then-ordinal-gt60
 returns-then-ordinal-gt60 c =
@@ -42,8 +42,8 @@ returns-then-ordinal-gt60 c =
     let mark = c.is_in_leap_year-was_leap.ensures.leap in
     let unlike = beq-unlike _ _ c.if-ordinal-lt60.false.0 in
     let was : is_leap_year (year_at n) ≡ not c.is_leap_year-is_leap.result = sym mark ∙ unlike in
-    let is = replaced-earlier z n (omega (arith, c.ordinal-ordinal.ensures)) (was ∙ ap not c.if-is_leap.false) (sym leap ∙ c.if-is_leap.false) in
-    (is.day, ap (λ o. o - 1) c.ordinal-ordinal.ensures ∙ is.ordinal_is)
+    let is = replaced-earlier z n (omega (arith, c.ordinal-ordinal.ensures.counted)) (was ∙ ap not c.if-is_leap.false) (sym leap ∙ c.if-is_leap.false) in
+    (is.day, ap (λ o. o - 1) c.ordinal-ordinal.ensures.counted ∙ is.ordinal_is)
 
 pub returns-else-ordinal-gt60 : goal.returns-else-ordinal-gt60
 returns-else-ordinal-gt60 c =
@@ -53,5 +53,5 @@ returns-else-ordinal-gt60 c =
     let mark = c.is_in_leap_year-was_leap.ensures.leap in
     let unlike = beq-unlike _ _ c.if-ordinal-lt60.false.0 in
     let was : is_leap_year (year_at n) ≡ not c.is_leap_year-is_leap.result = sym mark ∙ unlike in
-    let sixty : ordinal_at n ≡ 60 = omega (arith, c.if-ordinal-lt60.false.1, c.ordinal-ordinal.ensures) in
+    let sixty : ordinal_at n ≡ 60 = omega (arith, c.if-ordinal-lt60.false.1, c.ordinal-ordinal.ensures.counted) in
     not_replaced z n sixty (was ∙ ap not c.if-is_leap.false) (sym leap ∙ c.if-is_leap.false)

@@ -1,5 +1,5 @@
-use Rattle.std.proofs.Common.{arith, w32, FitsSigned}
-use Rattle.std.proofs.lemmas.Int.{ints, to_z-of_z}
+use Rattle.std.proofs.Common.{arith}
+use Rattle.cal_date.proofs.Dates.{IsYear-i32}
 use Rattle.cal_date.specs.Order.{ordinal_date_at}
 use Rattle.cal_date.proofs.Order.{in_order}
 use Rattle.cal_date.proofs.Rising.{Rises-ordinal_date}
@@ -7,5 +7,4 @@ use Rattle.cal_date.proofs.date.Date.to_ordinal_date.Goals as goal
 
 pub returns-clause-order : goal.returns-clause-order
 returns-clause-order c = λ n _.
-    let fits : FitsSigned w32 c.year.result = grind (arith, ints) in
-    rw (to_z-of_z w32 c.year.result fits, c.year.ensures, c.ordinal.ensures) (in_order ordinal_date_at Rises-ordinal_date n c.args.self)
+    rw (IsYear-i32 _ c.year.ensures.range, c.year.ensures.counted, c.ordinal.ensures.counted) (in_order ordinal_date_at Rises-ordinal_date n c.args.self)

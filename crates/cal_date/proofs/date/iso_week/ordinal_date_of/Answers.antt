@@ -32,7 +32,7 @@ pub returns-then-days-taken-clause-ordinal : goal.returns-then-days-taken-clause
 returns-then-days-taken-clause-ordinal c =
     let at = before c in
     let fourth = rw (IsYear-i32 c.args.year c.requires.year) at c.weekday_place.ensures in
-    let length = rw at.year_is at c.days_in_year.ensures in
+    let length = rw at.year_is at c.days_in_year.ensures.value in
     let is = at.back.ordinal_is in
     omega arith
 
@@ -55,7 +55,7 @@ returns-then-ordinal-days_in_year-clause-year c =
 pub returns-then-ordinal-days_in_year-clause-ordinal : goal.returns-then-ordinal-days_in_year-clause-ordinal
 returns-then-ordinal-days_in_year-clause-ordinal c =
     let fourth = rw (IsYear-i32 c.args.year c.requires.year) at c.weekday_place.ensures in
-    let length = rw (IsYear-i32 c.args.year c.requires.year) at c.days_in_year-then-ordinal-days_in_year.ensures in
+    let length = rw (IsYear-i32 c.args.year c.requires.year) at c.days_in_year-then-ordinal-days_in_year.ensures.value in
     let is = (after c).ordinal_is in
     omega arith
 

@@ -1,7 +1,7 @@
 use Rattle.std.proofs.Common.{arith, refl}
 use Rattle.std.proofs.lemmas.Int.{ints}
 use Rattle.cal_date.proofs.IsoForms.{first_weekday-years_before}
-use Rattle.cal_date.proofs.JulianDays.{years_before}
+use Rattle.cal_date.specs.CountLaws.{years_before}
 use Rattle.cal_date.proofs.date.iso_week.weekday_place.Goals as goal
 
 pub returns : goal.returns

@@ -1,4 +1,4 @@
-use Rattle.cal_date.specs.DateFields.{packed_at-number_of}
+use Rattle.cal_date.specs.PackedDate.{packed_at-number_of}
 use Rattle.cal_date.proofs.date.order.DateHash.hash.Goals as goal
 
 pub returns : goal.returns

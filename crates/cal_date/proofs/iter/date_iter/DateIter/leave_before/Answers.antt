@@ -11,7 +11,7 @@ returns c =
     elim c.if-lt.branch [
       | then-lt w ↦
           let less : c.self.inside.front < c.args.item = grind (arith, nat_tests) in
-          let day : c.if-lt.self ≡ Some (c.args.item - 1) = w.self-is ∙ SomeIff-some w.previous_day-self-inside.ensures (omega arith) in
+          let day : c.if-lt.self ≡ Some (c.args.item - 1) = w.self-is ∙ SomeIff-some w.previous_day-self-inside.ensures.day (omega arith) in
           rw (← c.self.view_is, day) (without_last-from (walk c.self.inside.front c.self.inside.back) c.args.back c.args.item back less c.requires.to_back)
       | else-lt w ↦
           let most : c.args.item ≤ c.self.inside.front = grind (arith, nat_tests) in

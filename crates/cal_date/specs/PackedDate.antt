@@ -1,5 +1,5 @@
 -- The packed value of a date, and its number.
-use Rattle.std.specs.Prelude.{◌≡◌, ℕ, ◌+◌, ◌-◌, ◌/◌, ◌%◌, ℤ, pos, negsuc, ◌+ℤ◌, ◌-ℤ◌, ◌*ℤ◌, unsigned_abs, if◌then◌else◌, Bool, true, false, not, ◌&&◌, nat_lt, nat_le, int_lt}
+use Rattle.std.specs.Prelude.{◌≡◌, ℕ, ◌+◌, ◌-◌, ◌*◌, ◌/◌, ◌%◌, ℤ, pos, negsuc, ◌+ℤ◌, ◌-ℤ◌, ◌*ℤ◌, unsigned_abs, if◌then◌else◌, Bool, true, false, not, ◌&&◌, nat_lt, nat_le, int_lt}
 use Rattle.std.specs.Ordering.{int_eq}
 use Rattle.std.proofs.lemmas.Bool.{and_parts, and_from, not-true, not_from_false, ltb-true, leb-true, lt-ltb, le-leb}
 use Rattle.std.proofs.Common.{arith, ◌∙◌, refl, sym, ap}
@@ -18,12 +18,16 @@ leap_mark y = if is_leap_year y then 512 else 0
 abbrev pub packed_value : ℤ → ℕ → ℤ
 packed_value y o = y *ℤ pos 1024 +ℤ pos (leap_mark y + o)
 
+-- so many years up, each year of the range is above zero, and so is its packed value
+abbrev pub raised_by : ℕ
+raised_by = unsigned_abs first_year + 1
+
 -- the year and the ordinal of a packed value: what is above its low ten bits, and the lowest nine
 abbrev pub year_part : ℤ → ℤ
-year_part p = pos (unsigned_abs (p +ℤ pos 10_240_000) / 1024) -ℤ pos 10_000
+year_part p = pos (unsigned_abs (p +ℤ pos (raised_by * 1024)) / 1024) -ℤ pos raised_by
 
 abbrev pub ordinal_part : ℤ → ℕ
-ordinal_part p = unsigned_abs (p +ℤ pos 10_240_000) % 512
+ordinal_part p = unsigned_abs (p +ℤ pos (raised_by * 1024)) % 512
 
 -- whether it is the packed value of this year and ordinal, a year of the range and an ordinal that it has
 abbrev pub packs : ℤ → ℤ → ℕ → Bool

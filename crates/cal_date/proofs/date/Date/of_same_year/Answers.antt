@@ -5,7 +5,7 @@ use Rattle.cal_units.specs.Lengths.{days_in_year}
 use Rattle.cal_date.specs.Date.{year_at}
 use Rattle.cal_date.proofs.Dates.{stands, year-most, ordinal-most}
 use Rattle.cal_date.proofs.Neighbours.{year_length}
-use Rattle.cal_date.proofs.date.Date.in_same_year.Goals as goal
+use Rattle.cal_date.proofs.date.Date.of_same_year.Goals as goal
 
 pub moved_in_year-requires-clause-not_after : goal.moved_in_year-requires-clause-not_after
 moved_in_year-requires-clause-not_after c =

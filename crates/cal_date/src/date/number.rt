@@ -1,0 +1,76 @@
+//! Dates by their number in the count of days.
+ghost use Rattle.std.specs.Prelude.{◌≡◌, ◌+◌, ◌-◌, ◌≤◌, SomeIff};
+ghost use Rattle.cal_date.specs.Date.{IsDate};
+
+use crate::date::{Date, LAST_DAY, MIN_JULIAN_DAY};
+use crate::kernel::{date_of_kernel, julian_kernel};
+
+impl Date {
+    /// States that the day is one of the range. It does nothing.
+    pub(crate) fn is_in_range(self)
+        ensures { IsDate self }
+    {
+        let _ = &self.packed;
+    }
+
+    /// The number of the day: the days from the first one on that come before it.
+    pub(super) fn number(self) -> u32
+        ensures number { result ≡ self }
+        ensures in_range { IsDate self }
+    {
+        (self.to_julian_day() - MIN_JULIAN_DAY) as u32
+    }
+
+    /// The day of that number.
+    pub(super) fn at_number(number: u32) -> Self
+        requires { IsDate number }
+        ensures { result ≡ number }
+    {
+        date_of_kernel(julian_kernel(MIN_JULIAN_DAY + number as i32))
+    }
+
+    /// The day of that number, or `None` past the last one.
+    pub(super) fn checked_at_number(number: u64) -> Option<Self>
+        ensures { SomeIff result (IsDate number) number }
+    {
+        if number <= LAST_DAY as u64 {
+            Some(Self::at_number(number as u32))
+        } else {
+            None
+        }
+    }
+
+    /// How many days after this day `later` comes, which does not come before it.
+    pub(crate) fn days_until(self, later: Self) -> u32
+        requires { self ≤ later }
+        ensures { result ≡ later - self }
+    {
+        if self.year() == later.year() {
+            return u32::from(later.ordinal() - self.ordinal());
+        }
+        later.number() - self.number()
+    }
+
+    /// The day that comes so many days after this one.
+    pub(crate) fn days_later(self, days: u32) -> Self
+        requires { IsDate (self + days) }
+        ensures { result ≡ self + days }
+    {
+        match self.of_same_year(u64::from(self.ordinal()) - 1 + u64::from(days)) {
+            Some(date) => date,
+            None => Self::at_number(self.number() + days),
+        }
+    }
+
+    /// The day that comes so many days before this one.
+    pub(crate) fn days_earlier(self, days: u32) -> Self
+        requires { days ≤ self }
+        ensures { result ≡ self - days }
+    {
+        // Where the year begins in between, the difference wraps, far above the length of a year.
+        match self.of_same_year((u64::from(self.ordinal()) - 1).wrapping_sub(u64::from(days))) {
+            Some(date) => date,
+            None => Self::at_number(self.number() - days),
+        }
+    }
+}
