@@ -1,6 +1,6 @@
 -- A walk over days from both ends: a front day, and a back day or none. Its days are those from the front day to the back day, one
 -- after the other; without a back day it has none.
-use Rattle.std.specs.Prelude.{◌≡◌, ℕ, ◌+◌, ◌-◌, ◌≤◌, Bool, ◌&&◌, ◌==◌, List, [], length, nat_lt, nat_le, Option, Some, None, IfSome, option_map, if◌then◌else◌}
+use Rattle.std.specs.Prelude.{◌≡◌, ℕ, ◌+◌, ◌-◌, ◌≤◌, Bool, ◌&&◌, ◌==◌, List, [], length, reverse, slice_get, nat_lt, nat_le, Option, Some, None, IfSome, option_map, if◌then◌else◌}
 use Rattle.std.specs.Option.{option_eq}
 use Rattle.cal_date.specs.Date.{year_at, IsDate}
 use Rattle.cal_date.specs.Occurrence.{days_from}
@@ -38,6 +38,16 @@ without_first k w = if nat_lt k (length (days_of w)) then walk (w.front + k) w.b
 abbrev pub without_last : ℕ → Walk → Walk
 without_last k w =
     if nat_lt k (length (days_of w)) then walk w.front (option_map (λ back. back - k) w.back) else walk w.front None
+
+-- a call takes the first of the days, or finds none
+pub record TakesFirst (old : Walk) (day : Option ℕ) (new : Walk) : Type 0 where
+  pub item : day ≡ slice_get (days_of old) 0
+  pub left : new ≡ without_first 1 old
+
+-- a call takes the last of them
+pub record TakesLast (old : Walk) (day : Option ℕ) (new : Walk) : Type 0 where
+  pub item : day ≡ slice_get (reverse (days_of old)) 0
+  pub left : new ≡ without_last 1 old
 
 -- walks are equal where their front days are, and their back days
 abbrev pub walk_eq : Walk → Walk → Bool

@@ -1,13 +1,13 @@
 //! The walk over days from both ends.
 ghost use Rattle.std.specs.Prelude.{◌≡◌, ℕ, ◌+◌, ◌-◌, ◌<◌, ◌≤◌, IfSome, IsSomeAnd, None, true, ⊤, slice_get, reverse, length};
-ghost use Rattle.std.specs.Iterator.{YieldsFirst, YieldsLast, MakesProgress, UpTo, item_count};
+ghost use Rattle.std.specs.Iterator.{YieldsFirst, YieldsLast, UpTo, item_count};
 ghost use Rattle.std.specs.Iterator.SizeHint.{IsWithinCount};
 ghost use Rattle.std.specs.List.Sorted.{IsSorted};
 ghost use Rattle.std.specs.Ordering.{nat_cmp};
 ghost use Rattle.std.proofs.Common.{rules};
 ghost use Rattle.std.specs.Cmp.Rules.{comparing};
 ghost use Rattle.cal_date.specs.Date.{last_day, year_at, ordinal_at, HasOrdinalDate};
-ghost use Rattle.cal_date.specs.DateIter.{IsInOneYear, walk_between, walk_eq, days_of, without_first, without_last};
+ghost use Rattle.cal_date.specs.DateIter.{IsInOneYear, TakesFirst, TakesLast, walk_between, walk_eq, days_of, without_first, without_last};
 
 use crate::date::Date;
 use std::marker::Model;
@@ -213,17 +213,13 @@ impl Eq for DateIter {
 impl Iterator for DateIter {
     type Item = Date;
 
-    ghost next_gives = { YieldsFirst days_of };
+    // The first of the days that are left, which the walk then goes on without.
+    ghost next_gives = { λ old result new. YieldsFirst days_of old result new × TakesFirst old result new };
 
     ghost remaining = { item_count days_of };
 
     /// The first of the days that are left, which is taken from the walk, or `None`.
-    fn next(&mut self) -> Option<Date>
-        ensures steps { YieldsFirst days_of self.old result self.new }
-        ensures goes { MakesProgress (λ _. ⊤) (item_count days_of) self.old result self.new }
-        ensures item { result ≡ slice_get (days_of self.old) 0 }
-        ensures left { self.new ≡ without_first 1 self.old }
-    {
+    fn next(&mut self) -> Option<Date> {
         let back = self.back?;
         let item = self.front;
         self.leave_after(item, back);
@@ -242,15 +238,11 @@ impl Iterator for DateIter {
 }
 
 impl DoubleEndedIterator for DateIter {
-    ghost next_back_gives = { YieldsLast days_of };
+    // The last of the days that are left, which the walk then goes on without.
+    ghost next_back_gives = { λ old result new. YieldsLast days_of old result new × TakesLast old result new };
 
     /// The last of the days that are left, which is taken from the walk, or `None`.
-    fn next_back(&mut self) -> Option<Date>
-        ensures steps { YieldsLast days_of self.old result self.new }
-        ensures goes { MakesProgress (λ _. ⊤) (item_count days_of) self.old result self.new }
-        ensures item { result ≡ slice_get (reverse (days_of self.old)) 0 }
-        ensures left { self.new ≡ without_last 1 self.old }
-    {
+    fn next_back(&mut self) -> Option<Date> {
         let item = self.back?;
         self.leave_before(item, item);
         Some(item)

@@ -3,6 +3,11 @@ use Rattle.cal_date.specs.DateIter.{walk, days_of, without_last}
 use Rattle.cal_date.proofs.DateIters.{ends, days_of-last, slice_get-last}
 use Rattle.cal_date.proofs.iter.date_iter.DateIterDoubleEndedIterator.next_back.Goals as goal
 
+left_is : (c : goal.After-leave_before) → c.leave_before.new.self ≡ without_last 1 c.args.self.now
+left_is c =
+    let one : c.in_ok-item.item + 1 - c.in_ok-item.item ≡ 1 = omega arith in
+    c.leave_before.ensures ∙ ap (λ k. without_last k c.args.self.now) one
+
 others_and_last : (c : goal.After-leave_before) → days_of c.args.self.now ≡ days_of c.leave_before.new.self ++ c.in_ok-item.item ∷ []
 others_and_last c =
     let w = walk c.self.inside.front c.self.inside.back in
@@ -12,14 +17,12 @@ others_and_last c =
     rw (← c.self.view_is, left) (days_of-last w c.in_ok-item.item back (ends w c.in_ok-item.item c.self.invariant back).in_order)
 
 pub returns-clause-steps : goal.returns-clause-steps
-returns-clause-steps c = others_and_last c
+returns-clause-steps c =
+    let w = walk c.self.inside.front c.self.inside.back in
+    let back : c.self.inside.back ≡ Some c.in_ok-item.item = c.in_ok-item.was in
+    (others_and_last c, record { item = rw (← c.self.view_is) (sym back ∙ slice_get-last w c.self.invariant); left = left_is c })
 
 pub returns-clause-goes : goal.returns-clause-goes
 returns-clause-goes c =
     let count = simp length-append at (ap length (others_and_last c)) in
     record { on = λ _. (tt, tt, omega (arith, count)); keeps = tt; rests = λ _. tt }
-
-pub returns-clause-item : goal.returns-clause-item
-returns-clause-item c =
-    let back : c.self.inside.back ≡ Some c.in_ok-item.item = c.in_ok-item.was in
-    rw (← c.self.view_is) (sym back ∙ slice_get-last (walk c.self.inside.front c.self.inside.back) c.self.invariant)
