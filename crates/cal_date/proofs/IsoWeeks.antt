@@ -34,6 +34,7 @@ pub record StandsInWeek (y : ℤ) (w n : ℕ) : Type 0 where
   pub number_is : n ≡ iso_number y w (n % 7)
 
 pub stands_in_week : (n : ℕ) → StandsInWeek (iso_year_at n) (iso_week_at n) n
+unfolding iso_year_at iso_week_at
 stands_in_week n =
     let t = thursday_of n in
     let is : t ≡ n - n % 7 + 3 = thursday_of-is n in
@@ -57,6 +58,7 @@ iso_week_at-range n = (stands_in_week n).week
 
 -- the number of an ISO week date has it
 pub HasIsoWeekDate-iso_number : (y : ℤ) (w wd : ℕ) → first_year ≤ℤ y → IsWeek y w → wd < 7 → HasIsoWeekDate y w wd (iso_number y w wd)
+unfolding iso_year_at
 HasIsoWeekDate-iso_number y w wd h week below =
     let n = iso_number y w wd in
     let d = days_before y in
@@ -79,6 +81,7 @@ pub record IsInWeek (y : ℤ) (w wd n : ℕ) : Type 0 where
 
 -- no day of the range has an ISO year outside it
 pub IsYear-iso_year_at : (n : ℕ) → IsDate n → IsYear (iso_year_at n)
+unfolding iso_year_at
 IsYear-iso_year_at n h =
     let t = thursday_of n in
     let is : t ≡ n - n % 7 + 3 = thursday_of-is n in

@@ -1,5 +1,5 @@
 -- What the day nearest to a number is, inside the range and past either end.
-use Rattle.std.proofs.Common.{◌≡◌, ℕ, ℤ, pos, negsuc, ◌≤ℤ◌, ◌<ℤ◌, arith}
+use Rattle.std.proofs.Common.{◌≡◌, ◌∙◌, ap, ℕ, ℤ, pos, negsuc, ◌≤ℤ◌, ◌<ℤ◌, arith, Option, Some, None, SomeIff, IfSome}
 use Rattle.std.proofs.lemmas.Int.{ints, clamps, by_lt_z}
 use Rattle.cal_span.specs.SignedDuration.{whole_days}
 use Rattle.cal_date.specs.Date.{last_day, IsDate}
@@ -38,3 +38,8 @@ whole_days-negative (negsuc i) h = omega (arith, ints)
 pub whole_days-not_negative : (v : ℤ) → pos 0 ≤ℤ v → pos 0 ≤ℤ whole_days v
 whole_days-not_negative (pos i) h = omega (arith, ints)
 whole_days-not_negative (negsuc i) h = absurd (omega (arith, ints))
+
+-- a day that is found has the number
+pub found_number : (z : ℤ) (r : Option ℕ) → SomeIff r (IsDateNumber z) (date_nearest z) → IfSome r (λ n. pos n ≡ z)
+found_number z None h = tt
+found_number z (Some n) h = ap pos h.1 ∙ date_nearest-inside z h.0

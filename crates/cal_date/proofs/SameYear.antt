@@ -1,13 +1,13 @@
 -- Moves by days that are taken as a u64, those below zero as 2^64 more: within a year by the days of the year before the day, and
 -- else by its number.
-use Rattle.std.proofs.Common.{◌≡◌, ◌∙◌, zero, suc, ℕ, ◌+◌, ◌-◌, ◌%◌, ◌<◌, ◌≤◌, ◌⊎◌, inl, inr, refl, sym, ap, subst, arith, ℤ, pos, negsuc, neg_ℤ, ◌+ℤ◌, ◌-ℤ◌, unsigned_abs, of_z, w64, FitsSigned, Option, Some, None, SomeIff, IsSomeAnd}
+use Rattle.std.proofs.Common.{◌≡◌, ◌∙◌, zero, suc, ℕ, ◌+◌, ◌-◌, ◌%◌, ◌<◌, ◌≤◌, ◌⊎◌, inl, inr, refl, sym, ap, subst, arith, ℤ, pos, negsuc, neg_ℤ, ◌+ℤ◌, ◌-ℤ◌, unsigned_abs, of_z, w64, FitsSigned, Option, Some, None, SomeIff, IfSome, IsSomeAnd}
 use Rattle.std.proofs.lemmas.Int.{ints}
 use Rattle.cal_units.specs.Lengths.{days_in_year}
 use Rattle.cal_date.specs.Date.{year_at, ordinal_at, IsOrdinal, IsDate}
 use Rattle.cal_date.specs.PackedDate.{ordinal_number, HasOrdinalDate-ordinal_number}
 use Rattle.cal_date.specs.Move.{IsDateNumber, IsOrdinalNumber, date_nearest}
 use Rattle.cal_date.proofs.Dates.{year-most, in_range, IsDate-ordinal_number}
-use Rattle.cal_date.proofs.Moves.{number-date_nearest}
+use Rattle.cal_date.proofs.Moves.{number-date_nearest, found_number}
 
 -- a sum that wraps is far above the places of a year; one that does not is the place of the moved ordinal
 pub place-added : (w : ℤ) (o : ℕ) → FitsSigned w64 w → 1 ≤ o → o ≤ 366 → (of_z w64 w + (o - 1)) % 18446744073709551616 < 366
@@ -83,3 +83,8 @@ pub moved_back_in_year : (n : ℕ) (w v : ℤ) (r : Option ℕ) → IsDate n →
 moved_back_in_year n w v r h e moves =
     let same : pos (ordinal_at n) +ℤ v ≡ pos (ordinal_at n) -ℤ w = ap (λ z. pos (ordinal_at n) +ℤ z) e ∙ omega (arith, ints) in
     subst (λ z. IsOrdinalNumber (year_at n) z → IsSomeAnd r (λ d. (year_at d ≡ year_at n) × (pos (ordinal_at d) ≡ z))) same (moved_in_year n v r h moves)
+
+pub found_back : (n : ℕ) (w v : ℤ) (r : Option ℕ) → v ≡ neg_ℤ w → SomeIff r (IsDateNumber (pos n +ℤ v)) (date_nearest (pos n +ℤ v)) → IfSome r (λ d. pos d ≡ pos n -ℤ w)
+found_back n w v r e moves =
+    let same : pos n +ℤ v ≡ pos n -ℤ w = ap (λ z. pos n +ℤ z) e ∙ omega (arith, ints) in
+    subst (λ z. IfSome r (λ d. pos d ≡ z)) same (found_number (pos n +ℤ v) r moves)

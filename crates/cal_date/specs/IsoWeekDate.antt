@@ -23,10 +23,10 @@ abbrev pub thursday_of : ℕ → ℕ
 thursday_of n = n - weekday_at n + 3
 
 -- the ISO year and the ISO week: the year of that Thursday, and the Thursdays of that year up to it
-abbrev pub iso_year_at : ℕ → ℤ
+unfoldable pub iso_year_at : ℕ → ℤ
 iso_year_at n = year_at (thursday_of n)
 
-abbrev pub iso_week_at : ℕ → ℕ
+unfoldable pub iso_week_at : ℕ → ℕ
 iso_week_at n = weekdays_upto 3 (thursday_of n)
 
 -- a week that the year has

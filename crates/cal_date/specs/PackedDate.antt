@@ -108,6 +108,10 @@ number_of d = ordinal_number (year_of d.packed) (ordinal_of d.packed)
 abbrev pub packed_at : ℕ → ℤ
 packed_at n = packed (year_at n) (ordinal_at n)
 
+-- what a date feeds to a hasher
+unfoldable pub hash_word : ℕ → ℤ
+hash_word n = packed_at n
+
 abbrev pub fields_at : ℕ → Inside
 fields_at n = record { packed = packed_at n }
 

@@ -1,6 +1,9 @@
 //! The weekdays.
-ghost use Rattle.std.specs.Prelude.{◌≡◌, ◌+◌, ◌%◌, Some};
+ghost use Rattle.std.specs.Prelude.{◌≡◌, ◌+◌, ◌%◌, ◌==◌, Some};
+ghost use Rattle.std.specs.Cmp.Rules.{comparing};
 ghost use Rattle.std.specs.Fmt.{padded};
+ghost use Rattle.std.specs.Ordering.{on};
+ghost use Rattle.std.proofs.Common.{rules};
 ghost use Rattle.cal_units.specs.Name.{Reads};
 ghost use Rattle.cal_units.specs.Weekday.{place, days_from_sunday, weekday_at, name};
 ghost use Rattle.cal_units.specs.WeekdayCycle.{place-below, weekday_at-place, place-weekday_at};
@@ -16,7 +19,7 @@ use std::str::FromStr;
 ///
 /// `Weekday::Friday as u8` is the number of days since Monday, 4. As a week may be taken to begin on Monday or on Sunday, weekdays
 /// have no order. A weekday prints its English name, as `Friday`.
-#[derive(Clone, Copy, Debug, PartialEq, Eq, Hash)]
+#[derive(Clone, Copy, Debug, Hash)]
 pub enum Weekday {
     Monday,
     Tuesday,
@@ -111,6 +114,20 @@ impl Weekday {
             Weekday::Sunday => "Sunday",
         }
     }
+}
+
+impl PartialEq for Weekday {
+    ghost eq = { on place ◌==◌ };
+
+    ghost laws = { Prim.search (comparing, rules) };
+
+    fn eq(&self, other: &Weekday) -> bool {
+        *self as u8 == *other as u8
+    }
+}
+
+impl Eq for Weekday {
+    ghost laws = { Prim.search (comparing, rules) };
 }
 
 impl Cycle for Weekday {

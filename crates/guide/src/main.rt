@@ -1,6 +1,7 @@
 //! The code of the guide for users of `cal_time`, a module for each task.
 #![tactic(auto)]
 
+mod callers;
 mod clauses;
 mod first;
 mod generic;

@@ -1,5 +1,5 @@
 //! Dates moved on and back by durations, and the durations between dates.
-ghost use Rattle.std.specs.Prelude.{◌≡◌, pos, ◌+ℤ◌, ◌-ℤ◌, ◌*ℤ◌, SomeIff, IsSomeAnd};
+ghost use Rattle.std.specs.Prelude.{◌≡◌, pos, ◌+ℤ◌, ◌-ℤ◌, ◌*ℤ◌, SomeIff, IfSome, IsSomeAnd};
 ghost use Rattle.cal_span.specs.SignedDuration.{day, whole_days};
 ghost use Rattle.cal_date.specs.Date.{year_at, ordinal_at, IsDate};
 ghost use Rattle.cal_date.specs.Move.{IsDateNumber, IsOrdinalNumber, date_nearest};
@@ -15,6 +15,7 @@ impl Date {
     /// [`Self::MIN`] less 23 hours is still [`Self::MIN`].
     pub fn checked_add(self, duration: SignedDuration) -> Option<Self>
         ensures day { SomeIff result (IsDateNumber (pos self +ℤ whole_days duration)) (date_nearest (pos self +ℤ whole_days duration)) }
+        ensures number { IfSome result (λ n. pos n ≡ pos self +ℤ whole_days duration) }
         ensures same_year { IsOrdinalNumber (year_at self) (pos (ordinal_at self) +ℤ whole_days duration)
             → IsSomeAnd result (λ n. (year_at n ≡ year_at self)
             × (pos (ordinal_at n) ≡ pos (ordinal_at self) +ℤ whole_days duration)) }
@@ -28,6 +29,7 @@ impl Date {
     /// Only the whole days of the duration count, cut toward zero: 2020-12-31 less 47 hours is 2020-12-30.
     pub fn checked_sub(self, duration: SignedDuration) -> Option<Self>
         ensures day { SomeIff result (IsDateNumber (pos self -ℤ whole_days duration)) (date_nearest (pos self -ℤ whole_days duration)) }
+        ensures number { IfSome result (λ n. pos n ≡ pos self -ℤ whole_days duration) }
         ensures same_year { IsOrdinalNumber (year_at self) (pos (ordinal_at self) -ℤ whole_days duration)
             → IsSomeAnd result (λ n. (year_at n ≡ year_at self)
             × (pos (ordinal_at n) ≡ pos (ordinal_at self) -ℤ whole_days duration)) }

@@ -50,9 +50,9 @@ impl PartialOrd for Date {
 
 impl Hash for Date {
     ghost use Rattle.std.specs.Hash as fed;
-    ghost use Rattle.cal_date.specs.PackedDate.{packed_at};
+    ghost use Rattle.cal_date.specs.PackedDate.{hash_word};
 
-    ghost hash_input = { λ n. fed.i32 (packed_at n) };
+    ghost hash_input = { λ n. fed.i32 (hash_word n) };
 
     ghost respects_eq = { Prim.search (hashing, rules) };
 

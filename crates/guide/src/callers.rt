@@ -1,0 +1,188 @@
+//! Callers that know the clauses alone: what the documentation says of a call is provable here.
+ghost use Rattle.std.specs.Prelude.{◌≡◌, ℕ, ◌+◌, ◌-◌, ◌<◌, ◌≤◌, ◌+ℤ◌, ◌-ℤ◌, ◌≤ℤ◌, ◌==◌, pos, IfOk, IfSome, IsNone, ◌↔◌, Some, Ok};
+ghost use Rattle.cal_time.specs.Date.{last_day, year_at, month_at, day_of_month_at, ordinal_at, weekday_at, IsDate, IsYear, HasJulianDay, HasOrdinalDate, HasCalendarDate};
+ghost use Rattle.cal_time.specs.IsoWeekDate.{HasIsoWeekDate};
+ghost use Rattle.cal_time.specs.Lengths.{days_in_year, days_in_month};
+ghost use Rattle.cal_time.specs.SignedDuration.{whole_days};
+ghost use Rattle.cal_time.specs.Weekday.{place};
+
+use cal_time::error::ComponentRange;
+use cal_time::util::{days_in_month, days_in_year, weeks_in_year};
+use cal_time::{Date, Month, SignedDuration, Weekday};
+use std::io;
+
+/// How many whole years someone who was born on the one day has lived on the other.
+fn age(born: Date, at: Date) -> i32 {
+    let years = at.year() - born.year();
+    if at.month() < born.month() || (at.month() == born.month() && at.day() < born.day()) {
+        years - 1
+    } else {
+        years
+    }
+}
+
+/// The day itself, by way of its Julian day.
+fn through_julian_day(date: Date) -> Date
+    ensures { result ≡ date }
+{
+    match Date::from_julian_day(date.to_julian_day()) {
+        Ok(same) => same,
+        Err(_) => unreachable!(),
+    }
+}
+
+/// The Julian day itself, by way of its day, if it has one.
+fn julian_day_through(julian_day: i32) -> Option<i32>
+    ensures { IfSome result (λ same. same ≡ julian_day) }
+{
+    match Date::from_julian_day(julian_day) {
+        Ok(date) => Some(date.to_julian_day()),
+        Err(_) => None,
+    }
+}
+
+/// The day itself, by way of its ordinal date.
+fn through_ordinal_date(date: Date) -> Date
+    ensures { result ≡ date }
+{
+    let (year, ordinal) = date.to_ordinal_date();
+    match Date::from_ordinal_date(year, ordinal) {
+        Ok(same) => same,
+        Err(_) => unreachable!(),
+    }
+}
+
+/// The ordinal date itself, by way of its day, if it has one.
+fn ordinal_date_through(year: i32, ordinal: u16) -> Option<(i32, u16)>
+    ensures { IfSome result (λ same. same ≡ (year, ordinal)) }
+{
+    match Date::from_ordinal_date(year, ordinal) {
+        Ok(date) => Some(date.to_ordinal_date()),
+        Err(_) => None,
+    }
+}
+
+/// The day itself, by way of its calendar date.
+fn through_calendar_date(date: Date) -> Date
+    ensures { result ≡ date }
+{
+    let (year, month, day) = date.to_calendar_date();
+    match Date::from_calendar_date(year, month, day) {
+        Ok(same) => same,
+        Err(_) => unreachable!(),
+    }
+}
+
+/// The day itself, by way of its week date.
+fn through_iso_week_date(date: Date) -> Date
+    ensures { result ≡ date }
+{
+    let (year, week, weekday) = date.to_iso_week_date();
+    match Date::from_iso_week_date(year, week, weekday) {
+        Ok(same) => same,
+        Err(_) => unreachable!(),
+    }
+}
+
+/// The days that are left in the year after this one.
+fn days_left(date: Date) -> u16
+    ensures { result + ordinal_at date ≡ days_in_year (year_at date) }
+{
+    days_in_year(date.year()) - date.ordinal()
+}
+
+/// The days that are left in the month after this one.
+fn days_left_in_month(date: Date) -> u8
+    ensures { result + day_of_month_at date ≡ days_in_month (year_at date) (month_at date) }
+{
+    date.month().length(date.year()) - date.day()
+}
+
+/// Whether the year has a week 53.
+fn extra_weeks(year: i32) -> u8 {
+    weeks_in_year(year) - 52
+}
+
+/// The weeks of the ISO year that came before the week of this day.
+fn weeks_gone(date: Date) -> u8 {
+    date.iso_week() - 1
+}
+
+/// The last Friday of the month.
+fn last_friday(year: i32, month: Month) -> Option<Date>
+    ensures { IfSome result (λ day. weekday_at day ≡ 4) }
+{
+    let Ok(last) = Date::from_calendar_date(year, month, days_in_month(month, year)) else {
+        return None;
+    };
+    if last.weekday() == Weekday::Friday {
+        Some(last)
+    } else {
+        last.checked_prev_occurrence(Weekday::Friday)
+    }
+}
+
+/// The day itself, by a move there and back.
+fn there_and_back_by(date: Date, duration: SignedDuration) -> Option<Date>
+    ensures { IfSome result (λ same. same ≡ date) }
+{
+    date.checked_add(duration)?.checked_sub(duration)
+}
+
+/// The day a week before, where there is one.
+fn a_week_back(date: Date) -> Option<Date>
+    ensures back { IfSome result (λ day. day + 7 ≡ date) }
+    ensures none { IsNone result ↔ (date < 7) }
+{
+    date.checked_sub(SignedDuration::WEEK)
+}
+
+/// The day on which a bill of this day is due, 30 days later, and the week that this is in.
+fn due(date: Date) -> Option<(Date, u8)>
+    ensures { IfSome result (λ due. due.0 ≡ date + 30) }
+{
+    let due = date.checked_add(SignedDuration::days(30))?;
+    Some((due, due.iso_week()))
+}
+
+/// The next Thursday, at most a week away.
+fn next_thursday(date: Date) -> Option<Date>
+    ensures { IfSome result (λ day. (date < day) × (day ≤ date + 7) × (weekday_at day ≡ 3)) }
+{
+    date.checked_next_occurrence(Weekday::Thursday)
+}
+
+/// The day some whole days later, or the last one: never an earlier day.
+fn not_before(date: Date, days: u32) -> Date
+    ensures { date ≤ result }
+{
+    date.saturating_add(SignedDuration::days(i64::from(days)))
+}
+
+/// The day itself, by the year that it has.
+fn same_year(date: Date) -> Date
+    ensures { result ≡ date }
+{
+    match date.replace_year(date.year()) {
+        Ok(same) => same,
+        Err(_) => unreachable!(),
+    }
+}
+
+/// Whether this is the last day of the range.
+fn is_last(date: Date) -> bool
+    ensures { result ≡ (date == last_day) }
+{
+    date.next_day().is_none()
+}
+
+/// How many days from one to the other, both included, are no Saturday and no Sunday.
+fn working_days(from: Date, to: Date) -> u32 {
+    let mut count = 0u32;
+    for date in from.iter_to(to) {
+        if date.weekday() != Weekday::Saturday && date.weekday() != Weekday::Sunday {
+            count += 1;
+        }
+    }
+    count
+}
