@@ -3,7 +3,7 @@
 use Rattle.std.specs.Prelude.{◌≡◌, ℕ, ◌+◌, ◌-◌, ◌*◌, ◌/◌, ◌%◌, ◌^◌, Bool, ◌&&◌, ◌||◌, ◌==◌, nat_lt, nat_le, if◌then◌else◌, ℤ, pos, ◌+ℤ◌, ◌-ℤ◌, unsigned_abs}
 use Rattle.cal_units.specs.Lengths.{days_in_year}
 use Rattle.cal_units.specs.Weeks.{first_weekday, weeks_in_year}
-use Rattle.cal_date.specs.Date.{julian_day_at}
+use Rattle.cal_date.specs.Date.{julian_day_at, HasOrdinalDate}
 use Rattle.cal_date.specs.declared.kernel.JulianKernel.{JulianKernel}
 
 -- ---- the month and the day of the month, from the ordinal and from whether the year is a leap year
@@ -117,6 +117,10 @@ iso_week_of y o w =
     if week_quotient o w == 0 then weeks_in_year (y -ℤ pos 1)
     else (if (week_quotient o w == 53) && (weeks_in_year y == 52) then 1 else week_quotient o w)
 
+-- those are the ISO year and the week of that day
+unfoldable pub IsWeekByForm : ℤ → ℕ → ℕ → ℤ → ℕ → Type 0
+IsWeekByForm y o w iso_year week = (iso_year ≡ iso_year_of y o w) × (week ≡ iso_week_of y o w)
+
 -- ---- and the way back
 -- the weekday of 4 January, which always lies in week 1
 abbrev pub fourth_weekday : ℤ → ℕ
@@ -134,3 +138,7 @@ ordinal_of_week y w wd =
     if nat_le (7 * w + wd) (fourth_weekday y + 3) then days_in_year (y -ℤ pos 1) + (7 * w + wd) - (fourth_weekday y + 3)
     else (if nat_lt (fourth_weekday y + 3 + days_in_year y) (7 * w + wd) then 7 * w + wd - (fourth_weekday y + 3) - days_in_year y
     else 7 * w + wd - (fourth_weekday y + 3))
+
+-- day n has that year and ordinal
+unfoldable pub IsDayByForm : ℤ → ℕ → ℕ → ℕ → Type 0
+IsDayByForm y w wd n = HasOrdinalDate (year_of_week y w wd) (ordinal_of_week y w wd) n

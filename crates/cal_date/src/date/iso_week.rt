@@ -3,8 +3,8 @@ ghost use Rattle.std.specs.Prelude.{◌≡◌, ℕ, ◌+◌, ◌-◌, ◌%◌, �
 ghost use Rattle.cal_units.specs.Refusal.{refusal, IsRefused};
 ghost use Rattle.cal_units.specs.Weekday.{place};
 ghost use Rattle.cal_units.specs.Weeks.{first_weekday};
-ghost use Rattle.cal_date.specs.ClosedForms.{iso_year_of, iso_week_of, year_of_week, ordinal_of_week};
-ghost use Rattle.cal_date.specs.Date.{year_at, ordinal_at, weekday_at, IsDate, IsYear, IsOrdinal, HasOrdinalDate, NoDate};
+ghost use Rattle.cal_date.specs.ClosedForms.{iso_year_of, iso_week_of, year_of_week, ordinal_of_week, IsWeekByForm, IsDayByForm};
+ghost use Rattle.cal_date.specs.Date.{year_at, ordinal_at, weekday_at, IsDate, IsYear, IsOrdinal, NoDate};
 ghost use Rattle.cal_date.specs.IsoWeekDate.{weekdays_upto, iso_year_at, iso_week_at, IsWeek, HasIsoWeekDate};
 ghost use Rattle.cal_date.specs.Order.{IsBefore, iso_week_date_at};
 ghost use Rattle.cal_date.specs.Refusals.{year_out_of_range, week_out_of_range, weekday_out_of_range};
@@ -35,8 +35,7 @@ impl Date {
         ensures week { IsRefused week_out_of_range result ↔ IsYear year × ¬ IsWeek year week }
         ensures weekday { IsRefused weekday_out_of_range result
             ↔ IsYear year × IsWeek year week × NoDate (HasIsoWeekDate year week (place weekday)) }
-        ensures closed_form { let day = place weekday + 1 in
-            IfOk result (HasOrdinalDate (year_of_week year week day) (ordinal_of_week year week day)) }
+        ensures closed_form { IfOk result (IsDayByForm year week (place weekday + 1)) }
     {
         if year < MIN_YEAR || year > MAX_YEAR {
             return Err(ComponentRange::unconditional("year"));
@@ -79,9 +78,7 @@ impl Date {
         ensures in_range { IsDate self }
         ensures order { (n : ℕ) → IsDate n
             → (n < self) ↔ IsBefore (iso_week_date_at n) (result.0 ∷ pos result.1 ∷ pos (place result.2) ∷ []) }
-        ensures closed_form { let day = weekday_at self + 1 in
-            (result.0 ≡ iso_year_of (year_at self) (ordinal_at self) day)
-            × (result.1 ≡ iso_week_of (year_at self) (ordinal_at self) day) }
+        ensures closed_form { IsWeekByForm (year_at self) (ordinal_at self) (weekday_at self + 1) result.0 result.1 }
     {
         let weekday = self.weekday();
         let (iso_year, week) = iso_year_and_week(self.year(), self.ordinal(), weekday);

@@ -47,16 +47,16 @@ impl Date {
         ensures within { IfSome result (λ later. (self + 7 * (n - 1) < later) × (later ≤ self + 7 * n) × IsDate later) }
         ensures in_range { IsDate self }
     {
-        let number = self.number();
+        let from = self.number();
         if n == 0 {
             return None;
         }
         let weekday = u32::from(weekday.number_days_from_monday());
 
         // The first day of the range is a Monday.
-        let first = (weekday + PAST_LAST_DAY - 1 - number) % 7 + 1;
+        let first = (weekday + PAST_LAST_DAY - 1 - from) % 7 + 1;
         let days = first + 7 * (u32::from(n) - 1);
-        Self::checked_at_number(u64::from(number + days))
+        Self::checked_at_number(u64::from(from + days))
     }
 
     /// The `n`-th of the days before this one that have the weekday, counted from 1 at the nearest, or `None` where it is

@@ -5,7 +5,7 @@ use Rattle.cal_units.specs.Weekday.{place}
 use Rattle.cal_units.specs.WeekdayCycle.{place-below}
 use Rattle.cal_date.specs.Date.{IsYear, IsOrdinal, NoDate}
 use Rattle.cal_date.specs.IsoWeekDate.{IsWeek, HasIsoWeekDate}
-use Rattle.cal_date.specs.ClosedForms.{year_of_week, ordinal_of_week}
+use Rattle.cal_date.specs.ClosedForms.{IsDayByForm, year_of_week, ordinal_of_week}
 use Rattle.cal_units.specs.declared.weekday.Weekday.{Weekday}
 use Rattle.cal_date.proofs.Dates.{IsYear-i32}
 use Rattle.cal_date.proofs.IsoWeeks.{in_weeks}
@@ -104,13 +104,20 @@ at_ordinal-requires-clause-year c = let f = found c in rw f.same f.year
 pub at_ordinal-requires-clause-ordinal : goal.at_ordinal-requires-clause-ordinal
 at_ordinal-requires-clause-ordinal c = let f = found c in rw f.same f.ordinal
 
-pub returns-clause-has : goal.returns-clause-has
-returns-clause-has c =
+pub returns-clause-closed_form : goal.returns-clause-closed_form
+unfolding IsDayByForm
+returns-clause-closed_form c =
     let made = c.ordinal_date_of-calendar_year.ensures in
     let f = fits c.args.year c.args.week c.args.weekday _ _ (omega (arith, ints), omega (arith, ints)) (c.has_week.ensures.0 c.if-not-has_week.false) made.year made.ordinal in
     let small : FitsSigned w32 c.ordinal_date_of-calendar_year.result.0 = search rules in
-    let date = rw (to_z-of_z w32 _ small, f.year_is, f.ordinal_is) at c.at_ordinal.ensures.date in
-    (c.at_ordinal.ensures.in_range, week_date_of_day c.args.year c.args.week (place c.args.weekday) _ f.year f.week f.below date)
+    rw (to_z-of_z w32 _ small, f.year_is, f.ordinal_is) at c.at_ordinal.ensures.date
+
+pub returns-clause-has : goal.returns-clause-has
+unfolding IsDayByForm
+returns-clause-has c =
+    let made = c.ordinal_date_of-calendar_year.ensures in
+    let f = fits c.args.year c.args.week c.args.weekday _ _ (omega (arith, ints), omega (arith, ints)) (c.has_week.ensures.0 c.if-not-has_week.false) made.year made.ordinal in
+    (c.at_ordinal.ensures.in_range, week_date_of_day c.args.year c.args.week (place c.args.weekday) _ f.year f.week f.below (returns-clause-closed_form c))
 
 pub returns-clause-every : goal.returns-clause-every
 returns-clause-every c = λ n h has.

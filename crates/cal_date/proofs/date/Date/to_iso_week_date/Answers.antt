@@ -2,6 +2,7 @@ use Rattle.std.proofs.Common.{subst, ◌∙◌, arith, rules, w32, FitsSigned}
 use Rattle.std.proofs.lemmas.Int.{to_z-of_z}
 use Rattle.cal_units.proofs.Weeks.{weeks_in_year-most}
 use Rattle.cal_date.specs.Date.{IsYear}
+use Rattle.cal_date.specs.ClosedForms.{IsWeekByForm}
 use Rattle.cal_date.specs.IsoWeekDate.{iso_year_at, IsWeek}
 use Rattle.cal_date.proofs.Dates.{IsYear-i32}
 use Rattle.cal_date.proofs.IsoForms.{HasIsoWeekDate-closed}
@@ -9,6 +10,7 @@ use Rattle.cal_date.proofs.IsoWeeks.{IsYear-iso_year_at, iso_week_at-range, iso_
 use Rattle.cal_date.proofs.date.Date.to_iso_week_date.Goals as goal
 
 pub returns-clause-closed_form : goal.returns-clause-closed_form
+unfolding IsWeekByForm
 returns-clause-closed_form c =
     let is = c.iso_year_and_week-iso_year.ensures in
     let fits : FitsSigned w32 c.iso_year_and_week-iso_year.result.0 = search rules in
@@ -17,6 +19,7 @@ returns-clause-closed_form c =
     (to_z-of_z w32 _ fits ∙ year, week)
 
 pub returns-clause-date : goal.returns-clause-date
+unfolding IsWeekByForm
 returns-clause-date c =
     let closed = returns-clause-closed_form c in
     rw (closed.0, closed.1, c.weekday-weekday.ensures.counted) (HasIsoWeekDate-closed c.args.self)
