@@ -11,6 +11,7 @@ mod laws;
 mod moves;
 mod offsets;
 mod pairs;
+mod range;
 mod texts;
 mod times;
 mod walks;
