@@ -7,6 +7,7 @@ use std::process::Abort;
 mod cycles;
 mod dates;
 mod durations;
+mod ends;
 mod laws;
 mod moves;
 mod offsets;
