@@ -1,10 +1,11 @@
 //! What no clause of a constant or of a derived trait can say: functions that give them back. And the two ways to weeks.
-ghost use Rattle.std.specs.Prelude.{◌≡◌, ◌+◌, Ok};
+ghost use Rattle.std.specs.Prelude.{◌≡◌, ◌+◌, ◌↔◌, Ok, IsTrue};
 ghost use Rattle.cal_date.specs.CalendarDay.{calendar_day};
 ghost use Rattle.cal_date.specs.Date.{first_year, last_year, last_day, day_at, IsYear};
 ghost use Rattle.cal_date.specs.IsoWeekDate.{count_before, is_weekday_of_year};
 
 use crate::date::Date;
+use crate::kernel::JulianKernel;
 use cal_units::util::weeks_in_year;
 use std::alloc::AllocError;
 
@@ -29,6 +30,20 @@ pub(crate) fn cloned(date: Date) -> Result<Date, AllocError>
     ensures { result ≡ Ok date }
 {
     date.clone()
+}
+
+/// A clone of a kernel, which equals what it is made from.
+pub(crate) fn cloned_kernel(kernel: JulianKernel) -> Result<JulianKernel, AllocError>
+    ensures { result ≡ Ok kernel }
+{
+    kernel.clone()
+}
+
+/// Whether two kernels are equal, which they are in all five values.
+pub(crate) fn is_same_kernel(kernel: JulianKernel, other: JulianKernel) -> bool
+    ensures { IsTrue result ↔ (kernel ≡ other) }
+{
+    kernel == other
 }
 
 /// The weeks of a year, which `cal_units` counts within that year alone, are its Thursdays in the count of all days.

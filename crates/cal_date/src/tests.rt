@@ -5,8 +5,8 @@ ghost use Rattle.cal_units.specs.Weekday.{place};
 ghost use Rattle.cal_date.specs.Move.{IsDateNumber};
 ghost use Rattle.cal_date.specs.Occurrence.{next_occurrences, prev_occurrences, kth};
 
-use crate::Date;
-use crate::laws::{cloned, final_day, first_day, weeks_of};
+use crate::laws::{cloned, cloned_kernel, final_day, first_day, is_same_kernel, weeks_of};
+use crate::{Date, julian_kernel};
 use cal_span::SignedDuration;
 use cal_units::Weekday;
 use std::test::Fail;
@@ -62,6 +62,9 @@ fn the_laws(rt: HostRuntime) -> Result<(), Fail> {
     assert_eq!(rt; first_day().to_julian_day(), -1930999);
     assert_eq!(rt; final_day().to_julian_day(), 5373484);
     assert_eq!(rt; cloned(Date::MAX)?, Date::MAX);
+    let (kernel, next) = (julian_kernel(2_451_545), julian_kernel(2_451_546));
+    assert!(rt; is_same_kernel(cloned_kernel(kernel)?, kernel));
+    assert!(rt; !is_same_kernel(kernel, next));
     assert_eq!(rt; (weeks_of(2020), weeks_of(9999)), (53, 52));
     Ok(())
 }

@@ -1,11 +1,12 @@
 //! Dates in their four forms, their parts and their neighbours.
+use crate::tests::range::{DAYS, FIRST_JULIAN_DAY, FIRST_YEAR, LAST_JULIAN_DAY, LAST_YEAR};
 use crate::tests::{check, date};
 use crate::{Date, Month, Weekday};
 
 #[test]
 fn days_have_julian_days_calendar_and_ordinal_dates(rt: HostRuntime) {
     for (julian_day, (year, month, day), ordinal, weekday) in [
-        (-1930999, (-9999, 1, 1), 1, Weekday::Monday),
+        (FIRST_JULIAN_DAY, (FIRST_YEAR, 1, 1), 1, Weekday::Monday),
         (0, (-4713, 11, 24), 328, Weekday::Monday),
         (1721060, (0, 1, 1), 1, Weekday::Saturday),
         (2415021, (1900, 1, 1), 1, Weekday::Monday),
@@ -17,7 +18,7 @@ fn days_have_julian_days_calendar_and_ordinal_dates(rt: HostRuntime) {
         (2458849, (2019, 12, 31), 365, Weekday::Tuesday),
         (2459215, (2020, 12, 31), 366, Weekday::Thursday),
         (2459216, (2021, 1, 1), 1, Weekday::Friday),
-        (5373484, (9999, 12, 31), 365, Weekday::Friday),
+        (LAST_JULIAN_DAY, (LAST_YEAR, 12, 31), 365, Weekday::Friday),
     ] {
         let Ok(found) = Date::from_julian_day(julian_day) else {
             panic!(rt; "{julian_day} is refused");
@@ -35,10 +36,12 @@ fn days_have_julian_days_calendar_and_ordinal_dates(rt: HostRuntime) {
 
 #[test]
 fn the_ends_of_the_range(rt: HostRuntime) {
-    assert_eq!(rt; Date::MIN, date(&rt, -9999, 1, 1));
-    assert_eq!(rt; Date::MAX, date(&rt, 9999, 12, 31));
-    assert_eq!(rt; Date::MIN.to_julian_day(), -1930999);
-    assert_eq!(rt; Date::MAX.to_julian_day(), 5373484);
+    assert_eq!(rt; Date::MIN, date(&rt, FIRST_YEAR, 1, 1));
+    assert_eq!(rt; Date::MAX, date(&rt, LAST_YEAR, 12, 31));
+    assert_eq!(rt; Date::MIN.to_julian_day(), FIRST_JULIAN_DAY);
+    assert_eq!(rt; Date::MAX.to_julian_day(), LAST_JULIAN_DAY);
+    let (first, last) = (i64::from(FIRST_JULIAN_DAY), i64::from(LAST_JULIAN_DAY));
+    assert_eq!(rt; last - first + 1, DAYS);
 }
 
 #[test]
@@ -54,7 +57,7 @@ fn parts(rt: HostRuntime) {
 #[test]
 fn days_have_iso_week_dates(rt: HostRuntime) {
     for ((year, month, day), ordinal, (iso_year, week, weekday)) in [
-        ((-9999, 1, 1), 1, (-9999, 1, Weekday::Monday)),
+        ((FIRST_YEAR, 1, 1), 1, (FIRST_YEAR, 1, Weekday::Monday)),
         ((2000, 1, 1), 1, (1999, 52, Weekday::Saturday)),
         ((2019, 1, 1), 1, (2019, 1, Weekday::Tuesday)),
         ((2019, 10, 4), 277, (2019, 40, Weekday::Friday)),
@@ -62,7 +65,7 @@ fn days_have_iso_week_dates(rt: HostRuntime) {
         ((2020, 1, 1), 1, (2020, 1, Weekday::Wednesday)),
         ((2020, 12, 31), 366, (2020, 53, Weekday::Thursday)),
         ((2021, 1, 1), 1, (2020, 53, Weekday::Friday)),
-        ((9999, 12, 31), 365, (9999, 52, Weekday::Friday)),
+        ((LAST_YEAR, 12, 31), 365, (LAST_YEAR, 52, Weekday::Friday)),
     ] {
         let date = date(&rt, year, month, day);
         assert_eq!(rt; date.to_ordinal_date(), (year, ordinal));
@@ -110,7 +113,12 @@ fn neighbours(rt: HostRuntime) {
 
 #[test]
 fn julian_days_and_ordinals_out_of_range(rt: HostRuntime) {
-    for julian_day in [i32::MIN, -1931000, 5373485, i32::MAX] {
+    for julian_day in [
+        i32::MIN,
+        FIRST_JULIAN_DAY - 1,
+        LAST_JULIAN_DAY + 1,
+        i32::MAX,
+    ] {
         let Err(error) = Date::from_julian_day(julian_day) else {
             panic!(rt; "{julian_day} is let through");
         };
@@ -118,7 +126,7 @@ fn julian_days_and_ordinals_out_of_range(rt: HostRuntime) {
     }
     for (year, ordinal, name, is_conditional) in [
         (10000000, 1, "year", false),
-        (10000, 0, "year", false),
+        (LAST_YEAR + 1, 0, "year", false),
         (1900, 366, "ordinal", true),
         (2000, 0, "ordinal", true),
         (2000, 367, "ordinal", true),
@@ -137,8 +145,8 @@ fn calendar_dates_out_of_range(rt: HostRuntime) {
         (2000, Month::February, 0, "day", true),
         (2000, Month::February, 30, "day", true),
         (2000, Month::January, 32, "day", true),
-        (10000, Month::January, 0, "year", false),
-        (-10000, Month::December, 31, "year", false),
+        (LAST_YEAR + 1, Month::January, 0, "year", false),
+        (FIRST_YEAR - 1, Month::December, 31, "year", false),
     ] {
         let Err(error) = Date::from_calendar_date(year, month, day) else {
             panic!(rt; "{year} {month} {day} is let through");
@@ -150,13 +158,13 @@ fn calendar_dates_out_of_range(rt: HostRuntime) {
 #[test]
 fn iso_week_dates_out_of_range(rt: HostRuntime) {
     for (year, week, weekday, name, is_conditional) in [
-        (10000, 53, Weekday::Monday, "year", false),
-        (9999, 53, Weekday::Monday, "week", true),
+        (LAST_YEAR + 1, 53, Weekday::Monday, "year", false),
+        (LAST_YEAR, 53, Weekday::Monday, "week", true),
         (2019, 53, Weekday::Monday, "week", true),
         (2020, 54, Weekday::Monday, "week", true),
         (2020, 0, Weekday::Monday, "week", true),
-        (9999, 52, Weekday::Saturday, "weekday", true),
-        (9999, 52, Weekday::Sunday, "weekday", true),
+        (LAST_YEAR, 52, Weekday::Saturday, "weekday", true),
+        (LAST_YEAR, 52, Weekday::Sunday, "weekday", true),
     ] {
         let Err(error) = Date::from_iso_week_date(year, week, weekday) else {
             panic!(rt; "{year} {week} {weekday} is let through");

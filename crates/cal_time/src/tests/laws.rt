@@ -1,4 +1,5 @@
 //! Laws that hold between calls, each shown at a few values.
+use crate::tests::range::{DAYS, FIRST_JULIAN_DAY, FIRST_YEAR, LAST_JULIAN_DAY, LAST_YEAR};
 use crate::tests::{date, hash_of, offset, time};
 use crate::{Counted, Date, Month, SignedDuration, Time, UtcOffset, Weekday};
 use std::process::Abort;
@@ -20,7 +21,7 @@ fn julian_days_lead_back(rt: HostRuntime) {
         };
         assert_eq!(rt; same, day);
     }
-    for julian_day in [-1930999, 0, 5373484] {
+    for julian_day in [FIRST_JULIAN_DAY, 0, LAST_JULIAN_DAY] {
         let Ok(date) = Date::from_julian_day(julian_day) else {
             panic!(rt; "{julian_day} is refused");
         };
@@ -49,7 +50,7 @@ fn ordinal_calendar_and_iso_week_dates_lead_back(rt: HostRuntime) {
 
 #[test]
 fn dates_have_what_they_were_made_of(rt: HostRuntime) {
-    for (year, ordinal) in [(-9999, 1), (2000, 60), (2020, 366)] {
+    for (year, ordinal) in [(FIRST_YEAR, 1), (2000, 60), (2020, 366)] {
         let Ok(date) = Date::from_ordinal_date(year, ordinal) else {
             panic!(rt; "{year} {ordinal} is refused");
         };
@@ -58,7 +59,7 @@ fn dates_have_what_they_were_made_of(rt: HostRuntime) {
     for (year, month, day) in [
         (-1, Month::December, 31),
         (2000, Month::February, 29),
-        (9999, Month::December, 31),
+        (LAST_YEAR, Month::December, 31),
     ] {
         let Ok(date) = Date::from_calendar_date(year, month, day) else {
             panic!(rt; "{year} {month} {day} is refused");
@@ -79,7 +80,7 @@ fn dates_have_what_they_were_made_of(rt: HostRuntime) {
 
 #[test]
 fn neighbours_have_neighbouring_julian_days(rt: HostRuntime) {
-    for julian_day in [-1930999, -1, 2451544, 5373483] {
+    for julian_day in [FIRST_JULIAN_DAY, -1, 2451544, LAST_JULIAN_DAY - 1] {
         let Ok(day) = Date::from_julian_day(julian_day) else {
             panic!(rt; "{julian_day} is refused");
         };
@@ -135,7 +136,7 @@ fn values_are_ordered_and_hashed_by_their_numbers(rt: HostRuntime) {
 #[test]
 fn a_move_is_undone(rt: HostRuntime) {
     for (date, duration) in [
-        (Date::MIN, SignedDuration::days(7_304_483)),
+        (Date::MIN, SignedDuration::days(DAYS - 1)),
         (date(&rt, 2020, 12, 31), SignedDuration::hours(47)),
         (Date::MAX, SignedDuration::hours(-49)),
     ] {
@@ -259,8 +260,8 @@ fn a_walk_gives_each_day_once_from_whichever_end(rt: HostRuntime) {
     ] {
         assert!(rt; gives_each_day_once(&days, &turns));
     }
-    let first = [Date::MIN, date(&rt, -9999, 1, 2)];
-    let last = [date(&rt, 9999, 12, 31)];
+    let first = [Date::MIN, date(&rt, FIRST_YEAR, 1, 2)];
+    let last = [date(&rt, LAST_YEAR, 12, 31)];
     for is_from_front in [true, false] {
         assert!(rt; gives_each_day_once(&first, &[is_from_front, true]));
         assert!(rt; gives_each_day_once(&last, &[is_from_front]));

@@ -1,4 +1,5 @@
 //! Dates moved by durations and to weekdays, and dates with one component replaced.
+use crate::tests::range::{DAYS, LAST_YEAR};
 use crate::tests::{check, date};
 use crate::{Date, Month, SignedDuration, Weekday};
 
@@ -58,7 +59,7 @@ fn dates_moved_back(rt: HostRuntime) {
 
 #[test]
 fn days_between(rt: HostRuntime) {
-    assert_eq!(rt; Date::MAX - Date::MIN, SignedDuration::days(7_304_483));
+    assert_eq!(rt; Date::MAX - Date::MIN, SignedDuration::days(DAYS - 1));
     assert_eq!(rt;
         date(&rt, 2019, 12, 30) - date(&rt, 2020, 1, 2),
         SignedDuration::days(-3)
@@ -146,7 +147,7 @@ fn replaced_years(rt: HostRuntime) {
         assert_eq!(rt; new.ordinal(), ordinal);
     }
     let leap_day = date(&rt, 2024, 2, 29);
-    for (year, name, is_conditional) in [(2023, "day", true), (10000, "year", false)] {
+    for (year, name, is_conditional) in [(2023, "day", true), (LAST_YEAR + 1, "year", false)] {
         let Err(error) = leap_day.replace_year(year) else {
             panic!(rt; "{leap_day} in {year} is let through");
         };

@@ -1,11 +1,12 @@
 //! Dates and times of day together.
+use crate::tests::range::DAYS;
 use crate::tests::{date, time};
 use crate::{Date, SignedDuration, Time, add_to_pair, sub_from_pair};
 
 #[test]
 fn pairs_moved_on(rt: HostRuntime) {
-    let whole_range = SignedDuration::days(7_304_484);
-    let less_one = SignedDuration::new(7_304_484 * 86_400, -1);
+    let whole_range = SignedDuration::days(DAYS);
+    let less_one = SignedDuration::new(DAYS * 86_400, -1);
     let (last, first) = (date(&rt, 2020, 12, 31), date(&rt, 2021, 1, 1));
     let (noon, one, eleven) = (
         time(&rt, 12, 0, 0, 0),
@@ -47,7 +48,7 @@ fn pairs_moved_back(rt: HostRuntime) {
         (
             Date::MAX,
             Time::MIDNIGHT,
-            SignedDuration::days(7_304_483),
+            SignedDuration::days(DAYS - 1),
             Some((Date::MIN, Time::MIDNIGHT)),
         ),
     ] {

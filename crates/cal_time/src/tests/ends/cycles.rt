@@ -1,0 +1,112 @@
+//! Lengths of the least and the greatest year, and the longest steps round a cycle.
+ghost use Rattle.std.specs.Prelude.{◌<◌};
+
+use crate::iter::{MonthIter, WeekdayIter};
+use crate::util::{days_in_month, days_in_year, days_in_year_month, is_leap_year, weeks_in_year};
+use crate::{Cycle, Month, Weekday, nth_in};
+
+/// The lengths of the months, January first, in a year that is no leap year.
+const LENGTHS: [u8; 12] = [31, 28, 31, 30, 31, 30, 31, 31, 30, 31, 30, 31];
+
+// 4 divides the least number of 32 bits and 100 does not, and the greatest is odd.
+#[test]
+fn years_at_the_ends(rt: HostRuntime) {
+    for (year, is_leap, days) in [(i32::MIN, true, 366), (i32::MAX, false, 365)] {
+        assert_eq!(rt; is_leap_year(year), is_leap);
+        assert_eq!(rt; days_in_year(year), days);
+        assert_eq!(rt; weeks_in_year(year), 52);
+        for (month, length) in Month::iter_from(Month::January).take(12).zip(&LENGTHS) {
+            let length = *length + u8::from(is_leap && month == Month::February);
+            assert_eq!(rt; days_in_month(month, year), length);
+            assert_eq!(rt; days_in_year_month(year, month), length);
+            assert_eq!(rt; month.length(year), length);
+        }
+    }
+}
+
+#[test]
+fn numbers_of_months(rt: HostRuntime) {
+    for number in 0..=255u8 {
+        let told = match Month::try_from(number) {
+            Ok(month) => Ok(month as u8),
+            Err(error) => Err((error.name(), error.is_conditional())),
+        };
+        let want = if number == 0 || number > 12 {
+            Err(("month", false))
+        } else {
+            Ok(number)
+        };
+        assert_eq!(rt; told, want, "{number}");
+    }
+}
+
+/// The place of a value `n` places on round a cycle of so many places.
+fn place_after(place: u8, n: usize, length: u8) -> u8
+    requires { 0 < length }
+{
+    let length = u128::from(length);
+    ((u128::from(place) + n as u128) % length) as u8
+}
+
+/// The place of a value `n` places back round a cycle of so many places.
+fn place_before(place: u8, n: usize, length: u8) -> u8
+    requires { 0 < length }
+{
+    let (place, length) = (i128::from(place), i128::from(length));
+    (place - n as i128).rem_euclid(length) as u8
+}
+
+#[test]
+fn months_far_on_and_far_back(rt: HostRuntime) {
+    for start in Month::iter_from(Month::January).take(12) {
+        let place = start as u8 - 1;
+        for n in [0, 255] {
+            let on = place_after(place, usize::from(n), 12);
+            let back = place_before(place, usize::from(n), 12);
+            assert_eq!(rt; start.nth_next(n) as u8 - 1, on, "{start} {n}");
+            assert_eq!(rt; start.nth_prev(n) as u8 - 1, back, "{start} {n}");
+        }
+        let far = nth_in(start, usize::MAX);
+        assert_eq!(rt; far.place(), place_after(place, usize::MAX, 12), "{start}");
+    }
+    assert_eq!(rt;
+        (Month::at(0), Month::at(11)),
+        (Month::January, Month::December)
+    );
+}
+
+#[test]
+fn weekdays_far_on_and_far_back(rt: HostRuntime) {
+    for start in Weekday::iter_from(Weekday::Monday).take(7) {
+        let place = start as u8;
+        for n in [0, 255] {
+            let on = place_after(place, usize::from(n), 7);
+            let back = place_before(place, usize::from(n), 7);
+            assert_eq!(rt; start.nth_next(n) as u8, on, "{start} {n}");
+            assert_eq!(rt; start.nth_prev(n) as u8, back, "{start} {n}");
+        }
+        let far = nth_in(start, usize::MAX);
+        assert_eq!(rt; far.place(), place_after(place, usize::MAX, 7), "{start}");
+    }
+    assert_eq!(rt;
+        (Weekday::at(0), Weekday::at(6)),
+        (Weekday::Monday, Weekday::Sunday)
+    );
+}
+
+// The greatest step is 3 more than a multiple of 12, and 1 more than one of 7.
+#[test]
+fn endless_walks_by_the_greatest_step(rt: HostRuntime) {
+    let mut walk = MonthIter::new(Month::January);
+    assert_eq!(rt; walk.nth(usize::MAX), Some(Month::April));
+    assert_eq!(rt; walk.next(), Some(Month::May));
+    let mut walk = MonthIter::new(Month::January).rev();
+    assert_eq!(rt; walk.nth(usize::MAX), Some(Month::October));
+    assert_eq!(rt; walk.next(), Some(Month::September));
+    let mut walk = WeekdayIter::new(Weekday::Monday);
+    assert_eq!(rt; walk.nth(usize::MAX), Some(Weekday::Tuesday));
+    assert_eq!(rt; walk.next(), Some(Weekday::Wednesday));
+    let mut walk = WeekdayIter::new(Weekday::Monday).rev();
+    assert_eq!(rt; walk.nth(usize::MAX), Some(Weekday::Sunday));
+    assert_eq!(rt; walk.next(), Some(Weekday::Saturday));
+}

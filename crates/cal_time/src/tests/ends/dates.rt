@@ -1,0 +1,262 @@
+//! Dates at both ends of the range and of the types that they are made of.
+use crate::tests::date;
+use crate::tests::ends::{Told, told};
+use crate::tests::range::{DAYS, FIRST_JULIAN_DAY, FIRST_YEAR, LAST_JULIAN_DAY, LAST_YEAR};
+use crate::{Counted, Date, Month, SignedDuration, Weekday, extent, is_rising};
+
+/// The years at both ends of the type and of the range.
+const YEARS: [i32; 6] = [
+    i32::MIN,
+    FIRST_YEAR - 1,
+    FIRST_YEAR,
+    LAST_YEAR,
+    LAST_YEAR + 1,
+    i32::MAX,
+];
+
+/// The days of a month at both ends of the type and of the months of a year that is no leap year.
+const DAYS_OF_MONTH: [u8; 8] = [0, 1, 28, 29, 30, 31, 32, 255];
+
+/// The ordinals at both ends of the type and of a year that is no leap year.
+const ORDINALS: [u16; 5] = [0, 1, 365, 366, 65_535];
+
+/// The months, each with its length and the days before it, in a year that is no leap year.
+const MONTHS: [(Month, u8, u16); 12] = [
+    (Month::January, 31, 0),
+    (Month::February, 28, 31),
+    (Month::March, 31, 59),
+    (Month::April, 30, 90),
+    (Month::May, 31, 120),
+    (Month::June, 30, 151),
+    (Month::July, 31, 181),
+    (Month::August, 31, 212),
+    (Month::September, 30, 243),
+    (Month::October, 31, 273),
+    (Month::November, 30, 304),
+    (Month::December, 31, 334),
+];
+
+/// The Julian day of the ordinal in the first year of the range, or in the last one.
+fn julian_day(year: i32, ordinal: u16) -> i128 {
+    if year == FIRST_YEAR {
+        i128::from(FIRST_JULIAN_DAY) - 1 + i128::from(ordinal)
+    } else {
+        i128::from(LAST_JULIAN_DAY) - 365 + i128::from(ordinal)
+    }
+}
+
+fn is_in_range(year: i32) -> bool {
+    FIRST_YEAR <= year && year <= LAST_YEAR
+}
+
+/// The Julian day of an ordinal date of one of [`YEARS`], or its refusal.
+fn of_ordinal(year: i32, ordinal: u16) -> Told {
+    if !is_in_range(year) {
+        Err(("year", false))
+    } else if ordinal == 0 || ordinal > 365 {
+        Err(("ordinal", true))
+    } else {
+        Ok(julian_day(year, ordinal))
+    }
+}
+
+/// The Julian day of a calendar date of one of [`YEARS`], or its refusal, for a month with that length and the days before it.
+fn of_day(year: i32, length: u8, before: u16, day: u8) -> Told {
+    if !is_in_range(year) {
+        Err(("year", false))
+    } else if day == 0 || day > length {
+        Err(("day", true))
+    } else {
+        Ok(julian_day(year, before.saturating_add(u16::from(day))))
+    }
+}
+
+#[test]
+fn julian_days(rt: HostRuntime) {
+    for (julian_day, is_in_range) in [
+        (i32::MIN, false),
+        (FIRST_JULIAN_DAY - 1, false),
+        (FIRST_JULIAN_DAY, true),
+        (LAST_JULIAN_DAY, true),
+        (LAST_JULIAN_DAY + 1, false),
+        (i32::MAX, false),
+    ] {
+        let want = if is_in_range {
+            Ok(i128::from(julian_day))
+        } else {
+            Err(("julian_day", false))
+        };
+        assert_eq!(rt; told(&Date::from_julian_day(julian_day)), want);
+    }
+}
+
+#[test]
+fn ordinal_dates(rt: HostRuntime) {
+    for year in YEARS {
+        for ordinal in ORDINALS {
+            assert_eq!(rt;
+                told(&Date::from_ordinal_date(year, ordinal)),
+                of_ordinal(year, ordinal),
+                "{year} {ordinal}"
+            );
+        }
+    }
+}
+
+#[test]
+fn calendar_dates(rt: HostRuntime) {
+    for year in YEARS {
+        for (month, length, before) in MONTHS {
+            for day in DAYS_OF_MONTH {
+                assert_eq!(rt;
+                    told(&Date::from_calendar_date(year, month, day)),
+                    of_day(year, length, before, day),
+                    "{year} {month} {day}"
+                );
+            }
+        }
+    }
+}
+
+// The first day of the range is a Monday, so week 1 of the first year begins with it; the last day is a Friday of week 52.
+#[test]
+fn iso_week_dates(rt: HostRuntime) {
+    let (first, last) = (i128::from(FIRST_JULIAN_DAY), i128::from(LAST_JULIAN_DAY));
+    for (year, week, weekday, want) in [
+        (FIRST_YEAR, 1, Weekday::Monday, Ok(first)),
+        (FIRST_YEAR, 1, Weekday::Sunday, Ok(first + 6)),
+        (FIRST_YEAR, 52, Weekday::Sunday, Ok(first + 363)),
+        (LAST_YEAR, 1, Weekday::Monday, Ok(last - 361)),
+        (LAST_YEAR, 52, Weekday::Monday, Ok(last - 4)),
+        (LAST_YEAR, 52, Weekday::Friday, Ok(last)),
+        (LAST_YEAR, 52, Weekday::Saturday, Err(("weekday", true))),
+        (LAST_YEAR, 52, Weekday::Sunday, Err(("weekday", true))),
+    ] {
+        assert_eq!(rt;
+            told(&Date::from_iso_week_date(year, week, weekday)),
+            want,
+            "{year} {week} {weekday}"
+        );
+    }
+}
+
+#[test]
+fn iso_years_and_weeks(rt: HostRuntime) {
+    for weekday in Weekday::iter_from(Weekday::Monday).take(7) {
+        for year in YEARS {
+            for week in [0, 53, 54, 255] {
+                let want = if is_in_range(year) {
+                    Err(("week", true))
+                } else {
+                    Err(("year", false))
+                };
+                assert_eq!(rt;
+                    told(&Date::from_iso_week_date(year, week, weekday)),
+                    want,
+                    "{year} {week} {weekday}"
+                );
+            }
+        }
+    }
+}
+
+#[test]
+fn written_out(rt: HostRuntime) {
+    let (first, last) = (Month::January, Month::December);
+    let (february, monday) = (Month::February, Weekday::Monday);
+    for (told, name, is_conditional) in [
+        (told(&Date::from_julian_day(i32::MIN)), "julian_day", false),
+        (told(&Date::from_julian_day(i32::MAX)), "julian_day", false),
+        (told(&Date::from_ordinal_date(i32::MIN, 0)), "year", false),
+        (told(&Date::from_ordinal_date(0, 65_535)), "ordinal", true),
+        (
+            told(&Date::from_calendar_date(i32::MIN, first, 0)),
+            "year",
+            false,
+        ),
+        (
+            told(&Date::from_calendar_date(i32::MAX, last, 255)),
+            "year",
+            false,
+        ),
+        (
+            told(&Date::from_calendar_date(2020, february, 255)),
+            "day",
+            true,
+        ),
+        (
+            told(&Date::from_iso_week_date(2020, 255, monday)),
+            "week",
+            true,
+        ),
+        (
+            told(&Date::from_iso_week_date(2020, 0, monday)),
+            "week",
+            true,
+        ),
+    ] {
+        assert_eq!(rt; told, Err((name, is_conditional)));
+    }
+}
+
+#[test]
+fn replaced_years(rt: HostRuntime) {
+    let leap_day = date(&rt, 2024, 2, 29);
+    for year in YEARS {
+        for (date, ordinal) in [(Date::MIN, 1), (Date::MAX, 365)] {
+            assert_eq!(rt;
+                told(&date.replace_year(year)),
+                of_ordinal(year, ordinal),
+                "{date} {year}"
+            );
+        }
+        let want = if is_in_range(year) {
+            Err(("day", true))
+        } else {
+            Err(("year", false))
+        };
+        assert_eq!(rt; told(&leap_day.replace_year(year)), want, "{year}");
+    }
+}
+
+#[test]
+fn replaced_months(rt: HostRuntime) {
+    for (month, length, before) in MONTHS {
+        let want = of_day(FIRST_YEAR, length, before, 1);
+        assert_eq!(rt; told(&Date::MIN.replace_month(month)), want, "{month}");
+        let want = of_day(LAST_YEAR, length, before, 31);
+        assert_eq!(rt; told(&Date::MAX.replace_month(month)), want, "{month}");
+    }
+}
+
+#[test]
+fn replaced_days_and_ordinals(rt: HostRuntime) {
+    for day in DAYS_OF_MONTH {
+        let want = of_day(FIRST_YEAR, 31, 0, day);
+        assert_eq!(rt; told(&Date::MIN.replace_day(day)), want, "{day}");
+        let want = of_day(LAST_YEAR, 31, 334, day);
+        assert_eq!(rt; told(&Date::MAX.replace_day(day)), want, "{day}");
+    }
+    for ordinal in ORDINALS {
+        let want = of_ordinal(FIRST_YEAR, ordinal);
+        assert_eq!(rt; told(&Date::MIN.replace_ordinal(ordinal)), want);
+        let want = of_ordinal(LAST_YEAR, ordinal);
+        assert_eq!(rt; told(&Date::MAX.replace_ordinal(ordinal)), want);
+    }
+}
+
+#[test]
+fn neighbours_and_order(rt: HostRuntime) {
+    let (min, max) = (Date::MIN, Date::MAX);
+    let second = i128::from(FIRST_JULIAN_DAY) + 1;
+    let eve = i128::from(LAST_JULIAN_DAY) - 1;
+    assert_eq!(rt; min.previous_day(), None);
+    assert_eq!(rt; min.next_day().map(Counted::number), Some(second));
+    assert_eq!(rt; max.previous_day().map(Counted::number), Some(eve));
+    assert_eq!(rt; max.next_day(), None);
+    assert!(rt; min < max && min != max);
+    assert!(rt; is_rising(&[min, max]) && !is_rising(&[max, min]));
+    assert_eq!(rt; extent(&[max, min]), Some((min, max)));
+    assert_eq!(rt; max - min, SignedDuration::days(DAYS - 1));
+    assert_eq!(rt; min - max, SignedDuration::days(1 - DAYS));
+}

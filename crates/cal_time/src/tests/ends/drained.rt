@@ -1,0 +1,94 @@
+//! A walk over a new year and a leap day, emptied from both ends, beside a list of its days.
+use crate::Date;
+use crate::iter::DateIter;
+use crate::tests::date;
+use std::process::Abort;
+
+/// The Julian days from 2019-12-25 to 2020-03-05.
+fn days() -> [i32; 72] {
+    let mut days = [2_458_843i32; 72];
+    for k in 1..72 {
+        days[k] = days[k - 1].wrapping_add(1);
+    }
+    days
+}
+
+/// What the list has `k` places from its front, and what comes after that.
+fn from_front(list: &[i32], k: usize) -> (Option<i32>, &[i32]) {
+    if k < list.len() {
+        (Some(list[k]), &list[k + 1..])
+    } else {
+        (None, &list[..0])
+    }
+}
+
+/// What the list has `k` places from its back, and what comes before that.
+fn from_back(list: &[i32], k: usize) -> (Option<i32>, &[i32]) {
+    let length = list.len();
+    if k < length {
+        let place = length - 1 - k;
+        (Some(list[place]), &list[..place])
+    } else {
+        (None, &list[..0])
+    }
+}
+
+/// Stops the test unless the item is that of the list, and as many days are left as in the list.
+fn check_step(
+    rt: &impl Abort,
+    item: Option<Date>,
+    want: Option<i32>,
+    walk: &DateIter,
+    left: &[i32],
+) {
+    assert_eq!(rt; item.map(Date::to_julian_day), want);
+    assert_eq!(rt; walk.len(), left.len());
+    assert_eq!(rt; walk.size_hint(), (left.len(), Some(left.len())));
+    assert_eq!(rt; walk.clone().count(), left.len());
+    assert_eq!(rt;
+        walk.clone().min().map(Date::to_julian_day),
+        left.first().copied()
+    );
+    assert_eq!(rt;
+        walk.clone().max().map(Date::to_julian_day),
+        left.last().copied()
+    );
+}
+
+/// Stops the test unless one step of each kind, two of them `k` places far, takes what the list has. Gives what is left of it.
+fn check_round<'a>(rt: &impl Abort, walk: &mut DateIter, list: &'a [i32], k: usize) -> &'a [i32] {
+    let (want, left) = from_front(list, 0);
+    let item = walk.next();
+    check_step(rt, item, want, walk, left);
+    let (want, left) = from_back(left, 0);
+    let item = walk.next_back();
+    check_step(rt, item, want, walk, left);
+    let (want, left) = from_front(left, k);
+    let item = walk.nth(k);
+    check_step(rt, item, want, walk, left);
+    let (want, left) = from_back(left, k);
+    let item = walk.nth_back(k);
+    check_step(rt, item, want, walk, left);
+    left
+}
+
+#[test]
+fn drained_by_steps_of_each_kind(rt: HostRuntime) {
+    let (first, last) = (date(&rt, 2019, 12, 25), date(&rt, 2020, 3, 5));
+    let days = days();
+    for k in 0..10 {
+        let mut walk = first.iter_to(last);
+        let mut left: &[i32] = &days;
+        assert_eq!(rt; walk.len(), 72);
+        for _ in 0..72 {
+            if left.is_empty() {
+                break;
+            }
+            left = check_round(&rt, &mut walk, left, k);
+        }
+        assert!(rt; left.is_empty());
+
+        // Nothing is left, whichever way it is asked for.
+        check_round(&rt, &mut walk, left, k);
+    }
+}

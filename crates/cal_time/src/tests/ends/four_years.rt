@@ -1,0 +1,196 @@
+//! The first two and the last two years of the range, day by day and week by week. None of them is a leap year.
+use crate::tests::ends::told;
+use crate::tests::range::{FIRST_JULIAN_DAY, FIRST_YEAR, LAST_JULIAN_DAY, LAST_YEAR};
+use crate::{Counted, Date, Month, Weekday};
+use std::process::Abort;
+
+/// The months, each with its length.
+const MONTHS: [(Month, u8); 12] = [
+    (Month::January, 31),
+    (Month::February, 28),
+    (Month::March, 31),
+    (Month::April, 30),
+    (Month::May, 31),
+    (Month::June, 30),
+    (Month::July, 31),
+    (Month::August, 31),
+    (Month::September, 30),
+    (Month::October, 31),
+    (Month::November, 30),
+    (Month::December, 31),
+];
+
+const WEEKDAYS: [Weekday; 7] = [
+    Weekday::Monday,
+    Weekday::Tuesday,
+    Weekday::Wednesday,
+    Weekday::Thursday,
+    Weekday::Friday,
+    Weekday::Saturday,
+    Weekday::Sunday,
+];
+
+/// What runs on from day to day of a year.
+#[derive(Clone, Copy)]
+struct Running {
+    year: i32,
+    ordinal: u16,
+    julian_day: i32,
+    /// The days since Monday.
+    weekday: u8,
+    /// The Sundays of the year up to this day.
+    sundays: u8,
+    /// The Mondays of the year up to this day.
+    mondays: u8,
+}
+
+impl Running {
+    fn on_new_year(year: i32, julian_day: i32, weekday: u8) -> Self {
+        Running {
+            year,
+            ordinal: 1,
+            julian_day,
+            weekday,
+            sundays: u8::from(weekday == 6),
+            mondays: u8::from(weekday == 0),
+        }
+    }
+
+    fn after(self) -> Self {
+        let weekday = self.weekday.wrapping_add(1) % 7;
+        Running {
+            year: self.year,
+            ordinal: self.ordinal.wrapping_add(1),
+            julian_day: self.julian_day.wrapping_add(1),
+            weekday,
+            sundays: self.sundays.wrapping_add(u8::from(weekday == 6)),
+            mondays: self.mondays.wrapping_add(u8::from(weekday == 0)),
+        }
+    }
+
+    /// The ISO year and week, which are those of the Thursday of the week. The year before has 365 days too where the week
+    /// begins in it.
+    fn iso_week(self) -> (i32, i32) {
+        let thursday = i32::from(self.ordinal) + 3 - i32::from(self.weekday);
+        if thursday < 1 {
+            (self.year.wrapping_sub(1), (thursday + 364) / 7 + 1)
+        } else if thursday > 365 {
+            (self.year.wrapping_add(1), 1)
+        } else {
+            (self.year, (thursday - 1) / 7 + 1)
+        }
+    }
+}
+
+/// Stops the test unless each constructor gives this day.
+fn check_constructors(rt: &impl Abort, running: Running, month: Month, day: u8) {
+    let year = running.year;
+    let number = Ok(i128::from(running.julian_day));
+    let weekday = WEEKDAYS.get(usize::from(running.weekday)).copied();
+    let (iso_year, week) = running.iso_week();
+    let (Some(weekday), Ok(week)) = (weekday, u8::try_from(week)) else {
+        panic!(rt; "{week} is no week");
+    };
+    assert_eq!(rt; told(&Date::from_julian_day(running.julian_day)), number);
+    assert_eq!(rt; told(&Date::from_calendar_date(year, month, day)), number);
+    assert_eq!(rt;
+        told(&Date::from_ordinal_date(year, running.ordinal)),
+        number
+    );
+    assert_eq!(rt;
+        told(&Date::from_iso_week_date(iso_year, week, weekday)),
+        number
+    );
+}
+
+/// Stops the test unless the date has what this day has.
+fn check_parts(rt: &impl Abort, date: Date, running: Running, month: Month, day: u8) {
+    let (iso_year, week) = running.iso_week();
+    let (its_year, its_week, its_weekday) = date.to_iso_week_date();
+    assert_eq!(rt; date.to_julian_day(), running.julian_day);
+    assert_eq!(rt; date.to_calendar_date(), (running.year, month, day));
+    assert_eq!(rt; date.to_ordinal_date(), (running.year, running.ordinal));
+    assert_eq!(rt;
+        (its_year, i32::from(its_week), its_weekday as u8),
+        (iso_year, week, running.weekday)
+    );
+    assert_eq!(rt; date.year(), running.year);
+    assert_eq!(rt; (date.month(), date.day()), (month, day));
+    assert_eq!(rt; date.ordinal(), running.ordinal);
+    assert_eq!(rt; date.weekday() as u8, running.weekday);
+    assert_eq!(rt; i32::from(date.iso_week()), week);
+    assert_eq!(rt; date.sunday_based_week(), running.sundays);
+    assert_eq!(rt; date.monday_based_week(), running.mondays);
+}
+
+/// Stops the test unless the days around the date are its neighbours.
+fn check_neighbours(rt: &impl Abort, date: Date, julian_day: i32) {
+    let before = i128::from(julian_day) - 1;
+    let after = i128::from(julian_day) + 1;
+    let has_day_before = julian_day != FIRST_JULIAN_DAY;
+    let has_day_after = julian_day != LAST_JULIAN_DAY;
+    assert_eq!(rt;
+        date.previous_day().map(Counted::number),
+        has_day_before.then_some(before)
+    );
+    assert_eq!(rt;
+        date.next_day().map(Counted::number),
+        has_day_after.then_some(after)
+    );
+}
+
+/// Stops the test unless all days of the year are those of the calendar. Gives what runs on to the next year.
+fn check_year(rt: &impl Abort, new_year: Running) -> Running {
+    let mut running = new_year;
+    for (month, length) in MONTHS {
+        for day in 1..=length {
+            let Ok(date) = Date::from_julian_day(running.julian_day) else {
+                panic!(rt; "{} is refused", running.julian_day);
+            };
+            check_constructors(rt, running, month, day);
+            check_parts(rt, date, running, month, day);
+            check_neighbours(rt, date, running.julian_day);
+            running = running.after();
+        }
+    }
+    running
+}
+
+// The range begins on a Monday and ends on a Friday. A year of 365 days ends on the weekday that it begins on, so the last year begins on
+// a Friday, and the year before it on a Thursday.
+#[test]
+fn each_day(rt: HostRuntime) {
+    for (year, julian_day, weekday) in [
+        (FIRST_YEAR, FIRST_JULIAN_DAY, 0),
+        (LAST_YEAR - 1, LAST_JULIAN_DAY - 729, 3),
+    ] {
+        let end = check_year(&rt, Running::on_new_year(year, julian_day, weekday));
+        let new_year = Running::on_new_year(year + 1, end.julian_day, end.weekday);
+        let end = check_year(&rt, new_year);
+        assert_eq!(rt; end.julian_day, julian_day + 730);
+        assert_eq!(rt; end.weekday, (weekday + 2) % 7);
+    }
+}
+
+#[test]
+fn each_week(rt: HostRuntime) {
+    let (mut accepted, mut weeks, mut weekdays) = (0u32, 0u32, 0u32);
+    for year in [FIRST_YEAR, FIRST_YEAR + 1, LAST_YEAR - 1, LAST_YEAR] {
+        for week in 0..55 {
+            for weekday in WEEKDAYS {
+                match Date::from_iso_week_date(year, week, weekday) {
+                    Ok(date) => {
+                        assert_eq!(rt; date.to_iso_week_date(), (year, week, weekday));
+                        accepted = accepted.wrapping_add(1);
+                    }
+                    Err(error) => {
+                        assert!(rt; error.is_conditional());
+                        weeks = weeks.wrapping_add(u32::from(error.name() == "week"));
+                        weekdays = weekdays.wrapping_add(u32::from(error.name() == "weekday"));
+                    }
+                }
+            }
+        }
+    }
+    assert_eq!(rt; (accepted, weeks, weekdays), (1_461, 77, 2));
+}

@@ -1,0 +1,172 @@
+//! Dates at both ends of the range, moved by durations and to weekdays.
+use crate::tests::date;
+use crate::tests::ends::durations::ends;
+use crate::tests::range::{DAYS, FIRST_JULIAN_DAY, LAST_JULIAN_DAY, LAST_YEAR};
+use crate::{Counted, Date, SignedDuration, Weekday};
+
+const DAY: i128 = 86_400_000_000_000;
+
+/// Both ends of the range, with their Julian days.
+const DATES: [(Date, i32); 2] = [(Date::MIN, FIRST_JULIAN_DAY), (Date::MAX, LAST_JULIAN_DAY)];
+
+/// Durations as long as the range, and around one day, each with its nanoseconds.
+fn durations() -> [(SignedDuration, i128); 8] {
+    let days = i128::from(DAYS);
+    let less_one = SignedDuration::nanoseconds(86_399_999_999_999);
+    let more_one = SignedDuration::nanoseconds(-86_399_999_999_999);
+    [
+        (SignedDuration::days(DAYS), days * DAY),
+        (SignedDuration::days(DAYS - 1), (days - 1) * DAY),
+        (SignedDuration::days(-DAYS), -days * DAY),
+        (SignedDuration::days(1 - DAYS), (1 - days) * DAY),
+        (SignedDuration::DAY, DAY),
+        (SignedDuration::days(-1), -DAY),
+        (less_one, DAY - 1),
+        (more_one, 1 - DAY),
+    ]
+}
+
+/// The Julian day, where it is one of the range.
+fn in_range(julian_day: i128) -> Option<i128> {
+    if nearest(julian_day) == julian_day {
+        Some(julian_day)
+    } else {
+        None
+    }
+}
+
+/// The Julian day of the range that is nearest to this one.
+fn nearest(julian_day: i128) -> i128 {
+    julian_day
+        .max(i128::from(FIRST_JULIAN_DAY))
+        .min(i128::from(LAST_JULIAN_DAY))
+}
+
+/// What `+` and `+=` give, where that day is in the range.
+fn sums(date: Date, duration: SignedDuration) -> Option<(i128, i128)> {
+    date.checked_add(duration)?;
+    let mut moved = date;
+    moved += duration;
+    Some(((date + duration).number(), moved.number()))
+}
+
+/// What `-` and `-=` give, where that day is in the range.
+fn differences(date: Date, duration: SignedDuration) -> Option<(i128, i128)> {
+    date.checked_sub(duration)?;
+    let mut moved = date;
+    moved -= duration;
+    Some(((date - duration).number(), moved.number()))
+}
+
+/// Whether all moves of the day by the duration are those of the numbers, whose whole days are cut toward zero.
+fn moves_exactly(date: Date, from: i32, duration: SignedDuration, nanoseconds: i128) -> bool {
+    let (from, days) = (i128::from(from), nanoseconds / DAY);
+    let (later, earlier) = (from.saturating_add(days), from.saturating_sub(days));
+    let (sum, difference) = (in_range(later), in_range(earlier));
+    date.checked_add(duration).map(Counted::number) == sum
+        && date.checked_sub(duration).map(Counted::number) == difference
+        && sums(date, duration) == sum.map(|day| (day, day))
+        && differences(date, duration) == difference.map(|day| (day, day))
+        && date.saturating_add(duration).number() == nearest(later)
+        && date.saturating_sub(duration).number() == nearest(earlier)
+}
+
+#[test]
+fn ends_moved_by_durations(rt: HostRuntime) {
+    for (date, from) in DATES {
+        for (duration, nanoseconds) in ends() {
+            assert!(rt;
+                moves_exactly(date, from, duration, nanoseconds),
+                "{date} by {duration}"
+            );
+        }
+        for (duration, nanoseconds) in durations() {
+            assert!(rt;
+                moves_exactly(date, from, duration, nanoseconds),
+                "{date} by {duration}"
+            );
+        }
+    }
+}
+
+/// The Julian day of the `n`-th day after another that has the weekday, by its days from Monday: a Julian day that 7 divides is
+/// a Monday.
+fn nth_after(from: i32, weekday: u8, n: u8) -> Option<i128> {
+    if n == 0 {
+        return None;
+    }
+    let from = i128::from(from);
+    let past = (i128::from(weekday) - from - 1).rem_euclid(7);
+    let days = past.saturating_add(1 + 7 * (i128::from(n) - 1));
+    in_range(from.saturating_add(days))
+}
+
+/// The Julian day of the `n`-th day before another that has the weekday.
+fn nth_before(from: i32, weekday: u8, n: u8) -> Option<i128> {
+    if n == 0 {
+        return None;
+    }
+    let from = i128::from(from);
+    let past = (from - 1 - i128::from(weekday)).rem_euclid(7);
+    let days = past.saturating_add(1 + 7 * (i128::from(n) - 1));
+    in_range(from.saturating_sub(days))
+}
+
+/// The `n`-th day after with the weekday, by the calls with a condition too.
+fn next_occurrences(date: Date, weekday: Weekday, n: u8) -> Option<(Date, Date)> {
+    let checked = date.checked_nth_next_occurrence(weekday, n)?;
+    let day = date.nth_next_occurrence(weekday, n);
+    if n == 1 {
+        date.checked_next_occurrence(weekday)?;
+        return Some((checked, date.next_occurrence(weekday)));
+    }
+    Some((checked, day))
+}
+
+/// The `n`-th day before with the weekday, by the calls with a condition too.
+fn prev_occurrences(date: Date, weekday: Weekday, n: u8) -> Option<(Date, Date)> {
+    let checked = date.checked_nth_prev_occurrence(weekday, n)?;
+    let day = date.nth_prev_occurrence(weekday, n);
+    if n == 1 {
+        date.checked_prev_occurrence(weekday)?;
+        return Some((checked, date.prev_occurrence(weekday)));
+    }
+    Some((checked, day))
+}
+
+#[test]
+fn occurrences_at_the_ends(rt: HostRuntime) {
+    let Some(second) = Date::MIN.next_day() else {
+        panic!(rt; "no day comes after the first");
+    };
+    let week_before = date(&rt, LAST_YEAR, 12, 24);
+    for (date, from) in [
+        (Date::MIN, FIRST_JULIAN_DAY),
+        (second, FIRST_JULIAN_DAY + 1),
+        (week_before, LAST_JULIAN_DAY - 7),
+        (Date::MAX, LAST_JULIAN_DAY),
+    ] {
+        for weekday in Weekday::iter_from(Weekday::Monday).take(7) {
+            for n in [0, 1, 2, 255] {
+                let place = weekday as u8;
+                let number = |(a, b): (Date, Date)| (a.number(), b.number());
+                assert_eq!(rt;
+                    next_occurrences(date, weekday, n).map(number),
+                    nth_after(from, place, n).map(|day| (day, day))
+                );
+                assert_eq!(rt;
+                    prev_occurrences(date, weekday, n).map(number),
+                    nth_before(from, place, n).map(|day| (day, day))
+                );
+            }
+        }
+    }
+}
+
+#[test]
+fn fridays_of_the_last_week(rt: HostRuntime) {
+    let date = date(&rt, LAST_YEAR, 12, 24);
+    for (n, want) in [(0, None), (1, Some(Date::MAX)), (2, None)] {
+        assert_eq!(rt; date.checked_nth_next_occurrence(Weekday::Friday, n), want);
+    }
+}

@@ -1,0 +1,231 @@
+//! Times at both ends of their parts, and moved by the least and the greatest duration.
+ghost use Rattle.std.specs.Prelude.{pos, ◌<ℤ◌};
+
+use crate::tests::ends::durations::ends;
+use crate::tests::ends::{Told, told};
+use crate::util::DateAdjustment;
+use crate::{Counted, SignedDuration, Time};
+
+const SECOND: i128 = 1_000_000_000;
+
+const MINUTE: i128 = 60_000_000_000;
+
+const HOUR: i128 = 3_600_000_000_000;
+
+const DAY: i128 = 86_400_000_000_000;
+
+/// The hours at both ends of the range and of the type.
+const HOURS: [u8; 4] = [0, 23, 24, 255];
+
+/// The minutes, or the seconds, at both ends of the range and of the type.
+const SIXTIETHS: [u8; 4] = [0, 59, 60, 255];
+
+/// The milliseconds, microseconds and nanoseconds at both ends of the range and of their types.
+const PARTS: [(u16, u32, u32); 4] = [
+    (0, 0, 0),
+    (999, 999_999, 999_999_999),
+    (1_000, 1_000_000, 1_000_000_000),
+    (65_535, 4_294_967_295, 4_294_967_295),
+];
+
+/// Both ends of the day, with their nanoseconds.
+const TIMES: [(Time, u64); 2] = [(Time::MIDNIGHT, 0), (Time::MAX, 86_399_999_999_999)];
+
+/// The nanoseconds of a clock, or the refusal of the first part that is out of range.
+fn clock(hour: u8, minute: u8, second: u8) -> Told {
+    if hour > 23 {
+        Err(("hour", false))
+    } else if minute > 59 {
+        Err(("minute", false))
+    } else if second > 59 {
+        Err(("second", false))
+    } else {
+        Ok(i128::from(hour) * HOUR + i128::from(minute) * MINUTE + i128::from(second) * SECOND)
+    }
+}
+
+/// Those nanoseconds and a part of a second, or the refusal of the first that is out of range: a second has `count` parts.
+fn with_part(clock: &Told, part: u32, count: u32, name: &'static str) -> Told {
+    match *clock {
+        Err(refusal) => Err(refusal),
+        Ok(_) if part >= count => Err((name, false)),
+        Ok(nanoseconds) => {
+            let unit = SECOND / i128::from(count);
+            Ok(nanoseconds.saturating_add(i128::from(part).saturating_mul(unit)))
+        }
+    }
+}
+
+#[test]
+fn times_of_clocks(rt: HostRuntime) {
+    for hour in HOURS {
+        for minute in SIXTIETHS {
+            for second in SIXTIETHS {
+                assert_eq!(rt;
+                    told(&Time::from_hms(hour, minute, second)),
+                    clock(hour, minute, second)
+                );
+            }
+        }
+    }
+}
+
+#[test]
+fn times_of_clocks_and_parts_of_a_second(rt: HostRuntime) {
+    for (hour, minute, second) in [(0, 0, 0), (23, 59, 59), (23, 59, 60), (255, 255, 255)] {
+        let clock = clock(hour, minute, second);
+        for (milli, micro, nano) in PARTS {
+            assert_eq!(rt;
+                told(&Time::from_hms_milli(hour, minute, second, milli)),
+                with_part(&clock, u32::from(milli), 1_000, "millisecond")
+            );
+            assert_eq!(rt;
+                told(&Time::from_hms_micro(hour, minute, second, micro)),
+                with_part(&clock, micro, 1_000_000, "microsecond")
+            );
+            assert_eq!(rt;
+                told(&Time::from_hms_nano(hour, minute, second, nano)),
+                with_part(&clock, nano, 1_000_000_000, "nanosecond")
+            );
+        }
+    }
+}
+
+#[test]
+fn greatest_parts(rt: HostRuntime) {
+    let greatest = 4_294_967_295;
+    for (told, name) in [
+        (told(&Time::from_hms(255, 255, 255)), "hour"),
+        (told(&Time::from_hms(0, 255, 255)), "minute"),
+        (told(&Time::from_hms(0, 0, 255)), "second"),
+        (told(&Time::from_hms_milli(0, 0, 0, 65_535)), "millisecond"),
+        (
+            told(&Time::from_hms_micro(0, 0, 0, greatest)),
+            "microsecond",
+        ),
+        (told(&Time::from_hms_nano(0, 0, 0, greatest)), "nanosecond"),
+    ] {
+        assert_eq!(rt; told, Err((name, false)));
+    }
+}
+
+/// The nanoseconds with another value of the part of that unit, of which the next greater unit has `count`.
+fn with_unit(nanoseconds: i128, value: u8, unit: i128, count: u8, name: &'static str) -> Told
+    requires { pos 0 <ℤ unit }
+{
+    if value >= count {
+        return Err((name, false));
+    }
+    let old = (nanoseconds / unit).rem_euclid(i128::from(count));
+    Ok(nanoseconds.saturating_add((i128::from(value) - old).saturating_mul(unit)))
+}
+
+#[test]
+fn replaced_hours_minutes_and_seconds(rt: HostRuntime) {
+    for (time, number) in TIMES {
+        let number = i128::from(number);
+        for value in HOURS {
+            let want = with_unit(number, value, HOUR, 24, "hour");
+            assert_eq!(rt; told(&time.replace_hour(value)), want, "{value}");
+        }
+        for value in SIXTIETHS {
+            let want = with_unit(number, value, MINUTE, 60, "minute");
+            assert_eq!(rt; told(&time.replace_minute(value)), want, "{value}");
+            let want = with_unit(number, value, SECOND, 60, "second");
+            assert_eq!(rt; told(&time.replace_second(value)), want, "{value}");
+        }
+    }
+}
+
+#[test]
+fn replaced_parts_of_a_second(rt: HostRuntime) {
+    for (time, number) in TIMES {
+        let number = i128::from(number);
+        let seconds = Ok(number - number % SECOND);
+        for (milli, micro, nano) in PARTS {
+            assert_eq!(rt;
+                told(&time.replace_millisecond(milli)),
+                with_part(&seconds, u32::from(milli), 1_000, "millisecond")
+            );
+            assert_eq!(rt;
+                told(&time.replace_microsecond(micro)),
+                with_part(&seconds, micro, 1_000_000, "microsecond")
+            );
+            assert_eq!(rt;
+                told(&time.replace_nanosecond(nano)),
+                with_part(&seconds, nano, 1_000_000_000, "nanosecond")
+            );
+        }
+    }
+}
+
+#[test]
+fn truncated_ends(rt: HostRuntime) {
+    for (time, number) in TIMES {
+        let number = i128::from(number);
+        for (cut, unit) in [
+            (time.truncate_to_hour(), HOUR),
+            (time.truncate_to_minute(), MINUTE),
+            (time.truncate_to_second(), SECOND),
+            (time.truncate_to_millisecond(), 1_000_000),
+            (time.truncate_to_microsecond(), 1_000),
+        ] {
+            assert_eq!(rt; cut.number(), number - number % unit);
+        }
+    }
+}
+
+#[test]
+fn ways_between_the_ends(rt: HostRuntime) {
+    for (from, start) in TIMES {
+        for (to, end) in TIMES {
+            let (start, end) = (i128::from(start), i128::from(end));
+            let way = (end - start).rem_euclid(DAY);
+            assert_eq!(rt; from.duration_until(to).whole_nanoseconds(), way);
+            assert_eq!(rt; to.duration_since(from).whole_nanoseconds(), way);
+            assert_eq!(rt; (to - from).whole_nanoseconds(), end - start);
+        }
+    }
+}
+
+/// The day and the time of nanoseconds since midnight, which may be those of the day before or the day after.
+fn carried(nanoseconds: i128) -> (DateAdjustment, i128) {
+    if nanoseconds < 0 {
+        (DateAdjustment::Previous, nanoseconds + DAY)
+    } else if nanoseconds >= DAY {
+        (DateAdjustment::Next, nanoseconds - DAY)
+    } else {
+        (DateAdjustment::None, nanoseconds)
+    }
+}
+
+// The whole days of a duration are not in the carry, and the rest has the sign of the duration.
+#[test]
+fn ends_moved_by_the_ends_of_durations(rt: HostRuntime) {
+    for (time, number) in TIMES {
+        let number = i128::from(number);
+        for (duration, moved) in ends() {
+            let (step, later) = time.adjusting_add(duration);
+            assert_eq!(rt; (step, later.number()), carried(number + moved % DAY));
+            let (step, earlier) = time.adjusting_sub(duration);
+            assert_eq!(rt; (step, earlier.number()), carried(number - moved % DAY));
+        }
+    }
+}
+
+#[test]
+fn ends_moved_round_the_clock(rt: HostRuntime) {
+    for (time, number) in TIMES {
+        let number = i128::from(number);
+        for (duration, moved) in ends() {
+            let later = number.saturating_add(moved).rem_euclid(DAY);
+            let earlier = number.saturating_sub(moved).rem_euclid(DAY);
+            let (mut plus, mut minus) = (time, time);
+            plus += duration;
+            minus -= duration;
+            assert_eq!(rt; (plus.number(), minus.number()), (later, earlier));
+            assert_eq!(rt; (time + duration).number(), later);
+            assert_eq!(rt; (time - duration).number(), earlier);
+        }
+    }
+}
