@@ -1,8 +1,8 @@
 -- Numbers of nanoseconds cut into days.
-use Rattle.std.proofs.Common.{◌≡◌, ℕ, zero, suc, ◌*◌, ◌/◌, ◌%◌, ◌<◌, ℤ, pos, negsuc, neg_ℤ, ◌+ℤ◌, ◌-ℤ◌, ◌*ℤ◌, ◌≤ℤ◌, int_rem, FitsSigned, to_z, of_z, lit<, refl, sym, subst, ◌∙◌, arith}
+use Rattle.std.proofs.Common.{◌≡◌, ℕ, zero, suc, ◌*◌, ◌/◌, ◌%◌, ◌<◌, ℤ, pos, negsuc, neg_ℤ, ◌+ℤ◌, ◌-ℤ◌, ◌*ℤ◌, ◌≤ℤ◌, ◌<ℤ◌, int_rem, FitsSigned, to_z, of_z, lit<, refl, sym, subst, ◌∙◌, arith}
 use Rattle.std.specs.Int.{w64}
 use borrow.Author.Differences.{up, down}
-use Rattle.std.proofs.lemmas.Int.{ints, quot-rem, rem_below, to_z-of_z, fits_signed_from_abs, fits_signed_mul}
+use Rattle.std.proofs.lemmas.Int.{ints, by_lt_z, quot-rem, rem_below, to_z-of_z, fits_signed_from_abs, fits_signed_mul}
 use Rattle.cal_span.specs.SignedDuration.{second, day, cut, past_second}
 use Rattle.cal_span.specs.FieldsLaws.{times-second}
 use Rattle.cal_clock.specs.Time.{IsPastDays, modulo_day}
@@ -71,6 +71,22 @@ computed-rest v s n fits_s fits_n h =
     let product = h.product_fits in
     let rest = h.rest_fits in
     simp to_z-of_z
+
+-- d is -1, 0 or 1, and a number of nanoseconds less d days lies in a day
+pub record IsInDay (n d : ℤ) : Type 0 where
+  pub low : negsuc 0 ≤ℤ d
+  pub high : d ≤ℤ pos 1
+  pub from : pos 0 ≤ℤ (n -ℤ d *ℤ pos day)
+  pub below : (n -ℤ d *ℤ pos day) <ℤ pos day
+
+pub IsInDay-counted : (n d : ℤ) → neg_ℤ (pos day) <ℤ n → n <ℤ pos (2 * day)
+    → (n <ℤ pos 0 → d ≡ negsuc 0) → (pos 0 ≤ℤ n → n <ℤ pos day → d ≡ pos 0) → (pos day ≤ℤ n → d ≡ pos 1) → IsInDay n d
+IsInDay-counted n d low high before same after =
+    by_lt_z n (pos 0)
+    (λ past. let is = before past in record { low = omega (arith, ints); high = omega (arith, ints); from = omega (arith, ints); below = omega (arith, ints) })
+    (λ from. by_lt_z n (pos day)
+    (λ below. let is = same from below in record { low = omega (arith, ints); high = omega (arith, ints); from = omega (arith, ints); below = omega (arith, ints) })
+    (λ over. let is = after over in record { low = omega (arith, ints); high = omega (arith, ints); from = omega (arith, ints); below = omega (arith, ints) }))
 
 -- a step back within the days, and then whole days back
 pub moved-back : (t v w r c u : ℤ) → v ≡ w *ℤ pos day +ℤ r → t -ℤ r ≡ c *ℤ pos day +ℤ u

@@ -1,16 +1,14 @@
 -- The product of a duration and a number, from the products of its fields.
-use Rattle.std.proofs.Common.{◌≡◌, zero, suc, ◌*◌, lit<, ℤ, pos, negsuc, ◌+ℤ◌, ◌*ℤ◌, ◌≤ℤ◌, ◌<ℤ◌, FitsSigned, sym, ap, ◌∙◌, arith}
-use Rattle.std.specs.Int.{w64}
+use Rattle.std.proofs.Common.{◌≡◌, zero, suc, ◌*◌, ◌≤◌, ◌<◌, lit<, ℤ, pos, negsuc, ◌+ℤ◌, ◌*ℤ◌, ◌≤ℤ◌, ◌<ℤ◌, unsigned_abs, int_rem, FitsSigned, refl, sym, ap, ◌∙◌, arith}
+use Rattle.std.specs.Int.{w32, w64}
 use borrow.Author.Differences.{up, down, same_in, sum_is_lem, product_is}
-use Rattle.std.proofs.lemmas.Int.{ints, fits_signed_mul}
-use Rattle.cal_span.specs.SignedDuration.{second, IsWithin}
+use Rattle.std.proofs.lemmas.Int.{ints, by_lt_z, fits_signed_mul, quot-rem, rem_below, unsigned_abs-mul}
+use Rattle.std.proofs.lemmas.Nat.{mul-le}
+use Rattle.std.proofs.Math.Nat.{mul-le-mul_right}
+use Rattle.cal_span.specs.SignedDuration.{second, past_second, IsWithin}
 use Rattle.cal_span.specs.Fields.{nanoseconds_in, IsNormal}
-use Rattle.cal_span.specs.FieldsLaws.{times-second}
+use Rattle.cal_span.specs.FieldsLaws.{times-second, fields_of-nanoseconds_in}
 use Rattle.cal_span.specs.declared.signed_duration.SignedDuration.TheInside.{Inside}
-
--- the product of the nanoseconds and a factor of 33 bits fits
-pub product-fits : (a : Inside) (k : ℤ) → IsNormal a → IsWithin 4_294_967_295 k → FitsSigned w64 (a.nanoseconds *ℤ k)
-product-fits a k h within = fits_signed_mul w64 a.nanoseconds k 999_999_999 4_294_967_295 (omega (arith, ints)) (omega (arith, ints)) (lit< tt)
 
 -- a product is the sum of the products of the parts
 product-sum : (x y k : ℤ) → (x +ℤ y) *ℤ k ≡ x *ℤ k +ℤ y *ℤ k
@@ -55,3 +53,73 @@ product-negative (negsuc s) (pos zero) k p q h = omega (arith, ints)
 product-negative (negsuc s) (pos (suc n)) k p q h = absurd (omega (arith, ints, q (omega (arith, ints))))
 product-negative (negsuc s) (negsuc n) (pos k) p q h = omega (arith, ints)
 product-negative (negsuc s) (negsuc n) (negsuc k) p q h = absurd (omega (arith, ints))
+
+-- what is past the seconds times a factor of 33 bits fits
+pub past-fits : (v k : ℤ) → IsWithin 4_294_967_295 k → FitsSigned w64 (past_second v *ℤ k)
+past-fits v k within =
+    let parts = quot-rem v (pos second) in
+    let small = rem_below v (pos second) (omega arith) in
+    fits_signed_mul w64 (past_second v) k 999_999_999 4_294_967_295 (omega (arith, ints)) (omega (arith, ints)) (lit< tt)
+
+past_second-fields : (a : Inside) (v : ℤ) → IsNormal a → nanoseconds_in a ≡ v → past_second v ≡ a.nanoseconds
+past_second-fields a v h is_v =
+    let parts = quot-rem v (pos second) in
+    let rest : int_rem v (pos second) ≡ a.nanoseconds = ap (λ x. int_rem x (pos second)) (sym is_v) ∙ ap (λ fields. fields.nanoseconds) (fields_of-nanoseconds_in a h) in
+    omega (arith, ints)
+
+-- the fields of a number have its sign
+above-fields : (a : Inside) → IsNormal a → pos 0 ≤ℤ nanoseconds_in a → (pos 0 ≤ℤ a.seconds) × (pos 0 ≤ℤ a.nanoseconds)
+above-fields a h from =
+    let t = times-second a.seconds in
+    (grind (arith, ints), grind (arith, ints))
+
+below-fields : (a : Inside) → IsNormal a → nanoseconds_in a ≤ℤ pos 0 → (a.seconds ≤ℤ pos 0) × (a.nanoseconds ≤ℤ pos 0)
+below-fields a h to =
+    let t = times-second a.seconds in
+    (grind (arith, ints), grind (arith, ints))
+
+-- the seconds of a small number times k are not more than k
+seconds-small : (a : Inside) (n k : ℤ) → IsNormal a → nanoseconds_in a ≡ n *ℤ k → unsigned_abs n ≤ 999_999_999 → unsigned_abs a.seconds ≤ unsigned_abs k
+seconds-small a n k h is small =
+    let size = unsigned_abs-mul n k in
+    let most = mul-le-mul_right {m = unsigned_abs n} {n = 999_999_999} (unsigned_abs k) small in
+    let t = times-second a.seconds in
+    grind (arith, ints)
+
+-- b, the product of what a has past its seconds and a factor k, carries its seconds over into the product of a and k
+pub record IsProduct (a b : Inside) (v k : ℤ) : Type 0 where
+  pub small : unsigned_abs b.seconds ≤ unsigned_abs k
+  pub positive : pos 0 <ℤ (a.seconds *ℤ k) → pos 0 ≤ℤ b.seconds
+  pub negative : (a.seconds *ℤ k) <ℤ pos 0 → b.seconds ≤ℤ pos 0
+  pub normal : IsNormal (record { seconds = a.seconds *ℤ k +ℤ b.seconds; nanoseconds = b.nanoseconds })
+  pub whole : nanoseconds_in (record { seconds = a.seconds *ℤ k +ℤ b.seconds; nanoseconds = b.nanoseconds }) ≡ v *ℤ k
+
+pub IsProduct-of : (a b : Inside) (v k : ℤ) → IsNormal a → IsNormal b → nanoseconds_in a ≡ v → nanoseconds_in b ≡ past_second v *ℤ k → IsProduct a b v k
+IsProduct-of a b v k h g is_v is_past =
+    let is : nanoseconds_in b ≡ a.nanoseconds *ℤ k = is_past ∙ ap (λ n. n *ℤ k) (past_second-fields a v h is_v) in
+    let above = λ (s : pos 0 <ℤ (a.seconds *ℤ k)). above-fields b g (rw is (product-positive a.seconds a.nanoseconds k h.positive h.negative s)) in
+    let below = λ (s : (a.seconds *ℤ k) <ℤ pos 0). below-fields b g (rw is (product-negative a.seconds a.nanoseconds k h.positive h.negative s)) in
+    record {
+      small = seconds-small b a.nanoseconds k g is (omega (arith, ints, h.above, h.below));
+      positive = λ s. (above s).0;
+      negative = λ s. (below s).0;
+      normal = record {
+        above = g.above;
+        below = g.below;
+        positive = λ sum. by_lt_z (pos 0) (a.seconds *ℤ k) (λ s. (above s).1) (λ rest. g.positive (omega (arith, ints)));
+        negative = λ sum. by_lt_z (a.seconds *ℤ k) (pos 0) (λ s. (below s).1) (λ rest. g.negative (omega (arith, ints)));
+      };
+      whole =
+          let q = times-second (a.seconds *ℤ k) in
+          let p = times-second b.seconds in
+          let r = times-second (a.seconds *ℤ k +ℤ b.seconds) in
+          omega (arith, ints, product-fields a v k is_v);
+    }
+
+-- two factors of 32 bits, and a carry that is not above the second one, cannot overflow
+pub small-fits : (s k c : ℤ) → unsigned_abs s < 4_294_967_295 → unsigned_abs k ≤ 2_147_483_648 → unsigned_abs c ≤ unsigned_abs k
+    → FitsSigned w64 (s *ℤ k) × FitsSigned w64 (s *ℤ k +ℤ c)
+small-fits s k c s_small k_small c_small =
+    let size = unsigned_abs-mul s k in
+    let most = mul-le (unsigned_abs s) (unsigned_abs k) 4_294_967_294 2_147_483_648 (omega arith) k_small in
+    (omega (arith, ints), omega (arith, ints))

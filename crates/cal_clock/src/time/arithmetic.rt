@@ -77,6 +77,19 @@ fn days_past(nanoseconds: i64) -> i64
     i64::from(nanoseconds >= NANOSECONDS_PER_DAY as i64) - i64::from(nanoseconds < 0)
 }
 
+/// The carry of that many days, of which there are -1, 0 or 1.
+fn adjustment_of(days: i64) -> DateAdjustment
+    requires low { negsuc 0 ≤ℤ days }
+    requires high { days ≤ℤ pos 1 }
+    ensures { carry result ≡ days }
+{
+    match days {
+        0 => DateAdjustment::None,
+        1 => DateAdjustment::Next,
+        _ => DateAdjustment::Previous,
+    }
+}
+
 /// The time of nanoseconds since midnight that may lie in the day before or the day after, and which day it is.
 fn carried(nanoseconds: i64) -> (DateAdjustment, Time)
     requires low { neg_ℤ (pos day) <ℤ nanoseconds }
@@ -84,13 +97,9 @@ fn carried(nanoseconds: i64) -> (DateAdjustment, Time)
     ensures equation { nanoseconds ≡ carry result.0 *ℤ pos day +ℤ pos result.1 }
     ensures below_day { result.1 < day }
 {
-    let (adjustment, midnight) = match days_past(nanoseconds) {
-        0 => (DateAdjustment::None, 0),
-        1 => (DateAdjustment::Next, NANOSECONDS_PER_DAY as i64),
-        _ => (DateAdjustment::Previous, -(NANOSECONDS_PER_DAY as i64)),
-    };
-    let nanoseconds = (nanoseconds - midnight) as u64;
-    (adjustment, Time { nanoseconds })
+    let days = days_past(nanoseconds);
+    let nanoseconds = (nanoseconds - days * NANOSECONDS_PER_DAY as i64) as u64;
+    (adjustment_of(days), Time { nanoseconds })
 }
 
 impl Add<SignedDuration> for Time {

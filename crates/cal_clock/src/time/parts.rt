@@ -1,7 +1,8 @@
 //! The parts of times, read, replaced and cut off.
 
-ghost use Rattle.std.specs.Prelude.{◌≡◌, ◌↔◌, ◌*◌, ◌<◌, ◌≤◌};
+ghost use Rattle.std.specs.Prelude.{◌≡◌, ◌↔◌, ◌*◌, ◌/◌, ◌<◌, ◌≤◌};
 ghost use Rattle.cal_units.specs.Refusal.{IsRefused};
+ghost use Rattle.cal_span.specs.SignedDuration.{second};
 ghost use Rattle.cal_clock.specs.Time.{hour_out_of_range, minute_out_of_range, second_out_of_range, millisecond_out_of_range, microsecond_out_of_range, nanosecond_out_of_range, time_of, IsTime, hour_of, minute_of, second_of, millisecond_of, microsecond_of, nanosecond_of};
 
 use crate::time::{
@@ -49,26 +50,33 @@ impl Time {
         (self.hour(), self.minute(), self.second(), self.nanosecond())
     }
 
+    /// The whole seconds since midnight, from which the hour, the minute and the second come in 32 bits.
+    fn seconds_since_midnight(self) -> u32
+        ensures { result ≡ self / second }
+    {
+        (self.nanoseconds / NANOSECONDS_PER_SECOND) as u32
+    }
+
     /// The hour, from 0 to 23.
     pub fn hour(self) -> u8
         ensures value { result ≡ hour_of self }
         ensures range { IsTime self }
     {
-        (self.nanoseconds / NANOSECONDS_PER_HOUR) as u8
+        (self.seconds_since_midnight() / 3_600) as u8
     }
 
     /// The minute of the hour, from 0 to 59.
     pub fn minute(self) -> u8
         ensures { result ≡ minute_of self }
     {
-        (self.nanoseconds / NANOSECONDS_PER_MINUTE % 60) as u8
+        (self.seconds_since_midnight() / 60 % 60) as u8
     }
 
     /// The second of the minute, from 0 to 59.
     pub fn second(self) -> u8
         ensures { result ≡ second_of self }
     {
-        (self.nanoseconds / NANOSECONDS_PER_SECOND % 60) as u8
+        (self.seconds_since_midnight() % 60) as u8
     }
 
     /// The whole milliseconds of the second, from 0 to 999.

@@ -1,8 +1,8 @@
 //! Sums, differences, products and quotients of durations, exact to the nanosecond.
 
-ghost use Rattle.std.specs.Prelude.{◌≡◌, ◌+◌, ◌*◌, ◌<◌, pos, neg_ℤ, ◌+ℤ◌, ◌-ℤ◌, ◌*ℤ◌, ◌≤ℤ◌, ◌<ℤ◌, FitsSigned, SomeIff};
+ghost use Rattle.std.specs.Prelude.{◌≡◌, ◌+◌, ◌*◌, ◌<◌, ◌≤◌, pos, neg_ℤ, ◌+ℤ◌, ◌-ℤ◌, ◌*ℤ◌, ◌≤ℤ◌, ◌<ℤ◌, unsigned_abs, FitsSigned, SomeIff};
 ghost use Rattle.std.specs.Int.{w64};
-ghost use Rattle.cal_span.specs.SignedDuration.{second, IsDuration, IsWithin, HasQuotient, HasSum, clamp, cut, sum_of, with_sign};
+ghost use Rattle.cal_span.specs.SignedDuration.{second, IsDuration, IsWithin, HasQuotient, HasSum, clamp, cut, past_second, sum_of, with_sign};
 ghost use Rattle.cal_span.specs.Fields.{CanCarry, IsCarry};
 
 use crate::signed_duration::{NANOSECONDS_PER_SECOND, SignedDuration};
@@ -63,23 +63,19 @@ impl SignedDuration {
         requires { IsWithin GREATEST_OPERAND factor }
         ensures { SomeIff result (IsDuration (self *ℤ factor)) (self *ℤ factor) }
     {
-        let nanoseconds = i64::from(self.nanoseconds) * factor;
-        Self::checked_of_one_sign(checked_times(self.seconds, factor)?, nanoseconds)
+        let past = self.past_second_times(factor);
+        Some(Self {
+            seconds: checked_times(self.seconds, factor, past.seconds)?,
+            nanoseconds: past.nanoseconds,
+        })
     }
 
-    /// That many seconds and nanoseconds, which are not of opposite signs, or `None` where their sum
-    /// is no duration.
-    fn checked_of_one_sign(seconds: i64, nanoseconds: i64) -> Option<Self>
-        requires positive { pos 0 <ℤ seconds → pos 0 ≤ℤ nanoseconds }
-        requires negative { seconds <ℤ pos 0 → nanoseconds ≤ℤ pos 0 }
-        ensures { SomeIff result (IsDuration (seconds *ℤ pos second +ℤ nanoseconds)) (seconds *ℤ pos second +ℤ nanoseconds) }
+    /// The product of what is past the whole seconds with a factor of 33 bits.
+    fn past_second_times(self, factor: i64) -> Self
+        requires { IsWithin GREATEST_OPERAND factor }
+        ensures { result ≡ past_second self *ℤ factor }
     {
-        let carry = nanoseconds / NANOSECONDS_PER_SECOND as i64;
-        let past = nanoseconds % NANOSECONDS_PER_SECOND as i64;
-        Some(Self {
-            seconds: seconds.checked_add(carry)?,
-            nanoseconds: past as i32,
-        })
+        Self::nanoseconds(i64::from(self.subsec_nanoseconds()) * factor)
     }
 
     /// The quotient, cut toward zero, or `None` where the divisor is zero or the quotient is no
@@ -201,16 +197,18 @@ fn carry_of(seconds: i64, nanoseconds: i32) -> i32
     i32::from(nanoseconds > most) - i32::from(nanoseconds < least)
 }
 
-/// The product with a factor of 33 bits, or `None` where it is no `i64`.
+/// The product and a carry, or `None` where their sum is no `i64`.
 ///
-/// Two factors of 32 bits cannot overflow, and the test for that is cheaper than the checked product.
-fn checked_times(seconds: i64, factor: i64) -> Option<i64>
-    requires { IsWithin GREATEST_OPERAND factor }
-    ensures { SomeIff result (FitsSigned w64 (seconds *ℤ factor)) (seconds *ℤ factor) }
+/// Of two factors of 32 bits neither the product nor the sum can overflow, and the test for that is cheaper than the
+/// checked ones.
+fn checked_times(seconds: i64, factor: i64, carry: i64) -> Option<i64>
+    requires small { unsigned_abs carry ≤ unsigned_abs factor }
+    requires positive { pos 0 <ℤ (seconds *ℤ factor) → pos 0 ≤ℤ carry }
+    requires negative { (seconds *ℤ factor) <ℤ pos 0 → carry ≤ℤ pos 0 }
+    ensures { SomeIff result (FitsSigned w64 (seconds *ℤ factor +ℤ carry)) (seconds *ℤ factor +ℤ carry) }
 {
-    if seconds.unsigned_abs() <= GREATEST_OPERAND && factor.unsigned_abs() <= 1 << 31 {
-        Some(seconds * factor)
-    } else {
-        seconds.checked_mul(factor)
+    if seconds.unsigned_abs() < GREATEST_OPERAND && factor.unsigned_abs() <= 1 << 31 {
+        return Some(seconds * factor + carry);
     }
+    seconds.checked_mul(factor)?.checked_add(carry)
 }

@@ -1,8 +1,17 @@
 use Rattle.std.proofs.Common.{arith}
-use Rattle.std.proofs.lemmas.Int.{ints}
+use Rattle.std.proofs.lemmas.Int.{ints, to_z-of_z}
+use Rattle.cal_clock.proofs.Days.{IsInDay, IsInDay-counted}
 use Rattle.cal_clock.proofs.time.arithmetic.carried.Goals as goal
-use Rattle.cal_clock.proofs.time.arithmetic.carried.Goals.{in-0, in-1, in_default}
 
-pub overflow_cast-nanoseconds : goal.overflow_cast-nanoseconds
-overflow_cast-nanoseconds c =
-    elim c.match-days_past.branch [ in-0 w ↦ grind (arith, ints) | in-1 w ↦ grind (arith, ints) | in_default w ↦ grind (arith, ints) ]
+-- the step lies in its day, so what is computed of it fits
+in_day : (c : goal.After-days_past-days) → IsInDay c.args.nanoseconds c.days_past-days.result
+in_day c =
+    let n = c.ranges.nanoseconds in
+    let counted = simp to_z-of_z at c.days_past-days.ensures in
+    IsInDay-counted c.args.nanoseconds c.days_past-days.result c.requires.low c.requires.high counted.before counted.same counted.after
+
+pub overflow_cast-nanoseconds-2 : goal.overflow_cast-nanoseconds-2
+overflow_cast-nanoseconds-2 c =
+    let n = c.ranges.nanoseconds in
+    let h = in_day c in
+    omega (arith, ints)
