@@ -79,7 +79,9 @@ impl Date {
     };
 
     /// The last day, 9999-12-31, whose Julian day is 5373484.
-    pub const MAX: Date = Date { packed: 1_023_999_341 };
+    pub const MAX: Date = Date {
+        packed: 1_023_999_341,
+    };
 
     /// The day of the year that has this ordinal.
     ///

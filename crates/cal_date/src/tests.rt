@@ -59,12 +59,12 @@ fn moves_within_the_range(rt: HostRuntime) {
 
 #[test]
 fn the_laws(rt: HostRuntime) -> Result<(), Fail> {
-    assert_eq!(rt; first_day().to_julian_day(), -1930999);
-    assert_eq!(rt; final_day().to_julian_day(), 5373484);
+    assert_eq!(rt; first_day().to_julian_day(), -363_521_074);
+    assert_eq!(rt; final_day().to_julian_day(), 366_963_559);
     assert_eq!(rt; cloned(Date::MAX)?, Date::MAX);
     let (kernel, next) = (julian_kernel(2_451_545), julian_kernel(2_451_546));
     assert!(rt; is_same_kernel(cloned_kernel(kernel)?, kernel));
     assert!(rt; !is_same_kernel(kernel, next));
-    assert_eq!(rt; (weeks_of(2020), weeks_of(9999)), (53, 52));
+    assert_eq!(rt; (weeks_of(2020), weeks_of(999_999)), (53, 52));
     Ok(())
 }

@@ -37,10 +37,27 @@ fn kernel(
 
 #[test]
 fn at_both_ends(rt: HostRuntime) {
+    let first = kernel(13_796, 43_036_593, 503_899_266, 1_379_601, 9_670_707);
+    assert_eq!(rt; dated(-363_521_074), (first, (-999_999, 1)));
+    let last = kernel(
+        33_795,
+        4_294_844_423,
+        1_234_398_899,
+        3_379_599,
+        4_285_294_163,
+    );
+    assert_eq!(rt; dated(366_963_559), (last, (999_999, 365)));
+}
+
+// On the last of these days the century is one low.
+#[test]
+fn at_the_first_and_the_last_year_of_four_digits(rt: HostRuntime) {
     let first = kernel(23_696, 43_035_047, 865_496_766, 2_369_601, 10_281_722);
     assert_eq!(rt; dated(-1_930_999), (first, (-9999, 1)));
     let last = kernel(23_895, 4_294_845_970, 872_801_399, 2_389_599, 4_284_683_147);
     assert_eq!(rt; dated(5_373_484), (last, (9999, 365)));
+    let next = kernel(23_895, 4_294_963_562, 872_801_400, 2_389_600, 1_474_831);
+    assert_eq!(rt; dated(5_373_485), (next, (10_000, 1)));
 }
 
 // The year is the first of a century that 4 does not divide: on its days the ordinal needs no 1, and on the day after them it does.

@@ -1,5 +1,7 @@
-//! Every day of the years from -9999 to 9999, by a date that goes on from day to day.
+//! Every day of the years of four digits, and of 400 years at each end of the range, by a date that goes on from day to day.
 use crate::Date;
+use std::alloc::Global;
+use std::process::Abort;
 use std::test::Fail;
 
 /// The days of the months, January first, in a year that is no leap year.
@@ -42,15 +44,17 @@ impl Day {
         }
     }
 
-    /// The text with a minus sign before the year, digit by digit.
-    fn text_with_sign(self) -> [u8; 11] {
+    /// The text in the last of these bytes, digit by digit, and where it begins.
+    fn text(self) -> ([u8; 13], usize) {
         let (year, month, day) = (
             self.year.unsigned_abs(),
             u32::from(self.month),
             u32::from(self.day),
         );
-        [
-            b'-',
+        let mut text = [
+            b' ',
+            last_digit(year / 100_000),
+            last_digit(year / 10_000),
             last_digit(year / 1000),
             last_digit(year / 100),
             last_digit(year / 10),
@@ -61,7 +65,17 @@ impl Day {
             b'-',
             last_digit(day / 10),
             last_digit(day),
-        ]
+        ];
+        if self.year >= 0 && year <= 9_999 {
+            return (text, 3);
+        }
+        let sign = match year {
+            0..=9_999 => 2,
+            10_000..=99_999 => 1,
+            _ => 0,
+        };
+        text[sign] = if self.year < 0 { b'-' } else { b'+' };
+        (text, sign)
     }
 }
 
@@ -70,14 +84,20 @@ fn last_digit(n: u32) -> u8 {
     b'0' + (n % 10) as u8
 }
 
-#[test]
-fn every_day_of_the_range(rt: HostRuntime) -> Result<(), Fail> {
+/// Takes each day apart and makes it again, from 1 January of the one year to 31 December of the other, and prints it.
+fn check_days(
+    rt: &impl Abort,
+    alloc: Global,
+    years: (i32, i32),
+    julian_days: (i32, i32),
+) -> Result<(), Fail> {
     let mut running = Day {
-        year: -9999,
+        year: years.0,
         month: 1,
         day: 1,
     };
-    for julian_day in -1_930_999..5_373_485 {
+    let mut printed = String::new(alloc);
+    for julian_day in julian_days.0..=julian_days.1 {
         let Ok(date) = Date::from_julian_day(julian_day) else {
             panic!(rt; "{julian_day} is refused");
         };
@@ -89,13 +109,43 @@ fn every_day_of_the_range(rt: HostRuntime) -> Result<(), Fail> {
         assert_eq!(rt; date.to_julian_day(), julian_day);
         let (year, week, weekday) = date.to_iso_week_date();
         assert_eq!(rt; Date::from_iso_week_date(year, week, weekday), Ok(date));
-        let text = running.text_with_sign();
-        let text = if running.year < 0 { &text } else { &text[1..] };
-        assert_eq!(rt; format!(in rt.alloc(); "{date}")?.as_bytes(), text);
+        printed.clear();
+        write!(printed, "{date}")?;
+        let (text, start) = running.text();
+        assert_eq!(rt; printed.as_bytes(), &text[start..]);
         running = running.after();
     }
-    assert_eq!(rt; (running.year, running.month, running.day), (10_000, 1, 1));
-    assert!(rt; Date::from_julian_day(-1_931_000).is_err());
-    assert!(rt; Date::from_julian_day(5_373_485).is_err());
+    assert_eq!(rt; (running.month, running.day), (1, 1));
+    assert_eq!(rt; running.year, years.1.wrapping_add(1));
+    Ok(())
+}
+
+#[test]
+fn every_day_from_year_minus_9999(rt: HostRuntime) -> Result<(), Fail> {
+    check_days(&rt, rt.alloc(), (-9_999, -1), (-1_930_999, 1_721_059))
+}
+
+#[test]
+fn every_day_up_to_year_9999(rt: HostRuntime) -> Result<(), Fail> {
+    check_days(&rt, rt.alloc(), (0, 9_999), (1_721_060, 5_373_484))
+}
+
+// 400 years have 146097 days.
+#[test]
+fn every_day_of_400_years_at_each_end(rt: HostRuntime) -> Result<(), Fail> {
+    check_days(
+        &rt,
+        rt.alloc(),
+        (-999_999, -999_600),
+        (-363_521_074, -363_374_978),
+    )?;
+    check_days(
+        &rt,
+        rt.alloc(),
+        (999_600, 999_999),
+        (366_817_463, 366_963_559),
+    )?;
+    assert!(rt; Date::from_julian_day(-363_521_075).is_err());
+    assert!(rt; Date::from_julian_day(366_963_560).is_err());
     Ok(())
 }

@@ -27,10 +27,11 @@ returns-clause-date c =
 pub returns-clause-range : goal.returns-clause-range
 returns-clause-range c =
     let has = returns-clause-date c in
-    let week = iso_week_at-range c.args.self in
-    (subst IsYear has.0 (IsYear-iso_year_at c.args.self c.year.ensures.in_range),
-    subst (λ y. IsWeek y c.iso_year_and_week-iso_year.result.1) has.0 (subst (IsWeek (iso_year_at c.args.self)) has.1 week),
-    omega (arith, has.1, week.1, weeks_in_year-most (iso_year_at c.args.self)))
+    let week = iso_week_at-range c.args.self in (
+      subst IsYear has.0 (IsYear-iso_year_at c.args.self c.year.ensures.in_range),
+      subst (λ y. IsWeek y c.iso_year_and_week-iso_year.result.1) has.0 (subst (IsWeek (iso_year_at c.args.self)) has.1 week),
+      omega (arith, has.1, week.1, weeks_in_year-most (iso_year_at c.args.self)),
+    )
 
 pub returns-clause-order : goal.returns-clause-order
 returns-clause-order c = λ n d. iso_week_dates-in_order _ _ _ _ n (returns-clause-date c)
