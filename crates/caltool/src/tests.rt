@@ -2,7 +2,7 @@
 ghost use Rattle.std.specs.Prelude.{◌≡◌, IfOk, OnOk};
 ghost use Rattle.caltool.specs.Answers.{out};
 
-use crate::ending::{status, tell};
+use crate::ending::end;
 use crate::fault::Fault;
 use crate::run::run;
 use std::alloc::{AllocError, Global};
@@ -315,16 +315,15 @@ fn interruptions_are_counted(rt: HostRuntime) -> Result<(), Fail> {
 
 #[test]
 fn the_status_and_the_words_of_each_end(rt: HostRuntime) -> Result<(), Fail> {
-    assert_eq!(rt; status(Ok(())), 0);
-    for (fault, line) in [
-        (Fault::TooLong, b"input too long\n".as_slice()),
-        (Fault::Read, b"cannot read\n".as_slice()),
-        (Fault::Write, b"cannot write\n".as_slice()),
+    for (outcome, status, words) in [
+        (Ok(()), 0, b"".as_slice()),
+        (Err(Fault::TooLong), 2, b"input too long\n".as_slice()),
+        (Err(Fault::Read), 2, b"cannot read\n".as_slice()),
+        (Err(Fault::Write), 2, b"cannot write\n".as_slice()),
     ] {
-        assert_eq!(rt; status(Err(fault)), 2);
         let mut told = Vec::new(rt.alloc());
-        assert_eq!(rt; tell(&mut told, fault), Ok(()));
-        assert_eq!(rt; told.as_slice(), line);
+        assert_eq!(rt; end(outcome, &mut told), status);
+        assert_eq!(rt; told.as_slice(), words);
     }
     Ok(())
 }
