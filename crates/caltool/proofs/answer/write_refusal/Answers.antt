@@ -1,4 +1,4 @@
-use Rattle.std.proofs.Common.{◌≡◌, ◌++◌, true, sym, ap, ◌∙◌, append_assoc}
+use Rattle.std.proofs.Common.{◌≡◌, true, sym, ◌∙◌, append_assoc}
 use Rattle.caltool.proofs.answer.write_refusal.Goals as goal
 
 pub returns-then-is_conditional-clause-text : goal.returns-then-is_conditional-clause-text

@@ -1,4 +1,4 @@
-use Rattle.std.proofs.Common.{◌≡◌, ◌++◌, ◌-◌, ◌/◌, List, ℕ, length, length-append, arith, rules, subst, ap, ◌∙◌}
+use Rattle.std.proofs.Common.{◌≡◌, ◌++◌, ◌-◌, ◌/◌, List, ℕ, length, length-append, arith, subst, ap, ◌∙◌}
 use Rattle.cal_time.specs.DateText.{digits_at_least}
 use Rattle.caltool.proofs.Texts.{all_digits, length-step, one_digit}
 use Rattle.caltool.proofs.text.+push_digits.Goals.{then-least-gt1, else-least-gt1+else-number-gt9}

@@ -1,4 +1,4 @@
-use Rattle.std.proofs.Common.{◌≡◌, arith, length, ap, length-append}
+use Rattle.std.proofs.Common.{arith, length, ap, length-append}
 use Rattle.cal_time.specs.DateText.{digits_at_least}
 use Rattle.caltool.proofs.Texts.{length-digits}
 use Rattle.caltool.proofs.text.push_number.Goals as goal

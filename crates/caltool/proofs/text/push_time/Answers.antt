@@ -1,4 +1,4 @@
-use Rattle.std.proofs.Common.{◌≡◌, ◌∙◌, arith}
+use Rattle.std.proofs.Common.{◌∙◌, arith}
 use Rattle.caltool.proofs.Texts.{time_in_place}
 use Rattle.caltool.proofs.text.push_time.Goals as goal
 
