@@ -11,6 +11,7 @@ pub use Rattle.cal_units.specs.Weekday
 pub use Rattle.cal_units.specs.WeekdayCycle
 pub use Rattle.cal_units.specs.Weeks
 pub use Rattle.cal_span.specs.SignedDuration
+pub use Rattle.cal_clock.specs.Digits
 pub use Rattle.cal_clock.specs.Time
 pub use Rattle.cal_clock.specs.UtcOffset
 pub use Rattle.cal_date.specs.CalendarDay

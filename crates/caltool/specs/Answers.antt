@@ -37,6 +37,10 @@ day_with has numbers = day_where (λ n. pointwise int_eq (has n) numbers)
 abbrev pub julian_day : ℕ → List ℤ
 julian_day n = julian_day_at n ∷ []
 
+-- a minus sign, if the number is negative
+abbrev pub minus_sign : ℤ → List ℕ
+minus_sign z = if int_lt z (pos 0) then codes "-" else []
+
 -- the text of a day: its year, its ordinal and its Julian day
 abbrev pub day_text : ℕ → List ℕ
 day_text n =
@@ -71,40 +75,60 @@ is_month m = nat_le 1 m && nat_le m 12
 abbrev pub is_week : ℤ → ℕ → Bool
 is_week y w = nat_le 1 w && nat_le w (weeks_in_year y)
 
+-- the day of this Julian day
+abbrev pub day_of_julian_day : ℤ → Option ℕ
+day_of_julian_day j = day_with julian_day (j ∷ [])
+
+-- the day of this year and ordinal, or why there is none
+abbrev pub day_of_ordinal_date : ℤ → ℕ → Option ℕ
+day_of_ordinal_date y o = day_with ordinal_date_at (y ∷ pos o ∷ [])
+
+abbrev pub why_no_ordinal_date : ℤ → Refusal
+why_no_ordinal_date y = if is_year y then ordinal_out_of_range else year_out_of_range
+
+-- the day of this year, number of a month and day of the month, or why there is none: the month is refused before the year
+abbrev pub day_of_calendar_date : ℤ → ℕ → ℕ → Option ℕ
+day_of_calendar_date y m d = if is_month m then day_with calendar_date_at (y ∷ pos m ∷ pos d ∷ []) else None
+
+abbrev pub why_no_calendar_date : ℤ → ℕ → Refusal
+why_no_calendar_date y m =
+    if is_month m then (if is_year y then day_out_of_range else year_out_of_range) else month_out_of_range
+
+-- the day of this ISO year, week and weekday, or why there is none
+abbrev pub day_of_iso_date : ℤ → ℕ → ℕ → Option ℕ
+day_of_iso_date y w wd = day_with iso_week_date_at (y ∷ pos w ∷ pos wd ∷ [])
+
+abbrev pub why_no_iso_date : ℤ → ℕ → Refusal
+why_no_iso_date y w =
+    if is_year y then (if is_week y w then weekday_out_of_range else week_out_of_range) else year_out_of_range
+
 -- what `julian N` is answered
 abbrev pub julian_answer : ℤ → List ℕ
-julian_answer j = text_or_refused day_text (day_with julian_day (j ∷ [])) julian_day_out_of_range
+julian_answer j = text_or_refused day_text (day_of_julian_day j) julian_day_out_of_range
 
 -- what `ordinal Y N` is answered
 abbrev pub ordinal_answer : ℤ → ℕ → List ℕ
-ordinal_answer y o =
-    text_or_refused day_text (day_with ordinal_date_at (y ∷ pos o ∷ []))
-    (if is_year y then ordinal_out_of_range else year_out_of_range)
+ordinal_answer y o = text_or_refused day_text (day_of_ordinal_date y o) (why_no_ordinal_date y)
 
--- what `calendar Y M D` is answered: the month is refused before the year
+-- what `calendar Y M D` is answered
 abbrev pub calendar_answer : ℤ → ℕ → ℕ → List ℕ
-calendar_answer y m d =
-    if is_month m then text_or_refused day_text (day_with calendar_date_at (y ∷ pos m ∷ pos d ∷ []))
-    (if is_year y then day_out_of_range else year_out_of_range)
-    else refused_text month_out_of_range
+calendar_answer y m d = text_or_refused day_text (day_of_calendar_date y m d) (why_no_calendar_date y m)
 
 -- what `iso Y W D` is answered
 abbrev pub iso_answer : ℤ → ℕ → ℕ → List ℕ
-iso_answer y w wd =
-    text_or_refused day_text (day_with iso_week_date_at (y ∷ pos w ∷ pos wd ∷ []))
-    (if is_year y then (if is_week y w then weekday_out_of_range else week_out_of_range) else year_out_of_range)
+iso_answer y w wd = text_or_refused day_text (day_of_iso_date y w wd) (why_no_iso_date y w)
 
 -- what `show N` is answered
 abbrev pub show_answer : ℤ → List ℕ
-show_answer j = text_or_refused week_text (day_with julian_day (j ∷ [])) julian_day_out_of_range
+show_answer j = text_or_refused week_text (day_of_julian_day j) julian_day_out_of_range
 
 -- the day moved by so many seconds, of which only the whole days count
 abbrev pub moved_text : ℤ → ℕ → List ℕ
-moved_text s n = date_or_none (day_with julian_day ((julian_day_at n +ℤ whole_days (s *ℤ pos second)) ∷ []))
+moved_text s n = date_or_none (day_of_julian_day (julian_day_at n +ℤ whole_days (s *ℤ pos second)))
 
 -- what `add N S` is answered
 abbrev pub add_answer : ℤ → ℤ → List ℕ
-add_answer j s = text_or_refused (moved_text s) (day_with julian_day (j ∷ [])) julian_day_out_of_range
+add_answer j s = text_or_refused (moved_text s) (day_of_julian_day j) julian_day_out_of_range
 
 -- the moment lies in day n
 abbrev pub holds_moment : ℤ → ℕ → Bool
@@ -133,7 +157,7 @@ clock_text h m s d n =
 
 -- what `moment N H M S D` is answered
 abbrev pub moment_answer : ℤ → ℕ → ℕ → ℕ → ℤ → List ℕ
-moment_answer j h m s d = text_or_refused (clock_text h m s d) (day_with julian_day (j ∷ [])) julian_day_out_of_range
+moment_answer j h m s d = text_or_refused (clock_text h m s d) (day_of_julian_day j) julian_day_out_of_range
 
 -- what a line is answered that spells this command, or none
 abbrev pub answer_of : Option Command → List ℕ

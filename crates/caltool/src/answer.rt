@@ -1,187 +1,214 @@
 //! What a line is answered.
-ghost use Rattle.std.specs.Prelude.{◌≡◌, ◌++◌, IfOk, OnOk};
-ghost use Rattle.cal_time.specs.Month.{number};
+ghost use Rattle.std.specs.Prelude.{◌≡◌, ◌+◌, ◌≤◌, ◌++◌, length};
 ghost use Rattle.cal_time.specs.Refusal.{refusal};
+ghost use Rattle.cal_time.specs.Time.{nanosecond_of};
 ghost use Rattle.cal_time.specs.Weekday.{place};
 ghost use Rattle.caltool.specs.Answers.{answer_of, add_answer, calendar_answer, clock_text, day_text, iso_answer, julian_answer, later_text, moment_answer, moved_text, ordinal_answer, pair_text, refused_text, reply_to, show_answer, week_text};
+ghost use Rattle.caltool.specs.Room.{HasRoom, longest_answer, longest_reply};
 
 use crate::command::{Command, parse};
-use crate::text::Text;
+use crate::find::{find_calendar_date, find_iso_week_date, find_julian_day, find_ordinal_date};
+use crate::gathered::Gathered;
+use crate::text::{push_date, push_number, push_signed, push_time, push_weekday};
 use cal_time::error::ComponentRange;
-use cal_time::{Date, Month, SignedDuration, Time, Weekday, add_to_pair};
-use std::fmt::{self, Write};
+use cal_time::{Date, SignedDuration, Time, Weekday, add_to_pair};
 
-/// What is written for a line: its answer, and a line end.
-pub fn reply(line: &[u8]) -> Result<Text, fmt::Error>
-    ensures { IfOk result (λ text. text ≡ reply_to line.now) }
+/// Gathers what is written for a line: its answer, and a line end.
+pub fn reply(gathered: &mut Gathered, line: &[u8])
+    requires { HasRoom longest_reply gathered.old }
+    ensures { gathered.new ≡ gathered.old ++ reply_to line.now }
 {
-    let mut text = Text::new();
-    write_answer(&mut text, parse(line))?;
-    text.write_str("\n")?;
-    Ok(text)
+    write_answer(gathered, parse(line));
+    gathered.push(b"\n");
 }
 
 /// Answers a command, or a line that spells none.
-fn write_answer(text: &mut Text, command: Option<Command>) -> fmt::Result
-    ensures { OnOk result (text.new ≡ text.old ++ answer_of command) }
+fn write_answer(gathered: &mut Gathered, command: Option<Command>)
+    requires { HasRoom longest_answer gathered.old }
+    ensures text { gathered.new ≡ gathered.old ++ answer_of command }
+    ensures short { length gathered.new ≤ length gathered.old + longest_answer }
 {
     match command {
-        Some(Command::Julian(julian_day)) => write_julian(text, julian_day),
-        Some(Command::Ordinal(year, ordinal)) => write_ordinal(text, year, ordinal),
-        Some(Command::Calendar(year, month, day)) => write_calendar(text, year, month, day),
-        Some(Command::Iso(year, week, weekday)) => write_iso(text, year, week, weekday),
-        Some(Command::Show(julian_day)) => write_show(text, julian_day),
-        Some(Command::Add(julian_day, seconds)) => write_add(text, julian_day, seconds),
+        Some(Command::Julian(julian_day)) => write_julian(gathered, julian_day),
+        Some(Command::Ordinal(year, ordinal)) => write_ordinal(gathered, year, ordinal),
+        Some(Command::Calendar(year, month, day)) => write_calendar(gathered, year, month, day),
+        Some(Command::Iso(year, week, weekday)) => write_iso(gathered, year, week, weekday),
+        Some(Command::Show(julian_day)) => write_show(gathered, julian_day),
+        Some(Command::Add(julian_day, seconds)) => write_add(gathered, julian_day, seconds),
         Some(Command::Moment(julian_day, hour, minute, second, seconds)) => {
-            write_moment(text, julian_day, hour, minute, second, seconds)
+            write_moment(gathered, julian_day, hour, minute, second, seconds)
         }
-        None => text.write_str("bad line"),
+        None => gathered.push(b"bad line"),
     }
 }
 
-fn write_julian(text: &mut Text, julian_day: i32) -> fmt::Result
-    ensures { OnOk result (text.new ≡ text.old ++ julian_answer julian_day) }
+fn write_julian(gathered: &mut Gathered, julian_day: i32)
+    requires { HasRoom longest_answer gathered.old }
+    ensures text { gathered.new ≡ gathered.old ++ julian_answer julian_day }
+    ensures short { length gathered.new ≤ length gathered.old + longest_answer }
 {
-    match Date::from_julian_day(julian_day) {
-        Ok(date) => write_day(text, date),
-        Err(error) => write_refusal(text, error),
+    match find_julian_day(julian_day) {
+        Ok(date) => write_day(gathered, date),
+        Err(error) => write_refusal(gathered, error),
     }
 }
 
-fn write_ordinal(text: &mut Text, year: i32, ordinal: u16) -> fmt::Result
-    ensures { OnOk result (text.new ≡ text.old ++ ordinal_answer year ordinal) }
+fn write_ordinal(gathered: &mut Gathered, year: i32, ordinal: u16)
+    requires { HasRoom longest_answer gathered.old }
+    ensures text { gathered.new ≡ gathered.old ++ ordinal_answer year ordinal }
+    ensures short { length gathered.new ≤ length gathered.old + longest_answer }
 {
-    match Date::from_ordinal_date(year, ordinal) {
-        Ok(date) => write_day(text, date),
-        Err(error) => write_refusal(text, error),
+    match find_ordinal_date(year, ordinal) {
+        Ok(date) => write_day(gathered, date),
+        Err(error) => write_refusal(gathered, error),
     }
 }
 
-fn write_calendar(text: &mut Text, year: i32, month: u8, day: u8) -> fmt::Result
-    ensures { OnOk result (text.new ≡ text.old ++ calendar_answer year month day) }
+fn write_calendar(gathered: &mut Gathered, year: i32, month: u8, day: u8)
+    requires { HasRoom longest_answer gathered.old }
+    ensures text { gathered.new ≡ gathered.old ++ calendar_answer year month day }
+    ensures short { length gathered.new ≤ length gathered.old + longest_answer }
 {
-    match Month::try_from(month) {
-        Ok(month) => write_date_of_month(text, year, month, day),
-        Err(error) => write_refusal(text, error),
+    match find_calendar_date(year, month, day) {
+        Ok(date) => write_day(gathered, date),
+        Err(error) => write_refusal(gathered, error),
     }
 }
 
-fn write_date_of_month(text: &mut Text, year: i32, month: Month, day: u8) -> fmt::Result
-    ensures { OnOk result (text.new ≡ text.old ++ calendar_answer year (number month) day) }
+fn write_iso(gathered: &mut Gathered, year: i32, week: u8, weekday: Weekday)
+    requires { HasRoom longest_answer gathered.old }
+    ensures text { gathered.new ≡ gathered.old ++ iso_answer year week (place weekday) }
+    ensures short { length gathered.new ≤ length gathered.old + longest_answer }
 {
-    match Date::from_calendar_date(year, month, day) {
-        Ok(date) => write_day(text, date),
-        Err(error) => write_refusal(text, error),
+    match find_iso_week_date(year, week, weekday) {
+        Ok(date) => write_day(gathered, date),
+        Err(error) => write_refusal(gathered, error),
     }
 }
 
-fn write_iso(text: &mut Text, year: i32, week: u8, weekday: Weekday) -> fmt::Result
-    ensures { OnOk result (text.new ≡ text.old ++ iso_answer year week (place weekday)) }
+fn write_show(gathered: &mut Gathered, julian_day: i32)
+    requires { HasRoom longest_answer gathered.old }
+    ensures text { gathered.new ≡ gathered.old ++ show_answer julian_day }
+    ensures short { length gathered.new ≤ length gathered.old + longest_answer }
 {
-    match Date::from_iso_week_date(year, week, weekday) {
-        Ok(date) => write_day(text, date),
-        Err(error) => write_refusal(text, error),
+    match find_julian_day(julian_day) {
+        Ok(date) => write_week(gathered, date),
+        Err(error) => write_refusal(gathered, error),
     }
 }
 
-fn write_show(text: &mut Text, julian_day: i32) -> fmt::Result
-    ensures { OnOk result (text.new ≡ text.old ++ show_answer julian_day) }
+fn write_add(gathered: &mut Gathered, julian_day: i32, seconds: i64)
+    requires { HasRoom longest_answer gathered.old }
+    ensures text { gathered.new ≡ gathered.old ++ add_answer julian_day seconds }
+    ensures short { length gathered.new ≤ length gathered.old + longest_answer }
 {
-    match Date::from_julian_day(julian_day) {
-        Ok(date) => write_week(text, date),
-        Err(error) => write_refusal(text, error),
-    }
-}
-
-fn write_add(text: &mut Text, julian_day: i32, seconds: i64) -> fmt::Result
-    ensures { OnOk result (text.new ≡ text.old ++ add_answer julian_day seconds) }
-{
-    match Date::from_julian_day(julian_day) {
-        Ok(date) => write_moved(text, date, seconds),
-        Err(error) => write_refusal(text, error),
-    }
-}
-
-fn write_moved(text: &mut Text, date: Date, seconds: i64) -> fmt::Result
-    ensures { OnOk result (text.new ≡ text.old ++ moved_text seconds date) }
-{
-    match date.checked_add(SignedDuration::seconds(seconds)) {
-        Some(moved) => write!(text, "{moved}"),
-        None => text.write_str("none"),
+    match find_julian_day(julian_day) {
+        Ok(date) => write_moved(gathered, date, seconds),
+        Err(error) => write_refusal(gathered, error),
     }
 }
 
 fn write_moment(
-    text: &mut Text,
+    gathered: &mut Gathered,
     julian_day: i32,
     hour: u8,
     minute: u8,
     second: u8,
     seconds: i64,
-) -> fmt::Result
-    ensures { OnOk result (text.new ≡ text.old ++ moment_answer julian_day hour minute second seconds) }
+)
+    requires { HasRoom longest_answer gathered.old }
+    ensures text { gathered.new ≡ gathered.old ++ moment_answer julian_day hour minute second seconds }
+    ensures short { length gathered.new ≤ length gathered.old + longest_answer }
 {
-    match Date::from_julian_day(julian_day) {
-        Ok(date) => write_clock(text, date, hour, minute, second, seconds),
-        Err(error) => write_refusal(text, error),
+    match find_julian_day(julian_day) {
+        Ok(date) => write_clock(gathered, date, hour, minute, second, seconds),
+        Err(error) => write_refusal(gathered, error),
     }
 }
 
-fn write_clock(
-    text: &mut Text,
-    date: Date,
-    hour: u8,
-    minute: u8,
-    second: u8,
-    seconds: i64,
-) -> fmt::Result
-    ensures { OnOk result (text.new ≡ text.old ++ clock_text hour minute second seconds date) }
+fn write_clock(gathered: &mut Gathered, date: Date, hour: u8, minute: u8, second: u8, seconds: i64)
+    requires { HasRoom longest_answer gathered.old }
+    ensures text { gathered.new ≡ gathered.old ++ clock_text hour minute second seconds date }
+    ensures short { length gathered.new ≤ length gathered.old + longest_answer }
 {
     match Time::from_hms(hour, minute, second) {
-        Ok(time) => write_later(text, date, time, seconds),
-        Err(error) => write_refusal(text, error),
+        Ok(time) => write_later(gathered, date, time, seconds),
+        Err(error) => write_refusal(gathered, error),
     }
 }
 
-fn write_later(text: &mut Text, date: Date, time: Time, seconds: i64) -> fmt::Result
-    ensures { OnOk result (text.new ≡ text.old ++ later_text seconds date time) }
+fn write_later(gathered: &mut Gathered, date: Date, time: Time, seconds: i64)
+    requires whole { nanosecond_of time ≡ 0 }
+    requires room { HasRoom longest_answer gathered.old }
+    ensures text { gathered.new ≡ gathered.old ++ later_text seconds date time }
+    ensures short { length gathered.new ≤ length gathered.old + longest_answer }
 {
     match add_to_pair(date, time, SignedDuration::seconds(seconds)) {
-        Some(pair) => write_pair(text, pair.0, pair.1),
-        None => text.write_str("none"),
+        Some(pair) => write_pair(gathered, pair.0, pair.1),
+        None => gathered.push(b"none"),
     }
 }
 
-fn write_pair(text: &mut Text, date: Date, time: Time) -> fmt::Result
-    ensures { OnOk result (text.new ≡ text.old ++ pair_text date time) }
+fn write_moved(gathered: &mut Gathered, date: Date, seconds: i64)
+    requires { HasRoom longest_answer gathered.old }
+    ensures text { gathered.new ≡ gathered.old ++ moved_text seconds date }
+    ensures short { length gathered.new ≤ length gathered.old + longest_answer }
 {
-    write!(text, "{date} {time}")
+    match date.checked_add(SignedDuration::seconds(seconds)) {
+        Some(moved) => push_date(gathered, moved),
+        None => gathered.push(b"none"),
+    }
 }
 
-fn write_day(text: &mut Text, date: Date) -> fmt::Result
-    ensures { OnOk result (text.new ≡ text.old ++ day_text date) }
+fn write_pair(gathered: &mut Gathered, date: Date, time: Time)
+    requires whole { nanosecond_of time ≡ 0 }
+    requires room { HasRoom longest_answer gathered.old }
+    ensures text { gathered.new ≡ gathered.old ++ pair_text date time }
+    ensures short { length gathered.new ≤ length gathered.old + longest_answer }
 {
-    let year = date.year();
-    let ordinal = date.ordinal();
-    let julian_day = date.to_julian_day();
-    write!(text, "{year} ordinal {ordinal} julian {julian_day}")
+    push_date(gathered, date);
+    gathered.push(b" ");
+    push_time(gathered, time);
 }
 
-fn write_week(text: &mut Text, date: Date) -> fmt::Result
-    ensures { OnOk result (text.new ≡ text.old ++ week_text date) }
+fn write_day(gathered: &mut Gathered, date: Date)
+    requires { HasRoom longest_answer gathered.old }
+    ensures text { gathered.new ≡ gathered.old ++ day_text date }
+    ensures short { length gathered.new ≤ length gathered.old + longest_answer }
+{
+    push_signed(gathered, date.year());
+    gathered.push(b" ordinal ");
+    push_number(gathered, 1, u32::from(date.ordinal()));
+    gathered.push(b" julian ");
+    push_signed(gathered, date.to_julian_day());
+}
+
+fn write_week(gathered: &mut Gathered, date: Date)
+    requires { HasRoom longest_answer gathered.old }
+    ensures text { gathered.new ≡ gathered.old ++ week_text date }
+    ensures short { length gathered.new ≤ length gathered.old + longest_answer }
 {
     let (year, week, weekday) = date.to_iso_week_date();
-    let number = weekday.number_from_monday();
-    write!(text, "{date} iso {year} {week} {number} {weekday}")
+    push_date(gathered, date);
+    gathered.push(b" iso ");
+    push_signed(gathered, year);
+    gathered.push(b" ");
+    push_number(gathered, 1, u32::from(week));
+    gathered.push(b" ");
+    push_number(gathered, 1, u32::from(weekday.number_from_monday()));
+    gathered.push(b" ");
+    push_weekday(gathered, weekday);
 }
 
-fn write_refusal(text: &mut Text, error: ComponentRange) -> fmt::Result
-    ensures { OnOk result (text.new ≡ text.old ++ refused_text (refusal error)) }
+fn write_refusal(gathered: &mut Gathered, error: ComponentRange)
+    requires short_name { length (refusal error).name ≤ 10 }
+    requires room { HasRoom longest_answer gathered.old }
+    ensures text { gathered.new ≡ gathered.old ++ refused_text (refusal error) }
+    ensures short { length gathered.new ≤ length gathered.old + longest_answer }
 {
-    let name = error.name();
+    gathered.push(b"refused ");
+    gathered.push(error.name().as_bytes());
     if error.is_conditional() {
-        write!(text, "refused {name} conditional")
-    } else {
-        write!(text, "refused {name}")
+        gathered.push(b" conditional");
     }
 }

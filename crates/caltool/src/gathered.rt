@@ -1,10 +1,14 @@
 //! Bytes that go out in one write.
-ghost use Rattle.std.specs.Prelude.{◌≡◌, ◌↔◌, ◌+◌, ◌≤◌, ◌++◌, [], length, if◌then◌else◌, IsTrue};
+ghost use Rattle.std.specs.Prelude.{◌≡◌, ◌↔◌, ◌+◌, ◌++◌, [], length, IsTrue};
+ghost use Rattle.caltool.specs.Room.{HasRoom, longest_reply};
 
 use std::marker::Model;
 
-/// The most bytes that one write takes out.
+/// The most bytes that go out in one write.
 const CAPACITY: usize = 4096;
+
+/// The most bytes that a reply may have. The longest has fewer.
+const LONGEST_REPLY: usize = 128;
 
 /// Bytes gathered for one write.
 #[derive(Drop)]
@@ -15,12 +19,13 @@ pub struct Gathered {
 
 impl Model for Gathered {
     ghost use Rattle.std.specs.Prelude.{ℕ, ◌≤◌, List, take};
+    ghost use Rattle.caltool.specs.Room.{capacity};
 
     ghost Value = { List ℕ };
 
     ghost view = { λ gathered. take gathered.filled gathered.buffer };
 
-    ghost invariant = { λ gathered. gathered.filled ≤ 4096 };
+    ghost invariant = { λ gathered. gathered.filled ≤ capacity };
 }
 
 impl Gathered {
@@ -41,18 +46,22 @@ impl Gathered {
         &self.buffer[..self.filled]
     }
 
-    /// Appends the bytes, and returns whether there was room for them. Without room nothing changes.
-    pub fn append(&mut self, bytes: &[u8]) -> bool
-        ensures room { IsTrue result ↔ (length self.old + length bytes.now ≤ 4096) }
-        ensures appended { self.new ≡ (if result then self.old ++ bytes.now else self.old) }
+    /// Whether there is room for a reply.
+    pub fn has_room_for_a_reply(&self) -> bool
+        ensures { IsTrue result ↔ HasRoom longest_reply self.now }
     {
-        if bytes.len() > CAPACITY - self.filled {
-            return false;
-        }
+        self.filled <= CAPACITY - LONGEST_REPLY
+    }
+
+    /// Appends the bytes.
+    pub fn push(&mut self, bytes: &[u8])
+        requires { HasRoom (length bytes.now) self.old }
+        ensures appended { self.new ≡ self.old ++ bytes.now }
+        ensures longer { length self.new ≡ length self.old + length bytes.now }
+    {
         let end = self.filled + bytes.len();
         self.buffer[self.filled..end].copy_from_slice(bytes);
         self.filled = end;
-        true
     }
 
     /// Drops the bytes.

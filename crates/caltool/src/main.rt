@@ -5,11 +5,13 @@ mod answer;
 mod command;
 mod ending;
 mod fault;
+mod find;
 mod gathered;
 mod input;
 mod lines;
 mod number;
 mod output;
+mod patience;
 mod run;
 #[cfg(test)]
 mod tests;
@@ -21,9 +23,5 @@ use std::process::ExitCode;
 /// Ends with status 0, or with 2 and the reason on standard error.
 fn main(rt: HostRuntime) -> ExitCode {
     let outcome = run::run(&mut rt.reader(), &mut io::writer(&rt));
-    if let Err(fault) = outcome {
-        // Where standard error fails too, the status alone tells it.
-        let _ = ending::tell(&mut rt.stderr(), fault);
-    }
-    ExitCode::from(ending::status(outcome))
+    ExitCode::from(ending::end(outcome, &mut rt.stderr()))
 }

@@ -4,13 +4,18 @@ ghost use Rattle.std.specs.Io.KnownBytes.{Appends};
 ghost use Rattle.caltool.specs.Runs.{AppendsFront};
 
 use crate::fault::Fault;
-use std::io::{ErrorKind, Write};
+use crate::patience::Patience;
+use std::io::Write;
 
 /// Writes all the bytes. Where that fails, a beginning of them has gone out.
 ///
-/// An interrupted write is taken again, as long as the patience lasts.
+/// A write is taken again where the patience bears an interruption.
 #[tactic(auto, using(crate::proofs::Known::taken_more))]
-pub fn write_all<W: Write>(writer: &mut W, bytes: &[u8], patience: &mut u16) -> Result<(), Fault>
+pub fn write_all<W: Write>(
+    writer: &mut W,
+    bytes: &[u8],
+    patience: &mut Patience,
+) -> Result<(), Fault>
     ensures ok { OnOk result (Appends (W.contents writer.old) (W.contents writer.new) bytes.now) }
     ensures front { OnErr result
         (AppendsFront (W.contents writer.old) (W.contents writer.new) bytes.now) }
@@ -21,7 +26,7 @@ pub fn write_all<W: Write>(writer: &mut W, bytes: &[u8], patience: &mut u16) -> 
         match writer.write(rest) {
             Ok(0) => return Err(Fault::Write),
             Ok(count) => rest = &rest[count..],
-            Err(e) if e.kind() == ErrorKind::Interrupted && *patience > 0 => *patience -= 1,
+            Err(e) if patience.bears(&e) => {}
             Err(_) => return Err(Fault::Write),
         }
     }

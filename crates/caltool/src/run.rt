@@ -1,15 +1,17 @@
 //! The run: an input, and the answers to its lines.
 ghost use Rattle.std.specs.Prelude.{◌≡◌, ◌++◌, OnOk, OnErr, IfErr, IsErrOf, List, ℕ};
 ghost use Rattle.std.specs.Io.KnownBytes.{Appends, Keeps};
+ghost use Rattle.caltool.specs.Room.{HasRoom, longest_reply};
 ghost use Rattle.caltool.specs.Runs.{AppendsFront, GivesAll, GivesTooMany};
 ghost use Rattle.caltool.specs.Answers.{out};
 
 use crate::answer::reply;
 use crate::fault::Fault;
 use crate::gathered::Gathered;
-use crate::input::{CAPACITY, PATIENCE, read_all};
+use crate::input::{MOST_BYTES, read_all};
 use crate::lines::first_line;
 use crate::output::write_all;
+use crate::patience::Patience;
 use std::io::{Read, Write};
 
 /// Reads the whole input, of 4096 bytes at most, and then answers it line by line.
@@ -26,7 +28,7 @@ pub fn run<R: Read, W: Write>(reader: &mut R, writer: &mut W) -> Result<(), Faul
         → GivesTooMany (R.remaining reader.old) (R.remaining reader.new)
         × Keeps (W.contents writer.old) (W.contents writer.new) }
 {
-    let mut buffer = [0u8; CAPACITY];
+    let mut buffer = [0u8; MOST_BYTES];
     let length = read_all(reader, &mut buffer)?;
     write_answers(writer, &buffer[..length])
 }
@@ -39,40 +41,34 @@ fn write_answers<W: Write>(writer: &mut W, input: &[u8]) -> Result<(), Fault>
         (AppendsFront (W.contents writer.old) (W.contents writer.new) (out input.now)) }
     ensures err { IfErr result (λ fault. fault ≡ Fault.Write) }
 {
-    let mut patience = PATIENCE;
+    let mut patience = Patience::new();
     let mut gathered = Gathered::new();
     let mut rest = input;
     while let Some((line, after)) = first_line(rest) {
-        // No reply is longer than its text may be; if one were, it could not be written.
-        let Ok(text) = reply(line) else {
-            return Err(Fault::Write);
-        };
-        match gather(writer, &mut gathered, text.as_bytes(), &mut patience) {
-            Ok(()) => rest = after,
-            Err(fault) => return Err(fault),
-        }
+        make_room(writer, &mut gathered, &mut patience)?;
+        reply(&mut gathered, line);
+        rest = after;
     }
     write_all(writer, gathered.as_bytes(), &mut patience)
 }
 
-/// Gathers the bytes. Where there is no room for them, what was gathered is written, and then they are.
-fn gather<W: Write>(
+/// Makes room for a reply: where there is none, what was gathered is written.
+fn make_room<W: Write>(
     writer: &mut W,
     gathered: &mut Gathered,
-    bytes: &[u8],
-    patience: &mut u16,
+    patience: &mut Patience,
 ) -> Result<(), Fault>
+    ensures room { OnOk result (HasRoom longest_reply gathered.new) }
     ensures ok { OnOk result ((written : List ℕ)
-        × (gathered.old ++ bytes.now ≡ written ++ gathered.new)
+        × (gathered.old ≡ written ++ gathered.new)
         × Appends (W.contents writer.old) (W.contents writer.new) written) }
     ensures front { OnErr result
-        (AppendsFront (W.contents writer.old) (W.contents writer.new) (gathered.old ++ bytes.now)) }
+        (AppendsFront (W.contents writer.old) (W.contents writer.new) gathered.old) }
     ensures err { IfErr result (λ fault. fault ≡ Fault.Write) }
 {
-    if gathered.append(bytes) {
-        return Ok(());
+    if !gathered.has_room_for_a_reply() {
+        write_all(writer, gathered.as_bytes(), patience)?;
+        gathered.clear();
     }
-    write_all(writer, gathered.as_bytes(), patience)?;
-    gathered.clear();
-    write_all(writer, bytes, patience)
+    Ok(())
 }

@@ -1,62 +1,101 @@
-//! Text of a fixed length at most, which lies in the value itself.
-ghost use Rattle.std.specs.Prelude.{◌≡◌, ◌↔◌, ◌+◌, ◌<◌, ◌++◌, [], length, IsOk, IsErr};
+//! Numbers, dates and times in place: texts of the gathered bytes that can't fail, as there is room for them.
+ghost use Rattle.std.specs.Prelude.{◌≡◌, ◌+◌, ◌≤◌, ◌++◌, length};
+ghost use Rattle.std.specs.Fmt.{signed_decimal};
+ghost use Rattle.cal_time.specs.DateText.{digits_at_least, text};
+ghost use Rattle.cal_time.specs.Time.{nanosecond_of, text as time_text};
+ghost use Rattle.cal_time.specs.Weekday.{name};
+ghost use Rattle.caltool.specs.Answers.{minus_sign};
+ghost use Rattle.caltool.specs.Room.{HasRoom};
 
-use std::fmt;
-use std::marker::Model;
+use crate::gathered::Gathered;
+use cal_time::{Date, Time, Weekday};
 
-/// The most bytes that a line of the output may have, its end among them. The longest answer has fewer.
-const CAPACITY: usize = 64;
-
-/// Some text, as its bytes.
-#[derive(Drop)]
-pub struct Text {
-    buffer: [u8; CAPACITY],
-    filled: usize,
+/// A number in decimal digits, with zeros before it where it has fewer than `least`, which is 10 at most.
+pub fn push_number(gathered: &mut Gathered, least: u8, number: u32)
+    requires few { least ≤ 10 }
+    requires room { HasRoom 10 gathered.old }
+    ensures text { gathered.new ≡ gathered.old ++ digits_at_least least number }
+    ensures short { length gathered.new ≤ length gathered.old + 10 }
+{
+    push_digits(gathered, least, number);
 }
 
-impl Model for Text {
-    ghost use Rattle.std.specs.Prelude.{ℕ, ◌≤◌, List, take};
-
-    ghost Value = { List ℕ };
-
-    ghost view = { λ text. take text.filled text.buffer };
-
-    ghost invariant = { λ text. text.filled ≤ 64 };
+/// The digits before the last one, and then that one.
+#[tactic(auto, using(crate::proofs::Texts::digits_step, crate::proofs::Texts::one_digit))]
+fn push_digits(gathered: &mut Gathered, least: u8, number: u32)
+    requires { HasRoom (length (digits_at_least least number)) gathered.old }
+    ensures { gathered.new ≡ gathered.old ++ digits_at_least least number }
+{
+    if least > 1 || number > 9 {
+        push_digits(gathered, least.saturating_sub(1), number / 10);
+    }
+    gathered.push(&[b'0' + (number % 10) as u8]);
 }
 
-impl Text {
-    /// No text.
-    pub fn new() -> Self
-        ensures { result ≡ [] }
-    {
-        Text {
-            buffer: [0; CAPACITY],
-            filled: 0,
-        }
-    }
+/// A number in decimal digits, after a minus sign where it is negative.
+pub fn push_signed(gathered: &mut Gathered, number: i32)
+    requires { HasRoom 11 gathered.old }
+    ensures text { gathered.new ≡ gathered.old ++ signed_decimal number }
+    ensures short { length gathered.new ≤ length gathered.old + 11 }
+{
+    push_sign(gathered, number);
+    push_number(gathered, 1, number.unsigned_abs());
+}
 
-    /// The bytes of the text.
-    pub fn as_bytes(&self) -> &[u8]
-        ensures { result.now ≡ self.now }
-    {
-        &self.buffer[..self.filled]
+/// A minus sign where the number is negative.
+fn push_sign(gathered: &mut Gathered, number: i32)
+    requires { HasRoom 1 gathered.old }
+    ensures text { gathered.new ≡ gathered.old ++ minus_sign number }
+    ensures short { length gathered.new ≤ length gathered.old + 1 }
+{
+    if number < 0 {
+        gathered.push(b"-");
     }
 }
 
-impl fmt::Write for Text {
-    ghost write_str_gives = { λ old s new. new ≡ old ++ s };
+/// The date, as `2020-12-31`.
+pub fn push_date(gathered: &mut Gathered, date: Date)
+    requires { HasRoom 33 gathered.old }
+    ensures text { gathered.new ≡ gathered.old ++ text date }
+    ensures short { length gathered.new ≤ length gathered.old + 33 }
+{
+    let year = date.year();
+    push_sign(gathered, year);
+    push_number(gathered, 4, year.unsigned_abs());
+    gathered.push(b"-");
+    push_number(gathered, 2, u32::from(date.month() as u8));
+    gathered.push(b"-");
+    push_number(gathered, 2, u32::from(date.day()));
+}
 
-    /// Appends the text, and fails where there is no room for it.
-    fn write_str(&mut self, s: &str) -> fmt::Result
-        ensures ok { IsOk result → self.new ≡ self.old ++ s.now }
-        ensures room { IsErr result ↔ (64 < length self.old + length s.now) }
-    {
-        let end = self.filled + s.len();
-        if end > CAPACITY {
-            return Err(fmt::Error);
-        }
-        self.buffer[self.filled..end].copy_from_slice(s.as_bytes());
-        self.filled = end;
-        Ok(())
-    }
+/// The time of a whole second, as `1:00:00.0`.
+pub fn push_time(gathered: &mut Gathered, time: Time)
+    requires whole { nanosecond_of time ≡ 0 }
+    requires room { HasRoom 34 gathered.old }
+    ensures text { gathered.new ≡ gathered.old ++ time_text time }
+    ensures short { length gathered.new ≤ length gathered.old + 34 }
+{
+    push_number(gathered, 1, u32::from(time.hour()));
+    gathered.push(b":");
+    push_number(gathered, 2, u32::from(time.minute()));
+    gathered.push(b":");
+    push_number(gathered, 2, u32::from(time.second()));
+    gathered.push(b".0");
+}
+
+/// The English name.
+pub fn push_weekday(gathered: &mut Gathered, weekday: Weekday)
+    requires { HasRoom 9 gathered.old }
+    ensures text { gathered.new ≡ gathered.old ++ name weekday }
+    ensures short { length gathered.new ≤ length gathered.old + 9 }
+{
+    gathered.push(match weekday {
+        Weekday::Monday => b"Monday".as_slice(),
+        Weekday::Tuesday => b"Tuesday".as_slice(),
+        Weekday::Wednesday => b"Wednesday".as_slice(),
+        Weekday::Thursday => b"Thursday".as_slice(),
+        Weekday::Friday => b"Friday".as_slice(),
+        Weekday::Saturday => b"Saturday".as_slice(),
+        Weekday::Sunday => b"Sunday".as_slice(),
+    });
 }

@@ -1,23 +1,21 @@
-use Rattle.std.proofs.Common.{rules, ◌≡◌, ℤ, pos, ◌*ℤ◌, Some, to_z, of_z, w64, sym, ap, ◌∙◌}
+use Rattle.std.proofs.Common.{◌≡◌, ℤ, pos, ◌*ℤ◌, Some, to_z, of_z, w64, sym, ap, ◌∙◌}
 use Rattle.std.proofs.lemmas.Int.{to_z-of_z}
-use Rattle.std.proofs.lemmas.Result.{on_ok_weaker}
 use Rattle.cal_time.specs.SignedDuration.{second, whole_days}
 use Rattle.caltool.proofs.Days.{day_with-moved, day_with-moved_away}
-use Rattle.caltool.proofs.Texts.{written}
 use Rattle.caltool.proofs.answer.write_moved.Goals as goal
 
-pub returns-in-Some : goal.returns-in-Some
-returns-in-Some c =
+pub returns-in-Some-clause-text : goal.returns-in-Some-clause-text
+returns-in-Some-clause-text c =
     let days : ℤ = whole_days (c.args.seconds *ℤ pos second) in
     let same : to_z w64 (of_z w64 c.args.seconds) ≡ c.args.seconds = to_z-of_z w64 c.args.seconds c.ranges.seconds in
     let duration = rw same at c.seconds.ensures in
     let is = rw duration at c.in-Some.ensures.day in
-    rw (day_with-moved c.args.date days is.0 ∙ ap Some (sym is.1)) (on_ok_weaker _ (written _ _ _) c.write.ensures.writes)
+    rw (day_with-moved c.args.date days is.0 ∙ ap Some (sym is.1)) c.push_date.ensures.text
 
-pub returns-in-None : goal.returns-in-None
-returns-in-None c =
+pub returns-in-None-clause-text : goal.returns-in-None-clause-text
+returns-in-None-clause-text c =
     let days : ℤ = whole_days (c.args.seconds *ℤ pos second) in
     let same : to_z w64 (of_z w64 c.args.seconds) ≡ c.args.seconds = to_z-of_z w64 c.args.seconds c.ranges.seconds in
     let duration = rw same at c.seconds.ensures in
     let none = rw duration at c.in-None.ensures.day in
-    rw (day_with-moved_away c.args.date days none) (search (rules, c.write_str.ensures.ok))
+    rw (day_with-moved_away c.args.date days none) c.push.ensures.appended

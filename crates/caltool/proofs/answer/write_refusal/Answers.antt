@@ -1,12 +1,12 @@
-use Rattle.std.proofs.lemmas.List.{append-nil}
-use Rattle.std.proofs.lemmas.Result.{on_ok_weaker}
-use Rattle.caltool.proofs.Texts.{written}
+use Rattle.std.proofs.Common.{◌≡◌, true, sym, ◌∙◌, append_assoc}
 use Rattle.caltool.proofs.answer.write_refusal.Goals as goal
 
-pub returns-then-is_conditional : goal.returns-then-is_conditional
-returns-then-is_conditional c =
-    rw (← c.if-is_conditional.ensures, ← c.name-name.ensures) (on_ok_weaker _ (written _ _ _) c.write.ensures.writes)
-
-pub returns-else-is_conditional : goal.returns-else-is_conditional
-returns-else-is_conditional c =
-    rw (← c.if-is_conditional.ensures, ← c.name-name.ensures, append-nil c.name-name.result.now) (on_ok_weaker _ (written _ _ _) c.write-else-is_conditional.ensures.writes)
+pub returns-then-is_conditional-clause-text : goal.returns-then-is_conditional-clause-text
+returns-then-is_conditional-clause-text c =
+    let conditional : c.args.error.is_conditional ≡ true = sym c.is_conditional.ensures ∙ c.if-is_conditional.true in
+    let a = c.push.ensures.appended in
+    let b = c.push-2.ensures.appended in
+    let d = c.push-then-is_conditional.ensures.appended in
+    let name = c.as_bytes.ensures.value in
+    let same = c.name.ensures in
+    rw (conditional, d, b, a, name, same) (simp append_assoc)

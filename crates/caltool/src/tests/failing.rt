@@ -1,0 +1,249 @@
+//! Runs over readers and writers that fail, and the words at the end.
+
+use crate::ending::end;
+use crate::fault::Fault;
+use crate::run::run;
+use crate::tests::{ANSWERS, INPUT};
+use std::io::{self, ErrorKind, Read, Write};
+use std::test::Fail;
+
+/// Calls by their number, counted from 1.
+#[derive(Clone, Copy)]
+enum Calls {
+    From(u32),
+    Only(u32),
+    ThreeOfFour,
+}
+
+impl Calls {
+    fn hold(self, call: u32) -> bool {
+        match self {
+            Calls::From(first) => call >= first,
+            Calls::Only(one) => call == one,
+            Calls::ThreeOfFour => call % 4 != 0,
+        }
+    }
+}
+
+/// Gives one byte a call, and fails at these calls.
+#[derive(Drop)]
+struct Dripping<'a> {
+    rest: &'a [u8],
+    calls: u32,
+    failing: Calls,
+    kind: ErrorKind,
+}
+
+impl Read for Dripping<'_> {
+    fn read(&mut self, buffer: &mut [u8]) -> io::Result<usize> {
+        self.calls = self.calls.saturating_add(1);
+        if self.failing.hold(self.calls) {
+            return Err(io::Error::from(self.kind));
+        }
+        match self.rest.split_first() {
+            Some((byte, after)) if !buffer.is_empty() => {
+                buffer[0] = *byte;
+                self.rest = after;
+                Ok(1)
+            }
+            _ => Ok(0),
+        }
+    }
+}
+
+/// Takes one byte a call, and at these calls fails, or takes none where no kind of failure is named.
+#[derive(Drop)]
+struct Sipping {
+    taken: Vec<u8>,
+    calls: u32,
+    failing: Calls,
+    kind: Option<ErrorKind>,
+}
+
+impl Write for Sipping {
+    fn write(&mut self, bytes: &[u8]) -> io::Result<usize> {
+        self.calls = self.calls.saturating_add(1);
+        if self.failing.hold(self.calls) {
+            return match self.kind {
+                Some(kind) => Err(io::Error::from(kind)),
+                None => Ok(0),
+            };
+        }
+        match bytes.first() {
+            Some(byte) => {
+                self.taken.push(*byte)?;
+                Ok(1)
+            }
+            None => Ok(0),
+        }
+    }
+
+    fn flush(&mut self) -> io::Result<()> {
+        Ok(())
+    }
+}
+
+/// Takes all bytes, and counts the calls.
+#[derive(Drop)]
+struct Counting {
+    calls: u32,
+}
+
+impl Write for Counting {
+    fn write(&mut self, bytes: &[u8]) -> io::Result<usize> {
+        self.calls = self.calls.saturating_add(1);
+        Ok(bytes.len())
+    }
+
+    fn flush(&mut self) -> io::Result<()> {
+        Ok(())
+    }
+}
+
+// The answers are gathered: 4096 of nine bytes each go out in a few writes.
+#[test]
+fn answers_are_gathered(rt: HostRuntime) {
+    let mut reader = [b'\n'; 4096].as_slice();
+    let mut writer = Counting { calls: 0 };
+    assert_eq!(rt; run(&mut reader, &mut writer), Ok(()));
+    assert!(rt; writer.calls < 20, "{} writes", writer.calls);
+}
+
+#[test]
+fn each_read_fails_in_turn(rt: HostRuntime) -> Result<(), Fail> {
+    let calls = INPUT.len() as u32 + 1;
+    for call in 1..=calls + 1 {
+        for failing in [Calls::From(call), Calls::Only(call)] {
+            let mut reader = Dripping {
+                rest: INPUT,
+                calls: 0,
+                failing,
+                kind: ErrorKind::Other,
+            };
+            let mut written = Vec::new(rt.alloc());
+            let outcome = run(&mut reader, &mut written);
+            if call <= calls {
+                assert_eq!(rt; outcome, Err(Fault::Read), "at call {call}");
+                assert!(rt; written.is_empty());
+            } else {
+                assert_eq!(rt; outcome, Ok(()));
+                assert_eq!(rt; written.as_slice(), ANSWERS);
+            }
+        }
+    }
+    Ok(())
+}
+
+#[test]
+fn each_write_fails_in_turn(rt: HostRuntime) -> Result<(), Fail> {
+    let calls = ANSWERS.len() as u32;
+    for call in 1..=calls + 1 {
+        for failing in [Calls::From(call), Calls::Only(call)] {
+            for kind in [Some(ErrorKind::Other), None] {
+                let mut reader = INPUT;
+                let mut writer = Sipping {
+                    taken: Vec::new(rt.alloc()),
+                    calls: 0,
+                    failing,
+                    kind,
+                };
+                let outcome = run(&mut reader, &mut writer);
+                if call <= calls {
+                    assert_eq!(rt; outcome, Err(Fault::Write), "at call {call}");
+                    let sent = call as usize - 1;
+                    assert_eq!(rt; writer.taken.as_slice(), &ANSWERS[..sent]);
+                } else {
+                    assert_eq!(rt; outcome, Ok(()));
+                    assert_eq!(rt; writer.taken.as_slice(), ANSWERS);
+                }
+            }
+        }
+    }
+    Ok(())
+}
+
+// A run goes past an interruption, but not past each of them: they are counted over the whole run, not for each line.
+#[test]
+fn interruptions_are_counted(rt: HostRuntime) -> Result<(), Fail> {
+    let lines = [b'\n'; 2000];
+    for (input, failing, outcome, calls) in [
+        (INPUT, Calls::Only(1), Ok(()), INPUT.len() as u32 + 2),
+        (INPUT, Calls::From(1), Err(Fault::Read), 4097),
+        (lines.as_slice(), Calls::ThreeOfFour, Err(Fault::Read), 5462),
+    ] {
+        let mut reader = Dripping {
+            rest: input,
+            calls: 0,
+            failing,
+            kind: ErrorKind::Interrupted,
+        };
+        let mut written = Vec::new(rt.alloc());
+        assert_eq!(rt; run(&mut reader, &mut written), outcome);
+        assert_eq!(rt; reader.calls, calls);
+        assert_eq!(rt; written.is_empty(), outcome.is_err());
+    }
+    for (input, failing, outcome, calls) in [
+        (INPUT, Calls::Only(1), Ok(()), ANSWERS.len() as u32 + 1),
+        (INPUT, Calls::From(1), Err(Fault::Write), 4097),
+        (
+            lines.as_slice(),
+            Calls::ThreeOfFour,
+            Err(Fault::Write),
+            5462,
+        ),
+    ] {
+        let mut reader = input;
+        let mut writer = Sipping {
+            taken: Vec::new(rt.alloc()),
+            calls: 0,
+            failing,
+            kind: Some(ErrorKind::Interrupted),
+        };
+        assert_eq!(rt; run(&mut reader, &mut writer), outcome);
+        assert_eq!(rt; writer.calls, calls);
+    }
+    Ok(())
+}
+
+// A read that fails after the last byte is told, and one that fails after a byte too many is not asked for.
+#[test]
+fn a_read_fails_at_the_limit(rt: HostRuntime) -> Result<(), Fail> {
+    for (rest, failing, outcome) in [
+        (
+            [b'\n'; 4096].as_slice(),
+            Calls::From(4097),
+            Err(Fault::Read),
+        ),
+        (
+            [b'\n'; 4097].as_slice(),
+            Calls::From(4098),
+            Err(Fault::TooLong),
+        ),
+    ] {
+        let mut reader = Dripping {
+            rest,
+            calls: 0,
+            failing,
+            kind: ErrorKind::Other,
+        };
+        let mut written = Vec::new(rt.alloc());
+        assert_eq!(rt; run(&mut reader, &mut written), outcome);
+        assert!(rt; written.is_empty());
+    }
+    Ok(())
+}
+
+#[test]
+fn the_status_and_the_words_of_each_end(rt: HostRuntime) -> Result<(), Fail> {
+    for (outcome, status, words) in [
+        (Ok(()), 0, b"".as_slice()),
+        (Err(Fault::TooLong), 2, b"input too long\n".as_slice()),
+        (Err(Fault::Read), 2, b"cannot read\n".as_slice()),
+        (Err(Fault::Write), 2, b"cannot write\n".as_slice()),
+    ] {
+        let mut told = Vec::new(rt.alloc());
+        assert_eq!(rt; end(outcome, &mut told), status);
+        assert_eq!(rt; told.as_slice(), words);
+    }
+    Ok(())
+}
