@@ -101,16 +101,16 @@ digits_at_least-six n low high =
     rw (decimal-six n low high) (cc)
 
 -- the sign of a year
-sign_text-negative : (y : ℤ) → y <ℤ pos 0 → sign_text y ≡ 45 ∷ []
+pub sign_text-negative : (y : ℤ) → y <ℤ pos 0 → sign_text y ≡ 45 ∷ []
 sign_text-negative y h = let is : int_lt y (pos 0) ≡ true = grind (arith, ints) in rw is refl
 
-sign_text-none : (y : ℤ) → pos 0 ≤ℤ y → y ≤ℤ pos 9999 → sign_text y ≡ []
+pub sign_text-none : (y : ℤ) → pos 0 ≤ℤ y → y ≤ℤ pos 9999 → sign_text y ≡ []
 sign_text-none y low high =
     let not_negative : int_lt y (pos 0) ≡ false = grind (arith, ints) in
     let not_long : int_lt (pos 9999) y ≡ false = grind (arith, ints) in
     rw (not_negative, not_long) refl
 
-sign_text-long : (y : ℤ) → pos 9999 <ℤ y → sign_text y ≡ 43 ∷ []
+pub sign_text-long : (y : ℤ) → pos 9999 <ℤ y → sign_text y ≡ 43 ∷ []
 sign_text-long y h =
     let not_negative : int_lt y (pos 0) ≡ false = grind (arith, ints) in
     let long : int_lt (pos 9999) y ≡ true = grind (arith, ints) in

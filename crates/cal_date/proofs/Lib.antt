@@ -1,8 +1,10 @@
 pub mod Calendar
+pub mod CallersLaws
 pub mod DateIters
 pub mod DateOrder
 pub mod DateTexts
 pub mod Dates
+pub mod DistinctTexts
 pub mod IsoForms
 pub mod IsoWeeks
 pub mod MonthForms

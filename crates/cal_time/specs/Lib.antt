@@ -1,3 +1,4 @@
+pub mod Laws
 pub mod Pair
 -- what the contracts of the calls are said in, for the crates above
 pub use Rattle.cal_units.specs.Counted

@@ -7,7 +7,7 @@ use Rattle.std.proofs.lemmas.Fmt.{decimal_digit, decimal_step, length-decimal-le
 use Rattle.std.proofs.lemmas.Int.{ints}
 use Rattle.std.proofs.lemmas.List.{length-replicate, replicate_more}
 use Rattle.cal_time.specs.Date.{year_at, month_at, day_of_month_at, ordinal_at, julian_day_at}
-use Rattle.cal_time.specs.DateText.{digits_at_least, text}
+use Rattle.cal_time.specs.DateText.{digits_at_least, text, sign_text}
 use Rattle.cal_time.specs.IsoWeekDate.{HasIsoWeekDate}
 use Rattle.cal_time.specs.declared.Weekday.{Weekday}
 use Rattle.cal_time.specs.Weekday.{name, place}
@@ -92,7 +92,7 @@ signed_text old mid new z n e small f g =
     g ∙ ap (λ l. l ++ digits_at_least 1 n) f ∙ append_assoc old (minus_sign z) (digits_at_least 1 n) ∙ ap (λ l. old ++ l) (sym same)
 
 -- a date in place, by its parts
-pub date_text : (a b c d e f g : List ℕ) (year : ℤ) (y month day n : ℕ) → b ≡ a ++ minus_sign year → c ≡ b ++ digits_at_least 4 y → d ≡ c ++ 45 ∷ []
+pub date_text : (a b c d e f g : List ℕ) (year : ℤ) (y month day n : ℕ) → b ≡ a ++ sign_text year → c ≡ b ++ digits_at_least 4 y → d ≡ c ++ 45 ∷ []
     → e ≡ d ++ digits_at_least 2 month → f ≡ e ++ 45 ∷ [] → g ≡ f ++ digits_at_least 2 day
     → y ≡ unsigned_abs year → year ≡ year_at n → month ≡ month_at n → day ≡ day_of_month_at n → g ≡ a ++ text n
 date_text a b c d e f g year y month day n p q r s t u v w x z = rw (u, t, s, r, q, p, v, w, x, z) (simp append_assoc)

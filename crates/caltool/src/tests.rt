@@ -51,8 +51,8 @@ fn answers_line_by_line(rt: HostRuntime) -> Result<(), Fail> {
         ),
         (b"\xff\xfe\n", b"bad line\n"),
         (
-            b"calendar 2000 2 29\ncalendar 1900 2 29\ncalendar 10000 13 1\niso 2020 53 5\niso 2019 53 1\niso 9999 52 6\niso 2020 53 8\nshow 2451545\nshow -1930999\n",
-            b"2000 ordinal 60 julian 2451604\nrefused day conditional\nrefused month\n2021 ordinal 1 julian 2459216\nrefused week conditional\nrefused weekday conditional\nbad line\n2000-01-01 iso 1999 52 6 Saturday\n-9999-01-01 iso -9999 1 1 Monday\n",
+            b"calendar 2000 2 29\ncalendar 1900 2 29\ncalendar 10000 13 1\niso 2020 53 5\niso 2019 53 1\niso 9999 52 6\niso 999999 52 6\niso 2020 53 8\nshow 2451545\nshow -1930999\nshow -363521074\nshow 5373485\nshow 366963559\n",
+            b"2000 ordinal 60 julian 2451604\nrefused day conditional\nrefused month\n2021 ordinal 1 julian 2459216\nrefused week conditional\n10000 ordinal 1 julian 5373485\nrefused weekday conditional\nbad line\n2000-01-01 iso 1999 52 6 Saturday\n-9999-01-01 iso -9999 1 1 Monday\n-999999-01-01 iso -999999 1 1 Monday\n+10000-01-01 iso 9999 52 6 Saturday\n+999999-12-31 iso 999999 52 5 Friday\n",
         ),
         (
             b"calendar 2020 0 1\ncalendar 2020 256 1\ncalendar 2020 2 0\ncalendar 2020 13 256\n",
@@ -63,8 +63,8 @@ fn answers_line_by_line(rt: HostRuntime) -> Result<(), Fail> {
             b"refused week conditional\nbad line\nbad line\n",
         ),
         (
-            b"add 2459215 169200\nadd 5373484 86400\nadd 5373484 86399\nmoment 2459215 23 0 0 7200\nmoment 5373484 23 59 59 1\nmoment 5373484 24 60 0 0\n",
-            b"2021-01-01\nnone\n9999-12-31\n2021-01-01 1:00:00.0\nnone\nrefused hour\n",
+            b"add 2459215 169200\nadd 5373484 86400\nadd 5373484 86399\nmoment 2459215 23 0 0 7200\nmoment 5373484 23 59 59 1\nmoment 5373484 24 60 0 0\nadd 366963559 86400\nmoment 366963559 23 59 59 1\n",
+            b"2021-01-01\n+10000-01-01\n9999-12-31\n2021-01-01 1:00:00.0\n+10000-01-01 0:00:00.0\nrefused hour\nnone\nnone\n",
         ),
         (
             b"add 0 9223372036854775807\nadd 0 -9223372036854775808\nadd 0 9223372036854775808\n",
@@ -110,17 +110,17 @@ fn takes_4096_bytes(rt: HostRuntime) -> Result<(), Fail> {
 #[test]
 fn the_longest_answers_are_whole(rt: HostRuntime) -> Result<(), Fail> {
     let cases: [(&[u8], &[u8]); 8] = [
-        (b"julian -1930635", b"-9999 ordinal 365 julian -1930635\n"),
-        (b"ordinal -9999 365", b"-9999 ordinal 365 julian -1930635\n"),
+        (b"julian -363520710", b"-999999 ordinal 365 julian -363520710\n"),
+        (b"ordinal -999999 365", b"-999999 ordinal 365 julian -363520710\n"),
         (
-            b"calendar -9999 12 31",
-            b"-9999 ordinal 365 julian -1930635\n",
+            b"calendar -999999 12 31",
+            b"-999999 ordinal 365 julian -363520710\n",
         ),
-        (b"iso -9998 1 1", b"-9999 ordinal 365 julian -1930635\n"),
-        (b"show -1930640", b"-9999-12-26 iso -9999 52 3 Wednesday\n"),
-        (b"add -1930635 0", b"-9999-12-31\n"),
-        (b"moment -1930635 23 59 59 0", b"-9999-12-31 23:59:59.0\n"),
-        (b"ordinal -9999 366", b"refused ordinal conditional\n"),
+        (b"iso -999998 1 1", b"-999999 ordinal 365 julian -363520710\n"),
+        (b"show -363520715", b"-999999-12-26 iso -999999 52 3 Wednesday\n"),
+        (b"add -363520710 0", b"-999999-12-31\n"),
+        (b"moment -363520710 23 59 59 0", b"-999999-12-31 23:59:59.0\n"),
+        (b"ordinal -999999 366", b"refused ordinal conditional\n"),
     ];
     for (input, expected) in cases {
         let (outcome, written) = answers(rt.alloc(), input)?;

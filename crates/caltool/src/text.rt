@@ -1,7 +1,7 @@
 //! Numbers, dates and times in place: texts of the gathered bytes that can't fail, as there is room for them.
 ghost use Rattle.std.specs.Prelude.{◌≡◌, ◌+◌, ◌≤◌, ◌++◌, length};
 ghost use Rattle.std.specs.Fmt.{signed_decimal};
-ghost use Rattle.cal_time.specs.DateText.{digits_at_least, text};
+ghost use Rattle.cal_time.specs.DateText.{digits_at_least, sign_text, text};
 ghost use Rattle.cal_time.specs.Time.{nanosecond_of, text as time_text};
 ghost use Rattle.cal_time.specs.Weekday.{name};
 ghost use Rattle.caltool.specs.Answers.{minus_sign};
@@ -53,6 +53,19 @@ fn push_sign(gathered: &mut Gathered, number: i32)
     }
 }
 
+/// A minus sign before a negative year, and a plus sign before one of more than four digits.
+fn push_year_sign(gathered: &mut Gathered, year: i32)
+    requires { HasRoom 1 gathered.old }
+    ensures text { gathered.new ≡ gathered.old ++ sign_text year }
+    ensures short { length gathered.new ≤ length gathered.old + 1 }
+{
+    if year < 0 {
+        gathered.push(b"-");
+    } else if year > 9_999 {
+        gathered.push(b"+");
+    }
+}
+
 /// The date, as `2020-12-31`.
 pub fn push_date(gathered: &mut Gathered, date: Date)
     requires { HasRoom 33 gathered.old }
@@ -60,7 +73,7 @@ pub fn push_date(gathered: &mut Gathered, date: Date)
     ensures short { length gathered.new ≤ length gathered.old + 33 }
 {
     let year = date.year();
-    push_sign(gathered, year);
+    push_year_sign(gathered, year);
     push_number(gathered, 4, year.unsigned_abs());
     gathered.push(b"-");
     push_number(gathered, 2, u32::from(date.month() as u8));

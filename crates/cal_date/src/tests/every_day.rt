@@ -1,4 +1,6 @@
 //! Every day of the years of four digits, and of 400 years at each end of the range, by a date that goes on from day to day.
+ghost use Rattle.std.specs.Prelude.{◌≤◌};
+
 use crate::Date;
 use std::alloc::Global;
 use std::process::Abort;
@@ -45,7 +47,9 @@ impl Day {
     }
 
     /// The text in the last of these bytes, digit by digit, and where it begins.
-    fn text(self) -> ([u8; 13], usize) {
+    fn text(self) -> ([u8; 13], usize)
+        ensures { result.1 ≤ 3 }
+    {
         let (year, month, day) = (
             self.year.unsigned_abs(),
             u32::from(self.month),

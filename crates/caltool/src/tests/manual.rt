@@ -6,13 +6,13 @@ use std::alloc::{AllocError, Global};
 use std::string::String;
 
 /// The years of the range, and the Julian days of its first and its last day.
-pub const FIRST_YEAR: i64 = -9999;
+pub const FIRST_YEAR: i64 = -999_999;
 
-pub const LAST_YEAR: i64 = 9999;
+pub const LAST_YEAR: i64 = 999_999;
 
-pub const FIRST_JULIAN_DAY: i64 = -1_930_999;
+pub const FIRST_JULIAN_DAY: i64 = -363_521_074;
 
-pub const LAST_JULIAN_DAY: i64 = 5_373_484;
+pub const LAST_JULIAN_DAY: i64 = 366_963_559;
 
 const DAYS_IN_400_YEARS: i64 = 146_097;
 

@@ -10,4 +10,4 @@ returns-clause-text c =
     day_in_place c.args.gathered.now c.push_signed.new.gathered c.push.new.self c.push_number.new.gathered c.push-2.new.self c.push_signed-2.new.gathered
     c.year.result c.to_julian_day.result c.from.result c.args.date
     (rw year at c.push_signed.ensures.text) c.push.ensures.appended c.push_number.ensures.text c.push-2.ensures.appended (rw julian_day at c.push_signed-2.ensures.text)
-    (omega arith) c.year.ensures (c.from.ensures ∙ c.ordinal.ensures) c.to_julian_day.ensures.day
+    (omega arith) c.year.ensures.counted (c.from.ensures ∙ c.ordinal.ensures.counted) c.to_julian_day.ensures.day
