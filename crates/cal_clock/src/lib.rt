@@ -3,6 +3,7 @@
 
 mod laws;
 mod time;
+mod units;
 mod utc_offset;
 
 pub use time::Time;

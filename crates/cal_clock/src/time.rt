@@ -3,6 +3,7 @@ ghost use Rattle.std.specs.Prelude.{◌≡◌, ◌↔◌, ◌*◌, ◌<◌, ◌�
 ghost use Rattle.cal_units.specs.Refusal.{IsRefused};
 ghost use Rattle.cal_clock.specs.Time.{millisecond_out_of_range, microsecond_out_of_range, nanosecond_out_of_range, time_of, IsRefusedByClock};
 
+use crate::units::{NANOSECONDS_PER_HOUR, NANOSECONDS_PER_MINUTE, NANOSECONDS_PER_SECOND};
 use cal_units::error::ComponentRange;
 use std::marker::Model;
 
@@ -10,18 +11,6 @@ mod arithmetic;
 mod display;
 mod order;
 mod parts;
-
-const NANOSECONDS_PER_MICROSECOND: u64 = 1_000;
-
-const NANOSECONDS_PER_MILLISECOND: u64 = 1_000_000;
-
-const NANOSECONDS_PER_SECOND: u64 = 1_000_000_000;
-
-const NANOSECONDS_PER_MINUTE: u64 = 60_000_000_000;
-
-const NANOSECONDS_PER_HOUR: u64 = 3_600_000_000_000;
-
-const NANOSECONDS_PER_DAY: u64 = 86_400_000_000_000;
 
 /// A time of day, exact to the nanosecond, from 0:00:00.0 to 23:59:59.999999999, without leap seconds.
 ///
@@ -54,10 +43,11 @@ impl Time {
         nanoseconds: 86_399_999_999_999,
     };
 
-    /// The time of that hour, minute and second.
+    /// The time of that hour, minute and second: `from_hms(9, 5, 0)` is 9:05:00.0.
     ///
-    /// Refused with the first component out of range, unconditional: `hour` above 23, `minute` and then `second` above
-    /// 59.
+    /// # Refusals
+    ///
+    /// The first component out of range, unconditionally: `hour` above 23, else `minute` above 59, else `second` above 59.
     pub fn from_hms(hour: u8, minute: u8, second: u8) -> Result<Self, ComponentRange>
         ensures refused { IsRefusedByClock hour minute second result }
         ensures value { hour ≤ 23 → minute ≤ 59 → second ≤ 59 → result ≡ Ok (time_of hour minute second 0) }
@@ -78,10 +68,11 @@ impl Time {
         })
     }
 
-    /// The time of that hour, minute, second and millisecond.
+    /// The time of that hour, minute, second and millisecond: `from_hms_milli(1, 2, 3, 4)` is 1:02:03.004.
     ///
-    /// Refused with the first component out of range, unconditional: as [`Self::from_hms`], and then `millisecond`
-    /// above 999.
+    /// # Refusals
+    ///
+    /// The first component out of range, unconditionally: as [`Self::from_hms`], else `millisecond` above 999.
     pub fn from_hms_milli(
         hour: u8,
         minute: u8,
@@ -100,10 +91,11 @@ impl Time {
         }
     }
 
-    /// The time of that hour, minute, second and microsecond.
+    /// The time of that hour, minute, second and microsecond: `from_hms_micro(1, 2, 3, 4_005)` is 1:02:03.004005.
     ///
-    /// Refused with the first component out of range, unconditional: as [`Self::from_hms`], and then `microsecond`
-    /// above 999999.
+    /// # Refusals
+    ///
+    /// The first component out of range, unconditionally: as [`Self::from_hms`], else `microsecond` above 999999.
     pub fn from_hms_micro(
         hour: u8,
         minute: u8,
@@ -122,10 +114,11 @@ impl Time {
         }
     }
 
-    /// The time of that hour, minute, second and nanosecond.
+    /// The time of that hour, minute, second and nanosecond: `from_hms_nano(1, 2, 3, 4_005_006)` is 1:02:03.004005006.
     ///
-    /// Refused with the first component out of range, unconditional: as [`Self::from_hms`], and then `nanosecond` above
-    /// 999999999.
+    /// # Refusals
+    ///
+    /// The first component out of range, unconditionally: as [`Self::from_hms`], else `nanosecond` above 999999999.
     pub fn from_hms_nano(
         hour: u8,
         minute: u8,

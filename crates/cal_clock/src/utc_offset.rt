@@ -4,16 +4,13 @@ ghost use Rattle.std.specs.Fmt.{WritesOnOk, WritesStyledOnOk, formatter_spec, pa
 ghost use Rattle.cal_units.specs.Refusal.{IsRefused};
 ghost use Rattle.cal_clock.specs.UtcOffset.{IsOffset, greatest, offset_hour_out_of_range, offset_minute_out_of_range, offset_second_out_of_range, seconds_out_of_range, leading, offset_of, whole_hours, whole_minutes, minutes_past_hour, seconds_past_minute, text};
 
+use crate::units::{SECONDS_PER_HOUR, SECONDS_PER_MINUTE};
 use cal_units::Counted;
 use cal_units::digits::{ascii_text, two_digits};
 use cal_units::error::ComponentRange;
 use std::fmt;
 use std::marker::Model;
 use std::ops::Neg;
-
-const SECONDS_PER_MINUTE: u32 = 60;
-
-const SECONDS_PER_HOUR: u32 = 3_600;
 
 /// An offset from UTC, exact to the second, from -25:59:59 to +25:59:59.
 ///
@@ -49,8 +46,10 @@ impl UtcOffset {
     /// others have: `from_hms(1, -2, -3)` is one hour, two minutes and three seconds, and `from_hms(0, -30, 15)` is
     /// thirty minutes and fifteen seconds below zero.
     ///
-    /// Refused with the first component out of range, unconditional: `offset hour` outside -25 to 25, `offset minute`
-    /// and then `offset second` outside -59 to 59.
+    /// # Refusals
+    ///
+    /// The first component out of range, unconditionally: `offset hour` outside -25 to 25, else `offset minute` outside
+    /// -59 to 59, else `offset second` outside -59 to 59.
     pub fn from_hms(hours: i8, minutes: i8, seconds: i8) -> Result<Self, ComponentRange>
         ensures hour { IsRefused offset_hour_out_of_range result ↔ (25 < unsigned_abs hours) }
         ensures minute { IsRefused offset_minute_out_of_range result
@@ -92,7 +91,7 @@ impl UtcOffset {
         }
     }
 
-    /// The offset of that many seconds.
+    /// The offset of that many seconds: `from_whole_seconds(3723)` is +01:02:03.
     ///
     /// Refused with `seconds`, unconditional, outside -93599 to 93599.
     pub fn from_whole_seconds(seconds: i32) -> Result<Self, ComponentRange>
@@ -105,7 +104,8 @@ impl UtcOffset {
         Ok(Self { seconds })
     }
 
-    /// The whole hours, the minutes past them and the seconds past these, all of one sign.
+    /// The whole hours, the minutes past them and the seconds past these, all of one sign: those of -01:30:00 are -1, -30
+    /// and 0.
     pub fn as_hms(self) -> (i8, i8, i8)
         ensures hours { result.0 ≡ whole_hours self }
         ensures minutes { result.1 ≡ minutes_past_hour self }
@@ -118,28 +118,28 @@ impl UtcOffset {
         )
     }
 
-    /// The whole hours, cut toward zero: from -25 to 25.
+    /// The whole hours, cut toward zero: from -25 to 25. Those of -01:30:00 are -1.
     pub fn whole_hours(self) -> i8
         ensures { result ≡ whole_hours self }
     {
         (self.seconds / SECONDS_PER_HOUR as i32) as i8
     }
 
-    /// The whole minutes, cut toward zero: from -1559 to 1559.
+    /// The whole minutes, cut toward zero: from -1559 to 1559. Those of -01:30:00 are -90.
     pub fn whole_minutes(self) -> i16
         ensures { result ≡ whole_minutes self }
     {
         (self.seconds / SECONDS_PER_MINUTE as i32) as i16
     }
 
-    /// The whole minutes past the whole hours, with the sign of the offset: from -59 to 59.
+    /// The whole minutes past the whole hours, with the sign of the offset: from -59 to 59. Those of -01:30:00 are -30.
     pub fn minutes_past_hour(self) -> i8
         ensures { result ≡ minutes_past_hour self }
     {
         (self.seconds % SECONDS_PER_HOUR as i32 / SECONDS_PER_MINUTE as i32) as i8
     }
 
-    /// The seconds, from -93599 to 93599.
+    /// The seconds, from -93599 to 93599. Those of -01:30:00 are -5400.
     pub fn whole_seconds(self) -> i32
         ensures value { result ≡ self }
         ensures range { IsOffset self }
@@ -147,28 +147,28 @@ impl UtcOffset {
         self.seconds
     }
 
-    /// The seconds past the whole minutes, with the sign of the offset: from -59 to 59.
+    /// The seconds past the whole minutes, with the sign of the offset: from -59 to 59. Those of +01:02:03 are 3.
     pub fn seconds_past_minute(self) -> i8
         ensures { result ≡ seconds_past_minute self }
     {
         (self.seconds % SECONDS_PER_MINUTE as i32) as i8
     }
 
-    /// Whether the offset is zero.
+    /// Whether the offset is zero, as [`Self::UTC`] alone is.
     pub fn is_utc(self) -> bool
         ensures { IsTrue result ↔ (self ≡ pos 0) }
     {
         self == Self::UTC
     }
 
-    /// Whether the offset is above zero, east of UTC.
+    /// Whether the offset is above zero, east of UTC, as +00:00:01 is, and UTC is not.
     pub fn is_positive(self) -> bool
         ensures { IsTrue result ↔ (pos 0 <ℤ self) }
     {
         self.seconds > 0
     }
 
-    /// Whether the offset is below zero, west of UTC.
+    /// Whether the offset is below zero, west of UTC, as -00:00:01 is, and UTC is not.
     pub fn is_negative(self) -> bool
         ensures { IsTrue result ↔ (self <ℤ pos 0) }
     {
@@ -194,6 +194,7 @@ impl Neg for UtcOffset {
 
     ghost neg_gives = { λ o opposite. opposite ≡ neg_ℤ o };
 
+    /// The offset as far on the other side of UTC: that of -05:30:00 is +05:30:00.
     fn neg(self) -> Self {
         Self {
             seconds: -self.seconds,
@@ -214,7 +215,7 @@ impl Counted for UtcOffset {
 
     ghost hashed = { λ x y e. ap fed.i32 e };
 
-    /// The seconds.
+    /// The seconds: those of -01:30:00 are -5400.
     fn number(self) -> i128 {
         self.seconds as i128
     }

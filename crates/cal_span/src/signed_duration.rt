@@ -34,6 +34,10 @@ const SECONDS_PER_WEEK: i64 = 604_800;
 /// each number between them is a duration. Order, equality and hash are those of the number. It is
 /// kept as whole seconds and the nanoseconds past them, which are never of opposite signs. A day has
 /// 24 hours, and a week 7 days.
+///
+/// The operators `+`, `-`, `*` and `/` give the exact result, a quotient cut toward zero:
+/// `SECOND * 200u8` is 200 s, and `nanoseconds(-7) / 2i8` is -3 ns. Their condition is that the result
+/// is a duration, and the divisor not zero.
 #[derive(Clone, Copy, Debug)]
 pub struct SignedDuration {
     seconds: i64,
@@ -127,9 +131,11 @@ impl SignedDuration {
     /// That many seconds and nanoseconds, which may be of opposite signs, and of which the
     /// nanoseconds may be more than a second.
     ///
-    /// The seconds and the whole seconds among the nanoseconds are together to be an `i64`, which
-    /// holds exactly if the sum is a duration. So `new(-1, 1)` is 0 s and -999999999 ns, and
-    /// `new(1, 2_000_000_000)` is 3 s.
+    /// `new(-1, 1)` is 0 s and -999999999 ns, and `new(1, 2_000_000_000)` is 3 s.
+    ///
+    /// # Condition
+    ///
+    /// The seconds and the whole seconds among the nanoseconds, cut toward zero, are together an `i64`.
     pub fn new(seconds: i64, nanoseconds: i32) -> Self
         requires { FitsSigned w64 (seconds +ℤ cut nanoseconds (pos second)) }
         ensures { result ≡ seconds *ℤ pos second +ℤ nanoseconds }
@@ -138,7 +144,7 @@ impl SignedDuration {
         Self::checked_new(seconds + carry, nanoseconds % NANOSECONDS_PER_SECOND).unwrap()
     }
 
-    /// That many weeks of 7 days, from -15250284452471 to 15250284452471.
+    /// That many weeks of 7 days, from -15250284452471 to 15250284452471: `weeks(2)` is 1209600 s.
     pub fn weeks(weeks: i64) -> Self
         requires { IsDuration (weeks *ℤ pos week) }
         ensures { result ≡ weeks *ℤ pos week }
@@ -146,7 +152,7 @@ impl SignedDuration {
         Self::seconds(weeks * SECONDS_PER_WEEK)
     }
 
-    /// That many days of 24 hours, from -106751991167300 to 106751991167300.
+    /// That many days of 24 hours, from -106751991167300 to 106751991167300: `days(-3)` is -259200 s.
     pub fn days(days: i64) -> Self
         requires { IsDuration (days *ℤ pos day) }
         ensures { result ≡ days *ℤ pos day }
@@ -154,7 +160,7 @@ impl SignedDuration {
         Self::seconds(days * SECONDS_PER_DAY)
     }
 
-    /// That many hours, from -2562047788015215 to 2562047788015215.
+    /// That many hours, from -2562047788015215 to 2562047788015215: `hours(36)` is 129600 s.
     pub fn hours(hours: i64) -> Self
         requires { IsDuration (hours *ℤ pos hour) }
         ensures { result ≡ hours *ℤ pos hour }
@@ -162,7 +168,7 @@ impl SignedDuration {
         Self::seconds(hours * SECONDS_PER_HOUR)
     }
 
-    /// That many minutes, from -153722867280912930 to 153722867280912930.
+    /// That many minutes, from -153722867280912930 to 153722867280912930: `minutes(90)` is 5400 s.
     pub fn minutes(minutes: i64) -> Self
         requires { IsDuration (minutes *ℤ pos minute) }
         ensures { result ≡ minutes *ℤ pos minute }
@@ -170,7 +176,7 @@ impl SignedDuration {
         Self::seconds(minutes * SECONDS_PER_MINUTE)
     }
 
-    /// That many seconds, of which every `i64` is a duration.
+    /// That many seconds, of which every `i64` is a duration: `seconds(-5)` is -5000000000 ns.
     pub fn seconds(seconds: i64) -> Self
         ensures { result ≡ seconds *ℤ pos second }
     {
@@ -181,6 +187,8 @@ impl SignedDuration {
     }
 
     /// That many milliseconds, of which every `i64` is a duration.
+    ///
+    /// `milliseconds(-1_500)` is -1 s and -500000000 ns.
     pub fn milliseconds(milliseconds: i64) -> Self
         ensures { result ≡ milliseconds *ℤ pos millisecond }
     {
@@ -192,6 +200,8 @@ impl SignedDuration {
     }
 
     /// That many microseconds, of which every `i64` is a duration.
+    ///
+    /// `microseconds(1_500_000)` is 1 s and 500000000 ns.
     pub fn microseconds(microseconds: i64) -> Self
         ensures { result ≡ microseconds *ℤ pos microsecond }
     {
@@ -202,7 +212,7 @@ impl SignedDuration {
         }
     }
 
-    /// That many nanoseconds, of which every `i64` is a duration.
+    /// That many nanoseconds, of which every `i64` is a duration: `nanoseconds(-1)` is 0 s and -1 ns.
     pub fn nanoseconds(nanoseconds: i64) -> Self
         ensures { result ≡ nanoseconds }
     {
@@ -213,6 +223,8 @@ impl SignedDuration {
     }
 
     /// That many nanoseconds, from those of [`Self::MIN`] to those of [`Self::MAX`].
+    ///
+    /// `nanoseconds_i128(1_000_000_001)` is 1 s and 1 ns.
     pub fn nanoseconds_i128(nanoseconds: i128) -> Self
         requires { IsDuration nanoseconds }
         ensures { result ≡ nanoseconds }
@@ -223,21 +235,21 @@ impl SignedDuration {
         }
     }
 
-    /// Whether the duration is zero.
+    /// Whether the duration is zero, as [`Self::ZERO`] is, and 1 ns is not.
     pub fn is_zero(self) -> bool
         ensures { IsTrue result ↔ (self ≡ pos 0) }
     {
         self.seconds == 0 && self.nanoseconds == 0
     }
 
-    /// Whether the duration is below zero.
+    /// Whether the duration is below zero, as -1 ns is, and zero is not.
     pub fn is_negative(self) -> bool
         ensures { IsTrue result ↔ (self <ℤ pos 0) }
     {
         self.seconds < 0 || self.nanoseconds < 0
     }
 
-    /// Whether the duration is above zero.
+    /// Whether the duration is above zero, as 1 ns is, and zero is not.
     pub fn is_positive(self) -> bool
         ensures { IsTrue result ↔ (pos 0 <ℤ self) }
     {
@@ -273,35 +285,35 @@ impl SignedDuration {
         self.seconds / SECONDS_PER_WEEK
     }
 
-    /// The whole days, cut toward zero.
+    /// The whole days, cut toward zero: those of 47 hours are 1, those of -47 hours -1.
     pub fn whole_days(self) -> i64
         ensures { result ≡ cut self (pos day) }
     {
         self.seconds / SECONDS_PER_DAY
     }
 
-    /// The whole hours, cut toward zero.
+    /// The whole hours, cut toward zero: those of -90 minutes are -1.
     pub fn whole_hours(self) -> i64
         ensures { result ≡ cut self (pos hour) }
     {
         self.seconds / SECONDS_PER_HOUR
     }
 
-    /// The whole minutes, cut toward zero.
+    /// The whole minutes, cut toward zero: those of 90 s are 1.
     pub fn whole_minutes(self) -> i64
         ensures { result ≡ cut self (pos minute) }
     {
         self.seconds / SECONDS_PER_MINUTE
     }
 
-    /// The whole seconds, cut toward zero.
+    /// The whole seconds, cut toward zero: those of -1.5 s are -1.
     pub fn whole_seconds(self) -> i64
         ensures { result ≡ cut self (pos second) }
     {
         self.seconds
     }
 
-    /// The whole milliseconds, cut toward zero.
+    /// The whole milliseconds, cut toward zero: those of -1.5 s are -1500.
     pub fn whole_milliseconds(self) -> i128
         ensures { result ≡ cut self (pos millisecond) }
     {
@@ -309,7 +321,7 @@ impl SignedDuration {
         i128::from(self.seconds) * MILLISECONDS_PER_SECOND as i128 + i128::from(past)
     }
 
-    /// The whole microseconds, cut toward zero.
+    /// The whole microseconds, cut toward zero: those of 2500 ns are 2.
     pub fn whole_microseconds(self) -> i128
         ensures { result ≡ cut self (pos microsecond) }
     {
@@ -317,7 +329,7 @@ impl SignedDuration {
         i128::from(self.seconds) * MICROSECONDS_PER_SECOND as i128 + i128::from(past)
     }
 
-    /// The duration in nanoseconds.
+    /// The duration in nanoseconds: that of -1.5 s is -1500000000.
     pub fn whole_nanoseconds(self) -> i128
         ensures value { result ≡ self }
         ensures range { IsDuration self }
@@ -326,6 +338,8 @@ impl SignedDuration {
     }
 
     /// The milliseconds past the whole seconds, cut toward zero: from -999 to 999.
+    ///
+    /// Those of -1.5 s are -500.
     pub fn subsec_milliseconds(self) -> i16
         ensures { result ≡ cut (past_second self) (pos millisecond) }
     {
@@ -333,6 +347,8 @@ impl SignedDuration {
     }
 
     /// The microseconds past the whole seconds, cut toward zero: from -999999 to 999999.
+    ///
+    /// Those of 1 s and 2500 ns are 2.
     pub fn subsec_microseconds(self) -> i32
         ensures { result ≡ cut (past_second self) (pos microsecond) }
     {
@@ -340,6 +356,8 @@ impl SignedDuration {
     }
 
     /// The nanoseconds past the whole seconds: from -999999999 to 999999999.
+    ///
+    /// Those of -1.5 s are -500000000.
     pub fn subsec_nanoseconds(self) -> i32
         ensures { result ≡ past_second self }
     {
@@ -350,7 +368,7 @@ impl SignedDuration {
 impl Default for SignedDuration {
     ghost is_default = { λ duration. duration ≡ pos 0 };
 
-    /// [`Self::ZERO`]
+    /// [`Self::ZERO`], 0 ns.
     fn default() -> Self {
         Self::ZERO
     }

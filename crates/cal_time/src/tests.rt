@@ -8,6 +8,7 @@ mod cycles;
 mod dates;
 mod durations;
 mod ends;
+mod hidden;
 mod laws;
 mod moves;
 mod offsets;

@@ -11,6 +11,9 @@ pub trait Counted: Copy + Ord + Hash {
     ghost number_of: { Self → ℤ };
 
     /// The number.
+    ///
+    /// That of a time is its nanoseconds since midnight, so 1:00 has 3600000000000, and that of a date its Julian day, so
+    /// 2000-01-01 has 2451545.
     fn number(self) -> i128
         ensures { result ≡ number_of self };
 
@@ -25,6 +28,8 @@ pub trait Counted: Copy + Ord + Hash {
 }
 
 /// The least and the greatest item of the slice, or `None` if it has no items.
+///
+/// Those of the durations 2 s, -1 s and 5 s are -1 s and 5 s.
 pub fn extent<T: Counted>(items: &[T]) -> Option<(T, T)>
     ensures { MatchOption result (items.now ≡ []) (IsExtent T.number_of items.now) }
 {
@@ -41,6 +46,8 @@ pub fn extent<T: Counted>(items: &[T]) -> Option<(T, T)>
 }
 
 /// Whether each item of the slice is less than the one after it. A slice of one item or none rises.
+///
+/// The durations -1 s, 2 s and 5 s rise; -1 s, 2 s and 2 s do not.
 pub fn is_rising<T: Counted>(items: &[T]) -> bool
     ensures { IsTrue result ↔ IsRising T.number_of items.now }
 {

@@ -14,11 +14,11 @@ pub trait Cycle: Copy {
 
     ghost value_at: { ℕ → Self };
 
-    /// The place of the value, counted from 0 at January or Monday.
+    /// The place of the value, counted from 0 at January or Monday: that of May is 4.
     fn place(self) -> u8
         ensures { result ≡ place_of self };
 
-    /// The value at a place below `LENGTH`.
+    /// The value at a place below `LENGTH`: `Month::at(4)` is May.
     fn at(place: u8) -> Self
         requires { place < LENGTH }
         ensures { result ≡ value_at place };

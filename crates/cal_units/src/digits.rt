@@ -22,7 +22,7 @@ pub fn two_digits(n: u32) -> [u8; 2]
     [digit(n / 10), digit(n % 10)]
 }
 
-/// Bytes of ASCII as a text.
+/// Bytes of ASCII as a text: `ascii_text(b"07")` is `"07"`.
 pub fn ascii_text(bytes: &[u8]) -> &str
     requires { IsAscii bytes.now }
     ensures { result.now ≡ bytes.now }

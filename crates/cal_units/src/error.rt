@@ -16,6 +16,8 @@ pub struct ComponentRange {
 
 impl ComponentRange {
     /// The error of a component that has the same range whatever the other components are.
+    ///
+    /// `ComponentRange::unconditional("hour")` prints `hour was not in range`.
     pub fn unconditional(name: &'static str) -> Self
         ensures { refusal result ≡ unconditional name.now }
     {
@@ -26,6 +28,8 @@ impl ComponentRange {
     }
 
     /// The error of a component whose range depends on other components.
+    ///
+    /// `ComponentRange::conditional("day")` prints `day was not in range`.
     pub fn conditional(name: &'static str) -> Self
         ensures { refusal result ≡ conditional name.now }
     {
@@ -35,7 +39,7 @@ impl ComponentRange {
         }
     }
 
-    /// The name of the component, such as `day`.
+    /// The name of the component: that of `ComponentRange::conditional("day")` is `day`.
     pub fn name(self) -> &'static str
         ensures { result.now ≡ (refusal self).name }
     {
@@ -43,6 +47,8 @@ impl ComponentRange {
     }
 
     /// Whether the range of the component depends on other components.
+    ///
+    /// It is true of `ComponentRange::conditional("day")`, and false of `ComponentRange::unconditional("hour")`.
     pub fn is_conditional(self) -> bool
         ensures { result ≡ (refusal self).is_conditional }
     {

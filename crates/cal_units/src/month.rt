@@ -40,6 +40,8 @@ pub enum Month {
 
 impl Month {
     /// The number of days of the month in this year, from 28 to 31.
+    ///
+    /// `Month::February.length(2020)` is 29, `Month::February.length(1900)` is 28.
     pub fn length(self, year: i32) -> u8
         ensures value { result ≡ days_in_month year (number self) }
         ensures range { (28 ≤ result) × (result ≤ 31) }
@@ -80,6 +82,8 @@ impl Month {
     }
 
     /// An endless walk over the months from `start` on.
+    ///
+    /// From November on it gives November, December, January, and so on.
     pub fn iter_from(start: Month) -> MonthIter
         ensures { result ≡ start }
     {
@@ -219,7 +223,7 @@ impl FromStr for Month {
 impl From<Month> for u8 {
     ghost from_gives = { λ m n. n ≡ number m };
 
-    /// The number of the month, from January, 1, to December, 12.
+    /// The number of the month, from January, 1, to December, 12: `u8::from(Month::May)` is 5.
     fn from(month: Month) -> u8 {
         month as u8
     }
@@ -230,9 +234,9 @@ impl TryFrom<u8> for Month {
 
     ghost try_from_gives = { FromNumber };
 
-    /// The month with this number, from January, 1, to December, 12.
+    /// The month with this number, from January, 1, to December, 12: `Month::try_from(5)` is May.
     ///
-    /// Every other number is refused with `month`, unconditional.
+    /// Every other number, as 0 and 13, is refused with `month`, unconditional.
     fn try_from(number: u8) -> Result<Self, ComponentRange> {
         match number {
             1 => Ok(Month::January),

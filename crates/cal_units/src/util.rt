@@ -26,6 +26,8 @@ pub fn is_leap_year(year: i32) -> bool
 }
 
 /// The number of days of the year: 366 in a leap year, else 365.
+///
+/// It is 366 for 2020 and 365 for 1900.
 pub fn days_in_year(year: i32) -> u16
     ensures value { result ≡ days_in_year year }
     ensures range { (365 ≤ result) × (result ≤ 366) }
@@ -70,6 +72,8 @@ pub fn days_in_month(month: Month, year: i32) -> u8
 }
 
 /// The number of days of the month in this year, from 28 to 31, as `days_in_month` gives it.
+///
+/// `days_in_year_month(2000, Month::February)` is 29.
 pub fn days_in_year_month(year: i32, month: Month) -> u8
     ensures value { result ≡ days_in_month year (number month) }
     ensures range { (28 ≤ result) × (result ≤ 31) }

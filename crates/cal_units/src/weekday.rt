@@ -63,28 +63,28 @@ impl Weekday {
         nth_back_in(self, n as usize)
     }
 
-    /// The number of the weekday from Monday, 1, to Sunday, 7, as in ISO 8601.
+    /// The number of the weekday from Monday, 1, to Sunday, 7, as in ISO 8601. That of Friday is 5.
     pub fn number_from_monday(self) -> u8
         ensures { result ≡ place self + 1 }
     {
         self.number_days_from_monday() + 1
     }
 
-    /// The number of the weekday from Sunday, 1, to Saturday, 7.
+    /// The number of the weekday from Sunday, 1, to Saturday, 7. That of Friday is 6.
     pub fn number_from_sunday(self) -> u8
         ensures { result ≡ days_from_sunday self + 1 }
     {
         self.number_days_from_sunday() + 1
     }
 
-    /// The number of days since Monday, from Monday, 0, to Sunday, 6.
+    /// The number of days since Monday, from Monday, 0, to Sunday, 6. On Friday it is 4.
     pub fn number_days_from_monday(self) -> u8
         ensures { result ≡ place self }
     {
         self.place()
     }
 
-    /// The number of days since Sunday, from Sunday, 0, to Saturday, 6.
+    /// The number of days since Sunday, from Sunday, 0, to Saturday, 6. On Friday it is 5.
     pub fn number_days_from_sunday(self) -> u8
         ensures { result ≡ days_from_sunday self }
     {
@@ -95,6 +95,8 @@ impl Weekday {
     }
 
     /// An endless walk over the weekdays from `start` on.
+    ///
+    /// From Saturday on it gives Saturday, Sunday, Monday, and so on.
     pub fn iter_from(start: Weekday) -> WeekdayIter
         ensures { result ≡ start }
     {

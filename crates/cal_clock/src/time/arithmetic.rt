@@ -4,12 +4,11 @@ ghost use Rattle.std.specs.Prelude.{◌≡◌, ◌*◌, ◌<◌, pos, negsuc, ne
 ghost use Rattle.cal_span.specs.SignedDuration.{day, whole_days};
 ghost use Rattle.cal_clock.specs.Time.{IsPastDays, modulo_day, carry};
 
-use crate::time::{NANOSECONDS_PER_DAY, NANOSECONDS_PER_SECOND, Time};
+use crate::Time;
+use crate::units::{NANOSECONDS_PER_DAY, NANOSECONDS_PER_SECOND, SECONDS_PER_DAY};
 use cal_span::SignedDuration;
 use cal_units::util::DateAdjustment;
 use std::ops::{Add, AddAssign, Sub, SubAssign};
-
-const SECONDS_PER_DAY: i64 = 86_400;
 
 impl Time {
     /// The way forward to the other time, from zero to below a day: from 23:00 until 1:00 it is two hours.
@@ -107,7 +106,7 @@ impl Add<SignedDuration> for Time {
 
     ghost add_gives = { λ t v u. u ≡ modulo_day (pos t +ℤ v) };
 
-    /// The time that much later, round the clock as often as it takes.
+    /// The time that much later, round the clock as often as it takes: 23:00 and 26 hours are 1:00.
     fn add(self, duration: SignedDuration) -> Self {
         self.adjusting_add(duration).1
     }
@@ -126,7 +125,7 @@ impl Sub<SignedDuration> for Time {
 
     ghost sub_gives = { λ t v u. u ≡ modulo_day (pos t -ℤ v) };
 
-    /// The time that much earlier, round the clock as often as it takes.
+    /// The time that much earlier, round the clock as often as it takes: 1:00 less 26 hours is 23:00.
     fn sub(self, duration: SignedDuration) -> Self {
         self.adjusting_sub(duration).1
     }

@@ -5,21 +5,22 @@ ghost use Rattle.cal_units.specs.Refusal.{IsRefused};
 ghost use Rattle.cal_span.specs.SignedDuration.{second};
 ghost use Rattle.cal_clock.specs.Time.{hour_out_of_range, minute_out_of_range, second_out_of_range, millisecond_out_of_range, microsecond_out_of_range, nanosecond_out_of_range, time_of, IsTime, hour_of, minute_of, second_of, millisecond_of, microsecond_of, nanosecond_of};
 
-use crate::time::{
+use crate::Time;
+use crate::units::{
     NANOSECONDS_PER_HOUR, NANOSECONDS_PER_MICROSECOND, NANOSECONDS_PER_MILLISECOND,
-    NANOSECONDS_PER_MINUTE, NANOSECONDS_PER_SECOND, Time,
+    NANOSECONDS_PER_MINUTE, NANOSECONDS_PER_SECOND,
 };
 use cal_units::error::ComponentRange;
 
 impl Time {
-    /// The hour, minute and second.
+    /// The hour, minute and second: those of 1:02:03.004005006 are 1, 2 and 3.
     pub fn as_hms(self) -> (u8, u8, u8)
         ensures { result ≡ (hour_of self, minute_of self, second_of self) }
     {
         (self.hour(), self.minute(), self.second())
     }
 
-    /// The hour, minute, second and millisecond.
+    /// The hour, minute, second and millisecond: those of 1:02:03.004005006 are 1, 2, 3 and 4.
     pub fn as_hms_milli(self) -> (u8, u8, u8, u16)
         ensures { result ≡ (hour_of self, minute_of self, second_of self, millisecond_of self) }
     {
@@ -31,7 +32,7 @@ impl Time {
         )
     }
 
-    /// The hour, minute, second and microsecond.
+    /// The hour, minute, second and microsecond: those of 1:02:03.004005006 are 1, 2, 3 and 4005.
     pub fn as_hms_micro(self) -> (u8, u8, u8, u32)
         ensures { result ≡ (hour_of self, minute_of self, second_of self, microsecond_of self) }
     {
@@ -43,7 +44,7 @@ impl Time {
         )
     }
 
-    /// The hour, minute, second and nanosecond.
+    /// The hour, minute, second and nanosecond: those of 1:02:03.004005006 are 1, 2, 3 and 4005006.
     pub fn as_hms_nano(self) -> (u8, u8, u8, u32)
         ensures { result ≡ (hour_of self, minute_of self, second_of self, nanosecond_of self) }
     {
@@ -57,7 +58,7 @@ impl Time {
         (self.nanoseconds / NANOSECONDS_PER_SECOND) as u32
     }
 
-    /// The hour, from 0 to 23.
+    /// The hour, from 0 to 23. That of 1:02:03.004005006 is 1.
     pub fn hour(self) -> u8
         ensures value { result ≡ hour_of self }
         ensures range { IsTime self }
@@ -65,42 +66,42 @@ impl Time {
         (self.seconds_since_midnight() / 3_600) as u8
     }
 
-    /// The minute of the hour, from 0 to 59.
+    /// The minute of the hour, from 0 to 59. That of 1:02:03.004005006 is 2.
     pub fn minute(self) -> u8
         ensures { result ≡ minute_of self }
     {
         (self.seconds_since_midnight() / 60 % 60) as u8
     }
 
-    /// The second of the minute, from 0 to 59.
+    /// The second of the minute, from 0 to 59. That of 1:02:03.004005006 is 3.
     pub fn second(self) -> u8
         ensures { result ≡ second_of self }
     {
         (self.seconds_since_midnight() % 60) as u8
     }
 
-    /// The whole milliseconds of the second, from 0 to 999.
+    /// The whole milliseconds of the second, from 0 to 999. Those of 1:02:03.004005006 are 4.
     pub fn millisecond(self) -> u16
         ensures { result ≡ millisecond_of self }
     {
         (self.nanoseconds / NANOSECONDS_PER_MILLISECOND % 1_000) as u16
     }
 
-    /// The whole microseconds of the second, from 0 to 999999.
+    /// The whole microseconds of the second, from 0 to 999999. Those of 1:02:03.004005006 are 4005.
     pub fn microsecond(self) -> u32
         ensures { result ≡ microsecond_of self }
     {
         (self.nanoseconds / NANOSECONDS_PER_MICROSECOND % 1_000_000) as u32
     }
 
-    /// The nanoseconds of the second, from 0 to 999999999.
+    /// The nanoseconds of the second, from 0 to 999999999. Those of 1:02:03.004005006 are 4005006.
     pub fn nanosecond(self) -> u32
         ensures { result ≡ nanosecond_of self }
     {
         (self.nanoseconds % NANOSECONDS_PER_SECOND) as u32
     }
 
-    /// The time with another hour and everything else the same.
+    /// The time with another hour and everything else the same: 1:02:03.5 with hour 7 is 7:02:03.5.
     ///
     /// Refused with `hour`, unconditional, above 23.
     pub fn replace_hour(self, hour: u8) -> Result<Self, ComponentRange>
@@ -116,7 +117,7 @@ impl Time {
         })
     }
 
-    /// The time with another minute and everything else the same.
+    /// The time with another minute and everything else the same: 1:02:03.5 with minute 7 is 1:07:03.5.
     ///
     /// Refused with `minute`, unconditional, above 59.
     pub fn replace_minute(self, minute: u8) -> Result<Self, ComponentRange>
@@ -134,7 +135,7 @@ impl Time {
         })
     }
 
-    /// The time with another second and everything else the same.
+    /// The time with another second and everything else the same: 1:02:03.5 with second 7 is 1:02:07.5.
     ///
     /// Refused with `second`, unconditional, above 59.
     pub fn replace_second(self, second: u8) -> Result<Self, ComponentRange>
@@ -152,7 +153,8 @@ impl Time {
         })
     }
 
-    /// The time with all that lies below its second replaced by that many milliseconds.
+    /// The time with all that lies below its second replaced by that many milliseconds:
+    /// 1:02:03.004005006 with 7 of them is 1:02:03.007.
     ///
     /// Refused with `millisecond`, unconditional, above 999.
     pub fn replace_millisecond(self, millisecond: u16) -> Result<Self, ComponentRange>
@@ -187,7 +189,8 @@ impl Time {
         })
     }
 
-    /// The time with all that lies below its second replaced by that many nanoseconds.
+    /// The time with all that lies below its second replaced by that many nanoseconds:
+    /// 1:02:03.004005006 with 7 of them is 1:02:03.000000007.
     ///
     /// Refused with `nanosecond`, unconditional, above 999999999.
     pub fn replace_nanosecond(self, nanosecond: u32) -> Result<Self, ComponentRange>
@@ -204,7 +207,7 @@ impl Time {
         })
     }
 
-    /// The whole hours of the time, with all that lies below them zero.
+    /// The whole hours of the time, with all that lies below them zero: 1:02:03.004005006 becomes 1:00:00.0.
     pub fn truncate_to_hour(self) -> Self
         ensures { result ≡ time_of (hour_of self) 0 0 0 }
     {
@@ -213,7 +216,7 @@ impl Time {
         }
     }
 
-    /// The whole minutes of the time, with all that lies below them zero.
+    /// The whole minutes of the time, with all that lies below them zero: 1:02:03.004005006 becomes 1:02:00.0.
     pub fn truncate_to_minute(self) -> Self
         ensures { result ≡ time_of (hour_of self) (minute_of self) 0 0 }
     {
@@ -222,7 +225,7 @@ impl Time {
         }
     }
 
-    /// The whole seconds of the time, with all that lies below them zero.
+    /// The whole seconds of the time, with all that lies below them zero: 1:02:03.004005006 becomes 1:02:03.0.
     pub fn truncate_to_second(self) -> Self
         ensures { result ≡ time_of (hour_of self) (minute_of self) (second_of self) 0 }
     {
@@ -240,7 +243,7 @@ impl Time {
         }
     }
 
-    /// The whole microseconds of the time, with all that lies below them zero.
+    /// The whole microseconds of the time, with all that lies below them zero: 1:02:03.004005006 becomes 1:02:03.004005.
     pub fn truncate_to_microsecond(self) -> Self
         ensures { result ≡ time_of (hour_of self) (minute_of self) (second_of self) (microsecond_of self * 1_000) }
     {

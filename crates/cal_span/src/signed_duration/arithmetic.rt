@@ -51,7 +51,8 @@ impl SignedDuration {
         })
     }
 
-    /// The product, or `None` where it is no duration, as that of [`Self::MIN`] and -1.
+    /// The product, or `None` where it is no duration, as that of [`Self::MIN`] and -1. That of 2 s
+    /// and -3 is -6 s.
     pub fn checked_mul(self, rhs: i32) -> Option<Self>
         ensures { SomeIff result (IsDuration (self *ℤ rhs)) (self *ℤ rhs) }
     {
@@ -125,7 +126,8 @@ impl SignedDuration {
         })
     }
 
-    /// The duration of the other sign, or `None` where it is no duration, as for [`Self::MIN`].
+    /// The duration of the other sign, or `None` where it is no duration, as for [`Self::MIN`]. That
+    /// of 1 s is -1 s.
     pub fn checked_neg(self) -> Option<Self>
         ensures { SomeIff result (IsDuration (neg_ℤ self)) (neg_ℤ self) }
     {
@@ -135,7 +137,8 @@ impl SignedDuration {
         })
     }
 
-    /// The sum, or the limit nearest to it where it is no duration.
+    /// The sum, or the limit nearest to it where it is no duration: that of [`Self::MAX`] and 1 ns is
+    /// [`Self::MAX`].
     pub fn saturating_add(self, rhs: Self) -> Self
         ensures { result ≡ clamp (self +ℤ rhs) }
     {
@@ -146,7 +149,8 @@ impl SignedDuration {
         }
     }
 
-    /// The difference, or the limit nearest to it where it is no duration.
+    /// The difference, or the limit nearest to it where it is no duration: zero less [`Self::MIN`] is
+    /// [`Self::MAX`].
     pub fn saturating_sub(self, rhs: Self) -> Self
         ensures { result ≡ clamp (self -ℤ rhs) }
     {
@@ -156,7 +160,8 @@ impl SignedDuration {
         if self < rhs { Self::MIN } else { Self::MAX }
     }
 
-    /// The product, or the limit nearest to it where it is no duration.
+    /// The product, or the limit nearest to it where it is no duration: that of [`Self::MIN`] and -2 is
+    /// [`Self::MAX`].
     pub fn saturating_mul(self, rhs: i32) -> Self
         ensures { result ≡ clamp (self *ℤ rhs) }
     {

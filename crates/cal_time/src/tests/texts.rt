@@ -88,7 +88,7 @@ fn texts_of_each_hour(rt: HostRuntime) -> Result<(), Fail> {
     Ok(())
 }
 
-// The whole text is padded, and never cut.
+// A width pads the whole text, and cuts none of it. A precision would cut it.
 #[test]
 fn padded_texts(rt: HostRuntime) -> Result<(), Fail> {
     let day = date(&rt, 2019, 1, 2);
@@ -113,11 +113,14 @@ fn padded_texts(rt: HostRuntime) -> Result<(), Fail> {
     Ok(())
 }
 
+// The form of several lines is that of one line.
 #[test]
-fn padded_texts_for_debugging(rt: HostRuntime) -> Result<(), Fail> {
+fn styled_texts_for_debugging(rt: HostRuntime) -> Result<(), Fail> {
     let (day, midnight, utc) = (date(&rt, 2019, 1, 2), Time::MIDNIGHT, UtcOffset::UTC);
     let padded = format!(in rt.alloc(); "{day:>12?}|{midnight:_<10?}|{utc:2?}|")?;
     assert_eq!(rt; padded.as_str(), "  2019-01-02|0:00:00.0_|+00:00:00|");
+    let padded = format!(in rt.alloc(); "{day:#?}|{midnight:#?}|{utc:#?}|")?;
+    assert_eq!(rt; padded.as_str(), "2019-01-02|0:00:00.0|+00:00:00|");
     let padded = format!(in rt.alloc(); "{:>24?}|", Time::MAX)?;
     assert_eq!(rt; padded.as_str(), "      23:59:59.999999999|");
     Ok(())

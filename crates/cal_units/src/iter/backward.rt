@@ -36,6 +36,8 @@ impl<C: Cycle> Rev<CycleIter<C>> {
     }
 
     /// A walk of its own that goes on as this one does.
+    ///
+    /// The clone of a walk from June back gives June, May, and so on, and leaves the walk at June.
     pub fn clone(&self) -> Self
         ensures { result ≡ self.now }
     {
@@ -46,7 +48,7 @@ impl<C: Cycle> Rev<CycleIter<C>> {
 
     /// The value `n` places back, always `Some`. The walk goes on before it.
     ///
-    /// `nth(0)` is `next()`.
+    /// `nth(0)` is `next()`. From June back, `nth(2)` is April, and then `next()` is March.
     pub fn nth(&mut self, n: usize) -> Option<C>
         ensures { IsSomeAnd result (λ x. IsBack C.Cycle n self.old x × IsBack C.Cycle 1 x self.new) }
     {
@@ -59,6 +61,8 @@ impl<C: Cycle> Rev<CycleIter<C>> {
     ///
     /// It asks at January or Monday first, wherever the walk stands, then at each value after it, and nothing after the first false.
     /// The walk stays where it is.
+    ///
+    /// Of 'the number of the month is below 5' it is `false`, after the questions of January to May.
     pub fn all_once<F: FnMut(C) -> bool>(&mut self, f: F) -> bool
         requires { F.IsAlwaysCallable f }
         ensures asked { Asked C.Cycle F.step true 0 f result }
@@ -71,6 +75,8 @@ impl<C: Cycle> Rev<CycleIter<C>> {
     ///
     /// It asks at January or Monday first, wherever the walk stands, then at each value after it, and nothing after the first true.
     /// The walk stays where it is.
+    ///
+    /// Of 'the number of the month is at least 5' it is `true`, after the questions of January to May.
     pub fn any_once<F: FnMut(C) -> bool>(&mut self, f: F) -> bool
         requires { F.IsAlwaysCallable f }
         ensures asked { Asked C.Cycle F.step false 0 f result }
@@ -111,6 +117,8 @@ impl<C: Cycle> Iterator for Rev<CycleIter<C>> {
     ghost next_gives = { λ old r new. (r ≡ Some old) × IsBack C.Cycle 1 old new };
 
     /// The value where the walk stands, always `Some`. The walk goes on before it.
+    ///
+    /// From January back it gives January, December, November, and so on.
     fn next(&mut self) -> Option<C> {
         let item = self.forward.next;
         self.forward.next = nth_back_in(item, 1);

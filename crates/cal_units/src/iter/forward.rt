@@ -29,6 +29,8 @@ impl<C> Model for CycleIter<C> {
 
 impl<C: Cycle> CycleIter<C> {
     /// A walk that begins at `start`.
+    ///
+    /// `MonthIter::new(Month::November)` gives November, December, January, and so on.
     pub fn new(start: C) -> Self
         ensures { result ≡ start }
     {
@@ -36,6 +38,8 @@ impl<C: Cycle> CycleIter<C> {
     }
 
     /// The walk backwards, which begins at the value that `next` would have given.
+    ///
+    /// `MonthIter::new(Month::June).rev()` gives June, May, April, and so on.
     pub fn rev(self) -> Rev<Self>
         ensures { result ≡ self }
     {
@@ -43,6 +47,8 @@ impl<C: Cycle> CycleIter<C> {
     }
 
     /// A walk of its own that goes on as this one does.
+    ///
+    /// The clone of a walk from June on gives June, July, and so on, and leaves the walk at June.
     pub fn clone(&self) -> Self
         ensures { result ≡ self.now }
     {
@@ -51,7 +57,7 @@ impl<C: Cycle> CycleIter<C> {
 
     /// The value `n` places on, always `Some`. The walk goes on after it.
     ///
-    /// `nth(0)` is `next()`.
+    /// `nth(0)` is `next()`. From June on, `nth(2)` is August, and then `next()` is September.
     pub fn nth(&mut self, n: usize) -> Option<C>
         ensures { IsSomeAnd result (λ x. IsAhead C.Cycle n self.old x × IsAhead C.Cycle 1 x self.new) }
     {
@@ -64,6 +70,8 @@ impl<C: Cycle> CycleIter<C> {
     ///
     /// It asks at January or Monday first, wherever the walk stands, then at each value after it, and nothing after the first false.
     /// The walk stays where it is.
+    ///
+    /// Of 'the number of the month is below 5' it is `false`, after the questions of January to May.
     pub fn all_once<F: FnMut(C) -> bool>(&mut self, f: F) -> bool
         requires { F.IsAlwaysCallable f }
         ensures asked { Asked C.Cycle F.step true 0 f result }
@@ -76,6 +84,8 @@ impl<C: Cycle> CycleIter<C> {
     ///
     /// It asks at January or Monday first, wherever the walk stands, then at each value after it, and nothing after the first true.
     /// The walk stays where it is.
+    ///
+    /// Of 'the number of the month is at least 5' it is `true`, after the questions of January to May.
     pub fn any_once<F: FnMut(C) -> bool>(&mut self, f: F) -> bool
         requires { F.IsAlwaysCallable f }
         ensures asked { Asked C.Cycle F.step false 0 f result }
@@ -116,6 +126,8 @@ impl<C: Cycle> Iterator for CycleIter<C> {
     ghost next_gives = { λ old r new. (r ≡ Some old) × IsAhead C.Cycle 1 old new };
 
     /// The value where the walk stands, always `Some`. The walk goes on after it.
+    ///
+    /// From December on it gives December, January, February, and so on.
     fn next(&mut self) -> Option<C> {
         let item = self.next;
         self.next = nth_in(item, 1);
