@@ -4,7 +4,7 @@ ghost use Rattle.std.specs.Prelude.{◌≡◌, ◌<◌};
 ghost use Rattle.std.specs.Str.{IsAscii};
 ghost use Rattle.cal_units.specs.Digits.{digit, two_digits};
 
-use std::str::from_utf8;
+use std::str::from_utf8_unchecked;
 
 /// The two ASCII digits of each number below 100, one pair after another.
 const DIGIT_PAIRS: [u8; 200] =
@@ -29,9 +29,12 @@ pub fn two_digits(n: u32) -> [u8; 2]
 }
 
 /// Bytes of ASCII as a text.
+///
+/// The condition says that they are text, so no test of theirs is made at each call.
 pub fn ascii_text(bytes: &[u8]) -> &str
     requires { IsAscii bytes.now }
     ensures { result.now ≡ bytes.now }
 {
-    from_utf8(bytes).unwrap()
+    // ASCII is UTF-8, which is all that the call asks.
+    unsafe { from_utf8_unchecked(bytes) }
 }
