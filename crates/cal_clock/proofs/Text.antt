@@ -1,5 +1,5 @@
 -- The text of a time is a part of the text with two digits of the hour and nine decimals.
-use Rattle.std.proofs.Common.{◌≡◌, ℕ, ◌+◌, ◌-◌, ◌/◌, ◌%◌, ◌<◌, ◌≤◌, List, [], ◌∷◌, ◌++◌, codes, take, drop, slice_range, ap, sym, subst, ◌∙◌, arith}
+use Rattle.std.proofs.Common.{◌≡◌, ℕ, ◌+◌, ◌-◌, ◌/◌, ◌%◌, ◌<◌, ◌≤◌, List, [], ◌∷◌, ◌++◌, codes, take, drop, get_or, slice_range, ap, sym, subst, ◌∙◌, arith}
 use Rattle.std.specs.List.{All}
 use Rattle.std.specs.Str.{IsAscii}
 use Rattle.std.specs.Fmt.{decimal}
@@ -14,6 +14,37 @@ use Rattle.cal_clock.specs.Time.{hour_of, minute_of, second_of, nanosecond_of, t
 -- hour, minute, second and nanosecond with all their digits
 abbrev pub longest : ℕ → ℕ → ℕ → ℕ → List ℕ
 longest h m s n = two_digits h ++ codes ":" ++ two_digits m ++ codes ":" ++ two_digits s ++ codes "." ++ nine_digits n
+
+-- nine digits are the first one, and the two digits of four numbers below 100
+nine_digits-pairs : (n : ℕ) → digit (n / 100_000_000) ∷ two_digits (n / 10_000 % 10_000 / 100) ++ two_digits (n / 10_000 % 10_000 % 100)
+    ++ two_digits (n % 10_000 / 100) ++ two_digits (n % 10_000 % 100) ≡ nine_digits n
+nine_digits-pairs n =
+    let d2 : n / 10_000 % 10_000 / 100 / 10 ≡ n / 10_000_000 % 10 = omega arith in
+    let d3 : n / 10_000 % 10_000 / 100 % 10 ≡ n / 1_000_000 % 10 = omega arith in
+    let d4 : n / 10_000 % 10_000 % 100 / 10 ≡ n / 100_000 % 10 = omega arith in
+    let d5 : n / 10_000 % 10_000 % 100 % 10 ≡ n / 10_000 % 10 = omega arith in
+    let d6 : n % 10_000 / 100 / 10 ≡ n / 1_000 % 10 = omega arith in
+    let d7 : n % 10_000 / 100 % 10 ≡ n / 100 % 10 = omega arith in
+    let d8 : n % 10_000 % 100 / 10 ≡ n / 10 % 10 = omega arith in
+    let d9 : n % 10_000 % 100 % 10 ≡ n % 10 = omega arith in
+    λ i. digit (n / 100_000_000) ∷ digit (d2 i) ∷ digit (d3 i) ∷ digit (d4 i) ∷ digit (d5 i) ∷ digit (d6 i) ∷ digit (d7 i) ∷ digit (d8 i) ∷ digit (d9 i) ∷ []
+
+-- the bytes as they are put together
+abbrev pub bytes_of : List ℕ → List ℕ → List ℕ → ℕ → List ℕ → List ℕ → List ℕ
+bytes_of hour minute second first above below =
+    get_or hour 0 0 ∷ get_or hour 1 0 ∷ codes ":" ++ get_or minute 0 0 ∷ get_or minute 1 0 ∷ codes ":"
+    ++ get_or second 0 0 ∷ get_or second 1 0 ∷ codes "." ++ first
+    ∷ get_or above 0 0 ∷ get_or above 1 0 ∷ get_or above 2 0 ∷ get_or above 3 0
+    ∷ get_or below 0 0 ∷ get_or below 1 0 ∷ get_or below 2 0 ∷ get_or below 3 0 ∷ []
+
+pub longest-bytes : (h m s n first : ℕ) (hour minute second above below : List ℕ)
+    → hour ≡ two_digits h → minute ≡ two_digits m → second ≡ two_digits s → first ≡ digit (n / 100_000_000)
+    → above ≡ two_digits (n / 10_000 % 10_000 / 100) ++ two_digits (n / 10_000 % 10_000 % 100)
+    → below ≡ two_digits (n % 10_000 / 100) ++ two_digits (n % 10_000 % 100)
+    → bytes_of hour minute second first above below ≡ longest h m s n
+longest-bytes h m s n first hour minute second above below a b c d e f =
+    (λ i. bytes_of (a i) (b i) (c i) (d i) (e i) (f i))
+    ∙ ap (λ digits. two_digits h ++ codes ":" ++ two_digits m ++ codes ":" ++ two_digits s ++ codes "." ++ digits) (nine_digits-pairs n)
 
 -- the same after the text of the hour, without the zeros at the end
 abbrev pub shown : List ℕ → ℕ → ℕ → ℕ → List ℕ

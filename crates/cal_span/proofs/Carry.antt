@@ -64,19 +64,6 @@ IsDuration-sum s n fits within =
     let t = times-second s in
     record { at_least = omega (arith, ints); at_most = omega (arith, ints) }
 
--- the carry of nanoseconds into the seconds of a duration fits
-pub carry-fits : (s n : ℤ) → FitsSigned w64 s → IsDuration (s *ℤ pos second +ℤ n) → FitsSigned w64 (s +ℤ cut n (pos second))
-carry-fits s (pos n) fits d =
-    let t = times-second s in
-    let low = d.at_least in
-    let high = d.at_most in
-    omega (arith, ints)
-carry-fits s (negsuc n) fits d =
-    let t = times-second s in
-    let low = d.at_least in
-    let high = d.at_most in
-    omega (arith, ints)
-
 -- where the fields are not of opposite signs, the seconds of a duration fit
 pub seconds-fit : (s n : ℤ) → (pos 0 <ℤ s → pos 0 ≤ℤ n) → (s <ℤ pos 0 → n ≤ℤ pos 0) → IsDuration (s *ℤ pos second +ℤ n) → FitsSigned w64 s
 seconds-fit s n p q d =
@@ -107,10 +94,6 @@ carry-whole s n carry =
 pub IsDuration-carried : (s n carry : ℤ) → IsCarry s n carry → FitsSigned w64 (s +ℤ carry) → IsDuration (s *ℤ pos second +ℤ n)
 IsDuration-carried s n carry is fits =
     subst IsDuration (carry-whole s n carry) (IsDuration-fields (record { seconds = s +ℤ carry; nanoseconds = n -ℤ carry *ℤ pos second }) is.normal fits)
-
-pub carried-fits : (s n carry : ℤ) → IsCarry s n carry → IsDuration (s *ℤ pos second +ℤ n) → FitsSigned w64 (s +ℤ carry)
-carried-fits s n carry is d =
-    seconds-fit (s +ℤ carry) (n -ℤ carry *ℤ pos second) is.normal.positive is.normal.negative (subst IsDuration (sym (carry-whole s n carry)) d)
 
 -- the seconds of a sum that is a duration fit
 pub add-fits : (a b : Inside) (v w : ℤ) → IsNormal a → IsNormal b → FitsSigned w64 a.seconds → FitsSigned w64 b.seconds → nanoseconds_in a ≡ v → nanoseconds_in b ≡ w → IsDuration (v +ℤ w) → FitsSigned w64 (a.seconds +ℤ b.seconds)
@@ -144,26 +127,6 @@ sub-overflow s t f is_zero not_fits =
     by_lt_z (negsuc 9_223_372_036_854_775_807) t
     (λ above. absurd (not_fits (omega (arith, ints))))
     (λ at_most. omega (arith, ints))
-
--- nanoseconds that are not against the seconds, cut into whole seconds and the rest
-abbrev pub along : ℤ → ℤ → Inside
-along s n = record { seconds = s +ℤ cut n (pos second); nanoseconds = int_rem n (pos second) }
-
-pub nanoseconds_in-along : (s n : ℤ) → nanoseconds_in (along s n) ≡ s *ℤ pos second +ℤ n
-nanoseconds_in-along s n =
-    let parts = quot-rem n (pos second) in
-    let a = times-second s in
-    let b = times-second (cut n (pos second)) in
-    let c = times-second (s +ℤ cut n (pos second)) in
-    omega (arith, ints)
-
-pub IsNormal-along : (s n : ℤ) → (pos 0 <ℤ s → pos 0 ≤ℤ n) → (s <ℤ pos 0 → n ≤ℤ pos 0) → IsNormal (along s n)
-IsNormal-along s (pos n) p q =
-    let small = rem_below (pos n) (pos second) (omega arith) in
-    record { above = omega (arith, ints); below = omega (arith, ints); positive = λ h. omega (arith, ints); negative = λ h. by_lt_z s (pos 0) (λ below. omega (arith, ints, q below)) (λ from. omega (arith, ints)) }
-IsNormal-along s (negsuc n) p q =
-    let small = rem_below (negsuc n) (pos second) (omega arith) in
-    record { above = omega (arith, ints); below = omega (arith, ints); positive = λ h. by_lt_z (pos 0) s (λ above. absurd (omega (arith, ints, p above))) (λ upto. omega (arith, ints)); negative = λ h. omega (arith, ints) }
 
 -- sums and differences of fields can carry: nanoseconds of a second or more come of two that are along their seconds
 pub CanCarry-sum : (a b : Inside) → IsNormal a → IsNormal b → CanCarry (a.seconds +ℤ b.seconds) (a.nanoseconds +ℤ b.nanoseconds)

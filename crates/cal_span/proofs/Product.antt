@@ -1,6 +1,6 @@
 -- The product of a duration and a number, from the products of its fields.
-use Rattle.std.proofs.Common.{◌≡◌, zero, suc, ◌*◌, ◌≤◌, ◌<◌, lit<, ℤ, pos, negsuc, ◌+ℤ◌, ◌*ℤ◌, ◌≤ℤ◌, ◌<ℤ◌, unsigned_abs, int_rem, FitsSigned, refl, sym, ap, ◌∙◌, arith}
-use Rattle.std.specs.Int.{w32, w64}
+use Rattle.std.proofs.Common.{◌≡◌, zero, suc, ◌*◌, ◌≤◌, ◌<◌, lit<, ℤ, pos, negsuc, ◌+ℤ◌, ◌*ℤ◌, ◌≤ℤ◌, ◌<ℤ◌, unsigned_abs, int_rem, FitsSigned, sym, ap, ◌∙◌, arith}
+use Rattle.std.specs.Int.{w64}
 use borrow.Author.Differences.{up, down, same_in, sum_is_lem, product_is}
 use Rattle.std.proofs.lemmas.Int.{ints, by_lt_z, fits_signed_mul, quot-rem, rem_below, unsigned_abs-mul}
 use Rattle.std.proofs.lemmas.Nat.{mul-le}

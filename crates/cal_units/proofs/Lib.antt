@@ -1,1 +1,2 @@
 pub mod Weeks
+pub mod Pairs

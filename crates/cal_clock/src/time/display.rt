@@ -1,6 +1,6 @@
 //! The text of times.
 
-ghost use Rattle.std.specs.Prelude.{◌≡◌, ◌≤◌, Some, ◌++◌, codes, length, take};
+ghost use Rattle.std.specs.Prelude.{◌≡◌, ◌/◌, ◌%◌, ◌<◌, ◌≤◌, Some, ◌++◌, codes, length, take};
 ghost use Rattle.std.specs.Fmt.{WritesOnOk, WritesStyledOnOk, formatter_spec, padded};
 ghost use Rattle.cal_clock.specs.Digits.{nine_digits, without_last_zeros};
 ghost use Rattle.cal_units.specs.Digits.{two_digits};
@@ -20,6 +20,8 @@ impl Time {
         let [minute_tens, minute_units] = two_digits(u32::from(self.minute()));
         let [second_tens, second_units] = two_digits(u32::from(self.second()));
         let nanosecond = self.nanosecond();
+        let above = four_digits(nanosecond / 10_000 % 10_000);
+        let below = four_digits(nanosecond % 10_000);
         [
             hour_tens,
             hour_units,
@@ -31,16 +33,26 @@ impl Time {
             second_units,
             b'.',
             digit(nanosecond / 100_000_000),
-            digit(nanosecond / 10_000_000 % 10),
-            digit(nanosecond / 1_000_000 % 10),
-            digit(nanosecond / 100_000 % 10),
-            digit(nanosecond / 10_000 % 10),
-            digit(nanosecond / 1_000 % 10),
-            digit(nanosecond / 100 % 10),
-            digit(nanosecond / 10 % 10),
-            digit(nanosecond % 10),
+            above[0],
+            above[1],
+            above[2],
+            above[3],
+            below[0],
+            below[1],
+            below[2],
+            below[3],
         ]
     }
+}
+
+/// The four ASCII digits of a number below 10000: those of 12 are `*b"0012"`.
+fn four_digits(n: u32) -> [u8; 4]
+    requires { n < 10_000 }
+    ensures { result ≡ two_digits (n / 100) ++ two_digits (n % 100) }
+{
+    let [thousands, hundreds] = two_digits(n / 100);
+    let [tens, units] = two_digits(n % 100);
+    [thousands, hundreds, tens, units]
 }
 
 /// How many of the digits are left without the zeros that they end in.

@@ -1,8 +1,5 @@
-use Rattle.std.proofs.Common.{rules}
 use Rattle.std.proofs.lemmas.Str.{IsUtf8-from_ascii}
 use Rattle.cal_units.proofs.digits.ascii_text.Goals as goal
 
-pub unwrap-requires : goal.unwrap-requires
-unwrap-requires c =
-    let text = IsUtf8-from_ascii c.args.bytes.now c.requires in
-    grind (rules, c.from_utf8.ensures.cases)
+pub from_utf8_unchecked-requires : goal.from_utf8_unchecked-requires
+from_utf8_unchecked-requires c = IsUtf8-from_ascii c.args.bytes.now c.requires
