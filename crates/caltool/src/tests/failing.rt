@@ -4,6 +4,7 @@ use crate::ending::end;
 use crate::fault::Fault;
 use crate::run::run;
 use crate::tests::{ANSWERS, INPUT};
+use std::alloc::Global;
 use std::io::{self, ErrorKind, Read, Write};
 use std::test::Fail;
 
@@ -109,106 +110,131 @@ fn answers_are_gathered(rt: HostRuntime) {
     assert!(rt; writer.calls < 20, "{} writes", writer.calls);
 }
 
-#[test]
-fn each_read_fails_in_turn(rt: HostRuntime) -> Result<(), Fail> {
-    let calls = INPUT.len() as u32 + 1;
-    for call in 1..=calls + 1 {
-        for failing in [Calls::From(call), Calls::Only(call)] {
-            let mut reader = Dripping {
-                rest: INPUT,
-                calls: 0,
-                failing,
-                kind: ErrorKind::Other,
-            };
-            let mut written = Vec::new(rt.alloc());
-            let outcome = run(&mut reader, &mut written);
-            if call <= calls {
-                assert_eq!(rt; outcome, Err(Fault::Read), "at call {call}");
-                assert!(rt; written.is_empty());
-            } else {
-                assert_eq!(rt; outcome, Ok(()));
-                assert_eq!(rt; written.as_slice(), ANSWERS);
-            }
-        }
+/// What came of a run, in how many reads or writes, and what it wrote.
+#[derive(Drop)]
+struct Run {
+    outcome: Result<(), Fault>,
+    calls: u32,
+    written: Vec<u8>,
+}
+
+fn drip(alloc: Global, rest: &[u8], failing: Calls, kind: ErrorKind) -> Run {
+    let mut reader = Dripping {
+        rest,
+        calls: 0,
+        failing,
+        kind,
+    };
+    let mut written = Vec::new(alloc);
+    let outcome = run(&mut reader, &mut written);
+    Run {
+        outcome,
+        calls: reader.calls,
+        written,
     }
-    Ok(())
+}
+
+fn sip(alloc: Global, input: &[u8], failing: Calls, kind: Option<ErrorKind>) -> Run {
+    let mut reader = input;
+    let mut writer = Sipping {
+        taken: Vec::new(alloc),
+        calls: 0,
+        failing,
+        kind,
+    };
+    let outcome = run(&mut reader, &mut writer);
+    Run {
+        outcome,
+        calls: writer.calls,
+        written: writer.taken,
+    }
 }
 
 #[test]
-fn each_write_fails_in_turn(rt: HostRuntime) -> Result<(), Fail> {
+fn each_read_fails_in_turn(rt: HostRuntime) {
+    let calls = INPUT.len() as u32 + 1;
+    for call in 1..=calls + 1 {
+        for failing in [Calls::From(call), Calls::Only(call)] {
+            let run = drip(rt.alloc(), INPUT, failing, ErrorKind::Other);
+            let (outcome, written) = if call <= calls {
+                (Err(Fault::Read), b"".as_slice())
+            } else {
+                (Ok(()), ANSWERS)
+            };
+            assert_eq!(rt; run.outcome, outcome, "at call {call}");
+            assert_eq!(rt; run.written.as_slice(), written);
+        }
+    }
+}
+
+#[test]
+fn each_write_fails_in_turn(rt: HostRuntime) {
     let calls = ANSWERS.len() as u32;
     for call in 1..=calls + 1 {
         for failing in [Calls::From(call), Calls::Only(call)] {
             for kind in [Some(ErrorKind::Other), None] {
-                let mut reader = INPUT;
-                let mut writer = Sipping {
-                    taken: Vec::new(rt.alloc()),
-                    calls: 0,
-                    failing,
-                    kind,
-                };
-                let outcome = run(&mut reader, &mut writer);
-                if call <= calls {
-                    assert_eq!(rt; outcome, Err(Fault::Write), "at call {call}");
-                    let sent = call as usize - 1;
-                    assert_eq!(rt; writer.taken.as_slice(), &ANSWERS[..sent]);
+                let run = sip(rt.alloc(), INPUT, failing, kind);
+                let outcome = if call <= calls {
+                    Err(Fault::Write)
                 } else {
-                    assert_eq!(rt; outcome, Ok(()));
-                    assert_eq!(rt; writer.taken.as_slice(), ANSWERS);
-                }
+                    Ok(())
+                };
+                assert_eq!(rt; run.outcome, outcome, "at call {call}");
+                let sent = call as usize - 1;
+                assert_eq!(rt; run.written.as_slice(), &ANSWERS[..sent]);
             }
         }
     }
-    Ok(())
 }
 
-// A run goes past an interruption, but not past each of them: they are counted over the whole run, not for each line.
+// An interruption is retried, but not each: they are counted over the whole run, not for each line.
 #[test]
-fn interruptions_are_counted(rt: HostRuntime) -> Result<(), Fail> {
+fn interrupted_reads_are_counted(rt: HostRuntime) {
     let lines = [b'\n'; 2000];
     for (input, failing, outcome, calls) in [
         (INPUT, Calls::Only(1), Ok(()), INPUT.len() as u32 + 2),
         (INPUT, Calls::From(1), Err(Fault::Read), 4097),
         (lines.as_slice(), Calls::ThreeOfFour, Err(Fault::Read), 5462),
     ] {
-        let mut reader = Dripping {
-            rest: input,
-            calls: 0,
-            failing,
-            kind: ErrorKind::Interrupted,
-        };
-        let mut written = Vec::new(rt.alloc());
-        assert_eq!(rt; run(&mut reader, &mut written), outcome);
-        assert_eq!(rt; reader.calls, calls);
-        assert_eq!(rt; written.is_empty(), outcome.is_err());
+        let run = drip(rt.alloc(), input, failing, ErrorKind::Interrupted);
+        assert_eq!(rt; run.outcome, outcome);
+        assert_eq!(rt; run.calls, calls);
+        assert_eq!(rt; run.written.is_empty(), outcome.is_err());
     }
-    for (input, failing, outcome, calls) in [
-        (INPUT, Calls::Only(1), Ok(()), ANSWERS.len() as u32 + 1),
-        (INPUT, Calls::From(1), Err(Fault::Write), 4097),
+}
+
+// Of 5462 writes with 4097 interruptions, 1365 took a byte.
+#[test]
+fn interrupted_writes_are_counted(rt: HostRuntime) {
+    let lines = [b'\n'; 2000];
+    for (input, failing, outcome, calls, written) in [
+        (
+            INPUT,
+            Calls::Only(1),
+            Ok(()),
+            ANSWERS.len() as u32 + 1,
+            ANSWERS.len(),
+        ),
+        (INPUT, Calls::From(1), Err(Fault::Write), 4097, 0),
         (
             lines.as_slice(),
             Calls::ThreeOfFour,
             Err(Fault::Write),
             5462,
+            1365,
         ),
     ] {
-        let mut reader = input;
-        let mut writer = Sipping {
-            taken: Vec::new(rt.alloc()),
-            calls: 0,
-            failing,
-            kind: Some(ErrorKind::Interrupted),
-        };
-        assert_eq!(rt; run(&mut reader, &mut writer), outcome);
-        assert_eq!(rt; writer.calls, calls);
+        let run = sip(rt.alloc(), input, failing, Some(ErrorKind::Interrupted));
+        assert_eq!(rt; run.outcome, outcome);
+        assert_eq!(rt; run.calls, calls);
+        assert_eq!(rt; run.written.len(), written);
     }
-    Ok(())
 }
 
 // A read that fails after the last byte is told, and one that fails after a byte too many is not asked for.
 #[test]
-fn a_read_fails_at_the_limit(rt: HostRuntime) -> Result<(), Fail> {
-    for (rest, failing, outcome) in [
+fn a_read_fails_at_the_limit(rt: HostRuntime) {
+    for (input, failing, outcome) in [
         (
             [b'\n'; 4096].as_slice(),
             Calls::From(4097),
@@ -220,17 +246,10 @@ fn a_read_fails_at_the_limit(rt: HostRuntime) -> Result<(), Fail> {
             Err(Fault::TooLong),
         ),
     ] {
-        let mut reader = Dripping {
-            rest,
-            calls: 0,
-            failing,
-            kind: ErrorKind::Other,
-        };
-        let mut written = Vec::new(rt.alloc());
-        assert_eq!(rt; run(&mut reader, &mut written), outcome);
-        assert!(rt; written.is_empty());
+        let run = drip(rt.alloc(), input, failing, ErrorKind::Other);
+        assert_eq!(rt; run.outcome, outcome);
+        assert!(rt; run.written.is_empty());
     }
-    Ok(())
 }
 
 #[test]

@@ -281,12 +281,20 @@ fn moment_text(
     format!(in alloc; "{refused}")
 }
 
-/// A number of 64 bits between the bounds.
-fn number(word: &[u8], low: i64, high: i64) -> Option<i64> {
-    let (digits, is_negative) = match word.split_first() {
-        Some((first, rest)) if *first == b'-' => (rest, true),
-        _ => (word, false),
-    };
+/// A number of 64 bits from `least`, which is 0 or below, to `most`.
+fn number(word: &[u8], least: i64, most: i64) -> Option<i64> {
+    if let Some((b'-', digits)) = word.split_first() {
+        let magnitude = magnitude(digits)?;
+        if magnitude > least.unsigned_abs() {
+            return None;
+        }
+        return Some(0i64.saturating_sub_unsigned(magnitude));
+    }
+    let value = i64::try_from(magnitude(word)?).ok()?;
+    if value > most { None } else { Some(value) }
+}
+
+fn magnitude(digits: &[u8]) -> Option<u64> {
     if digits.is_empty() {
         return None;
     }
@@ -299,12 +307,7 @@ fn number(word: &[u8], low: i64, high: i64) -> Option<i64> {
             .saturating_mul(10)
             .saturating_add(u64::from(*digit - b'0'));
     }
-    let value = i128::from(magnitude);
-    let value = if is_negative { -value } else { value };
-    if value < i128::from(low) || value > i128::from(high) {
-        return None;
-    }
-    i64::try_from(value).ok()
+    Some(magnitude)
 }
 
 fn i32_of(word: &[u8]) -> Option<i64> {
@@ -351,7 +354,10 @@ fn question_of(line: &[u8]) -> Option<Question> {
         return Some(Question::Day(by_calendar(i32_of(a)?, u8_of(b)?, u8_of(c)?)));
     }
     if name == b"iso".as_slice() && count == 4 {
-        let (year, week, day) = (i32_of(a)?, u8_of(b)?, number(c, 1, 7)?);
+        let (year, week, day) = (i32_of(a)?, u8_of(b)?, u8_of(c)?);
+        if day < 1 || day > 7 {
+            return None;
+        }
         return Some(Question::Day(by_iso_week(year, week, day)));
     }
     if name == b"show".as_slice() && count == 2 {
