@@ -45,10 +45,10 @@ const ORDINAL_BITS: i32 = 511;
 /// The bits of a packed date that hold the leap mark and the ordinal.
 const LOW_BITS: i32 = 1023;
 
-/// A day of the proleptic Gregorian calendar, from -9999-01-01 to 9999-12-31.
+/// A day of the proleptic Gregorian calendar, from -999999-01-01 to 999999-12-31.
 ///
 /// Years are astronomical, as in ISO 8601: the year 0 stands before the year 1, and -1 before that. Contracts see a date
-/// as its number in the count of days, from 0 at -9999-01-01 to 7304483 at 9999-12-31.
+/// as its number in the count of days, from 0 at -999999-01-01 to 730484633 at 999999-12-31.
 #[derive(Clone, Copy)]
 pub struct Date {
     /// The year times 1024, and [`LEAP_MARK`] in a leap year, and the ordinal. Shifted right by 10 bits it is the
@@ -73,19 +73,19 @@ impl Model for Date {
 }
 
 impl Date {
-    /// The first day, -9999-01-01, whose Julian day is -1930999.
+    /// The first day, -999999-01-01, whose Julian day is -363521074.
     pub const MIN: Date = Date {
         packed: -1_023_998_975,
     };
 
-    /// The last day, 9999-12-31, whose Julian day is 5373484.
+    /// The last day, 999999-12-31, whose Julian day is 366963559.
     pub const MAX: Date = Date {
         packed: 1_023_999_341,
     };
 
     /// The day of the year that has this ordinal.
     ///
-    /// The year is from -9999 to 9999, and the ordinal from 1 to 365, or 366 in a leap year: the ordinal date of
+    /// The year is from -999999 to 999999, and the ordinal from 1 to 365, or 366 in a leap year: the ordinal date of
     /// ISO 8601. The day with ordinal 60 of 1900 is its 1 March, and that of 2000 its 29 February.
     ///
     /// It is refused for the first component that is out of range: `year`, unconditionally, or `ordinal`, conditionally,
@@ -109,7 +109,7 @@ impl Date {
         Ok(Date::at_ordinal(year, ordinal))
     }
 
-    /// The day that has this Julian day, from -1930999 to 5373484.
+    /// The day that has this Julian day, from -363521074 to 366963559.
     ///
     /// The Julian day is a whole number that rises by one from day to day: 0 is -4713-11-24, and 2451545 is 2000-01-01.
     ///
@@ -158,7 +158,7 @@ impl Date {
         (self.year(), self.ordinal())
     }
 
-    /// The Julian day, from -1930999 to 5373484. That of 2000-01-01 is 2451545.
+    /// The Julian day, from -363521074 to 366963559. That of 2000-01-01 is 2451545.
     pub fn to_julian_day(self) -> i32
         ensures day { result ≡ julian_day_at self }
         ensures order { (n : ℕ) → IsDate n → (n < self) ↔ (julian_day_at n <ℤ result) }

@@ -49,7 +49,7 @@ pub struct JulianKernel {
 
 /// The kernel of a Julian day.
 ///
-/// A day of the range must have that Julian day: it is from -1930999 to 5373484.
+/// A day of the range must have that Julian day: it is from -363521074 to 366963559.
 ///
 /// The kernel of 2451545, 2000-01-01, is 23815, 4294963575, 869879400, 2381600 and 1469893, with the century one low.
 pub fn julian_kernel(julian_day: i32) -> JulianKernel

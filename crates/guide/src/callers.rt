@@ -1,12 +1,8 @@
 //! Callers that know the clauses alone: what the documentation says of a call is provable here.
 ghost use Rattle.std.specs.Prelude.{◌≡◌, ℕ, ◌+◌, ◌-◌, ◌<◌, ◌≤◌, ◌+ℤ◌, ◌-ℤ◌, ◌≤ℤ◌, ◌==◌, pos, IfOk, IfSome, IsNone, ◌↔◌, Some, Ok};
-ghost use Rattle.cal_time.specs.Date.{last_day, year_at, month_at, day_of_month_at, ordinal_at, weekday_at, IsDate, IsYear, HasJulianDay, HasOrdinalDate, HasCalendarDate};
-ghost use Rattle.cal_time.specs.IsoWeekDate.{HasIsoWeekDate};
+ghost use Rattle.cal_time.specs.Date.{last_day, year_at, month_at, day_of_month_at, ordinal_at, weekday_at};
 ghost use Rattle.cal_time.specs.Lengths.{days_in_year, days_in_month};
-ghost use Rattle.cal_time.specs.SignedDuration.{whole_days};
-ghost use Rattle.cal_time.specs.Weekday.{place};
 
-use cal_time::error::ComponentRange;
 use cal_time::util::{days_in_month, days_in_year, weeks_in_year};
 use cal_time::{Date, Month, SignedDuration, Weekday};
 use std::io;
@@ -126,7 +122,9 @@ fn last_friday(year: i32, month: Month) -> Option<Date>
 fn there_and_back_by(date: Date, duration: SignedDuration) -> Option<Date>
     ensures { IfSome result (λ same. same ≡ date) }
 {
-    date.checked_add(duration)?.checked_sub(duration)
+    let there = date.checked_add(duration)?;
+    let back = there.checked_sub(duration)?;
+    Some(back)
 }
 
 /// The day a week before, where there is one.
@@ -181,8 +179,38 @@ fn working_days(from: Date, to: Date) -> u32 {
     let mut count = 0u32;
     for date in from.iter_to(to) {
         if date.weekday() != Weekday::Saturday && date.weekday() != Weekday::Sunday {
-            count += 1;
+            count = count.saturating_add(1);
         }
     }
     count
+}
+
+pub fn show(rt: &impl Print) -> io::Result<()> {
+    let Ok(born) = Date::from_calendar_date(1984, Month::February, 29) else {
+        return Ok(());
+    };
+    let Ok(day) = Date::from_calendar_date(2024, Month::February, 28) else {
+        return Ok(());
+    };
+    println!(rt; "{} {}", age(born, day), age(day, born))?;
+    let round = [
+        through_julian_day(day),
+        through_ordinal_date(day),
+        through_calendar_date(day),
+        through_iso_week_date(day),
+        same_year(day),
+    ];
+    println!(rt; "{round:?}")?;
+    println!(rt;
+        "{:?} {:?}",
+        julian_day_through(0),
+        ordinal_date_through(2024, 366)
+    )?;
+    println!(rt; "{} {}", days_left(day), days_left_in_month(day))?;
+    println!(rt; "{} {}", extra_weeks(2020), weeks_gone(day))?;
+    println!(rt; "{:?}", last_friday(2024, Month::February))?;
+    println!(rt; "{:?}", there_and_back_by(day, SignedDuration::DAY))?;
+    println!(rt; "{:?} {:?}", a_week_back(day), due(day))?;
+    println!(rt; "{:?} {}", next_thursday(day), not_before(day, 1))?;
+    println!(rt; "{} {}", is_last(day), working_days(born, day))
 }

@@ -7,6 +7,7 @@ mod first;
 mod generic;
 mod making;
 mod moving;
+mod names;
 mod order;
 mod parts;
 mod printing;
@@ -25,5 +26,7 @@ fn main(rt: HostRuntime) -> io::Result<()> {
     order::show(&rt)?;
     printing::show(&rt)?;
     generic::show(&rt)?;
-    clauses::show(&rt)
+    clauses::show(&rt)?;
+    callers::show(&rt)?;
+    names::show(&rt)
 }

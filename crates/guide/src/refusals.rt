@@ -22,7 +22,7 @@ fn describe(rt: &impl Print, year: i32, month: Month, day: u8) -> io::Result<()>
 pub fn show(rt: &impl Print) -> io::Result<()> {
     describe(rt, 2020, Month::February, 29)?;
     describe(rt, 2019, Month::February, 29)?;
-    describe(rt, 10000, Month::February, 29)?;
+    describe(rt, 1_000_000, Month::February, 29)?;
     match first_of_month(2019, Month::February) {
         Ok((date, weekday)) => println!(rt; "{date} {weekday}"),
         Err(error) => println!(rt; "{error}"),

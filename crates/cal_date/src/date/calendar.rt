@@ -20,7 +20,7 @@ const DAYS_BEFORE_MONTH: [u16; 12] = [0, 31, 59, 90, 120, 151, 181, 212, 243, 27
 impl Date {
     /// The day of the year that has this month and day of the month.
     ///
-    /// The year is from -9999 to 9999, and the day from 1 to the length of the month in that year: the calendar date of
+    /// The year is from -999999 to 999999, and the day from 1 to the length of the month in that year: the calendar date of
     /// ISO 8601. 29 February is a day of 2000 and 2020, and none of 1900 and 2019.
     ///
     /// It is refused for the first component that is out of range: `year`, unconditionally, or `day`, conditionally, as its

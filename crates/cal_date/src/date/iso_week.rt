@@ -18,12 +18,12 @@ impl Date {
     /// The day that has this weekday, in this week of this ISO year.
     ///
     /// Weeks begin on Monday, and a week belongs to the year that holds its Thursday: the week date of ISO 8601. The year is
-    /// from -9999 to 9999, and the week from 1 to 52, or 53 in a year of so many Thursdays. The Friday of week 53 of 2020 is
+    /// from -999999 to 999999, and the week from 1 to 52, or 53 in a year of so many Thursdays. The Friday of week 53 of 2020 is
     /// 2021-01-01, and the Monday of week 1 of 2020 is 2019-12-30.
     ///
     /// It is refused for the first component that is out of range: `year`, unconditionally, or `week`, conditionally, as its
     /// range depends on the year, or `weekday`, conditionally, where the day would come after [`Self::MAX`]: on Saturday and
-    /// Sunday of week 52 of 9999 alone.
+    /// Sunday of week 52 of 999999 alone.
     pub fn from_iso_week_date(year: i32, week: u8, weekday: Weekday) -> Result<Self, ComponentRange>
         ensures every { (n : ℕ) → IsDate n → HasIsoWeekDate year week (place weekday) n → result ≡ Ok n }
         ensures has { IfOk result (λ n. IsDate n × HasIsoWeekDate year week (place weekday) n) }
@@ -71,7 +71,7 @@ impl Date {
 
     /// The ISO year, the week and the weekday: the week date of ISO 8601. That of 2021-01-01 is (2020, 53, Friday).
     ///
-    /// The ISO year too is from -9999 to 9999.
+    /// The ISO year too is from -999999 to 999999.
     pub fn to_iso_week_date(self) -> (i32, u8, Weekday)
         ensures date { HasIsoWeekDate result.0 result.1 (place result.2) self }
         ensures range { IsYear result.0 × IsWeek result.0 result.1 × (result.1 ≤ 53) }

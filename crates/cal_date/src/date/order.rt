@@ -75,7 +75,7 @@ impl Counted for Date {
 
     ghost hashed = { λ x y e. Prim.grind (arith, ints) };
 
-    /// The Julian day, from -1930999 to 5373484.
+    /// The Julian day, from -363521074 to 366963559.
     fn number(self) -> i128 {
         self.to_julian_day() as i128
     }

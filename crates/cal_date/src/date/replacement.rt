@@ -14,7 +14,7 @@ use cal_units::util::is_leap_year;
 impl Date {
     /// The day of that year that has the same month and day of the month.
     ///
-    /// The year is from -9999 to 9999. So 2022-02-18 leads to 2019-02-18, and 2024-03-01 to 2023-03-01, whose ordinal is one
+    /// The year is from -999999 to 999999. So 2022-02-18 leads to 2019-02-18, and 2024-03-01 to 2023-03-01, whose ordinal is one
     /// less.
     ///
     /// It is refused as `year`, unconditionally, where the year is out of range, or else as `day`, conditionally, where the

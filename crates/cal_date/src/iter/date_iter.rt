@@ -106,7 +106,7 @@ impl DateIter {
         Some(item)
     }
 
-    /// How many days are left, from 0 to 7304484.
+    /// How many days are left, from 0 to 730484634.
     pub fn len(&self) -> usize
         ensures count { result ≡ length (days_of self.now) }
         ensures bound { result ≤ last_day + 1 }
