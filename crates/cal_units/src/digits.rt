@@ -30,7 +30,7 @@ pub fn two_digits(n: u32) -> [u8; 2]
 
 /// Bytes of ASCII as a text: `ascii_text(b"07")` is `"07"`.
 ///
-/// The condition says that they are text, so they are not tested at each call.
+/// No byte is tested here: the condition says that each is ASCII.
 pub fn ascii_text(bytes: &[u8]) -> &str
     requires { IsAscii bytes.now }
     ensures { result.now ≡ bytes.now }
