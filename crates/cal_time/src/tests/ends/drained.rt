@@ -42,16 +42,15 @@ fn check_step(
     left: &[i32],
 ) {
     assert_eq!(rt; item.map(Date::to_julian_day), want);
-    assert_eq!(rt; walk.len(), left.len());
-    assert_eq!(rt; walk.size_hint(), (left.len(), Some(left.len())));
-    assert_eq!(rt; walk.clone().count(), left.len());
+    let length = left.len();
     assert_eq!(rt;
-        walk.clone().min().map(Date::to_julian_day),
-        left.first().copied()
+        (walk.len(), walk.size_hint(), walk.clone().count()),
+        (length, (length, Some(length)), length)
     );
+    let (min, max) = (walk.clone().min(), walk.clone().max());
     assert_eq!(rt;
-        walk.clone().max().map(Date::to_julian_day),
-        left.last().copied()
+        (min.map(Date::to_julian_day), max.map(Date::to_julian_day)),
+        (left.first().copied(), left.last().copied())
     );
 }
 

@@ -9,6 +9,10 @@ const GREATEST: i128 = 9_223_372_036_854_775_807_999_999_999;
 
 const SECOND: i128 = 1_000_000_000;
 
+const MINUTE: i128 = 60_000_000_000;
+
+const HOUR: i128 = 3_600_000_000_000;
+
 const DAY: i128 = 86_400_000_000_000;
 
 /// Durations at the ends and around zero, each with its nanoseconds.
@@ -273,9 +277,10 @@ fn signs_and_magnitudes(rt: HostRuntime) {
     for (a, x) in ends() {
         let number = SignedDuration::whole_nanoseconds;
         let size = x.saturating_abs();
-        assert_eq!(rt; a.is_zero(), x == 0);
-        assert_eq!(rt; a.is_negative(), x < 0);
-        assert_eq!(rt; a.is_positive(), x > 0);
+        assert_eq!(rt;
+            (a.is_zero(), a.is_negative(), a.is_positive()),
+            (x == 0, x < 0, x > 0)
+        );
         assert_eq!(rt; a.checked_neg().map(number), exact(x.saturating_neg()));
         assert_eq!(rt; opposite(a).map(number), exact(x.saturating_neg()));
         assert_eq!(rt; a.abs().number(), clamped(size));
@@ -290,18 +295,38 @@ fn signs_and_magnitudes(rt: HostRuntime) {
 #[test]
 fn parts(rt: HostRuntime) {
     for (a, x) in ends() {
-        assert_eq!(rt; i128::from(a.whole_weeks()), x / (7 * DAY));
-        assert_eq!(rt; i128::from(a.whole_days()), x / DAY);
-        assert_eq!(rt; i128::from(a.whole_hours()), x / (3_600 * SECOND));
-        assert_eq!(rt; i128::from(a.whole_minutes()), x / (60 * SECOND));
-        assert_eq!(rt; i128::from(a.whole_seconds()), x / SECOND);
-        assert_eq!(rt; a.whole_milliseconds(), x / 1_000_000);
-        assert_eq!(rt; a.whole_microseconds(), x / 1_000);
-        assert_eq!(rt; a.whole_nanoseconds(), x);
+        let whole = [
+            i128::from(a.whole_weeks()),
+            i128::from(a.whole_days()),
+            i128::from(a.whole_hours()),
+            i128::from(a.whole_minutes()),
+            i128::from(a.whole_seconds()),
+            a.whole_milliseconds(),
+            a.whole_microseconds(),
+            a.whole_nanoseconds(),
+        ];
+        assert_eq!(rt;
+            whole,
+            [
+                x / (7 * DAY),
+                x / DAY,
+                x / HOUR,
+                x / MINUTE,
+                x / SECOND,
+                x / 1_000_000,
+                x / 1_000,
+                x,
+            ]
+        );
         let past = x % SECOND;
-        assert_eq!(rt; i128::from(a.subsec_milliseconds()), past / 1_000_000);
-        assert_eq!(rt; i128::from(a.subsec_microseconds()), past / 1_000);
-        assert_eq!(rt; i128::from(a.subsec_nanoseconds()), past);
+        assert_eq!(rt;
+            [
+                i128::from(a.subsec_milliseconds()),
+                i128::from(a.subsec_microseconds()),
+                i128::from(a.subsec_nanoseconds()),
+            ],
+            [past / 1_000_000, past / 1_000, past]
+        );
     }
 }
 

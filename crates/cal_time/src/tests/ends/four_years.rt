@@ -107,20 +107,40 @@ fn check_constructors(rt: &impl Abort, running: Running, month: Month, day: u8) 
 fn check_parts(rt: &impl Abort, date: Date, running: Running, month: Month, day: u8) {
     let (iso_year, week) = running.iso_week();
     let (its_year, its_week, its_weekday) = date.to_iso_week_date();
-    assert_eq!(rt; date.to_julian_day(), running.julian_day);
-    assert_eq!(rt; date.to_calendar_date(), (running.year, month, day));
-    assert_eq!(rt; date.to_ordinal_date(), (running.year, running.ordinal));
+    assert_eq!(rt;
+        (
+            date.to_julian_day(),
+            date.to_calendar_date(),
+            date.to_ordinal_date()
+        ),
+        (
+            running.julian_day,
+            (running.year, month, day),
+            (running.year, running.ordinal)
+        )
+    );
     assert_eq!(rt;
         (its_year, i32::from(its_week), its_weekday as u8),
         (iso_year, week, running.weekday)
     );
-    assert_eq!(rt; date.year(), running.year);
-    assert_eq!(rt; (date.month(), date.day()), (month, day));
-    assert_eq!(rt; date.ordinal(), running.ordinal);
-    assert_eq!(rt; date.weekday() as u8, running.weekday);
-    assert_eq!(rt; i32::from(date.iso_week()), week);
-    assert_eq!(rt; date.sunday_based_week(), running.sundays);
-    assert_eq!(rt; date.monday_based_week(), running.mondays);
+    assert_eq!(rt;
+        (
+            date.year(),
+            date.month(),
+            date.day(),
+            date.ordinal(),
+            date.weekday() as u8
+        ),
+        (running.year, month, day, running.ordinal, running.weekday)
+    );
+    assert_eq!(rt;
+        (
+            i32::from(date.iso_week()),
+            date.sunday_based_week(),
+            date.monday_based_week()
+        ),
+        (week, running.sundays, running.mondays)
+    );
 }
 
 /// Stops the test unless the days around the date are its neighbours.

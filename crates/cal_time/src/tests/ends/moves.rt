@@ -12,8 +12,8 @@ const DATES: [(Date, i32); 2] = [(Date::MIN, FIRST_JULIAN_DAY), (Date::MAX, LAST
 /// Durations as long as the range, and around one day, each with its nanoseconds.
 fn durations() -> [(SignedDuration, i128); 8] {
     let days = i128::from(DAYS);
-    let less_one = SignedDuration::nanoseconds(86_399_999_999_999);
-    let more_one = SignedDuration::nanoseconds(-86_399_999_999_999);
+    let almost_on = SignedDuration::nanoseconds(86_399_999_999_999);
+    let almost_back = SignedDuration::nanoseconds(-86_399_999_999_999);
     [
         (SignedDuration::days(DAYS), days * DAY),
         (SignedDuration::days(DAYS - 1), (days - 1) * DAY),
@@ -21,8 +21,8 @@ fn durations() -> [(SignedDuration, i128); 8] {
         (SignedDuration::days(1 - DAYS), (1 - days) * DAY),
         (SignedDuration::DAY, DAY),
         (SignedDuration::days(-1), -DAY),
-        (less_one, DAY - 1),
-        (more_one, 1 - DAY),
+        (almost_on, DAY - 1),
+        (almost_back, 1 - DAY),
     ]
 }
 
@@ -112,26 +112,28 @@ fn nth_before(from: i32, weekday: u8, n: u8) -> Option<i128> {
     in_range(from.saturating_sub(days))
 }
 
-/// The `n`-th day after with the weekday, by the calls with a condition too.
-fn next_occurrences(date: Date, weekday: Weekday, n: u8) -> Option<(Date, Date)> {
+/// The Julian day of the `n`-th day after with the weekday, by each call that gives it.
+fn next_occurrences(date: Date, weekday: Weekday, n: u8) -> Option<[i128; 3]> {
     let checked = date.checked_nth_next_occurrence(weekday, n)?;
-    let day = date.nth_next_occurrence(weekday, n);
+    let nth = date.nth_next_occurrence(weekday, n);
+    let mut nearest = nth;
     if n == 1 {
         date.checked_next_occurrence(weekday)?;
-        return Some((checked, date.next_occurrence(weekday)));
+        nearest = date.next_occurrence(weekday);
     }
-    Some((checked, day))
+    Some([checked.number(), nth.number(), nearest.number()])
 }
 
-/// The `n`-th day before with the weekday, by the calls with a condition too.
-fn prev_occurrences(date: Date, weekday: Weekday, n: u8) -> Option<(Date, Date)> {
+/// The Julian day of the `n`-th day before with the weekday, by each call that gives it.
+fn prev_occurrences(date: Date, weekday: Weekday, n: u8) -> Option<[i128; 3]> {
     let checked = date.checked_nth_prev_occurrence(weekday, n)?;
-    let day = date.nth_prev_occurrence(weekday, n);
+    let nth = date.nth_prev_occurrence(weekday, n);
+    let mut nearest = nth;
     if n == 1 {
         date.checked_prev_occurrence(weekday)?;
-        return Some((checked, date.prev_occurrence(weekday)));
+        nearest = date.prev_occurrence(weekday);
     }
-    Some((checked, day))
+    Some([checked.number(), nth.number(), nearest.number()])
 }
 
 #[test]
@@ -149,14 +151,13 @@ fn occurrences_at_the_ends(rt: HostRuntime) {
         for weekday in Weekday::iter_from(Weekday::Monday).take(7) {
             for n in [0, 1, 2, 255] {
                 let place = weekday as u8;
-                let number = |(a, b): (Date, Date)| (a.number(), b.number());
                 assert_eq!(rt;
-                    next_occurrences(date, weekday, n).map(number),
-                    nth_after(from, place, n).map(|day| (day, day))
+                    next_occurrences(date, weekday, n),
+                    nth_after(from, place, n).map(|day| [day, day, day])
                 );
                 assert_eq!(rt;
-                    prev_occurrences(date, weekday, n).map(number),
-                    nth_before(from, place, n).map(|day| (day, day))
+                    prev_occurrences(date, weekday, n),
+                    nth_before(from, place, n).map(|day| [day, day, day])
                 );
             }
         }

@@ -80,15 +80,22 @@ fn parts_of_the_ends(rt: HostRuntime) {
         let Ok(offset) = UtcOffset::from_whole_seconds(seconds) else {
             panic!(rt; "{seconds} is refused");
         };
-        assert_eq!(rt; offset.as_hms(), (hours, minutes, past_minute));
-        assert_eq!(rt; offset.whole_hours(), hours);
-        assert_eq!(rt; offset.whole_minutes(), all_minutes);
-        assert_eq!(rt; offset.minutes_past_hour(), minutes);
-        assert_eq!(rt; offset.seconds_past_minute(), past_minute);
-        let opposite = seconds.wrapping_neg();
-        assert_eq!(rt; (-offset).whole_seconds(), opposite);
-        assert_eq!(rt; offset.is_negative(), seconds < 0);
-        assert_eq!(rt; offset.is_positive(), seconds > 0);
-        assert!(rt; !offset.is_utc());
+        assert_eq!(rt;
+            (
+                offset.as_hms(),
+                offset.whole_hours(),
+                offset.whole_minutes()
+            ),
+            ((hours, minutes, past_minute), hours, all_minutes)
+        );
+        assert_eq!(rt;
+            (offset.minutes_past_hour(), offset.seconds_past_minute()),
+            (minutes, past_minute)
+        );
+        assert_eq!(rt; (-offset).whole_seconds(), seconds.wrapping_neg());
+        assert_eq!(rt;
+            (offset.is_negative(), offset.is_utc(), offset.is_positive()),
+            (seconds < 0, false, seconds > 0)
+        );
     }
 }
