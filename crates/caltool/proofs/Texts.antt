@@ -1,6 +1,6 @@
 -- Texts that are put in place piece by piece.
 use Rattle.std.proofs.Common.{◌≡◌, ℕ, ◌+◌, ◌-◌, ◌/◌, ◌%◌, ◌^◌, ◌<◌, ◌≤◌, List, [], ◌∷◌, ◌++◌, length, suc, refl, sym, ap, ◌∙◌, arith, append_assoc, length-append, inl, inr, ◌⊎◌, ℤ, pos, negsuc, unsigned_abs, false}
-use Rattle.std.specs.Prelude.{codes, decimal, int_lt, replicate}
+use Rattle.std.specs.Prelude.{codes, decimal, int_lt, replicate, if◌then◌else◌}
 use Rattle.std.specs.Fmt.{signed_decimal}
 use Rattle.std.proofs.lemmas.Bool.{cases_lt}
 use Rattle.std.proofs.lemmas.Fmt.{decimal_digit, decimal_step, length-decimal-le, decimal_nonempty}
@@ -14,7 +14,7 @@ use Rattle.cal_time.specs.Weekday.{name, place}
 use Rattle.cal_time.specs.WeekdayCycle.{weekday_at-place}
 use Rattle.cal_time.specs.Time.{hour_of, minute_of, second_of, nanosecond_of, text as time_text}
 use Rattle.cal_time.specs.Digits.{decimals, without_last_zeros}
-use Rattle.caltool.specs.Answers.{day_text, minus_sign, week_text}
+use Rattle.caltool.specs.Answers.{day_text, week_text}
 
 -- a number of two digits or more
 step_of_many : (w n : ℕ) → 10 ≤ n → n < 2 ^ 64
@@ -77,6 +77,10 @@ pub length-step : (w n : ℕ) → n < 2 ^ 64 → (1 < w) ⊎ ((w ≤ 1) × (9 < 
     → length (digits_at_least w n) ≡ length (digits_at_least (w - 1) (n / 10)) + 1
 length-step w n high more =
     ap length (digits_step w n high more) ∙ length-append (digits_at_least (w - 1) (n / 10)) ((48 + n % 10) ∷ [])
+
+-- a minus sign, if the number is negative
+abbrev minus_sign : ℤ → List ℕ
+minus_sign z = if int_lt z (pos 0) then codes "-" else []
 
 -- a number with its sign
 pub signed_decimal-sign : (z : ℤ) → unsigned_abs z < 2 ^ 64 → signed_decimal z ≡ minus_sign z ++ digits_at_least 1 (unsigned_abs z)

@@ -37,10 +37,6 @@ day_with has numbers = day_where (λ n. pointwise int_eq (has n) numbers)
 abbrev pub julian_day : ℕ → List ℤ
 julian_day n = julian_day_at n ∷ []
 
--- a minus sign, if the number is negative
-abbrev pub minus_sign : ℤ → List ℕ
-minus_sign z = if int_lt z (pos 0) then codes "-" else []
-
 -- the text of a day: its year, its ordinal and its Julian day
 abbrev pub day_text : ℕ → List ℕ
 day_text n =

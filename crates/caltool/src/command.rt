@@ -8,7 +8,7 @@ use crate::number::{parse_i32, parse_i64, parse_u8, parse_u16};
 use cal_time::Weekday;
 
 /// What a line asks for.
-#[derive(Clone, Copy, Debug, PartialEq, Eq)]
+#[derive(Clone, Copy)]
 pub enum Command {
     /// `julian N`: the day that has this Julian day.
     Julian(i32),

@@ -1,10 +1,9 @@
 //! Numbers, dates and times in place: texts of the gathered bytes that can't fail, as there is room for them.
-ghost use Rattle.std.specs.Prelude.{◌≡◌, ◌+◌, ◌≤◌, ◌++◌, length};
+ghost use Rattle.std.specs.Prelude.{◌≡◌, ◌+◌, ◌≤◌, ◌++◌, [], length, codes, pos, int_lt, if◌then◌else◌};
 ghost use Rattle.std.specs.Fmt.{signed_decimal};
 ghost use Rattle.cal_time.specs.DateText.{digits_at_least, sign_text, text};
 ghost use Rattle.cal_time.specs.Time.{nanosecond_of, text as time_text};
 ghost use Rattle.cal_time.specs.Weekday.{name};
-ghost use Rattle.caltool.specs.Answers.{minus_sign};
 ghost use Rattle.caltool.specs.Room.{HasRoom};
 
 use crate::gathered::Gathered;
@@ -21,7 +20,6 @@ pub fn push_number(gathered: &mut Gathered, least: u8, number: u32)
 }
 
 /// The digits before the last one, and then that one.
-#[tactic(auto, using(crate::proofs::Texts::digits_step, crate::proofs::Texts::one_digit))]
 fn push_digits(gathered: &mut Gathered, least: u8, number: u32)
     requires { HasRoom (length (digits_at_least least number)) gathered.old }
     ensures { gathered.new ≡ gathered.old ++ digits_at_least least number }
@@ -45,7 +43,7 @@ pub fn push_signed(gathered: &mut Gathered, number: i32)
 /// A minus sign where the number is negative.
 fn push_sign(gathered: &mut Gathered, number: i32)
     requires { HasRoom 1 gathered.old }
-    ensures text { gathered.new ≡ gathered.old ++ minus_sign number }
+    ensures text { gathered.new ≡ gathered.old ++ (if int_lt number (pos 0) then codes "-" else []) }
     ensures short { length gathered.new ≤ length gathered.old + 1 }
 {
     if number < 0 {
