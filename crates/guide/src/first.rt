@@ -2,7 +2,7 @@
 use cal_time::{Date, Month, SignedDuration, Time, add_to_pair};
 use std::io;
 
-/// When a flight of two hours that leaves at 23:00 on that day of December 2020 is there.
+/// When a flight of two hours that leaves at 23:00 on that day of December 2020 arrives.
 fn arrival(day: u8) -> Option<(Date, Time)> {
     let flight = SignedDuration::hours(2);
     let Ok(time) = Time::from_hms(23, 0, 0) else {
