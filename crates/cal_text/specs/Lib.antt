@@ -1,0 +1,3 @@
+pub mod DateForms
+pub mod Reading
+pub mod ErrorText

@@ -1,0 +1,135 @@
+//! Texts and their dates, from outside.
+use crate::Unreadable;
+use crate::date::read;
+use cal_time::{Date, Month};
+use std::test::Fail;
+
+#[test]
+fn dates_in_three_forms(rt: HostRuntime) -> Result<(), Fail> {
+    for (text, year, month, day) in [
+        ("2024-02-29", 2024, Month::February, 29),
+        ("2024-060", 2024, Month::February, 29),
+        ("2024-W09-4", 2024, Month::February, 29),
+        ("2020-W53-5", 2021, Month::January, 1),
+        ("2019-W01-1", 2018, Month::December, 31),
+        ("2024-366", 2024, Month::December, 31),
+        ("0000-01-01", 0, Month::January, 1),
+        ("-0001-12-31", -1, Month::December, 31),
+        ("-0001-365", -1, Month::December, 31),
+        ("9999-12-31", 9999, Month::December, 31),
+        ("+10000-001", 10_000, Month::January, 1),
+        // 400 years on 31 times, the year 55 begins on a Friday.
+        ("-12345-W01-1", -12_345, Month::January, 4),
+        ("+999999-12-31", 999_999, Month::December, 31),
+        ("-999999-W01-1", -999_999, Month::January, 1),
+    ] {
+        let Ok(date) = Date::from_calendar_date(year, month, day) else {
+            return Err(Fail::from("a date"));
+        };
+        assert_eq!(rt; read(text.as_bytes()), Ok(date), "{text}");
+    }
+    Ok(())
+}
+
+#[test]
+fn components_out_of_range(rt: HostRuntime) {
+    for (text, name, is_conditional) in [
+        ("2024-13-01", "month", false),
+        ("2024-00-01", "month", false),
+        ("+1000000-13-01", "month", false),
+        ("+1000000-12-01", "year", false),
+        ("-999999999-001", "year", false),
+        ("+1000000-W01-1", "year", false),
+        ("2023-02-29", "day", true),
+        ("2024-01-00", "day", true),
+        ("2023-366", "ordinal", true),
+        ("2024-000", "ordinal", true),
+        ("2021-W53-1", "week", true),
+        ("2021-W00-1", "week", true),
+        ("+999999-W52-6", "weekday", true),
+    ] {
+        match read(text.as_bytes()) {
+            Err(Unreadable::OutOfRange(error)) => {
+                assert_eq!(rt; error.name(), name, "{text}");
+                assert_eq!(rt; error.is_conditional(), is_conditional, "{text}");
+            }
+            other => assert!(rt; false, "{text}: {other:?}"),
+        }
+    }
+}
+
+#[test]
+fn first_wrong_bytes(rt: HostRuntime) {
+    for (text, place) in [
+        ("", 0),
+        ("x024-02-29", 0),
+        ("202-02-29", 3),
+        ("2024", 4),
+        ("20240229", 4),
+        ("12345-01-01", 4),
+        ("+2024-01-01", 5),
+        ("+02024-01-01", 1),
+        ("-0000-01-01", 4),
+        ("-0000", 4),
+        ("-02024-01-01", 5),
+        ("-12345678901-001", 10),
+        ("2024-", 5),
+        ("2024--2-29", 5),
+        ("2024-60", 7),
+        ("2024-0229", 8),
+        ("2024-02-2", 9),
+        ("2024-02-29 ", 10),
+        ("2024-02-29T", 10),
+        ("2024-060-", 8),
+        ("2024-02/29", 7),
+        ("2024-w09-4", 5),
+        ("2024-W9-4", 7),
+        ("2024-W09-", 9),
+        ("2024-W09-0", 9),
+        ("2024-W09-8", 9),
+        ("2024-W09-41", 10),
+    ] {
+        assert_eq!(rt;
+            read(text.as_bytes()),
+            Err(Unreadable::UnexpectedByte(place)),
+            "{text}"
+        );
+    }
+}
+
+#[test]
+fn texts_of_errors(rt: HostRuntime) -> Result<(), Fail> {
+    for (text, error) in [
+        ("2024x", "unexpected byte at 4"),
+        ("2023-02-29", "day was not in range"),
+    ] {
+        let Err(refused) = read(text.as_bytes()) else {
+            return Err(Fail::from("a text that is read"));
+        };
+        assert_eq!(rt; format!(in rt.alloc(); "{refused}")?.as_str(), error);
+    }
+    Ok(())
+}
+
+/// A wrong byte is found at its place whatever comes after it, and none is found there before it.
+#[test]
+fn each_byte_replaced(rt: HostRuntime) {
+    for text in [*b"+12024-02-29", *b"-0024-W09-4x", *b"2024-060xxxx"] {
+        for i in 0..12 {
+            for byte in 0..=255 {
+                let mut changed = text;
+                changed[i] = byte;
+                let Err(Unreadable::UnexpectedByte(place)) = read(&changed) else {
+                    continue;
+                };
+                assert!(rt; place >= i || text[place] == b'x');
+                if place < 12 {
+                    let wrong = Err(Unreadable::UnexpectedByte(place));
+                    assert_eq!(rt; read(&changed[..place + 1]), wrong);
+                    changed[place] = b'!';
+                    assert_eq!(rt; read(&changed), wrong);
+                }
+            }
+        }
+    }
+}
