@@ -1,16 +1,14 @@
 -- A text is one of a day exactly where its form is one that the day has.
-use Rattle.std.proofs.Common.{◌≡◌, ℕ, ◌+◌, ◌-◌, Some, None, Option, refl, sym, ap, ◌∙◌, subst, arith, inl, inr, List, ◌++◌, unsigned_abs, ◌∷◌, []}
+use Rattle.std.proofs.Common.{◌≡◌, ℕ, ◌+◌, Some, refl, sym, ap, ◌∙◌, arith, inl, inr, List}
 use Rattle.std.proofs.lemmas.List.{append_assoc}
-use Rattle.std.proofs.lemmas.Option.{none-some}
 use Rattle.cal_time.specs.CalendarDay.{CalendarDay}
-use Rattle.cal_time.specs.Date.{IsDate, day_at, year_at, month_at, day_of_month_at, ordinal_at, weekday_at}
-use Rattle.cal_time.specs.DateText.{text, sign_text, digits_at_least}
+use Rattle.cal_time.specs.Date.{IsDate, year_at, month_at, day_of_month_at, ordinal_at, weekday_at}
+use Rattle.cal_time.specs.DateText.{text}
 use Rattle.cal_time.specs.IsoWeekDate.{iso_year_at, iso_week_at}
-use Rattle.cal_time.specs.Refusal.{Refusal}
 use Rattle.cal_text.specs.declared.form.Form.{Form}
 use Rattle.cal_text.specs.declared.form.Form.TheVariants.{Calendar, Ordinal, Week}
-use Rattle.cal_text.specs.DateForms.{IsDateText, IsForm, HasForm, form_text, ordinal_text, week_text, year_text, month_and_day_text}
-use Rattle.cal_text.specs.Reading.{IsOnDay, HasFormThat}
+use Rattle.cal_text.specs.DateForms.{IsDateText, HasForm, form_text}
+use Rattle.cal_text.specs.Reading.{IsOnDay}
 use Rattle.cal_text.proofs.Ranges.{year_at-written, iso_year_at-written, month_at-below, day_of_month_at-below, ordinal_at-below, iso_week_at-below, weekday_at-below}
 
 -- the text of a date as a form

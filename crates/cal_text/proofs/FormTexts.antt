@@ -4,8 +4,7 @@ use Rattle.std.proofs.Common.{◌≡◌, ◌≢◌, ℕ, suc, ◌+◌, ◌<◌, 
 use Rattle.std.proofs.lemmas.List.{length-append, get_or_at, get_or_append_left, take_at, drop_at, drop-drop, append_assoc}
 use Rattle.std.proofs.lemmas.Str.Parse.{digit_at}
 use Rattle.cal_time.specs.DateText.{digits_at_least}
-use Rattle.cal_text.specs.declared.form.Form.{Form}
-use Rattle.cal_text.specs.declared.form.Form.TheVariants.{Calendar, Ordinal, Week}
+use Rattle.cal_text.specs.declared.form.Form.TheVariants.{Calendar, Week}
 use Rattle.cal_text.specs.DateForms.{month_and_day_text, ordinal_digits, week_and_weekday_text}
 use Rattle.cal_text.proofs.DigitTexts.{digits_at_least-digits, digits_at_least-length}
 

@@ -4,3 +4,4 @@ pub mod YearTexts
 pub mod Ranges
 pub mod FormTexts
 pub mod DayForms
+pub mod Printed

@@ -1,5 +1,5 @@
 -- What each day of the range has lies within the widths of its texts. Each by induction on the number of the day.
-use Rattle.std.proofs.Common.{◌≡◌, ℕ, zero, suc, ◌+◌, ◌*◌, ◌%◌, ◌<◌, ◌≤◌, ◌^◌, ℤ, pos, ◌+ℤ◌, ◌≤ℤ◌, unsigned_abs, Bool, true, false, refl, sym, ap, ◌∙◌, subst, arith, inl, inr, lit≤, ◌-◌, ◌⊎◌}
+use Rattle.std.proofs.Common.{◌≡◌, ℕ, zero, suc, ◌+◌, ◌*◌, ◌%◌, ◌<◌, ◌≤◌, ℤ, pos, ◌+ℤ◌, ◌≤ℤ◌, Bool, true, false, refl, sym, ap, ◌∙◌, subst, arith, inl, inr, lit≤, ◌⊎◌}
 use Rattle.std.specs.Prelude.{nat_lt, ◌==◌, ◌&&◌, if◌then◌else◌}
 use Rattle.std.specs.Ordering.{int_eq}
 use borrow.Author.Tests.{ltb-true}

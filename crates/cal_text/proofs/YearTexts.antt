@@ -1,6 +1,5 @@
 -- The year of a date in text, by its sign.
-use Rattle.std.proofs.Common.{◌≡◌, ◌≢◌, ℕ, suc, ◌+◌, ◌<◌, ◌≤◌, ◌^◌, ℤ, pos, negsuc, unsigned_abs, to_z, of_z, w32, FitsSigned, ◌-ℤ◌, List, [], ◌∷◌, ◌++◌, length, get_or, take, drop, zero, subst, true, false, refl, sym, ap, ◌∙◌, arith, inl, inr}
-use Rattle.std.specs.Prelude.{int_lt}
+use Rattle.std.proofs.Common.{◌≡◌, ◌≢◌, ℕ, suc, ◌+◌, ◌<◌, ◌≤◌, ◌^◌, ℤ, pos, negsuc, to_z, of_z, w32, FitsSigned, ◌-ℤ◌, List, [], ◌∷◌, ◌++◌, length, get_or, take, drop, zero, subst, refl, sym, ap, ◌∙◌, arith, inl, inr}
 use Rattle.std.proofs.lemmas.Int.{ints, to_z-of_z}
 use Rattle.std.proofs.lemmas.Bool.{cases_lt}
 use Rattle.std.proofs.lemmas.Bool.Decides.{nat_tests}

@@ -1,6 +1,6 @@
 -- What a text of a form reads as: the day that has its numbers, or why there is none.
-use Rattle.std.specs.Prelude.{◌≡◌, ◌⊎◌, ℕ, ◌-◌, ◌<◌, ◌≤◌, List, Option, Some, None, Result, IsErrAnd}
-use Rattle.cal_time.specs.Date.{IsDate, IsYear, IsDayOfMonth, IsOrdinal, HasCalendarDate, HasOrdinalDate, NoDate}
+use Rattle.std.specs.Prelude.{◌≡◌, ◌⊎◌, ℕ, ◌-◌, ◌≤◌, List, Option, Some, None, Result, IsErrAnd}
+use Rattle.cal_time.specs.Date.{IsYear, IsDayOfMonth, IsOrdinal, HasCalendarDate, HasOrdinalDate, NoDate}
 use Rattle.cal_time.specs.IsoWeekDate.{IsWeek, HasIsoWeekDate}
 use Rattle.cal_time.specs.Month.{month_out_of_range}
 use Rattle.cal_time.specs.Refusal.{Refusal, refusal}

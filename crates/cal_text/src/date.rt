@@ -13,8 +13,11 @@ use crate::error::Unreadable;
 use crate::form::form_of;
 use cal_time::Date;
 
+mod display;
 mod of_form;
 mod place;
+
+pub use display::{OrdinalText, WeekText};
 
 /// The day whose calendar date, ordinal date or week date the text is, as `2024-02-29`, `2024-060` or `2024-W09-4`.
 ///

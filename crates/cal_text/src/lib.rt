@@ -7,6 +7,8 @@ pub mod date;
 mod digits;
 mod error;
 mod form;
+mod laws;
+mod print;
 mod year;
 
 pub use error::Unreadable;

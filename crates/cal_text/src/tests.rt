@@ -1,6 +1,6 @@
 //! Texts and their dates, from outside.
 use crate::Unreadable;
-use crate::date::read;
+use crate::date::{OrdinalText, WeekText, read};
 use cal_time::{Date, Month};
 use std::test::Fail;
 
@@ -132,4 +132,64 @@ fn each_byte_replaced(rt: HostRuntime) {
             }
         }
     }
+}
+
+#[test]
+fn texts_of_dates(rt: HostRuntime) -> Result<(), Fail> {
+    for (julian_day, ordinal, week) in [
+        (2_460_370, "2024-060", "2024-W09-4"),
+        (2_459_216, "2021-001", "2020-W53-5"),
+        (2_458_484, "2018-365", "2019-W01-1"),
+        (1_721_060, "0000-001", "-0001-W52-6"),
+        (1_721_059, "-0001-365", "-0001-W52-5"),
+    ] {
+        let Ok(date) = Date::from_julian_day(julian_day) else {
+            return Err(Fail::from("a date"));
+        };
+        assert_eq!(rt;
+            format!(in rt.alloc(); "{}", OrdinalText(date))?.as_str(),
+            ordinal
+        );
+        assert_eq!(rt;
+            format!(in rt.alloc(); "{}", WeekText(date))?.as_str(),
+            week
+        );
+    }
+    assert_eq!(rt;
+        format!(in rt.alloc(); "{}", OrdinalText(Date::MAX))?.as_str(),
+        "+999999-365"
+    );
+    assert_eq!(rt;
+        format!(in rt.alloc(); "{}", WeekText(Date::MAX))?.as_str(),
+        "+999999-W52-5"
+    );
+    assert_eq!(rt;
+        format!(in rt.alloc(); "{:>13}", OrdinalText(Date::MIN))?.as_str(),
+        "  -999999-001"
+    );
+    assert_eq!(rt;
+        format!(in rt.alloc(); "{:*<14}", WeekText(Date::MIN))?.as_str(),
+        "-999999-W01-1*"
+    );
+    Ok(())
+}
+
+/// Every day of four years at each end of the range, in all three forms.
+#[test]
+fn days_printed_and_read(rt: HostRuntime) -> Result<(), Fail> {
+    for first in [-363_521_074, 366_963_559 - 1460] {
+        for day in 0..1461 {
+            let Ok(date) = Date::from_julian_day(first + day) else {
+                return Err(Fail::from("a date"));
+            };
+            for text in [
+                format!(in rt.alloc(); "{date}")?,
+                format!(in rt.alloc(); "{}", OrdinalText(date))?,
+                format!(in rt.alloc(); "{}", WeekText(date))?,
+            ] {
+                assert_eq!(rt; read(text.as_bytes()), Ok(date));
+            }
+        }
+    }
+    Ok(())
 }

@@ -1,4 +1,4 @@
-use Rattle.std.proofs.Common.{arith, length, take, subst, sym, ap, ◌∙◌, ℕ, List, Some, ◌^◌, ◌<◌, ◌≡◌, ◌*◌, ◌+◌}
+use Rattle.std.proofs.Common.{arith, length, take, subst, sym, ap, ◌∙◌, Some, ◌^◌, ◌<◌, ◌≡◌, ◌*◌, ◌+◌}
 use Rattle.cal_time.specs.DateText.{digits_at_least}
 use Rattle.std.specs.Str.Parse.{AllDigits, digits_value}
 use Rattle.std.proofs.lemmas.List.{take_all}

@@ -2,7 +2,6 @@ use Rattle.std.proofs.Common.{arith, subst, sym, length, get_or, ◌∙◌, ◌<
 use Rattle.std.proofs.lemmas.Bool.{eqb-true, eqb-false}
 use borrow.Author.Tests.{ltb-true}
 use Rattle.cal_text.proofs.Options.{some_also}
-use Rattle.std.proofs.lemmas.Grind.{common_steps}
 use Rattle.cal_text.proofs.DigitTexts.{IsMagnitude, digits_at_least-magnitude, magnitude-printed, below-nine}
 use Rattle.cal_text.proofs.year.magnitude_of.Goals as goal
 use Rattle.cal_text.proofs.year.magnitude_of.Goals.{then-length-lt4-via-then-length-lt4, then-length-lt4-via-else-length-lt4+then-length-gt9, then-length-lt4-via-else-length-lt4+else-length-gt9+then-digits-eq48, then-length-gt4, else-length-gt4}

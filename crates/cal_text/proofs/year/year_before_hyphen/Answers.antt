@@ -1,7 +1,6 @@
-use Rattle.std.proofs.Common.{◌≡◌, ◌∙◌, ap, subst, sym, take, drop, ◌+◌, w32, to_z, of_z, length}
+use Rattle.std.proofs.Common.{◌≡◌, ◌∙◌, ap, take, drop, ◌+◌, w32, to_z, of_z, length}
 use Rattle.std.proofs.lemmas.Option.{none-some}
 use Rattle.cal_text.specs.DateForms.{year_text}
-use Rattle.cal_text.proofs.Ranges.{iso_week_at-below}
 use Rattle.cal_text.proofs.YearTexts.{cut, same_place, written-cast}
 use Rattle.cal_text.proofs.year.year_before_hyphen.Goals as goal
 

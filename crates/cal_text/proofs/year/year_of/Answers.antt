@@ -1,10 +1,7 @@
-use Rattle.std.proofs.Common.{◌≡◌, ◌<◌, ◌^◌, ◌∙◌, ℕ, suc, List, length, get_or, drop, slice_range, arith, pos, negsuc, unsigned_abs, Some, ap, sym, subst, w32, to_z, of_z, ◌-ℤ◌}
-use Rattle.std.proofs.lemmas.Int.{ints, to_z-of_z}
+use Rattle.std.proofs.Common.{◌≡◌, ◌∙◌, ℕ, suc, List, length, drop, slice_range, arith, pos, unsigned_abs, Some, ap, sym}
 use Rattle.std.proofs.lemmas.Slice.{between_to_end}
 use Rattle.std.proofs.lemmas.Option.{none-some}
-use Rattle.cal_time.specs.DateText.{digits_at_least}
-use Rattle.cal_text.specs.DateForms.{year_text}
-use Rattle.cal_text.proofs.YearTexts.{minus-first, plus-first, plain-first, minus-year, plus-year, year-plain, plain-cast, minus-cast}
+use Rattle.cal_text.proofs.YearTexts.{minus-first, plus-first, plain-first, plus-year, plain-cast, minus-cast}
 use Rattle.cal_text.proofs.year.year_of.Goals as goal
 
 -- the bytes after the first one
