@@ -5,3 +5,4 @@ pub mod Ranges
 pub mod FormTexts
 pub mod DayForms
 pub mod Printed
+pub mod UnixTimes

@@ -9,6 +9,7 @@ mod error;
 mod form;
 mod laws;
 mod print;
+pub mod unix;
 mod year;
 
 pub use error::Unreadable;

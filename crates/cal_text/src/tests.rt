@@ -1,7 +1,7 @@
 //! Texts and their dates, from outside.
-use crate::Unreadable;
 use crate::date::{OrdinalText, WeekText, read};
-use cal_time::{Date, Month};
+use crate::{Unreadable, unix};
+use cal_time::{Date, Month, SignedDuration, Time, UtcOffset};
 use std::test::Fail;
 
 #[test]
@@ -191,5 +191,87 @@ fn days_printed_and_read(rt: HostRuntime) -> Result<(), Fail> {
             }
         }
     }
+    Ok(())
+}
+
+#[test]
+fn unix_times(rt: HostRuntime) -> Result<(), Fail> {
+    for (year, month, day, time, hours, seconds, nanoseconds) in [
+        (1970, Month::January, 1, (0, 0, 0, 0), 0, 0, 0),
+        (
+            2024,
+            Month::February,
+            29,
+            (0, 0, 0, 500_000_000),
+            0,
+            1_709_164_800,
+            500_000_000,
+        ),
+        (2024, Month::February, 29, (1, 0, 0, 0), 1, 1_709_164_800, 0),
+        (
+            2024,
+            Month::February,
+            28,
+            (16, 0, 0, 0),
+            -8,
+            1_709_164_800,
+            0,
+        ),
+        (
+            1969,
+            Month::December,
+            31,
+            (23, 59, 59, 999_999_999),
+            0,
+            0,
+            -1,
+        ),
+        (2038, Month::January, 19, (3, 14, 7, 0), 0, 2_147_483_647, 0),
+    ] {
+        let (hour, minute, second, nanosecond) = time;
+        let Ok(date) = Date::from_calendar_date(year, month, day) else {
+            return Err(Fail::from("a date"));
+        };
+        let Ok(time) = Time::from_hms_nano(hour, minute, second, nanosecond) else {
+            return Err(Fail::from("a time"));
+        };
+        let Ok(offset) = UtcOffset::from_hms(hours, 0, 0) else {
+            return Err(Fail::from("an offset"));
+        };
+        let duration = SignedDuration::seconds(seconds).saturating_add(SignedDuration::nanoseconds(
+            nanoseconds,
+        ));
+        assert_eq!(rt; unix::duration_of(date, time, offset), duration);
+        assert_eq!(rt; unix::pair_of(duration, offset), Some((date, time)));
+    }
+    Ok(())
+}
+
+#[test]
+fn unix_times_at_the_ends(rt: HostRuntime) -> Result<(), Fail> {
+    let Ok(hour_east) = UtcOffset::from_hms(1, 0, 0) else {
+        return Err(Fail::from("an offset"));
+    };
+    let last = unix::duration_of(Date::MAX, Time::MAX, UtcOffset::UTC);
+    assert_eq!(rt;
+        unix::pair_of(last, UtcOffset::UTC),
+        Some((Date::MAX, Time::MAX))
+    );
+    assert_eq!(rt;
+        unix::pair_of(
+            last.saturating_add(SignedDuration::NANOSECOND),
+            UtcOffset::UTC
+        ),
+        None
+    );
+    assert_eq!(rt; unix::pair_of(last, hour_east), None);
+    let first = unix::duration_of(Date::MIN, Time::MIDNIGHT, hour_east);
+    assert_eq!(rt;
+        unix::pair_of(first, hour_east),
+        Some((Date::MIN, Time::MIDNIGHT))
+    );
+    assert_eq!(rt; unix::pair_of(first, UtcOffset::UTC), None);
+    assert_eq!(rt; unix::pair_of(SignedDuration::MAX, hour_east), None);
+    assert_eq!(rt; unix::pair_of(SignedDuration::MIN, UtcOffset::UTC), None);
     Ok(())
 }
