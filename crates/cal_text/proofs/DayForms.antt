@@ -1,0 +1,55 @@
+-- A text is one of a day exactly where its form is one that the day has.
+use Rattle.std.proofs.Common.{◌≡◌, ℕ, ◌+◌, Some, refl, sym, ap, ◌∙◌, arith, inl, inr, List}
+use Rattle.std.proofs.lemmas.List.{append_assoc}
+use Rattle.cal_time.specs.CalendarDay.{CalendarDay}
+use Rattle.cal_time.specs.Date.{IsDate, year_at, month_at, day_of_month_at, ordinal_at, weekday_at}
+use Rattle.cal_time.specs.DateText.{text}
+use Rattle.cal_time.specs.IsoWeekDate.{iso_year_at, iso_week_at}
+use Rattle.cal_text.specs.declared.form.Form.{Form}
+use Rattle.cal_text.specs.declared.form.Form.TheVariants.{Calendar, Ordinal, Week}
+use Rattle.cal_text.specs.DateForms.{IsDateText, HasForm, form_text}
+use Rattle.cal_text.specs.Reading.{IsOnDay}
+use Rattle.cal_text.proofs.Ranges.{year_at-written, iso_year_at-written, month_at-below, day_of_month_at-below, ordinal_at-below, iso_week_at-below, weekday_at-below}
+
+-- the text of a date as a form
+text-is : (n : ℕ) → text n ≡ form_text (Calendar (year_at n) (month_at n) (day_of_month_at n))
+text-is n = simp append_assoc
+
+pub record FormOfDay (bytes : List ℕ) (n : ℕ) : Type 0 where
+  pub form : Form
+  pub has : HasForm bytes form
+  pub on_day : IsOnDay form n
+
+pub form-of-day : (bytes : List ℕ) (n : ℕ) → IsDate n → IsDateText bytes n → FormOfDay bytes n
+form-of-day bytes n date t = elim t as (λ _. FormOfDay bytes n) [
+  | inl e ↦ record {
+    form = Calendar (year_at n) (month_at n) (day_of_month_at n);
+    has = record { form = (year_at-written n (omega arith), month_at-below n, day_of_month_at-below n); bytes_are = e ∙ text-is n };
+    on_day = refl;
+  }
+  | inr rest ↦ elim rest as (λ _. FormOfDay bytes n) [
+    | inl e ↦ record {
+      form = Ordinal (year_at n) (ordinal_at n);
+      has = record { form = (year_at-written n (omega arith), ordinal_at-below n); bytes_are = e };
+      on_day = (refl, refl);
+    }
+    | inr e ↦ record {
+      form = Week (iso_year_at n) (iso_week_at n) (weekday_at n + 1);
+      has = record { form = (iso_year_at-written n date, iso_week_at-below n, omega arith, (let below = weekday_at-below n in omega arith)); bytes_are = e };
+      on_day = (refl, refl, omega arith);
+    }
+  ]
+]
+
+pub day-of-form : (bytes : List ℕ) (f : Form) (n : ℕ) → HasForm bytes f → IsOnDay f n → IsDateText bytes n
+day-of-form bytes (Calendar y m d) n h e =
+    inl (h.bytes_are ∙ sym (text-is n ∙ ap (λ (c : CalendarDay). form_text (Calendar c.year c.month c.day)) e))
+day-of-form bytes (Ordinal y o) n h e =
+    inr (inl (h.bytes_are ∙ sym (ap (λ x. form_text (Ordinal x (ordinal_at n))) e.0 ∙ ap (λ k. form_text (Ordinal y k)) e.1)))
+day-of-form bytes (Week y w d) n h e =
+    let weekday : weekday_at n + 1 ≡ d = omega (arith, e.2, h.form.2) in
+    inr (inr (h.bytes_are ∙ sym (ap (λ x. form_text (Week x (iso_week_at n) (weekday_at n + 1))) e.0 ∙ ap (λ k. form_text (Week y k (weekday_at n + 1))) e.1 ∙ ap (λ k. form_text (Week y w k)) weekday)))
+
+-- one text, one form
+pub same_form : (a b : Form) → Some a ≡ Some b → a ≡ b
+same_form a b e = cc

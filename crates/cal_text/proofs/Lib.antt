@@ -1,0 +1,8 @@
+pub mod DigitTexts
+pub mod Options
+pub mod YearTexts
+pub mod Ranges
+pub mod FormTexts
+pub mod DayForms
+pub mod Printed
+pub mod UnixTimes

@@ -1,0 +1,4 @@
+pub mod DateForms
+pub mod Reading
+pub mod ErrorText
+pub mod Unix

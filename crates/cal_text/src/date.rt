@@ -1,0 +1,53 @@
+//! Dates in text: the three forms of ISO 8601.
+ghost use Rattle.std.specs.Prelude.{◌≡◌, ◌⊎◌, ℕ, ◌↔◌, IfOk, IfErr, IsErr, Ok};
+ghost use Rattle.cal_time.specs.Date.{IsDate};
+ghost use Rattle.cal_time.specs.Month.{month_out_of_range};
+ghost use Rattle.cal_time.specs.Refusals.{year_out_of_range, day_out_of_range, ordinal_out_of_range, week_out_of_range, weekday_out_of_range};
+ghost use Rattle.cal_text.specs.declared.form.Form.{Form};
+ghost use Rattle.cal_text.specs.DateForms.{IsDateText, HasForm};
+ghost use Rattle.cal_text.specs.Reading.{component_of, IsRefusedFor, IsRefusedForForm, IsDateReason, HasFormThat, LacksMonth, LacksYear, LacksDay, LacksOrdinal, LacksWeek, LacksWeekday};
+
+use crate::date::of_form::date_of;
+use crate::date::place::first_wrong_byte;
+use crate::error::Unreadable;
+use crate::form::form_of;
+use cal_time::Date;
+
+mod display;
+mod of_form;
+mod place;
+
+pub use display::{OrdinalText, WeekText};
+
+/// The day whose calendar date, ordinal date or week date the text is, as `2024-02-29`, `2024-060` or `2024-W09-4`.
+///
+/// Years are written as [`Date`] prints them: four digits from 0 to 9999, a plus sign and more digits above, a minus sign
+/// and four digits or more below. The weekday is from 1, Monday, to 7. Each text reads as the day that prints it, and no
+/// other text is read: no spaces, no zeros before a year of more than four digits, nothing after the date.
+///
+/// A text of another form is refused with the place of the first byte that no text of these forms has there. Years may
+/// have up to nine digits. Otherwise the first component at fault is the reason: `month`, `year` outside -999999 to 999999,
+/// `day`, `ordinal`, `week`, or `weekday` after the last day of the range.
+pub fn read(text: &[u8]) -> Result<Date, Unreadable>
+    ensures every { (n : ℕ) → IsDate n → IsDateText text.now n → result ≡ Ok n }
+    ensures has { IfOk result (λ n. IsDate n × IsDateText text.now n) }
+
+    // It is refused exactly where it is the text of no day: for its form, or for the first component at fault.
+    ensures refused { IsErr result ↔ ((n : ℕ) → IsDate n → ¬ IsDateText text.now n) }
+    ensures reason { IfErr result (λ e. IsDateReason (component_of e)) }
+    ensures form { IsRefusedForForm result ↔ ((form : Form) → ¬ HasForm text.now form) }
+    ensures month { IsRefusedFor month_out_of_range result ↔ HasFormThat LacksMonth text.now }
+    ensures year { IsRefusedFor year_out_of_range result ↔ HasFormThat LacksYear text.now }
+    ensures day { IsRefusedFor day_out_of_range result ↔ HasFormThat LacksDay text.now }
+    ensures ordinal { IsRefusedFor ordinal_out_of_range result ↔ HasFormThat LacksOrdinal text.now }
+    ensures week { IsRefusedFor week_out_of_range result ↔ HasFormThat LacksWeek text.now }
+    ensures weekday { IsRefusedFor weekday_out_of_range result ↔ HasFormThat LacksWeekday text.now }
+{
+    match form_of(text) {
+        Some(form) => match date_of(form) {
+            Ok(date) => Ok(date),
+            Err(error) => Err(Unreadable::OutOfRange(error)),
+        },
+        None => Err(Unreadable::UnexpectedByte(first_wrong_byte(text))),
+    }
+}

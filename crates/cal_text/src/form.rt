@@ -1,0 +1,16 @@
+//! The forms of a date in text.
+
+mod reading;
+
+pub(crate) use reading::form_of;
+
+/// The numbers of a date in text, which need not be those of a day.
+#[derive(Clone, Copy)]
+pub(crate) enum Form {
+    /// The year, the month and the day of the month.
+    Calendar(i32, u8, u8),
+    /// The year and the ordinal.
+    Ordinal(i32, u16),
+    /// The ISO year, the week and the number of the weekday.
+    Week(i32, u8, u8),
+}

@@ -1,0 +1,60 @@
+//! The form that a text has.
+ghost use Rattle.std.specs.Prelude.{◌≡◌, ℕ, ◌<◌, ◌≤◌, ◌^◌, ◌∷◌, ◌++◌, IfSome, IfNone, Some};
+ghost use Rattle.cal_time.specs.DateText.{digits_at_least};
+ghost use Rattle.cal_text.specs.declared.form.Form.{Form};
+ghost use Rattle.cal_text.specs.DateForms.{IsWrittenYear, year_of, rest_of, IsForm, HasForm};
+
+use crate::digits::number_of;
+use crate::form::Form;
+use crate::year::year_before_hyphen;
+
+/// The form that the text has.
+pub(crate) fn form_of(text: &[u8]) -> Option<Form>
+    ensures every { (form : Form) → HasForm text.now form → result ≡ Some form }
+    ensures has { IfSome result (HasForm text.now) }
+{
+    let (year, start) = year_before_hyphen(text)?;
+    form_after_year(year, &text[start..])
+}
+
+/// The form of the year, and of the text after it and a hyphen.
+fn form_after_year(year: i32, rest: &[u8]) -> Option<Form>
+    requires { IsWrittenYear year }
+    ensures every { (form : Form) → IsForm form → year_of form ≡ year → rest.now ≡ rest_of form → result ≡ Some form }
+    ensures has { IfSome result (λ form. IsForm form × (year_of form ≡ year) × (rest.now ≡ rest_of form)) }
+{
+    if rest.len() == 3 {
+        let ordinal = number_of(rest)?;
+        return Some(Form::Ordinal(year, ordinal as u16));
+    }
+    if rest.len() != 5 {
+        return None;
+    }
+    if rest[0] == b'W' {
+        let (week, weekday) = numbers_around_hyphen(&rest[1..], 2, 1)?;
+        return if weekday == 0 || weekday > 7 {
+            None
+        } else {
+            Some(Form::Week(year, week, weekday))
+        };
+    }
+    let (month, day) = numbers_around_hyphen(rest, 2, 2)?;
+    Some(Form::Calendar(year, month, day))
+}
+
+/// Two numbers of at most two digits each, with a hyphen between them.
+fn numbers_around_hyphen(text: &[u8], first: usize, second: usize) -> Option<(u8, u8)>
+    requires first { (1 ≤ first) × (first ≤ 2) }
+    requires second { (1 ≤ second) × (second ≤ 2) }
+    ensures every { (m n : ℕ) → m < 10 ^ first → n < 10 ^ second
+        → text.now ≡ digits_at_least first m ++ 45 ∷ digits_at_least second n → result ≡ Some (m, n) }
+    ensures has { IfSome result (λ found. (found.0 < 10 ^ first) × (found.1 < 10 ^ second)
+        × (text.now ≡ digits_at_least first found.0 ++ 45 ∷ digits_at_least second found.1)) }
+{
+    if text.len() != first + 1 + second || text[first] != b'-' {
+        return None;
+    }
+    let front = number_of(&text[..first])?;
+    let back = number_of(&text[first + 1..])?;
+    Some((front as u8, back as u8))
+}
