@@ -1,7 +1,6 @@
 pub mod Calendar
 pub mod CallersLaws
 pub mod DateIters
-pub mod DateOrder
 pub mod DateTexts
 pub mod Dates
 pub mod DistinctTexts
@@ -16,6 +15,7 @@ pub mod Neighbours
 pub mod Occurrences
 pub mod Order
 pub mod Packed
+pub mod PackedOrder
 pub mod Replacements
 pub mod Rising
 pub mod SameYear

@@ -88,8 +88,10 @@ impl Date {
     /// The year is from -999999 to 999999, and the ordinal from 1 to 365, or 366 in a leap year: the ordinal date of
     /// ISO 8601. The day with ordinal 60 of 1900 is its 1 March, and that of 2000 its 29 February.
     ///
-    /// It is refused for the first component that is out of range: `year`, unconditionally, or `ordinal`, conditionally,
-    /// as its range depends on the year.
+    /// # Refusals
+    ///
+    /// For the first component that is out of range: `year`, unconditionally, or `ordinal`, conditionally, as its range
+    /// depends on the year.
     pub fn from_ordinal_date(year: i32, ordinal: u16) -> Result<Self, ComponentRange>
         ensures every { (n : ℕ) → IsDate n → HasOrdinalDate year ordinal n → result ≡ Ok n }
         ensures has { IfOk result (λ n. IsDate n × HasOrdinalDate year ordinal n) }
@@ -113,7 +115,9 @@ impl Date {
     ///
     /// The Julian day is a whole number that rises by one from day to day: 0 is -4713-11-24, and 2451545 is 2000-01-01.
     ///
-    /// It is refused as `julian_day`, unconditionally, where no day of the range has it.
+    /// # Refusals
+    ///
+    /// As `julian_day`, unconditionally, where no day of the range has it.
     pub fn from_julian_day(julian_day: i32) -> Result<Self, ComponentRange>
         ensures every { (n : ℕ) → IsDate n → HasJulianDay julian_day n → result ≡ Ok n }
         ensures has { IfOk result (λ n. IsDate n × HasJulianDay julian_day n) }
@@ -148,7 +152,8 @@ impl Date {
         (self.packed & ORDINAL_BITS) as u16
     }
 
-    /// The year and the ordinal, as [`Self::year`] and [`Self::ordinal`] return them: the ordinal date of ISO 8601.
+    /// The year and the ordinal, as [`Self::year`] and [`Self::ordinal`] return them: the ordinal date of ISO 8601. That of
+    /// 2020-12-31 is (2020, 366).
     pub fn to_ordinal_date(self) -> (i32, u16)
         ensures date { HasOrdinalDate result.0 result.1 self }
         ensures order { (n : ℕ) → IsDate n → (n < self) ↔ IsBefore (ordinal_date_at n) (result.0 ∷ pos result.1 ∷ []) }

@@ -110,16 +110,31 @@ fn takes_4096_bytes(rt: HostRuntime) -> Result<(), Fail> {
 #[test]
 fn the_longest_answers_are_whole(rt: HostRuntime) -> Result<(), Fail> {
     let cases: [(&[u8], &[u8]); 8] = [
-        (b"julian -363520710", b"-999999 ordinal 365 julian -363520710\n"),
-        (b"ordinal -999999 365", b"-999999 ordinal 365 julian -363520710\n"),
+        (
+            b"julian -363520710",
+            b"-999999 ordinal 365 julian -363520710\n",
+        ),
+        (
+            b"ordinal -999999 365",
+            b"-999999 ordinal 365 julian -363520710\n",
+        ),
         (
             b"calendar -999999 12 31",
             b"-999999 ordinal 365 julian -363520710\n",
         ),
-        (b"iso -999998 1 1", b"-999999 ordinal 365 julian -363520710\n"),
-        (b"show -363520715", b"-999999-12-26 iso -999999 52 3 Wednesday\n"),
+        (
+            b"iso -999998 1 1",
+            b"-999999 ordinal 365 julian -363520710\n",
+        ),
+        (
+            b"show -363520715",
+            b"-999999-12-26 iso -999999 52 3 Wednesday\n",
+        ),
         (b"add -363520710 0", b"-999999-12-31\n"),
-        (b"moment -363520710 23 59 59 0", b"-999999-12-31 23:59:59.0\n"),
+        (
+            b"moment -363520710 23 59 59 0",
+            b"-999999-12-31 23:59:59.0\n",
+        ),
         (b"ordinal -999999 366", b"refused ordinal conditional\n"),
     ];
     for (input, expected) in cases {

@@ -23,8 +23,10 @@ impl Date {
     /// The year is from -999999 to 999999, and the day from 1 to the length of the month in that year: the calendar date of
     /// ISO 8601. 29 February is a day of 2000 and 2020, and none of 1900 and 2019.
     ///
-    /// It is refused for the first component that is out of range: `year`, unconditionally, or `day`, conditionally, as its
-    /// range depends on the month and the year.
+    /// # Refusals
+    ///
+    /// For the first component that is out of range: `year`, unconditionally, or `day`, conditionally, as its range depends
+    /// on the month and the year.
     pub fn from_calendar_date(year: i32, month: Month, day: u8) -> Result<Self, ComponentRange>
         ensures every { (n : ℕ) → IsDate n → HasCalendarDate year (number month) day n → result ≡ Ok n }
         ensures has { IfOk result (λ n. IsDate n × HasCalendarDate year (number month) day n) }
@@ -66,7 +68,8 @@ impl Date {
         day
     }
 
-    /// The year, the month and the day of the month: the calendar date of ISO 8601.
+    /// The year, the month and the day of the month: the calendar date of ISO 8601. That of the Julian day 2451545 is
+    /// (2000, January, 1).
     pub fn to_calendar_date(self) -> (i32, Month, u8)
         ensures date { HasCalendarDate result.0 (number result.1) result.2 self }
         ensures order { (n : ℕ) → IsDate n

@@ -21,7 +21,9 @@ impl Date {
     /// from -999999 to 999999, and the week from 1 to 52, or 53 in a year of so many Thursdays. The Friday of week 53 of 2020 is
     /// 2021-01-01, and the Monday of week 1 of 2020 is 2019-12-30.
     ///
-    /// It is refused for the first component that is out of range: `year`, unconditionally, or `week`, conditionally, as its
+    /// # Refusals
+    ///
+    /// For the first component that is out of range: `year`, unconditionally, or `week`, conditionally, as its
     /// range depends on the year, or `weekday`, conditionally, where the day would come after [`Self::MAX`]: on Saturday and
     /// Sunday of week 52 of 999999 alone.
     pub fn from_iso_week_date(year: i32, week: u8, weekday: Weekday) -> Result<Self, ComponentRange>
@@ -86,6 +88,7 @@ impl Date {
     }
 
     /// The weeks from Sunday on that have begun in the year up to the day: the Sundays of the year up to it, from 0 to 53.
+    /// That of 2019-01-01 is 0, and that of 2020-12-31 is 52.
     pub fn sunday_based_week(self) -> u8
         ensures counted { result ≡ weekdays_upto 6 self }
         ensures most { result ≤ 53 }
@@ -95,6 +98,7 @@ impl Date {
     }
 
     /// The weeks from Monday on that have begun in the year up to the day: the Mondays of the year up to it, from 0 to 53.
+    /// That of 2019-01-01 is 0, and that of 2020-12-31 is 52.
     pub fn monday_based_week(self) -> u8
         ensures counted { result ≡ weekdays_upto 0 self }
         ensures most { result ≤ 53 }

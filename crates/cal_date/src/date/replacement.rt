@@ -17,7 +17,9 @@ impl Date {
     /// The year is from -999999 to 999999. So 2022-02-18 leads to 2019-02-18, and 2024-03-01 to 2023-03-01, whose ordinal is one
     /// less.
     ///
-    /// It is refused as `year`, unconditionally, where the year is out of range, or else as `day`, conditionally, where the
+    /// # Refusals
+    ///
+    /// As `year`, unconditionally, where the year is out of range, or else as `day`, conditionally, where the
     /// month is shorter in that year: on 29 February, for a common year.
     pub fn replace_year(self, year: i32) -> Result<Self, ComponentRange>
         ensures every { (n : ℕ) → IsDate n → HasCalendarDate year (month_at self) (day_of_month_at self) n → result ≡ Ok n }
@@ -38,7 +40,7 @@ impl Date {
         Ok(Date::at_ordinal(year, ordinal))
     }
 
-    /// The day of that month that has the same year and day of the month.
+    /// The day of that month that has the same year and day of the month. So 2022-02-18 and March lead to 2022-03-18.
     ///
     /// It is refused as `day`, conditionally, where the month has no such day: 2022-01-30 leads to no day of February.
     pub fn replace_month(self, month: Month) -> Result<Self, ComponentRange>
@@ -53,7 +55,8 @@ impl Date {
         Self::from_calendar_date(self.year(), month, self.day())
     }
 
-    /// The day of the same month of the same year that has this day of the month, from 1 to the length of the month.
+    /// The day of the same month of the same year that has this day of the month, from 1 to the length of the month. So
+    /// 2022-02-18 and 1 lead to 2022-02-01.
     ///
     /// It is refused as `day`, conditionally, where the month has no such day, as 0 and 30 in February.
     pub fn replace_day(self, day: u8) -> Result<Self, ComponentRange>
@@ -68,7 +71,8 @@ impl Date {
         Self::from_calendar_date(self.year(), self.month(), day)
     }
 
-    /// The day of the same year that has this ordinal, from 1 to 365, or 366 in a leap year.
+    /// The day of the same year that has this ordinal, from 1 to 365, or 366 in a leap year. So 2022-02-18 and 1 lead to
+    /// 2022-01-01.
     ///
     /// It is refused as `ordinal`, conditionally, where the year has no such ordinal, as 366 in 2022.
     pub fn replace_ordinal(self, ordinal: u16) -> Result<Self, ComponentRange>

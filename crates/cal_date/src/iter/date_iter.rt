@@ -47,7 +47,8 @@ impl Date {
 }
 
 impl DateIter {
-    /// The walk from `start` to `end`, both included; it has no days where `start` comes after `end`.
+    /// The walk from `start` to `end`, both included; it has no days where `start` comes after `end`. From 2019-12-30 to
+    /// 2020-01-02 it gives four days.
     ///
     /// Its front day is `start`. Its back day is `end`, or none where it has no days.
     pub fn new(start: Date, end: Date) -> Self
@@ -62,7 +63,8 @@ impl DateIter {
 
     /// The day `n` places on from the front, or `None` where fewer than `n + 1` days are left.
     ///
-    /// That day and those before it are taken from the walk; after `None` no days are left. `nth(0)` is `next()`.
+    /// That day and those before it are taken from the walk; after `None` no days are left. `nth(0)` is `next()`. From
+    /// 2019-12-30 to 2020-01-02, `nth(2)` is 2020-01-01, and 2020-01-02 is left.
     pub fn nth(&mut self, n: usize) -> Option<Date>
         ensures item { result ≡ slice_get (days_of self.old) n }
         ensures left { self.new ≡ without_first (n + 1) self.old }
@@ -86,6 +88,7 @@ impl DateIter {
     /// The day `n` places back from the back, or `None` where fewer than `n + 1` days are left.
     ///
     /// That day and those after it are taken from the walk; after `None` no days are left. `nth_back(0)` is `next_back()`.
+    /// From 2019-12-30 to 2020-01-02, `nth_back(2)` is 2019-12-31, and 2019-12-30 is left.
     pub fn nth_back(&mut self, n: usize) -> Option<Date>
         ensures item { result ≡ slice_get (reverse (days_of self.old)) n }
         ensures left { self.new ≡ without_last (n + 1) self.old }

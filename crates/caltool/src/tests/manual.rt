@@ -207,7 +207,11 @@ fn date_text(alloc: Global, julian_day: i64) -> Result<String, AllocError> {
             month = at + 1;
         }
     }
-    let sign = if year < 0 { "-" } else { "" };
+    let sign = match year {
+        ..0 => "-",
+        0..=9_999 => "",
+        _ => "+",
+    };
     let digits = year.unsigned_abs();
     format!(in alloc; "{sign}{digits:04}-{month:02}-{day:02}")
 }

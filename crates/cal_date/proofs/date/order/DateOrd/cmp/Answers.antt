@@ -1,4 +1,4 @@
-use Rattle.cal_date.proofs.DateOrder.{nat_cmp-packed}
+use Rattle.cal_date.proofs.PackedOrder.{nat_cmp-packed}
 use Rattle.cal_date.proofs.date.order.DateOrd.cmp.Goals as goal
 
 pub returns : goal.returns

@@ -1,4 +1,4 @@
-use Rattle.cal_date.proofs.DateOrder.{nat_eq-packed}
+use Rattle.cal_date.proofs.PackedOrder.{nat_eq-packed}
 use Rattle.cal_date.proofs.date.order.DatePartialEq.eq.Goals as goal
 
 pub returns : goal.returns
