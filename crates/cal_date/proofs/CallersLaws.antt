@@ -1,9 +1,9 @@
 -- The laws for callers, which the crate above states.
-use Rattle.std.proofs.Common.{◌≡◌, ℕ, zero, suc, ◌+◌, ◌-◌, ◌*◌, ◌%◌, ◌<◌, ◌≤◌, refl, sym, ap, ◌∙◌, subst, arith, ℤ, Option, Some, None, if◌then◌else◌, nat_le, length, inl, inr, true, false}
+use Rattle.std.proofs.Common.{◌≡◌, ℕ, zero, suc, ◌+◌, ◌-◌, ◌*◌, ◌%◌, ◌<◌, ◌≤◌, refl, sym, ap, ◌∙◌, arith, ℤ, Option, Some, None, if◌then◌else◌, nat_le, length, inl, inr, true, false}
 use Rattle.std.specs.Prelude.{IsSome}
 use Rattle.std.proofs.lemmas.Bool.{cases_lt}
 use Rattle.std.proofs.lemmas.Bool.Decides.{nat_tests}
-use Rattle.cal_date.specs.Date.{last_day, year_at, weekday_at, IsDate, HasOrdinalDate, HasCalendarDate}
+use Rattle.cal_date.specs.Date.{last_day, weekday_at, IsDate, HasOrdinalDate, HasCalendarDate}
 use Rattle.cal_date.specs.IsoWeekDate.{HasIsoWeekDate}
 use Rattle.cal_date.specs.Occurrence.{next_occurrences, prev_occurrences, kth}
 use Rattle.cal_date.specs.DateIter.{Walk, walk, walk_between, days_of, days_between}

@@ -1,13 +1,12 @@
 -- No two days of the range print alike.
-use Rattle.std.proofs.Common.{◌≡◌, ℕ, ◌+◌, ◌/◌, ◌%◌, ◌<◌, ◌≤◌, List, [], ◌∷◌, ◌++◌, length, get_or, take, drop, append_assoc, length-append, ℤ, pos, ◌<ℤ◌, ◌≤ℤ◌, unsigned_abs, refl, sym, ap, ◌∙◌, arith, inl, inr, ◌⊎◌}
+use Rattle.std.proofs.Common.{◌≡◌, ℕ, ◌+◌, ◌/◌, ◌%◌, ◌<◌, ◌≤◌, List, [], ◌∷◌, ◌++◌, length, get_or, take, drop, append_assoc, length-append, ℤ, pos, ◌<ℤ◌, ◌≤ℤ◌, unsigned_abs, refl, sym, ap, ◌∙◌, arith, inl, inr}
 use Rattle.std.proofs.Math.Seq.{take-append_seam, drop-append_seam}
 use Rattle.std.specs.Prelude.{codes}
 use Rattle.std.proofs.lemmas.Bool.{cases_lt}
 use Rattle.std.proofs.lemmas.Int.{ints, by_lt_z}
 use Rattle.cal_units.specs.Digits.{digit, two_digits}
 use Rattle.cal_date.specs.Date.{year_at, month_at, day_of_month_at, day_at, IsDate, IsYear}
-use Rattle.cal_date.specs.CalendarDay.{CalendarDay}
-use Rattle.cal_date.specs.DateText.{digits_at_least, date_digits, sign_text, text}
+use Rattle.cal_date.specs.DateText.{digits_at_least, sign_text, text}
 use Rattle.cal_date.proofs.Dates.{in_range}
 use Rattle.cal_date.proofs.Calendar.{in_month_of, day_of_month-most, calendar_in_range}
 use Rattle.cal_date.proofs.DateTexts.{four_digits, digits_at_least-two, digits_at_least-four, digits_at_least-five, digits_at_least-six, sign_text-negative, sign_text-none, sign_text-long}

@@ -7,7 +7,7 @@ use Rattle.std.proofs.lemmas.Nat.{and_mask}
 use lib.Signed.{shr_z}
 use mir.Val.{bool_byte}
 use Rattle.cal_units.specs.Lengths.{is_leap_year, days_in_year}
-use Rattle.cal_date.specs.Date.{first_year, last_year, last_day, year_at, ordinal_at, IsYear, IsOrdinal, IsDate}
+use Rattle.cal_date.specs.Date.{year_at, ordinal_at, IsYear, IsOrdinal, IsDate}
 use Rattle.cal_date.specs.PackedDate.{packed, raised_by, leap_mark, year_of, ordinal_of, IsPacked, IsPackedDate, IsPacked-fields, fields-IsPacked, ordinal_number, number_of, HasOrdinalDate-number_of}
 use Rattle.cal_date.specs.declared.date.Date.TheInside.{Inside}
 use Rattle.cal_date.proofs.Dates.{IsDate-ordinal_number}

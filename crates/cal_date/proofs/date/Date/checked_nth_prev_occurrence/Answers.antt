@@ -1,8 +1,7 @@
-use Rattle.std.proofs.Common.{◌≡◌, ◌-◌, suc, ap, sym, ◌∙◌, arith}
+use Rattle.std.proofs.Common.{◌≡◌, ◌-◌, suc, arith}
 use Rattle.std.proofs.lemmas.Bool.Decides.{nat_tests}
 use Rattle.cal_units.specs.Weekday.{place}
 use Rattle.cal_units.specs.WeekdayCycle.{place-below}
-use Rattle.cal_date.specs.Occurrence.{prev_occurrences, kth}
 use Rattle.cal_date.proofs.Weekdays.{weekday_at-is}
 use Rattle.cal_date.proofs.Occurrences.{prev_found}
 use Rattle.cal_date.proofs.date.Date.checked_nth_prev_occurrence.Goals as goal

@@ -1,4 +1,4 @@
-use Rattle.std.proofs.Common.{◌≡◌, ◌∙◌, neg_ℤ, ap, rules, FitsSigned, to_z, of_z, w64}
+use Rattle.std.proofs.Common.{◌≡◌, ◌∙◌, neg_ℤ, rules, FitsSigned, to_z, of_z, w64}
 use Rattle.std.proofs.lemmas.Int.{to_z-of_z}
 use Rattle.cal_span.specs.SignedDuration.{whole_days}
 use Rattle.cal_date.proofs.SameYear.{moved_back_in_year, found_back}

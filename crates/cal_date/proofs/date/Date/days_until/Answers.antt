@@ -1,4 +1,4 @@
-use Rattle.std.proofs.Common.{◌≡◌, ◌∙◌, ap, sym, arith, rules, to_z, w32, FitsSigned}
+use Rattle.std.proofs.Common.{◌≡◌, ◌∙◌, ap, sym, arith, to_z, w32}
 use Rattle.cal_date.specs.Date.{year_at}
 use Rattle.cal_date.proofs.Dates.{IsYear-i32}
 use Rattle.cal_date.proofs.Neighbours.{same_year}

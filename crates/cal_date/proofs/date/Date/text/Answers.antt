@@ -1,5 +1,4 @@
-use Rattle.std.proofs.Common.{◌≡◌, ◌∙◌, ◌<◌, ◌/◌, ◌%◌, ◌++◌, drop, unsigned_abs, ap, arith, rules, to_z, of_z, w32}
-use Rattle.std.proofs.lemmas.Int.{ints}
+use Rattle.std.proofs.Common.{◌≡◌, ◌∙◌, ◌<◌, ◌/◌, ◌%◌, ◌++◌, drop, unsigned_abs, arith, rules}
 use Rattle.cal_units.specs.Digits.{two_digits}
 use Rattle.cal_units.specs.MonthCycle.{place-below}
 use Rattle.cal_date.specs.Date.{year_at, month_at, day_of_month_at}

@@ -1,4 +1,4 @@
-use Rattle.std.proofs.Common.{◌∙◌, sym, arith}
+use Rattle.std.proofs.Common.{◌∙◌, sym}
 use Rattle.cal_date.proofs.Dates.{IsYear-i32}
 use Rattle.cal_date.specs.Order.{calendar_date_at}
 use Rattle.cal_date.proofs.Order.{in_order}

@@ -1,4 +1,3 @@
-use Rattle.std.proofs.Common.{arith}
 use Rattle.cal_date.proofs.Dates.{IsYear-i32}
 use Rattle.cal_date.specs.Order.{ordinal_date_at}
 use Rattle.cal_date.proofs.Order.{in_order}
