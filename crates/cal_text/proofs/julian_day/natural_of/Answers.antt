@@ -1,4 +1,4 @@
-use Rattle.std.proofs.Common.{◌≡◌, ◌≢◌, ◌<◌, ◌∙◌, length, get_or, sym, ap, arith, inl, inr}
+use Rattle.std.proofs.Common.{◌≢◌, ◌<◌, ◌∙◌, length, get_or, sym, ap, arith, inl, inr}
 use Rattle.cal_text.proofs.DigitTexts.{below-nine}
 use Rattle.cal_text.proofs.NumberTexts.{decimal-some, decimal-few, decimal-no_zero, decimal-width, from-width}
 use Rattle.cal_text.proofs.Options.{some_also}
