@@ -131,7 +131,7 @@ digits_at_least-magnitude n small =
     }
 
 -- without zeros at the front, the width does not show
-full-width : (ds : List ℕ) (k n : ℕ) → ds ≡ replicate k 48 ++ decimal n → get_or ds 0 0 ≢ 48 → ds ≡ decimal n
+pub full-width : (ds : List ℕ) (k n : ℕ) → ds ≡ replicate k 48 ++ decimal n → get_or ds 0 0 ≢ 48 → ds ≡ decimal n
 full-width ds zero n e first = e
 full-width ds (suc k) n e first = absurd (first (ap (λ all. get_or all 0 0) e))
 

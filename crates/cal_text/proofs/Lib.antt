@@ -6,3 +6,4 @@ pub mod FormTexts
 pub mod DayForms
 pub mod Printed
 pub mod UnixTimes
+pub mod NumberTexts

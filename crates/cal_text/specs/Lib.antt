@@ -2,3 +2,4 @@ pub mod DateForms
 pub mod Reading
 pub mod ErrorText
 pub mod Unix
+pub mod JulianForm

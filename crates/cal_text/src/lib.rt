@@ -1,4 +1,4 @@
-//! Dates and moments in text: the forms of ISO 8601, read and printed.
+//! Dates in text, by the forms of ISO 8601 and by the Julian day, read and printed; and Unix times.
 //!
 //! A text reads as a day exactly where it is one of the texts that the day prints.
 #![tactic(auto)]
@@ -7,6 +7,7 @@ pub mod date;
 mod digits;
 mod error;
 mod form;
+pub mod julian_day;
 mod laws;
 mod print;
 pub mod unix;

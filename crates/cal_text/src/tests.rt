@@ -1,6 +1,7 @@
 //! Texts and their dates, from outside.
 use crate::date::{OrdinalText, WeekText, read};
-use crate::{Unreadable, unix};
+use crate::julian_day::JulianText;
+use crate::{Unreadable, julian_day, unix};
 use cal_time::{Date, Month, SignedDuration, Time, UtcOffset};
 use std::test::Fail;
 
@@ -179,7 +180,7 @@ fn texts_of_dates(rt: HostRuntime) -> Result<(), Fail> {
 fn days_printed_and_read(rt: HostRuntime) -> Result<(), Fail> {
     for first in [-363_521_074, 366_963_559 - 1460] {
         for day in 0..1461 {
-            let Ok(date) = Date::from_julian_day(first + day) else {
+            let Ok(date) = Date::from_julian_day(i32::wrapping_add(first, day)) else {
                 return Err(Fail::from("a date"));
             };
             for text in [
@@ -273,5 +274,49 @@ fn unix_times_at_the_ends(rt: HostRuntime) -> Result<(), Fail> {
     assert_eq!(rt; unix::pair_of(first, UtcOffset::UTC), None);
     assert_eq!(rt; unix::pair_of(SignedDuration::MAX, hour_east), None);
     assert_eq!(rt; unix::pair_of(SignedDuration::MIN, UtcOffset::UTC), None);
+    Ok(())
+}
+
+#[test]
+fn julian_days(rt: HostRuntime) -> Result<(), Fail> {
+    for (text, number) in [
+        ("J2460370", 2_460_370),
+        ("J0", 0),
+        ("J-1", -1),
+        ("J-363521074", -363_521_074),
+        ("J366963559", 366_963_559),
+    ] {
+        let Ok(date) = Date::from_julian_day(number) else {
+            return Err(Fail::from("a date"));
+        };
+        assert_eq!(rt; julian_day::read(text.as_bytes()), Ok(date));
+        assert_eq!(rt;
+            format!(in rt.alloc(); "{}", JulianText(date))?.as_str(),
+            text
+        );
+    }
+    for text in ["J366963560", "J-363521075", "J999999999"] {
+        match julian_day::read(text.as_bytes()) {
+            Err(Unreadable::OutOfRange(error)) => assert_eq!(rt; error.name(), "julian_day"),
+            other => assert!(rt; false, "{text}: {other:?}"),
+        }
+    }
+    for (text, place) in [
+        ("", 0),
+        ("2460370", 0),
+        ("j2460370", 0),
+        ("J", 1),
+        ("J-", 2),
+        ("J+1", 1),
+        ("J-0", 2),
+        ("J02", 2),
+        ("J-02", 2),
+        ("J24603700000", 10),
+        ("J2460370.5", 8),
+        ("J2460370 ", 8),
+    ] {
+        let wrong = Err(Unreadable::UnexpectedByte(place));
+        assert_eq!(rt; julian_day::read(text.as_bytes()), wrong, "{text}");
+    }
     Ok(())
 }
