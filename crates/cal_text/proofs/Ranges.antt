@@ -259,6 +259,7 @@ spaced (suc n) =
     ]
 
 pub iso_week_at-below : (n : ℕ) → iso_week_at n < 100
+unfolding iso_week_at
 iso_week_at-below n =
     let t = thursday_of n in
     let apart = spaced t in
@@ -266,4 +267,5 @@ iso_week_at-below n =
     omega arith
 
 pub iso_year_at-written : (n : ℕ) → IsDate n → IsWrittenYear (iso_year_at n)
+unfolding iso_year_at
 iso_year_at-written n h = year_at-written (thursday_of n) (omega arith)
