@@ -228,10 +228,15 @@ fn gives_each_day_once(days: &[Date], turns: &[bool]) -> bool {
     let mut walk = first.iter_to(*last);
     let mut left = days;
     for is_from_front in turns {
-        let (item, cut) = if *is_from_front {
-            (walk.next(), left.split_first())
+        let cut = if *is_from_front {
+            left.split_first()
         } else {
-            (walk.next_back(), left.split_last())
+            left.split_last()
+        };
+        let item = if *is_from_front {
+            walk.next()
+        } else {
+            walk.next_back()
         };
         let Some((day, rest)) = cut else {
             return false;
@@ -241,7 +246,8 @@ fn gives_each_day_once(days: &[Date], turns: &[bool]) -> bool {
         }
         left = rest;
     }
-    left.is_empty() && walk.next().is_none() && walk.next_back().is_none()
+    let (next, back) = (walk.next(), walk.next_back());
+    left.is_empty() && next.is_none() && back.is_none()
 }
 
 #[test]
