@@ -28,9 +28,11 @@ impl Date {
         // It is refused exactly where no day has it.
         ensures refused { IsErr result ↔ NoDate (HasCalendarDate year (month_at self) (day_of_month_at self)) }
         ensures reason { IfErr result (λ e. (refusal e ≡ year_out_of_range) ⊎ (refusal e ≡ day_out_of_range)) }
+        ensures in_range { IsDate self }
         ensures year { IsRefused year_out_of_range result ↔ ¬ IsYear year }
         ensures day { IsRefused day_out_of_range result ↔ IsYear year × ¬ IsDayOfMonth year (month_at self) (day_of_month_at self) }
     {
+        self.is_in_range();
         if year < MIN_YEAR || year > MAX_YEAR {
             return Err(ComponentRange::unconditional("year"));
         }
@@ -50,6 +52,7 @@ impl Date {
         // It is refused exactly where no day has it.
         ensures refused { IsErr result ↔ NoDate (HasCalendarDate (year_at self) (number month) (day_of_month_at self)) }
         ensures reason { IfErr result (λ e. refusal e ≡ day_out_of_range) }
+        ensures in_range { IsDate self }
         ensures day { IsRefused day_out_of_range result ↔ ¬ IsDayOfMonth (year_at self) (number month) (day_of_month_at self) }
     {
         Self::from_calendar_date(self.year(), month, self.day())
@@ -66,6 +69,7 @@ impl Date {
         // It is refused exactly where no day has it.
         ensures refused { IsErr result ↔ NoDate (HasCalendarDate (year_at self) (month_at self) day) }
         ensures reason { IfErr result (λ e. refusal e ≡ day_out_of_range) }
+        ensures in_range { IsDate self }
         ensures day { IsRefused day_out_of_range result ↔ ¬ IsDayOfMonth (year_at self) (month_at self) day }
     {
         Self::from_calendar_date(self.year(), self.month(), day)
@@ -82,6 +86,7 @@ impl Date {
         // It is refused exactly where no day has it.
         ensures refused { IsErr result ↔ NoDate (HasOrdinalDate (year_at self) ordinal) }
         ensures reason { IfErr result (λ e. refusal e ≡ ordinal_out_of_range) }
+        ensures in_range { IsDate self }
         ensures ordinal { IsRefused ordinal_out_of_range result ↔ ¬ IsOrdinal (year_at self) ordinal }
     {
         let (year, _) = self.to_ordinal_date();

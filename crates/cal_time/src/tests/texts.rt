@@ -1,7 +1,7 @@
 //! The texts of values, plain, padded, and for debugging.
 use crate::error::{ComponentRange, ConversionRange, InvalidVariant};
 use crate::tests::{date, offset, time};
-use crate::{Month, SignedDuration, Time, UtcOffset, Weekday};
+use crate::{Date, Month, SignedDuration, Time, UtcOffset, Weekday};
 use std::test::Fail;
 
 #[test]
@@ -12,6 +12,10 @@ fn texts_of_dates(rt: HostRuntime) -> Result<(), Fail> {
         (date(&rt, 2019, 1, 2), "2019-01-02"),
         (date(&rt, -9999, 1, 1), "-9999-01-01"),
         (date(&rt, 9999, 12, 31), "9999-12-31"),
+        (date(&rt, 10_000, 1, 1), "+10000-01-01"),
+        (date(&rt, -10_000, 1, 1), "-10000-01-01"),
+        (Date::MAX, "+999999-12-31"),
+        (Date::MIN, "-999999-01-01"),
     ] {
         assert_eq!(rt; format!(in rt.alloc(); "{date}")?.as_str(), text);
         assert_eq!(rt; format!(in rt.alloc(); "{date:?}")?.as_str(), text);
@@ -94,6 +98,9 @@ fn padded_texts(rt: HostRuntime) -> Result<(), Fail> {
     let day = date(&rt, 2019, 1, 2);
     let padded = format!(in rt.alloc(); "{day:>12}|{day:_<11}|{day:2}|")?;
     assert_eq!(rt; padded.as_str(), "  2019-01-02|2019-01-02_|2019-01-02|");
+    let five_digits = date(&rt, 10_000, 1, 1);
+    let padded = format!(in rt.alloc(); "{five_digits:>14}|{five_digits:2}|")?;
+    assert_eq!(rt; padded.as_str(), "  +10000-01-01|+10000-01-01|");
     let midnight = Time::MIDNIGHT;
     let padded = format!(in rt.alloc(); "{midnight:>11}|{midnight:_<10}|{midnight:2}|")?;
     assert_eq!(rt; padded.as_str(), "  0:00:00.0|0:00:00.0_|0:00:00.0|");
