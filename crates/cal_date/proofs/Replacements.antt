@@ -1,5 +1,5 @@
 -- The ordinals of one month and day of the month in two years.
-use Rattle.std.proofs.Common.{◌≡◌, ◌≢◌, ◌⊎◌, inl, inr, refl, sym, ap, subst, ◌∙◌, ℕ, ◌+◌, ◌-◌, ◌<◌, ◌≤◌, Bool, true, false, not, arith, ℤ, if◌then◌else◌}
+use Rattle.std.proofs.Common.{◌≡◌, ◌≢◌, ◌⊎◌, inl, inr, refl, sym, ap, subst, ◌∙◌, ℕ, ◌+◌, ◌-◌, ◌<◌, ◌≤◌, Bool, true, false, not, arith, ℤ, ◌↔◌, to_z, of_z, w32, if◌then◌else◌}
 use Rattle.std.proofs.lemmas.Bool.Decides.{nat_tests}
 use mathlib.Core.Bool.{beq}
 use Rattle.cal_units.specs.Lengths.{is_leap_year, days_in_month}
@@ -9,7 +9,7 @@ use Rattle.std.specs.Prelude.{Result, Ok, Err, IfErr}
 use Rattle.cal_date.specs.Date.{year_at, month_at, day_of_month_at, ordinal_at, IsDate, IsYear, IsOrdinal, IsDayOfMonth, HasCalendarDate}
 use Rattle.cal_date.specs.CountLaws.{days_of_months}
 use Rattle.cal_date.specs.PackedDate.{ordinal_number}
-use Rattle.cal_date.proofs.Dates.{IsDate-ordinal_number}
+use Rattle.cal_date.proofs.Dates.{IsDate-ordinal_number, IsYear-i32, in_range}
 use Rattle.cal_date.proofs.Calendar.{ordinal_in, IsInMonthOf, in_month_of, stands_at, calendar_in_range, IsOrdinal-ordinal_in}
 use Rattle.cal_date.proofs.Months.{each_month}
 
@@ -204,3 +204,17 @@ replaceable z n k f has =
 pub other_reason : {V : Type 0} (r : Result V ComponentRange) (a b : Refusal) → IfErr r (λ e. (refusal e ≡ a) ⊎ (refusal e ≡ b)) → ¬ (IsRefused a r) → IfErr r (λ e. refusal e ≡ b)
 other_reason (Ok v) a b h other = h
 other_reason (Err e) a b h other = elim h [ inl one ↦ absurd (other one) | inr is ↦ is ]
+
+-- a date keeps its year as an i32
+pub record IsYearKept (n : ℕ) (y : ℤ) : Type 0 where
+  pub year : IsYear (year_at n)
+  pub same : to_z w32 (of_z w32 y) ≡ year_at n
+
+pub year_kept : (n : ℕ) (y : ℤ) → IsDate n → y ≡ year_at n → IsYearKept n y
+year_kept n y h e =
+    let at = in_range n _ _ h (refl, refl) in
+    record { year = at.year; same = ap (λ z. to_z w32 (of_z w32 z)) e ∙ IsYear-i32 _ at.year }
+
+-- of two causes of a refusal one is left where the other is known
+pub cause_left : {R A B : Type 0} → A → R ↔ A × (¬ B) → R ↔ ¬ B
+cause_left a both = (λ r. (both.0 r).1, λ b. both.1 (a, b))
