@@ -1,5 +1,5 @@
 //! Dates.
-ghost use Rattle.std.specs.Prelude.{◌≡◌, ℕ, ◌+◌, ◌-◌, ◌<◌, ◌≤◌, pos, ◌+ℤ◌, ◌<ℤ◌, ◌≤ℤ◌, ◌↔◌, IfOk, IfErr, IsErr, SomeIff, ◌⊎◌, Ok, [], ◌∷◌};
+ghost use Rattle.std.specs.Prelude.{◌≡◌, ℕ, ◌+◌, ◌-◌, ◌<◌, ◌≤◌, pos, ◌+ℤ◌, ◌<ℤ◌, ◌≤ℤ◌, ◌↔◌, IfOk, IfErr, IsErr, IsTrue, SomeIff, ◌⊎◌, Ok, [], ◌∷◌};
 ghost use Rattle.cal_date.specs.Date.{last_day, year_at, ordinal_at, julian_day_at, IsDate, IsYear, IsOrdinal, HasOrdinalDate, HasJulianDay, NoDate};
 ghost use Rattle.cal_date.specs.Order.{IsBefore, ordinal_date_at};
 ghost use Rattle.cal_date.specs.ClosedForms.{julian_day_of, kernel_of, year_of_kernel, ordinal_of_kernel};
@@ -44,6 +44,13 @@ const ORDINAL_BITS: i32 = 511;
 
 /// The bits of a packed date that hold the leap mark and the ordinal.
 const LOW_BITS: i32 = 1023;
+
+/// Whether the year is one of the range.
+fn is_year(year: i32) -> bool
+    ensures { IsTrue result ↔ IsYear year }
+{
+    year >= MIN_YEAR && year <= MAX_YEAR
+}
 
 /// A day of the proleptic Gregorian calendar, from -999999-01-01 to 999999-12-31.
 ///
@@ -102,7 +109,7 @@ impl Date {
         ensures year { IsRefused year_out_of_range result ↔ ¬ IsYear year }
         ensures ordinal { IsRefused ordinal_out_of_range result ↔ IsYear year × ¬ IsOrdinal year ordinal }
     {
-        if year < MIN_YEAR || year > MAX_YEAR {
+        if !is_year(year) {
             return Err(ComponentRange::unconditional("year"));
         }
         if ordinal == 0 || ordinal > days_in_year(year) {

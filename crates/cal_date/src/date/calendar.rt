@@ -9,7 +9,7 @@ ghost use Rattle.cal_date.specs.Date.{year_at, month_at, day_of_month_at, ordina
 ghost use Rattle.cal_date.specs.Order.{IsBefore, calendar_date_at};
 ghost use Rattle.cal_date.specs.Refusals.{year_out_of_range, day_out_of_range};
 
-use crate::date::{Date, MAX_YEAR, MIN_YEAR};
+use crate::date::{Date, is_year};
 use crate::error::ComponentRange;
 use cal_units::util::is_leap_year;
 use cal_units::{Cycle, Month};
@@ -37,7 +37,7 @@ impl Date {
         ensures year { IsRefused year_out_of_range result ↔ ¬ IsYear year }
         ensures day { IsRefused day_out_of_range result ↔ IsYear year × ¬ IsDayOfMonth year (number month) day }
     {
-        if year < MIN_YEAR || year > MAX_YEAR {
+        if !is_year(year) {
             return Err(ComponentRange::unconditional("year"));
         }
         if day == 0 || day > month.length(year) {

@@ -9,7 +9,7 @@ ghost use Rattle.cal_date.specs.IsoWeekDate.{weekdays_upto, iso_year_at, iso_wee
 ghost use Rattle.cal_date.specs.Order.{IsBefore, iso_week_date_at};
 ghost use Rattle.cal_date.specs.Refusals.{year_out_of_range, week_out_of_range, weekday_out_of_range};
 
-use crate::date::{Date, MAX_YEAR, MIN_YEAR};
+use crate::date::{Date, MAX_YEAR, MIN_YEAR, is_year};
 use crate::error::ComponentRange;
 use cal_units::util::{days_in_year, weeks_in_year};
 use cal_units::{Cycle, Weekday};
@@ -39,7 +39,7 @@ impl Date {
             ↔ IsYear year × IsWeek year week × NoDate (HasIsoWeekDate year week (place weekday)) }
         ensures closed_form { IfOk result (IsDayByForm year week (place weekday + 1)) }
     {
-        if year < MIN_YEAR || year > MAX_YEAR {
+        if !is_year(year) {
             return Err(ComponentRange::unconditional("year"));
         }
         if !has_week(year, week) {

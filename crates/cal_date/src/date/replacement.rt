@@ -6,7 +6,7 @@ ghost use Rattle.cal_date.specs.CountLaws.{days_of_months};
 ghost use Rattle.cal_date.specs.Date.{year_at, month_at, day_of_month_at, IsDate, IsYear, IsDayOfMonth, IsOrdinal, HasCalendarDate, HasOrdinalDate, NoDate};
 ghost use Rattle.cal_date.specs.Refusals.{year_out_of_range, day_out_of_range, ordinal_out_of_range};
 
-use crate::date::{Date, MAX_YEAR, MIN_YEAR};
+use crate::date::{Date, is_year};
 use crate::error::ComponentRange;
 use cal_units::Month;
 use cal_units::util::is_leap_year;
@@ -33,7 +33,7 @@ impl Date {
         ensures day { IsRefused day_out_of_range result ↔ IsYear year × ¬ IsDayOfMonth year (month_at self) (day_of_month_at self) }
     {
         self.is_in_range();
-        if year < MIN_YEAR || year > MAX_YEAR {
+        if !is_year(year) {
             return Err(ComponentRange::unconditional("year"));
         }
         let Some(ordinal) = self.ordinal_in(year) else {

@@ -10,16 +10,16 @@ use Rattle.cal_date.specs.PackedDate.{ordinal_number}
 use Rattle.cal_date.proofs.Dates.{IsDate-ordinal_number}
 use Rattle.cal_date.proofs.Calendar.{ordinal_in, stands_at, calendar_in_range, IsOrdinal-ordinal_in, NoDate-calendar_date}
 use Rattle.cal_date.proofs.date.Date.from_calendar_date.Goals as goal
-use Rattle.cal_date.proofs.date.Date.from_calendar_date.Goals.{After-from, After-at_ordinal, then-day-eq0-via-then-day-eq0, then-day-eq0-via-else-day-eq0+then-day-length, then-year-lt-MIN_YEAR-via-then-year-lt-MIN_YEAR, then-year-lt-MIN_YEAR-via-else-year-lt-MIN_YEAR+then-year-gt-MAX_YEAR}
+use Rattle.cal_date.proofs.date.Date.from_calendar_date.Goals.{After-from, After-at_ordinal, then-day-eq0-via-then-day-eq0, then-day-eq0-via-else-day-eq0+then-day-length}
 
 no_year : (c : goal.After-unconditional) → ¬ IsYear c.args.year
-no_year c year = elim c.then-year-lt-MIN_YEAR.branch [ then-year-lt-MIN_YEAR-via-then-year-lt-MIN_YEAR w ↦ omega (arith, ints) | then-year-lt-MIN_YEAR-via-else-year-lt-MIN_YEAR+then-year-gt-MAX_YEAR w ↦ omega (arith, ints) ]
+no_year c year = let is = rw (to_z-of_z w32 _ c.ranges.year) at c.is_year.ensures in false≢true (sym c.if-not-is_year.true ∙ is.1 year)
 
-pub returns-then-year-lt-MIN_YEAR-clause-every : goal.returns-then-year-lt-MIN_YEAR-clause-every
-returns-then-year-lt-MIN_YEAR-clause-every c = λ n h has. absurd (no_year c (calendar_in_range n _ (place c.args.month) _ h has).year)
+pub returns-then-not-is_year-clause-every : goal.returns-then-not-is_year-clause-every
+returns-then-not-is_year-clause-every c = λ n h has. absurd (no_year c (calendar_in_range n _ (place c.args.month) _ h has).year)
 
-pub returns-then-year-lt-MIN_YEAR-clause-refused : goal.returns-then-year-lt-MIN_YEAR-clause-refused
-returns-then-year-lt-MIN_YEAR-clause-refused c = (λ e. NoDate-calendar_date _ (place c.args.month) _ (λ h. no_year c h.0), λ none. refl)
+pub returns-then-not-is_year-clause-refused : goal.returns-then-not-is_year-clause-refused
+returns-then-not-is_year-clause-refused c = (λ e. NoDate-calendar_date _ (place c.args.month) _ (λ h. no_year c h.0), λ none. refl)
 
 no_day : (c : goal.After-conditional) → ¬ IsDayOfMonth c.args.year (number c.args.month) c.args.day
 no_day c day =
@@ -48,7 +48,7 @@ fits c =
     let same : to_z w32 (of_z w32 c.args.year) ≡ c.args.year = to_z-of_z w32 _ c.ranges.year in
     let long = rw same at c.length.ensures.value in
     let before = rw same at c.days_before_month.ensures in
-    let year : IsYear c.args.year = (omega (arith, ints), omega (arith, ints)) in
+    let year = rw same at (c.is_year.ensures.0 c.if-not-is_year.false) in
     let day : IsDayOfMonth c.args.year (number c.args.month) c.args.day = (omega arith, omega arith) in
     record {
       same = same;

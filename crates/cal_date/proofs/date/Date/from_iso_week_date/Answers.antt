@@ -1,4 +1,4 @@
-use Rattle.std.proofs.Common.{ap, arith, refl, Ok, ◌≡◌, ◌+◌, ◌<◌, ℕ, ℤ, to_z, of_z, w32, FitsSigned, rules}
+use Rattle.std.proofs.Common.{ap, sym, ◌∙◌, arith, refl, Ok, ◌≡◌, ◌+◌, ◌<◌, ℕ, ℤ, to_z, of_z, w32, FitsSigned, rules}
 use Rattle.std.proofs.lemmas.Int.{ints, to_z-of_z}
 use Rattle.std.proofs.lemmas.Bool.{false≢true}
 use Rattle.cal_units.specs.Weekday.{place}
@@ -11,17 +11,15 @@ use Rattle.cal_date.proofs.Dates.{IsYear-i32}
 use Rattle.cal_date.proofs.IsoWeeks.{in_weeks}
 use Rattle.cal_date.proofs.IsoForms.{day_of_week, week_date_of_day, NoDate-week_date}
 use Rattle.cal_date.proofs.date.Date.from_iso_week_date.Goals as goal
-use Rattle.cal_date.proofs.date.Date.from_iso_week_date.Goals.{then-year-lt-MIN_YEAR-via-then-year-lt-MIN_YEAR, then-year-lt-MIN_YEAR-via-else-year-lt-MIN_YEAR+then-year-gt-MAX_YEAR}
 
 no_year : (c : goal.After-unconditional) → ¬ IsYear c.args.year
-no_year c year =
-    elim c.then-year-lt-MIN_YEAR.branch [ then-year-lt-MIN_YEAR-via-then-year-lt-MIN_YEAR w ↦ omega (arith, ints) | then-year-lt-MIN_YEAR-via-else-year-lt-MIN_YEAR+then-year-gt-MAX_YEAR w ↦ omega (arith, ints) ]
+no_year c year = let is = rw (to_z-of_z w32 _ c.ranges.year) at c.is_year.ensures in false≢true (sym c.if-not-is_year.true ∙ is.1 year)
 
-pub returns-then-year-lt-MIN_YEAR-clause-every : goal.returns-then-year-lt-MIN_YEAR-clause-every
-returns-then-year-lt-MIN_YEAR-clause-every c = λ n h has. absurd (no_year c (in_weeks n _ _ _ h has).year)
+pub returns-then-not-is_year-clause-every : goal.returns-then-not-is_year-clause-every
+returns-then-not-is_year-clause-every c = λ n h has. absurd (no_year c (in_weeks n _ _ _ h has).year)
 
-pub returns-then-year-lt-MIN_YEAR-clause-refused : goal.returns-then-year-lt-MIN_YEAR-clause-refused
-returns-then-year-lt-MIN_YEAR-clause-refused c = (λ e n h has. no_year c (in_weeks n _ _ _ h has).year, λ none. refl)
+pub returns-then-not-is_year-clause-refused : goal.returns-then-not-is_year-clause-refused
+returns-then-not-is_year-clause-refused c = (λ e n h has. no_year c (in_weeks n _ _ _ h has).year, λ none. refl)
 
 no_week : (c : goal.After-conditional) → ¬ IsWeek c.args.year c.args.week
 no_week c week =
@@ -59,7 +57,7 @@ fits y w weekday z o year week year_is ordinal_is =
 after : (c : goal.After-conditional-then-calendar_year-gt-MAX_YEAR) → Fits c.args.year c.args.week (place c.args.weekday) c.ordinal_date_of-calendar_year.result.0 c.ordinal_date_of-calendar_year.result.1
 after c =
     let found = c.ordinal_date_of-calendar_year.ensures in
-    fits c.args.year c.args.week c.args.weekday _ _ (omega (arith, ints), omega (arith, ints)) (c.has_week.ensures.0 c.if-not-has_week.false) found.year found.ordinal
+    fits c.args.year c.args.week c.args.weekday _ _ (rw (to_z-of_z w32 _ c.ranges.year) at (c.is_year.ensures.0 c.if-not-is_year.false)) (c.has_week.ensures.0 c.if-not-has_week.false) found.year found.ordinal
 
 no_day : (c : goal.After-conditional-then-calendar_year-gt-MAX_YEAR) → NoDate (HasIsoWeekDate c.args.year c.args.week (place c.args.weekday))
 no_day c =
@@ -87,7 +85,7 @@ record Found (c : goal.Else-calendar_year-gt-MAX_YEAR) : Type 0 where
 found : (c : goal.Else-calendar_year-gt-MAX_YEAR) → Found c
 found c =
     let made = c.ordinal_date_of-calendar_year.ensures in
-    let f = fits c.args.year c.args.week c.args.weekday _ _ (omega (arith, ints), omega (arith, ints)) (c.has_week.ensures.0 c.if-not-has_week.false) made.year made.ordinal in
+    let f = fits c.args.year c.args.week c.args.weekday _ _ (rw (to_z-of_z w32 _ c.ranges.year) at (c.is_year.ensures.0 c.if-not-is_year.false)) (c.has_week.ensures.0 c.if-not-has_week.false) made.year made.ordinal in
     let small : FitsSigned w32 c.ordinal_date_of-calendar_year.result.0 = search rules in
     let is = day_of_week c.args.year c.args.week (place c.args.weekday) f.year.0 f.week f.below in
     let late = is.late in
@@ -108,7 +106,7 @@ pub returns-clause-closed_form : goal.returns-clause-closed_form
 unfolding IsDayByForm
 returns-clause-closed_form c =
     let made = c.ordinal_date_of-calendar_year.ensures in
-    let f = fits c.args.year c.args.week c.args.weekday _ _ (omega (arith, ints), omega (arith, ints)) (c.has_week.ensures.0 c.if-not-has_week.false) made.year made.ordinal in
+    let f = fits c.args.year c.args.week c.args.weekday _ _ (rw (to_z-of_z w32 _ c.ranges.year) at (c.is_year.ensures.0 c.if-not-is_year.false)) (c.has_week.ensures.0 c.if-not-has_week.false) made.year made.ordinal in
     let small : FitsSigned w32 c.ordinal_date_of-calendar_year.result.0 = search rules in
     rw (to_z-of_z w32 _ small, f.year_is, f.ordinal_is) at c.at_ordinal.ensures.date
 
@@ -116,7 +114,7 @@ pub returns-clause-has : goal.returns-clause-has
 unfolding IsDayByForm
 returns-clause-has c =
     let made = c.ordinal_date_of-calendar_year.ensures in
-    let f = fits c.args.year c.args.week c.args.weekday _ _ (omega (arith, ints), omega (arith, ints)) (c.has_week.ensures.0 c.if-not-has_week.false) made.year made.ordinal in
+    let f = fits c.args.year c.args.week c.args.weekday _ _ (rw (to_z-of_z w32 _ c.ranges.year) at (c.is_year.ensures.0 c.if-not-is_year.false)) (c.has_week.ensures.0 c.if-not-has_week.false) made.year made.ordinal in
     (c.at_ordinal.ensures.in_range, week_date_of_day c.args.year c.args.week (place c.args.weekday) _ f.year f.week f.below (returns-clause-closed_form c))
 
 pub returns-clause-every : goal.returns-clause-every

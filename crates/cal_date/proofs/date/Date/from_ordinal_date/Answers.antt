@@ -5,16 +5,16 @@ use Rattle.cal_date.specs.Date.{IsYear, IsOrdinal}
 use Rattle.cal_date.specs.PackedDate.{HasOrdinalDate-ordinal_number}
 use Rattle.cal_date.proofs.Dates.{in_range, IsDate-ordinal_number, NoDate-ordinal_date}
 use Rattle.cal_date.proofs.date.Date.from_ordinal_date.Goals as goal
-use Rattle.cal_date.proofs.date.Date.from_ordinal_date.Goals.{Else-ordinal-days_in_year, then-ordinal-eq0-via-then-ordinal-eq0, then-ordinal-eq0-via-else-ordinal-eq0+then-ordinal-days_in_year, then-year-lt-MIN_YEAR-via-then-year-lt-MIN_YEAR, then-year-lt-MIN_YEAR-via-else-year-lt-MIN_YEAR+then-year-gt-MAX_YEAR}
+use Rattle.cal_date.proofs.date.Date.from_ordinal_date.Goals.{Else-ordinal-days_in_year, then-ordinal-eq0-via-then-ordinal-eq0, then-ordinal-eq0-via-else-ordinal-eq0+then-ordinal-days_in_year}
 
 no_year : (c : goal.After-unconditional) → ¬ IsYear c.args.year
-no_year c year = elim c.then-year-lt-MIN_YEAR.branch [ then-year-lt-MIN_YEAR-via-then-year-lt-MIN_YEAR w ↦ omega (arith, ints) | then-year-lt-MIN_YEAR-via-else-year-lt-MIN_YEAR+then-year-gt-MAX_YEAR w ↦ omega (arith, ints) ]
+no_year c year = let is = rw (to_z-of_z w32 _ c.ranges.year) at c.is_year.ensures in false≢true (sym c.if-not-is_year.true ∙ is.1 year)
 
-pub returns-then-year-lt-MIN_YEAR-clause-every : goal.returns-then-year-lt-MIN_YEAR-clause-every
-returns-then-year-lt-MIN_YEAR-clause-every c = λ n h has. absurd (no_year c (in_range n _ _ h has).year)
+pub returns-then-not-is_year-clause-every : goal.returns-then-not-is_year-clause-every
+returns-then-not-is_year-clause-every c = λ n h has. absurd (no_year c (in_range n _ _ h has).year)
 
-pub returns-then-year-lt-MIN_YEAR-clause-refused : goal.returns-then-year-lt-MIN_YEAR-clause-refused
-returns-then-year-lt-MIN_YEAR-clause-refused c = (λ e. NoDate-ordinal_date _ _ (λ h. no_year c h.0), λ none. refl)
+pub returns-then-not-is_year-clause-refused : goal.returns-then-not-is_year-clause-refused
+returns-then-not-is_year-clause-refused c = (λ e. NoDate-ordinal_date _ _ (λ h. no_year c h.0), λ none. refl)
 
 no_ordinal : (c : goal.After-conditional) → ¬ IsOrdinal c.args.year c.args.ordinal
 no_ordinal c ordinal =
@@ -40,7 +40,7 @@ fits : (c : Else-ordinal-days_in_year) → Fits c.args.year c.args.ordinal
 fits c =
     let same : to_z w32 (of_z w32 c.args.year) ≡ c.args.year = to_z-of_z w32 _ c.ranges.year in
     let long = rw same at c.days_in_year.ensures.value in
-    record { same = same; in_range = (omega (arith, ints), omega (arith, ints)); in_year = (omega arith, omega arith) }
+    record { same = same; in_range = rw same at (c.is_year.ensures.0 c.if-not-is_year.false); in_year = (omega arith, omega arith) }
 
 pub at_ordinal-requires-clause-year : goal.at_ordinal-requires-clause-year
 at_ordinal-requires-clause-year c = let f = fits c in rw f.same f.in_range

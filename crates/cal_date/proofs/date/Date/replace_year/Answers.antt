@@ -4,23 +4,23 @@ use Rattle.std.proofs.lemmas.Bool.{false≢true}
 use Rattle.cal_date.specs.Date.{IsYear, month_at, day_of_month_at, HasCalendarDate, NoDate}
 use Rattle.cal_date.proofs.Replacements.{replacement, replaceable}
 use Rattle.cal_date.proofs.date.Date.replace_year.Goals as goal
-use Rattle.cal_date.proofs.date.Date.replace_year.Goals.{After-conditional, then-year-lt-MIN_YEAR-via-then-year-lt-MIN_YEAR, then-year-lt-MIN_YEAR-via-else-year-lt-MIN_YEAR+then-year-gt-MAX_YEAR}
+use Rattle.cal_date.proofs.date.Date.replace_year.Goals.{After-conditional}
 
 no_year : (c : goal.After-unconditional) → ¬ IsYear c.args.year
-no_year c year = elim c.then-year-lt-MIN_YEAR.branch [ then-year-lt-MIN_YEAR-via-then-year-lt-MIN_YEAR w ↦ omega (arith, ints) | then-year-lt-MIN_YEAR-via-else-year-lt-MIN_YEAR+then-year-gt-MAX_YEAR w ↦ omega (arith, ints) ]
+no_year c year = let is = rw (to_z-of_z w32 _ c.ranges.year) at c.is_year.ensures in false≢true (sym c.if-not-is_year.true ∙ is.1 year)
 
-pub returns-then-year-lt-MIN_YEAR-clause-every : goal.returns-then-year-lt-MIN_YEAR-clause-every
-returns-then-year-lt-MIN_YEAR-clause-every c = λ n h has. absurd (no_year c (replaceable _ c.args.self n h has).year)
+pub returns-then-not-is_year-clause-every : goal.returns-then-not-is_year-clause-every
+returns-then-not-is_year-clause-every c = λ n h has. absurd (no_year c (replaceable _ c.args.self n h has).year)
 
-pub returns-then-year-lt-MIN_YEAR-clause-refused : goal.returns-then-year-lt-MIN_YEAR-clause-refused
-returns-then-year-lt-MIN_YEAR-clause-refused c = (λ e n h has. no_year c (replaceable _ c.args.self n h has).year, λ none. refl)
+pub returns-then-not-is_year-clause-refused : goal.returns-then-not-is_year-clause-refused
+returns-then-not-is_year-clause-refused c = (λ e n h has. no_year c (replaceable _ c.args.self n h has).year, λ none. refl)
 
 -- the ordinal that was found is that of the one day with the month and the day of the month
 pub at_ordinal-requires-clause-ordinal : goal.at_ordinal-requires-clause-ordinal
 at_ordinal-requires-clause-ordinal c =
     let same : to_z w32 (of_z w32 c.args.year) ≡ c.args.year = to_z-of_z w32 _ c.ranges.year in
     let some = rw same at c.in-Some.ensures in
-    let year : IsYear c.args.year = (omega (arith, ints), omega (arith, ints)) in
+    let year = rw same at (c.is_year.ensures.0 c.if-not-is_year.false) in
     let is = replacement c.args.year c.args.self c.in-Some.ordinal year (record { day = some.0; ordinal_is = some.1 }) in
     rw same is.ordinal
 
@@ -28,7 +28,7 @@ pub returns-clause-every : goal.returns-clause-every
 returns-clause-every c = λ n h has.
     let same : to_z w32 (of_z w32 c.args.year) ≡ c.args.year = to_z-of_z w32 _ c.ranges.year in
     let some = rw same at c.in-Some.ensures in
-    let year : IsYear c.args.year = (omega (arith, ints), omega (arith, ints)) in
+    let year = rw same at (c.is_year.ensures.0 c.if-not-is_year.false) in
     let is = replacement c.args.year c.args.self c.in-Some.ordinal year (record { day = some.0; ordinal_is = some.1 }) in
     ap Ok ((rw same at c.at_ordinal.ensures.number) ∙ sym (is.only n h has))
 
@@ -36,7 +36,7 @@ pub returns-clause-has : goal.returns-clause-has
 returns-clause-has c =
     let same : to_z w32 (of_z w32 c.args.year) ≡ c.args.year = to_z-of_z w32 _ c.ranges.year in
     let some = rw same at c.in-Some.ensures in
-    let year : IsYear c.args.year = (omega (arith, ints), omega (arith, ints)) in
+    let year = rw same at (c.is_year.ensures.0 c.if-not-is_year.false) in
     let is = replacement c.args.year c.args.self c.in-Some.ordinal year (record { day = some.0; ordinal_is = some.1 }) in
     rw (c.at_ordinal.ensures.number, same) (is.in_range, is.has)
 
@@ -44,7 +44,7 @@ pub returns-clause-refused : goal.returns-clause-refused
 returns-clause-refused c =
     let same : to_z w32 (of_z w32 c.args.year) ≡ c.args.year = to_z-of_z w32 _ c.ranges.year in
     let some = rw same at c.in-Some.ensures in
-    let year : IsYear c.args.year = (omega (arith, ints), omega (arith, ints)) in
+    let year = rw same at (c.is_year.ensures.0 c.if-not-is_year.false) in
     let is = replacement c.args.year c.args.self c.in-Some.ordinal year (record { day = some.0; ordinal_is = some.1 }) in
     (λ e. absurd (false≢true e), λ none. absurd (none _ is.in_range is.has))
 
