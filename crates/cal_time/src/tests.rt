@@ -1,6 +1,7 @@
 //! Worked values, under the names of this crate alone. Each was computed apart from the code.
 use crate::error::ComponentRange;
 use crate::{Date, Month, Time, UtcOffset};
+use std::fmt::Debug;
 use std::hash::{DefaultHasher, Hash, Hasher};
 use std::process::Abort;
 
@@ -45,8 +46,18 @@ fn offset(rt: &impl Abort, hours: i8, minutes: i8, seconds: i8) -> UtcOffset {
 
 /// Stops the test unless the error has this name and this mark.
 fn check(rt: &impl Abort, error: ComponentRange, name: &str, is_conditional: bool) {
-    assert_eq!(rt; error.name(), name);
-    assert_eq!(rt; error.is_conditional(), is_conditional, "{name}");
+    same(rt, error.name(), name);
+    same_at(rt, name, error.is_conditional(), is_conditional);
+}
+
+/// Stops the test unless the two are equal. One function for all is proved once, where `assert_eq!` is proved at each place.
+fn same<T: Copy + Debug + PartialEq>(rt: &impl Abort, found: T, wanted: T) {
+    assert!(rt; found == wanted, "{found:?} and not {wanted:?}");
+}
+
+/// The same, with the place in a table.
+fn same_at<T: Copy + Debug + PartialEq, P: Copy + Debug>(rt: &impl Abort, place: P, found: T, wanted: T) {
+    assert!(rt; found == wanted, "{found:?} and not {wanted:?} at {place:?}");
 }
 
 fn hash_of<T: Hash>(value: &T) -> u64 {

@@ -3,7 +3,6 @@
 
 mod callers;
 mod clauses;
-mod first;
 mod generic;
 mod making;
 mod moving;
@@ -17,7 +16,6 @@ mod walking;
 use std::io;
 
 fn main(rt: HostRuntime) -> io::Result<()> {
-    first::show(&rt)?;
     making::show(&rt)?;
     refusals::show(&rt)?;
     parts::show(&rt)?;

@@ -1,7 +1,7 @@
 //! Lengths of years and months, months and weekdays, and endless walks over them.
 use crate::error::InvalidVariant;
 use crate::iter::{MonthIter, WeekdayIter};
-use crate::tests::check;
+use crate::tests::{check, same, same_at};
 use crate::util::{days_in_month, days_in_year, days_in_year_month, is_leap_year, weeks_in_year};
 use crate::{Cycle, Month, Weekday, nth_in};
 
@@ -17,9 +17,9 @@ fn years_have_their_lengths(rt: HostRuntime) {
         (9999, false, 365, 52),
         (i32::MAX, false, 365, 52),
     ] {
-        assert_eq!(rt; is_leap_year(year), is_leap, "at {year}");
-        assert_eq!(rt; days_in_year(year), days, "at {year}");
-        assert_eq!(rt; weeks_in_year(year), weeks, "at {year}");
+        same_at(&rt, year, is_leap_year(year), is_leap);
+        same_at(&rt, year, days_in_year(year), days);
+        same_at(&rt, year, weeks_in_year(year), weeks);
     }
 }
 
@@ -32,9 +32,9 @@ fn months_have_their_lengths(rt: HostRuntime) {
         } else {
             *length
         };
-        assert_eq!(rt; days_in_month(month, 1900), *length);
-        assert_eq!(rt; days_in_year_month(2000, month), in_leap_year);
-        assert_eq!(rt; month.length(2020), in_leap_year);
+        same(&rt, days_in_month(month, 1900), *length);
+        same(&rt, days_in_year_month(2000, month), in_leap_year);
+        same(&rt, month.length(2020), in_leap_year);
     }
 }
 
@@ -58,9 +58,9 @@ fn months_have_numbers_and_names(rt: HostRuntime) {
         let Ok(month) = Month::try_from(number) else {
             panic!(rt; "{number} is refused");
         };
-        assert_eq!(rt; month as u8, number);
-        assert_eq!(rt; u8::from(month), number);
-        assert_eq!(rt; name.parse::<Month>(), Ok(month));
+        same(&rt, month as u8, number);
+        same(&rt, u8::from(month), number);
+        same(&rt, name.parse::<Month>(), Ok(month));
     }
     for number in [0, 13] {
         let Err(error) = Month::try_from(number) else {
@@ -68,7 +68,7 @@ fn months_have_numbers_and_names(rt: HostRuntime) {
         };
         check(&rt, error, "month", false);
     }
-    assert_eq!(rt; "march".parse::<Month>(), Err(InvalidVariant));
+    same(&rt, "march".parse::<Month>(), Err(InvalidVariant));
     assert!(rt; Month::September < Month::October);
 }
 
@@ -83,16 +83,16 @@ fn weekdays_have_numbers_and_names(rt: HostRuntime) {
         ("Saturday", Weekday::Saturday, 6, 7),
         ("Sunday", Weekday::Sunday, 7, 1),
     ] {
-        assert_eq!(rt; name.parse::<Weekday>(), Ok(weekday));
-        assert_eq!(rt; weekday.number_from_monday(), from_monday);
-        assert_eq!(rt; weekday.number_from_sunday(), from_sunday);
-        assert_eq!(rt; weekday.number_days_from_monday(), weekday as u8);
+        same(&rt, name.parse::<Weekday>(), Ok(weekday));
+        same(&rt, weekday.number_from_monday(), from_monday);
+        same(&rt, weekday.number_from_sunday(), from_sunday);
+        same(&rt, weekday.number_days_from_monday(), weekday as u8);
     }
-    assert_eq!(rt; Weekday::Monday as u8, 0);
-    assert_eq!(rt; Weekday::Sunday as u8, 6);
-    assert_eq!(rt; Weekday::Sunday.number_days_from_sunday(), 0);
-    assert_eq!(rt; Weekday::Monday.number_days_from_sunday(), 1);
-    assert_eq!(rt; "monday".parse::<Weekday>(), Err(InvalidVariant));
+    same(&rt, Weekday::Monday as u8, 0);
+    same(&rt, Weekday::Sunday as u8, 6);
+    same(&rt, Weekday::Sunday.number_days_from_sunday(), 0);
+    same(&rt, Weekday::Monday.number_days_from_sunday(), 1);
+    same(&rt, "monday".parse::<Weekday>(), Err(InvalidVariant));
 }
 
 #[test]
@@ -108,7 +108,7 @@ fn cycles_turn_both_ways(rt: HostRuntime) {
         (nth_in(Month::June, usize::MAX), Month::September),
         (Month::at(Month::May.place()), Month::May),
     ] {
-        assert_eq!(rt; month, want);
+        same(&rt, month, want);
     }
     for (weekday, want) in [
         (Weekday::Sunday.nth_next(10), Weekday::Wednesday),
@@ -118,40 +118,40 @@ fn cycles_turn_both_ways(rt: HostRuntime) {
         (Weekday::Monday.previous(), Weekday::Sunday),
         (Weekday::at(6), Weekday::Sunday),
     ] {
-        assert_eq!(rt; weekday, want);
+        same(&rt, weekday, want);
     }
-    assert_eq!(rt; (Month::LENGTH, Weekday::LENGTH), (12, 7));
+    same(&rt, (Month::LENGTH, Weekday::LENGTH), (12, 7));
 }
 
 #[test]
 fn walks_go_on_without_end(rt: HostRuntime) {
     let mut walk = MonthIter::new(Month::June);
-    assert_eq!(rt; walk.nth(usize::MAX), Some(Month::September));
-    assert_eq!(rt; walk.next(), Some(Month::October));
-    assert_eq!(rt; walk.size_hint(), (usize::MAX, None));
+    same(&rt, walk.nth(usize::MAX), Some(Month::September));
+    same(&rt, walk.next(), Some(Month::October));
+    same(&rt, walk.size_hint(), (usize::MAX, None));
     assert!(rt; walk.clone() == walk);
 
     // Turned round, a walk that was moved begins where it stands.
     let mut back = walk.rev();
-    assert_eq!(rt; back.next(), Some(Month::November));
-    assert_eq!(rt; back.nth(10), Some(Month::December));
-    assert_eq!(rt; back.size_hint(), (usize::MAX, None));
+    same(&rt, back.next(), Some(Month::November));
+    same(&rt, back.nth(10), Some(Month::December));
+    same(&rt, back.size_hint(), (usize::MAX, None));
     assert!(rt; back.clone() == back);
     let mut walk = Weekday::iter_from(Weekday::Sunday);
-    assert_eq!(rt; walk.nth(7), Some(Weekday::Sunday));
-    assert_eq!(rt; walk.next(), Some(Weekday::Monday));
+    same(&rt, walk.nth(7), Some(Weekday::Sunday));
+    same(&rt, walk.next(), Some(Weekday::Monday));
 }
 
 #[test]
 fn walks_over_the_months_have_bounds(rt: HostRuntime) {
     let (first, last) = (Some(Month::January), Some(Month::December));
     let walk = MonthIter::new(Month::June);
-    assert_eq!(rt; walk.clone().min(), first);
-    assert_eq!(rt; walk.clone().max(), last);
+    same(&rt, walk.clone().min(), first);
+    same(&rt, walk.clone().max(), last);
     assert!(rt; !walk.clone().is_sorted());
     let back = walk.rev();
-    assert_eq!(rt; back.clone().min(), first);
-    assert_eq!(rt; back.clone().max(), last);
+    same(&rt, back.clone().min(), first);
+    same(&rt, back.clone().max(), last);
     assert!(rt; !back.is_sorted());
 }
 
@@ -164,14 +164,14 @@ fn months_are_asked_up_to_the_deciding_answer(rt: HostRuntime) {
         questions = questions.wrapping_add(1);
         (month as u8) < 5
     });
-    assert_eq!(rt; (all, questions), (false, 5));
+    same(&rt, (all, questions), (false, 5));
     let mut questions = 0u8;
     let any = walk.any_once(|month| {
         questions = questions.wrapping_add(1);
         (month as u8) >= 5
     });
-    assert_eq!(rt; (any, questions), (true, 5));
-    assert_eq!(rt; walk.next(), Some(Month::June));
+    same(&rt, (any, questions), (true, 5));
+    same(&rt, walk.next(), Some(Month::June));
 }
 
 #[test]
@@ -182,14 +182,14 @@ fn months_turned_round_are_asked_forwards_too(rt: HostRuntime) {
         questions = questions.wrapping_add(1);
         (month as u8) < 5
     });
-    assert_eq!(rt; (all, questions), (false, 5));
+    same(&rt, (all, questions), (false, 5));
     let mut questions = 0u8;
     let any = walk.any_once(|month| {
         questions = questions.wrapping_add(1);
         (month as u8) >= 5
     });
-    assert_eq!(rt; (any, questions), (true, 5));
-    assert_eq!(rt; walk.next(), Some(Month::June));
+    same(&rt, (any, questions), (true, 5));
+    same(&rt, walk.next(), Some(Month::June));
 }
 
 #[test]
@@ -200,14 +200,14 @@ fn weekdays_are_asked_up_to_the_deciding_answer(rt: HostRuntime) {
         questions = questions.wrapping_add(1);
         weekday == Weekday::Tuesday
     });
-    assert_eq!(rt; (any, questions), (true, 2));
+    same(&rt, (any, questions), (true, 2));
     let mut questions = 0u8;
     let all = walk.all_once(|weekday| {
         questions = questions.wrapping_add(1);
         weekday != Weekday::Tuesday
     });
-    assert_eq!(rt; (all, questions), (false, 2));
-    assert_eq!(rt; walk.next(), Some(Weekday::Friday));
+    same(&rt, (all, questions), (false, 2));
+    same(&rt, walk.next(), Some(Weekday::Friday));
 }
 
 #[test]
@@ -218,12 +218,12 @@ fn weekdays_turned_round_are_asked_forwards_too(rt: HostRuntime) {
         questions = questions.wrapping_add(1);
         weekday == Weekday::Tuesday
     });
-    assert_eq!(rt; (any, questions), (true, 2));
+    same(&rt, (any, questions), (true, 2));
     let mut questions = 0u8;
     let all = walk.all_once(|weekday| {
         questions = questions.wrapping_add(1);
         weekday != Weekday::Tuesday
     });
-    assert_eq!(rt; (all, questions), (false, 2));
-    assert_eq!(rt; walk.next(), Some(Weekday::Friday));
+    same(&rt, (all, questions), (false, 2));
+    same(&rt, walk.next(), Some(Weekday::Friday));
 }

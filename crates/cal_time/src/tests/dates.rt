@@ -1,6 +1,6 @@
 //! Dates in their four forms, their parts and their neighbours.
 use crate::tests::range::{DAYS, FIRST_JULIAN_DAY, FIRST_YEAR, LAST_JULIAN_DAY, LAST_YEAR};
-use crate::tests::{check, date};
+use crate::tests::{check, date, same, same_at};
 use crate::{Date, Month, Weekday};
 
 #[test]
@@ -23,35 +23,35 @@ fn days_have_julian_days_calendar_and_ordinal_dates(rt: HostRuntime) {
         let Ok(found) = Date::from_julian_day(julian_day) else {
             panic!(rt; "{julian_day} is refused");
         };
-        let Ok(same) = Date::from_ordinal_date(year, ordinal) else {
+        let Ok(by_ordinal) = Date::from_ordinal_date(year, ordinal) else {
             panic!(rt; "{year} {ordinal} is refused");
         };
-        assert_eq!(rt; found, date(&rt, year, month, day), "at {julian_day}");
-        assert_eq!(rt; found, same, "at {julian_day}");
-        assert_eq!(rt; found.to_julian_day(), julian_day);
-        assert_eq!(rt; found.to_ordinal_date(), (year, ordinal));
-        assert_eq!(rt; found.weekday(), weekday, "at {julian_day}");
+        same_at(&rt, julian_day, found, date(&rt, year, month, day));
+        same_at(&rt, julian_day, found, by_ordinal);
+        same(&rt, found.to_julian_day(), julian_day);
+        same(&rt, found.to_ordinal_date(), (year, ordinal));
+        same_at(&rt, julian_day, found.weekday(), weekday);
     }
 }
 
 #[test]
 fn the_ends_of_the_range(rt: HostRuntime) {
-    assert_eq!(rt; Date::MIN, date(&rt, FIRST_YEAR, 1, 1));
-    assert_eq!(rt; Date::MAX, date(&rt, LAST_YEAR, 12, 31));
-    assert_eq!(rt; Date::MIN.to_julian_day(), FIRST_JULIAN_DAY);
-    assert_eq!(rt; Date::MAX.to_julian_day(), LAST_JULIAN_DAY);
+    same(&rt, Date::MIN, date(&rt, FIRST_YEAR, 1, 1));
+    same(&rt, Date::MAX, date(&rt, LAST_YEAR, 12, 31));
+    same(&rt, Date::MIN.to_julian_day(), FIRST_JULIAN_DAY);
+    same(&rt, Date::MAX.to_julian_day(), LAST_JULIAN_DAY);
     let (first, last) = (i64::from(FIRST_JULIAN_DAY), i64::from(LAST_JULIAN_DAY));
-    assert_eq!(rt; last - first + 1, DAYS);
+    same(&rt, last - first + 1, DAYS);
 }
 
 #[test]
 fn parts(rt: HostRuntime) {
     let leap_day = date(&rt, 2000, 2, 29);
-    assert_eq!(rt; leap_day.year(), 2000);
-    assert_eq!(rt; leap_day.month(), Month::February);
-    assert_eq!(rt; leap_day.day(), 29);
-    assert_eq!(rt; leap_day.ordinal(), 60);
-    assert_eq!(rt; leap_day.to_calendar_date(), (2000, Month::February, 29));
+    same(&rt, leap_day.year(), 2000);
+    same(&rt, leap_day.month(), Month::February);
+    same(&rt, leap_day.day(), 29);
+    same(&rt, leap_day.ordinal(), 60);
+    same(&rt, leap_day.to_calendar_date(), (2000, Month::February, 29));
 }
 
 #[test]
@@ -68,17 +68,13 @@ fn days_have_iso_week_dates(rt: HostRuntime) {
         ((LAST_YEAR, 12, 31), 365, (LAST_YEAR, 52, Weekday::Friday)),
     ] {
         let date = date(&rt, year, month, day);
-        assert_eq!(rt; date.to_ordinal_date(), (year, ordinal));
-        let Ok(same) = Date::from_iso_week_date(iso_year, week, weekday) else {
+        same(&rt, date.to_ordinal_date(), (year, ordinal));
+        let Ok(by_week) = Date::from_iso_week_date(iso_year, week, weekday) else {
             panic!(rt; "{iso_year} {week} {weekday} is refused");
         };
-        assert_eq!(rt; same, date, "{iso_year} {week} {weekday}");
-        assert_eq!(rt;
-            date.to_iso_week_date(),
-            (iso_year, week, weekday),
-            "{date}"
-        );
-        assert_eq!(rt; date.iso_week(), week, "{date}");
+        same_at(&rt, (iso_year, week, weekday), by_week, date);
+        same_at(&rt, date, date.to_iso_week_date(), (iso_year, week, weekday));
+        same_at(&rt, date, date.iso_week(), week);
     }
 }
 
@@ -86,11 +82,7 @@ fn days_have_iso_week_dates(rt: HostRuntime) {
 fn weeks_of_the_year_from_sunday_and_from_monday_on(rt: HostRuntime) {
     for ((year, month, day), weeks) in [((2019, 1, 1), (0, 0)), ((2020, 12, 31), (52, 52))] {
         let date = date(&rt, year, month, day);
-        assert_eq!(rt;
-            (date.sunday_based_week(), date.monday_based_week()),
-            weeks,
-            "{date}"
-        );
+        same_at(&rt, date, (date.sunday_based_week(), date.monday_based_week()), weeks);
     }
 }
 
@@ -104,11 +96,11 @@ fn neighbours(rt: HostRuntime) {
     ] {
         let day = date(&rt, year, month, day);
         let next = date(&rt, next_year, next_month, next_day);
-        assert_eq!(rt; day.next_day(), Some(next));
-        assert_eq!(rt; next.previous_day(), Some(day));
+        same(&rt, day.next_day(), Some(next));
+        same(&rt, next.previous_day(), Some(day));
     }
-    assert_eq!(rt; Date::MAX.next_day(), None);
-    assert_eq!(rt; Date::MIN.previous_day(), None);
+    same(&rt, Date::MAX.next_day(), None);
+    same(&rt, Date::MIN.previous_day(), None);
 }
 
 #[test]

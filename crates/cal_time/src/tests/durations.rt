@@ -1,4 +1,5 @@
 //! Durations: making, parts, and exact arithmetic.
+use crate::tests::same;
 use crate::{Counted, SignedDuration, extent, is_rising};
 use std::test::Fail;
 
@@ -21,10 +22,10 @@ fn units_and_limits(rt: HostRuntime) {
         (SignedDuration::MIN, -9_223_372_036_854_775_808_999_999_999),
         (SignedDuration::MAX, 9_223_372_036_854_775_807_999_999_999),
     ] {
-        assert_eq!(rt; duration.whole_nanoseconds(), nanoseconds);
-        assert_eq!(rt; duration.number(), nanoseconds);
+        same(&rt, duration.whole_nanoseconds(), nanoseconds);
+        same(&rt, duration.number(), nanoseconds);
     }
-    assert_eq!(rt; SignedDuration::default(), SignedDuration::ZERO);
+    same(&rt, SignedDuration::default(), SignedDuration::ZERO);
 }
 
 #[test]
@@ -59,7 +60,7 @@ fn making(rt: HostRuntime) {
             (i64::MAX, 999_999_999),
         ),
     ] {
-        assert_eq!(rt; fields(duration), parts);
+        same(&rt, fields(duration), parts);
     }
 }
 
@@ -100,46 +101,36 @@ fn making_at_the_limits(rt: HostRuntime) {
         ),
         (SignedDuration::seconds(i64::MIN), i64::MIN),
     ] {
-        assert_eq!(rt; fields(duration), (seconds, 0));
+        same(&rt, fields(duration), (seconds, 0));
     }
 }
 
 #[test]
 fn parts(rt: HostRuntime) {
     let less_than_a_second = SignedDuration::new(-1, 1);
-    assert_eq!(rt; less_than_a_second.subsec_milliseconds(), -999);
-    assert_eq!(rt; less_than_a_second.subsec_microseconds(), -999_999);
-    assert_eq!(rt; SignedDuration::days(-6).whole_weeks(), 0);
+    same(&rt, less_than_a_second.subsec_milliseconds(), -999);
+    same(&rt, less_than_a_second.subsec_microseconds(), -999_999);
+    same(&rt, SignedDuration::days(-6).whole_weeks(), 0);
     let duration = SignedDuration::new(-694_861, -1_002_003);
-    assert_eq!(rt; duration.whole_weeks(), -1);
-    assert_eq!(rt; duration.whole_days(), -8);
-    assert_eq!(rt; duration.whole_hours(), -193);
-    assert_eq!(rt; duration.whole_minutes(), -11_581);
-    assert_eq!(rt; duration.whole_milliseconds(), -694_861_001);
-    assert_eq!(rt; duration.whole_microseconds(), -694_861_001_002);
+    same(&rt, duration.whole_weeks(), -1);
+    same(&rt, duration.whole_days(), -8);
+    same(&rt, duration.whole_hours(), -193);
+    same(&rt, duration.whole_minutes(), -11_581);
+    same(&rt, duration.whole_milliseconds(), -694_861_001);
+    same(&rt, duration.whole_microseconds(), -694_861_001_002);
 }
 
 #[test]
 fn signs_and_magnitudes(rt: HostRuntime) {
     let (min, max) = (SignedDuration::MIN, SignedDuration::MAX);
-    assert_eq!(rt;
-        min.unsigned_abs(),
-        (9_223_372_036_854_775_808, 999_999_999)
-    );
-    assert_eq!(rt; min.abs(), max);
+    same(&rt, min.unsigned_abs(), (9_223_372_036_854_775_808, 999_999_999));
+    same(&rt, min.abs(), max);
     for (duration, signs) in [
         (SignedDuration::ZERO, (true, false, false)),
         (SignedDuration::nanoseconds(-1), (false, true, false)),
         (SignedDuration::NANOSECOND, (false, false, true)),
     ] {
-        assert_eq!(rt;
-            (
-                duration.is_zero(),
-                duration.is_negative(),
-                duration.is_positive()
-            ),
-            signs
-        );
+        same(&rt, ( duration.is_zero(), duration.is_negative(), duration.is_positive() ), signs);
     }
 }
 
@@ -151,15 +142,15 @@ fn slices_of_durations(rt: HostRuntime) -> Result<(), Fail> {
         SignedDuration::SECOND,
     );
     let none: [SignedDuration; 0] = [];
-    assert_eq!(rt; extent(&[second, min, zero]), Some((min, second)));
-    assert_eq!(rt; extent(&none), None);
+    same(&rt, extent(&[second, min, zero]), Some((min, second)));
+    same(&rt, extent(&none), None);
     assert!(rt; !is_rising(&[min, zero, zero]));
     assert!(rt; is_rising(&none));
     let (max, one) = (SignedDuration::MAX, SignedDuration::NANOSECOND);
     let less_one = SignedDuration::nanoseconds(-1);
-    assert_eq!(rt; SignedDuration::try_sum(&[max, one, less_one]), None);
-    assert_eq!(rt; SignedDuration::try_sum(&[max, less_one, one]), Some(max));
-    assert_eq!(rt; SignedDuration::try_sum(&none), Some(zero));
+    same(&rt, SignedDuration::try_sum(&[max, one, less_one]), None);
+    same(&rt, SignedDuration::try_sum(&[max, less_one, one]), Some(max));
+    same(&rt, SignedDuration::try_sum(&none), Some(zero));
     Ok(())
 }
 
@@ -172,33 +163,30 @@ fn sums_and_differences(rt: HostRuntime) {
     );
     let (one, less_one) = (SignedDuration::NANOSECOND, SignedDuration::nanoseconds(-1));
     let least_seconds = SignedDuration::seconds(i64::MIN);
-    assert_eq!(rt; max.checked_add(min), Some(SignedDuration::seconds(-1)));
-    assert_eq!(rt; max.checked_add(one), None);
-    assert_eq!(rt; less_one.checked_sub(least_seconds), Some(max));
-    assert_eq!(rt; min.checked_sub(one), None);
-    assert_eq!(rt; zero.saturating_sub(min), max);
-    assert_eq!(rt; max.saturating_add(one), max);
-    assert_eq!(rt; min.checked_neg(), None);
-    assert_eq!(rt;
-        max.checked_neg().map(fields),
-        Some((-9_223_372_036_854_775_807, -999_999_999))
-    );
-    assert_eq!(rt; less_one - least_seconds, max);
-    assert_eq!(rt; fields(SignedDuration::SECOND + one), (1, 1));
-    assert_eq!(rt; fields(-one), (0, -1));
+    same(&rt, max.checked_add(min), Some(SignedDuration::seconds(-1)));
+    same(&rt, max.checked_add(one), None);
+    same(&rt, less_one.checked_sub(least_seconds), Some(max));
+    same(&rt, min.checked_sub(one), None);
+    same(&rt, zero.saturating_sub(min), max);
+    same(&rt, max.saturating_add(one), max);
+    same(&rt, min.checked_neg(), None);
+    same(&rt, max.checked_neg().map(fields), Some((-9_223_372_036_854_775_807, -999_999_999)));
+    same(&rt, less_one - least_seconds, max);
+    same(&rt, fields(SignedDuration::SECOND + one), (1, 1));
+    same(&rt, fields(-one), (0, -1));
 }
 
 #[test]
 fn products_and_quotients(rt: HostRuntime) {
     let (min, max) = (SignedDuration::MIN, SignedDuration::MAX);
     let two_seconds = SignedDuration::seconds(2);
-    assert_eq!(rt; two_seconds.checked_mul(-3).map(fields), Some((-6, 0)));
-    assert_eq!(rt; two_seconds.saturating_mul(3), SignedDuration::seconds(6));
+    same(&rt, two_seconds.checked_mul(-3).map(fields), Some((-6, 0)));
+    same(&rt, two_seconds.saturating_mul(3), SignedDuration::seconds(6));
     let third = SignedDuration::new(-3_074_457_345_618_258_602, -999_999_999);
-    assert_eq!(rt; third.checked_mul(-3), None);
-    assert_eq!(rt; third.saturating_mul(-3), max);
-    assert_eq!(rt; min.saturating_mul(-2), max);
-    assert_eq!(rt; max.saturating_mul(-2), min);
+    same(&rt, third.checked_mul(-3), None);
+    same(&rt, third.saturating_mul(-3), max);
+    same(&rt, min.saturating_mul(-2), max);
+    same(&rt, max.saturating_mul(-2), min);
     for (duration, divisor, quotient) in [
         (
             SignedDuration::new(-7, -500_000_000),
@@ -210,7 +198,7 @@ fn products_and_quotients(rt: HostRuntime) {
         (SignedDuration::seconds(1), 0, None),
         (SignedDuration::seconds(i64::MIN), -1, None),
     ] {
-        assert_eq!(rt; duration.checked_div(divisor).map(fields), quotient);
+        same(&rt, duration.checked_div(divisor).map(fields), quotient);
     }
 }
 
@@ -231,7 +219,7 @@ fn products_and_quotients_by_operands_of_each_type(rt: HostRuntime) {
         (second / 50_000u16, (0, 20_000)),
         (second / 4_000_000_000u32, (0, 0)),
     ] {
-        assert_eq!(rt; fields(duration), parts);
+        same(&rt, fields(duration), parts);
     }
 }
 
@@ -240,19 +228,19 @@ fn assigning_operators(rt: HostRuntime) {
     let mut duration = SignedDuration::SECOND;
     duration += SignedDuration::MINUTE;
     duration -= SignedDuration::SECOND;
-    assert_eq!(rt; duration, SignedDuration::MINUTE);
+    same(&rt, duration, SignedDuration::MINUTE);
     duration *= 2i8;
     duration *= 3i16;
     duration *= 5i32;
     duration *= 200u8;
     duration *= 7u16;
     duration *= 11u32;
-    assert_eq!(rt; fields(duration), (27_720_000, 0));
+    same(&rt, fields(duration), (27_720_000, 0));
     duration /= 2i8;
     duration /= 3i16;
     duration /= 5i32;
     duration /= 200u8;
     duration /= 7u16;
     duration /= 11u32;
-    assert_eq!(rt; duration, SignedDuration::MINUTE);
+    same(&rt, duration, SignedDuration::MINUTE);
 }

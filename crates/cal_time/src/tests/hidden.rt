@@ -5,7 +5,7 @@ ghost use Rattle.std.specs.Prelude.{◌<◌};
 
 use crate::error::{ComponentRange, InvalidVariant};
 use crate::iter::{DateIter, MonthIter, WeekdayIter};
-use crate::tests::{date, hash_of, offset, time};
+use crate::tests::{date, hash_of, offset, same, time};
 use crate::{Counted, Cycle, Date, Month, SignedDuration, Time, UtcOffset, Weekday};
 use std::alloc::AllocError;
 use std::cmp::Ordering;
@@ -120,9 +120,9 @@ fn walks(rt: HostRuntime) {
     let (first, last) = (date(&rt, 2019, 12, 30), date(&rt, 2020, 1, 2));
     let (mut by_name, mut by_bound) = (DateIter::new(first, last), DateIter::new(first, last));
     for _ in 0..3 {
-        assert_eq!(rt; by_name.size_hint(), size_hint(&by_bound));
-        assert_eq!(rt; by_name.next(), next(&mut by_bound));
-        assert_eq!(rt; by_name.next_back(), next_back(&mut by_bound));
+        same(&rt, by_name.size_hint(), size_hint(&by_bound));
+        same(&rt, by_name.next(), next(&mut by_bound));
+        same(&rt, by_name.next_back(), next_back(&mut by_bound));
         assert!(rt; by_name == by_bound);
     }
 }
@@ -130,16 +130,16 @@ fn walks(rt: HostRuntime) {
 #[test]
 fn endless_walks(rt: HostRuntime) {
     let (mut by_name, mut by_bound) = (MonthIter::new(Month::June), MonthIter::new(Month::June));
-    assert_eq!(rt; by_name.size_hint(), size_hint(&by_bound));
-    assert_eq!(rt; by_name.next(), next(&mut by_bound));
+    same(&rt, by_name.size_hint(), size_hint(&by_bound));
+    same(&rt, by_name.next(), next(&mut by_bound));
     assert!(rt; by_name == by_bound);
     let start = Weekday::Friday;
     let (mut by_name, mut by_bound) = (
         WeekdayIter::new(start).rev(),
         WeekdayIter::new(start).rev(),
     );
-    assert_eq!(rt; by_name.size_hint(), size_hint(&by_bound));
-    assert_eq!(rt; by_name.next(), next(&mut by_bound));
+    same(&rt, by_name.size_hint(), size_hint(&by_bound));
+    same(&rt, by_name.next(), next(&mut by_bound));
     assert!(rt; by_name == by_bound);
 }
 
@@ -170,52 +170,52 @@ fn comparisons(rt: HostRuntime) {
 fn equality_and_clones(rt: HostRuntime) -> Result<(), Fail> {
     let (friday, sunday) = (Weekday::Friday, Weekday::Sunday);
     for (a, b) in [(friday, sunday), (friday, friday)] {
-        assert_eq!(rt; [a.eq(&b), a.ne(&b)], is_equal(&a, &b));
+        same(&rt, [a.eq(&b), a.ne(&b)], is_equal(&a, &b));
     }
     let (day, year) = (
         ComponentRange::conditional("day"),
         ComponentRange::unconditional("year"),
     );
     for (a, b) in [(day, year), (day, day)] {
-        assert_eq!(rt; [a.eq(&b), a.ne(&b)], is_equal(&a, &b));
+        same(&rt, [a.eq(&b), a.ne(&b)], is_equal(&a, &b));
     }
-    assert_eq!(rt; InvalidVariant.eq(&InvalidVariant), true);
-    assert_eq!(rt; Date::MAX.clone()?, cloned(&Date::MAX)?);
-    assert_eq!(rt; Time::MAX.clone()?, cloned(&Time::MAX)?);
-    assert_eq!(rt; SignedDuration::MAX.clone()?, cloned(&SignedDuration::MAX)?);
+    same(&rt, InvalidVariant.eq(&InvalidVariant), true);
+    same(&rt, Date::MAX.clone()?, cloned(&Date::MAX)?);
+    same(&rt, Time::MAX.clone()?, cloned(&Time::MAX)?);
+    same(&rt, SignedDuration::MAX.clone()?, cloned(&SignedDuration::MAX)?);
     let west = offset(&rt, -5, -30, 0);
-    assert_eq!(rt; west.clone()?, cloned(&west)?);
-    assert_eq!(rt; Month::May.clone()?, cloned(&Month::May)?);
-    assert_eq!(rt; friday.clone()?, cloned(&friday)?);
-    assert_eq!(rt; day.clone()?, cloned(&day)?);
+    same(&rt, west.clone()?, cloned(&west)?);
+    same(&rt, Month::May.clone()?, cloned(&Month::May)?);
+    same(&rt, friday.clone()?, cloned(&friday)?);
+    same(&rt, day.clone()?, cloned(&day)?);
     Ok(())
 }
 
 #[test]
 fn numbers_and_places(rt: HostRuntime) {
     let west = offset(&rt, -5, -30, 0);
-    assert_eq!(rt; Date::MAX.number(), number(Date::MAX));
-    assert_eq!(rt; Time::MAX.number(), number(Time::MAX));
-    assert_eq!(rt; SignedDuration::MAX.number(), number(SignedDuration::MAX));
-    assert_eq!(rt; west.number(), number(west));
-    assert_eq!(rt; Month::May.place(), place(Month::May));
-    assert_eq!(rt; Weekday::Friday.place(), place(Weekday::Friday));
+    same(&rt, Date::MAX.number(), number(Date::MAX));
+    same(&rt, Time::MAX.number(), number(Time::MAX));
+    same(&rt, SignedDuration::MAX.number(), number(SignedDuration::MAX));
+    same(&rt, west.number(), number(west));
+    same(&rt, Month::May.place(), place(Month::May));
+    same(&rt, Weekday::Friday.place(), place(Weekday::Friday));
     for place in 0..7 {
-        assert_eq!(rt; Month::at(place), at(place));
-        assert_eq!(rt; Weekday::at(place), at(place));
+        same(&rt, Month::at(place), at(place));
+        same(&rt, Weekday::at(place), at(place));
     }
 }
 
 #[test]
 fn conversions(rt: HostRuntime) {
     for text in ["May", "Friday", ""] {
-        assert_eq!(rt; Month::from_str(text), read(text));
-        assert_eq!(rt; Weekday::from_str(text), read(text));
+        same(&rt, Month::from_str(text), read(text));
+        same(&rt, Weekday::from_str(text), read(text));
     }
     for number in [0, 5, 13] {
-        assert_eq!(rt; Month::try_from(number), made(number));
+        same(&rt, Month::try_from(number), made(number));
     }
-    assert_eq!(rt; SignedDuration::default(), default());
+    same(&rt, SignedDuration::default(), default());
 }
 
 /// The days so much later and so much earlier, by name and through the bounds, where both are there.
@@ -232,28 +232,25 @@ fn moved(date: Date, duration: SignedDuration) -> Option<[(Date, Date); 2]> {
 fn operators_of_dates(rt: HostRuntime) {
     let day = date(&rt, 2020, 1, 2);
     let (next, before) = (date(&rt, 2020, 1, 3), date(&rt, 2020, 1, 1));
-    assert_eq!(rt;
-        moved(day, SignedDuration::DAY),
-        Some([(next, next), (before, before)])
-    );
-    assert_eq!(rt; day.sub(Date::MIN), difference(day, Date::MIN));
+    same(&rt, moved(day, SignedDuration::DAY), Some([(next, next), (before, before)]));
+    same(&rt, day.sub(Date::MIN), difference(day, Date::MIN));
 }
 
 #[test]
 fn operators(rt: HostRuntime) {
     let (noon, second) = (time(&rt, 12, 0, 0, 0), SignedDuration::SECOND);
     let west = offset(&rt, -5, -30, 0);
-    assert_eq!(rt; noon.add(second), sum(noon, second));
-    assert_eq!(rt; noon.sub(second), difference(noon, second));
-    assert_eq!(rt; noon.sub(Time::MAX), difference(noon, Time::MAX));
-    assert_eq!(rt; second.add(second), sum(second, second));
-    assert_eq!(rt; second.sub(second), difference(second, second));
-    assert_eq!(rt; second.neg(), opposite(second));
-    assert_eq!(rt; second.mul(3i32), product(second, 3i32));
-    assert_eq!(rt; second.div(3u8), quotient(second, 3u8));
-    assert_eq!(rt; west.neg(), opposite(west));
+    same(&rt, noon.add(second), sum(noon, second));
+    same(&rt, noon.sub(second), difference(noon, second));
+    same(&rt, noon.sub(Time::MAX), difference(noon, Time::MAX));
+    same(&rt, second.add(second), sum(second, second));
+    same(&rt, second.sub(second), difference(second, second));
+    same(&rt, second.neg(), opposite(second));
+    same(&rt, second.mul(3i32), product(second, 3i32));
+    same(&rt, second.div(3u8), quotient(second, 3u8));
+    same(&rt, west.neg(), opposite(west));
     let (mut later, mut earlier) = (noon, noon);
     later.add_assign(second);
     earlier.sub_assign(second);
-    assert_eq!(rt; (later, earlier), (noon + second, noon - second));
+    same(&rt, (later, earlier), (noon + second, noon - second));
 }

@@ -1,6 +1,6 @@
 //! Laws that hold between calls, each shown at a few values.
 use crate::tests::range::{DAYS, FIRST_JULIAN_DAY, FIRST_YEAR, LAST_JULIAN_DAY, LAST_YEAR};
-use crate::tests::{date, hash_of, offset, time};
+use crate::tests::{date, hash_of, offset, same, time};
 use crate::{Counted, Date, Month, SignedDuration, Time, UtcOffset, Weekday};
 use std::process::Abort;
 
@@ -16,16 +16,16 @@ fn days(rt: &impl Abort) -> [Date; 4] {
 #[test]
 fn julian_days_lead_back(rt: HostRuntime) {
     for day in days(&rt) {
-        let Ok(same) = Date::from_julian_day(day.to_julian_day()) else {
+        let Ok(again) = Date::from_julian_day(day.to_julian_day()) else {
             panic!(rt; "that of {day} is refused");
         };
-        assert_eq!(rt; same, day);
+        same(&rt, again, day);
     }
     for julian_day in [FIRST_JULIAN_DAY, 0, LAST_JULIAN_DAY] {
         let Ok(date) = Date::from_julian_day(julian_day) else {
             panic!(rt; "{julian_day} is refused");
         };
-        assert_eq!(rt; date.to_julian_day(), julian_day);
+        same(&rt, date.to_julian_day(), julian_day);
     }
 }
 
@@ -44,7 +44,7 @@ fn ordinal_calendar_and_iso_week_dates_lead_back(rt: HostRuntime) {
         let Ok(by_week) = Date::from_iso_week_date(year, week, weekday) else {
             panic!(rt; "the ISO week date of {day} is refused");
         };
-        assert_eq!(rt; (by_ordinal, by_month, by_week), (day, day, day));
+        same(&rt, (by_ordinal, by_month, by_week), (day, day, day));
     }
 }
 
@@ -54,7 +54,7 @@ fn dates_have_what_they_were_made_of(rt: HostRuntime) {
         let Ok(date) = Date::from_ordinal_date(year, ordinal) else {
             panic!(rt; "{year} {ordinal} is refused");
         };
-        assert_eq!(rt; date.to_ordinal_date(), (year, ordinal));
+        same(&rt, date.to_ordinal_date(), (year, ordinal));
     }
     for (year, month, day) in [
         (-1, Month::December, 31),
@@ -64,7 +64,7 @@ fn dates_have_what_they_were_made_of(rt: HostRuntime) {
         let Ok(date) = Date::from_calendar_date(year, month, day) else {
             panic!(rt; "{year} {month} {day} is refused");
         };
-        assert_eq!(rt; date.to_calendar_date(), (year, month, day));
+        same(&rt, date.to_calendar_date(), (year, month, day));
     }
     for (year, week, weekday) in [
         (2019, 40, Weekday::Friday),
@@ -74,7 +74,7 @@ fn dates_have_what_they_were_made_of(rt: HostRuntime) {
         let Ok(date) = Date::from_iso_week_date(year, week, weekday) else {
             panic!(rt; "{year} {week} {weekday} is refused");
         };
-        assert_eq!(rt; date.to_iso_week_date(), (year, week, weekday));
+        same(&rt, date.to_iso_week_date(), (year, week, weekday));
     }
 }
 
@@ -87,8 +87,8 @@ fn neighbours_have_neighbouring_julian_days(rt: HostRuntime) {
         let Some(next) = day.next_day() else {
             panic!(rt; "{day} is the last");
         };
-        assert_eq!(rt; next.to_julian_day(), julian_day.wrapping_add(1));
-        assert_eq!(rt; next.previous_day(), Some(day));
+        same(&rt, next.to_julian_day(), julian_day.wrapping_add(1));
+        same(&rt, next.previous_day(), Some(day));
     }
 }
 
@@ -111,10 +111,10 @@ fn are_told_by_their_numbers<T: Counted>(values: &[T]) -> bool {
 #[test]
 fn values_are_ordered_and_hashed_by_their_numbers(rt: HostRuntime) {
     let leap_day = date(&rt, 2000, 2, 29);
-    let Some(same) = date(&rt, 2000, 3, 1).previous_day() else {
+    let Some(leap_day_again) = date(&rt, 2000, 3, 1).previous_day() else {
         panic!(rt; "no day comes before 1 March");
     };
-    assert!(rt; are_told_by_their_numbers(&[Date::MIN, leap_day, same, Date::MAX]));
+    assert!(rt; are_told_by_their_numbers(&[Date::MIN, leap_day, leap_day_again, Date::MAX]));
     assert!(rt;
         are_told_by_their_numbers(&[
             SignedDuration::MIN,
@@ -143,7 +143,7 @@ fn a_move_is_undone(rt: HostRuntime) {
         let Some(moved) = date.checked_add(duration) else {
             panic!(rt; "{date} and {duration} is no day");
         };
-        assert_eq!(rt; moved.checked_sub(duration), Some(date));
+        same(&rt, moved.checked_sub(duration), Some(date));
     }
     for (duration, other) in [
         (SignedDuration::MAX, SignedDuration::MIN),
@@ -156,7 +156,7 @@ fn a_move_is_undone(rt: HostRuntime) {
         let Some(sum) = duration.checked_add(other) else {
             panic!(rt; "{duration} and {other} is no duration");
         };
-        assert_eq!(rt; sum.checked_sub(other), Some(duration));
+        same(&rt, sum.checked_sub(other), Some(duration));
     }
 }
 
@@ -165,7 +165,7 @@ fn the_days_between_lead_from_one_day_to_the_other(rt: HostRuntime) {
     let days = days(&rt);
     for one in &days {
         for other in &days {
-            assert_eq!(rt; other.checked_add(*one - *other), Some(*one));
+            same(&rt, other.checked_add(*one - *other), Some(*one));
         }
     }
 }
@@ -181,8 +181,8 @@ fn the_way_to_a_time_leads_there(rt: HostRuntime) {
             SignedDuration::nanoseconds(-1),
         ),
     ] {
-        assert_eq!(rt; from + from.duration_until(to), to);
-        assert_eq!(rt; (from + duration) - duration, from);
+        same(&rt, from + from.duration_until(to), to);
+        same(&rt, (from + duration) - duration, from);
     }
 }
 
@@ -193,11 +193,11 @@ fn offsets_lead_back(rt: HostRuntime) {
         offset(&rt, 0, -30, -15),
         offset(&rt, 25, 59, 59),
     ] {
-        let Ok(same) = UtcOffset::from_whole_seconds(offset.whole_seconds()) else {
+        let Ok(again) = UtcOffset::from_whole_seconds(offset.whole_seconds()) else {
             panic!(rt; "{offset} is refused");
         };
-        assert_eq!(rt; same, offset);
-        assert_eq!(rt; -(-offset), offset);
+        same(&rt, again, offset);
+        same(&rt, -(-offset), offset);
     }
 }
 
@@ -208,14 +208,14 @@ fn turns_of_a_cycle_are_undone(rt: HostRuntime) {
         (Month::July, 9),
         (Month::December, 0),
     ] {
-        assert_eq!(rt; month.nth_next(n).nth_prev(n), month);
+        same(&rt, month.nth_next(n).nth_prev(n), month);
     }
     for (weekday, n) in [
         (Weekday::Monday, 255),
         (Weekday::Thursday, 3),
         (Weekday::Sunday, 10),
     ] {
-        assert_eq!(rt; weekday.nth_next(n).nth_prev(n), weekday);
+        same(&rt, weekday.nth_next(n).nth_prev(n), weekday);
     }
 }
 

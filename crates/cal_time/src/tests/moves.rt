@@ -1,6 +1,6 @@
 //! Dates moved by durations and to weekdays, and dates with one component replaced.
 use crate::tests::range::{DAYS, LAST_YEAR};
-use crate::tests::{check, date};
+use crate::tests::{check, date, same, same_at};
 use crate::{Date, Month, SignedDuration, Weekday};
 
 /// The day that `+` and `+=` lead to, where there is one.
@@ -19,6 +19,11 @@ fn differences(date: Date, duration: SignedDuration) -> Option<(Date, Date)> {
     Some((date - duration, moved))
 }
 
+fn twice(day: Option<Date>) -> Option<(Date, Date)> {
+    let day = day?;
+    Some((day, day))
+}
+
 #[test]
 fn dates_moved_on(rt: HostRuntime) {
     let last = date(&rt, 2020, 12, 31);
@@ -31,11 +36,11 @@ fn dates_moved_on(rt: HostRuntime) {
         (Date::MAX, SignedDuration::MAX, None),
         (last, SignedDuration::hours(47), Some(date(&rt, 2021, 1, 1))),
     ] {
-        assert_eq!(rt; from.checked_add(duration), want, "{from} and {duration}");
-        assert_eq!(rt; sums(from, duration), want.map(|day| (day, day)));
+        same_at(&rt, (from, duration), &from.checked_add(duration), &want);
+        same(&rt, sums(from, duration), twice(want));
     }
-    assert_eq!(rt; Date::MAX.saturating_add(SignedDuration::DAY), Date::MAX);
-    assert_eq!(rt; Date::MIN.saturating_add(SignedDuration::MIN), Date::MIN);
+    same(&rt, Date::MAX.saturating_add(SignedDuration::DAY), Date::MAX);
+    same(&rt, Date::MIN.saturating_add(SignedDuration::MIN), Date::MIN);
 }
 
 #[test]
@@ -50,20 +55,17 @@ fn dates_moved_back(rt: HostRuntime) {
             Some(date(&rt, 2020, 12, 30)),
         ),
     ] {
-        assert_eq!(rt; from.checked_sub(duration), want, "{from} less {duration}");
-        assert_eq!(rt; differences(from, duration), want.map(|day| (day, day)));
+        same_at(&rt, (from, duration), &from.checked_sub(duration), &want);
+        same(&rt, differences(from, duration), twice(want));
     }
-    assert_eq!(rt; Date::MIN.saturating_sub(SignedDuration::DAY), Date::MIN);
-    assert_eq!(rt; Date::MAX.saturating_sub(SignedDuration::MIN), Date::MAX);
+    same(&rt, Date::MIN.saturating_sub(SignedDuration::DAY), Date::MIN);
+    same(&rt, Date::MAX.saturating_sub(SignedDuration::MIN), Date::MAX);
 }
 
 #[test]
 fn days_between(rt: HostRuntime) {
-    assert_eq!(rt; Date::MAX - Date::MIN, SignedDuration::days(DAYS - 1));
-    assert_eq!(rt;
-        date(&rt, 2019, 12, 30) - date(&rt, 2020, 1, 2),
-        SignedDuration::days(-3)
-    );
+    same(&rt, Date::MAX - Date::MIN, SignedDuration::days(DAYS - 1));
+    same(&rt, date(&rt, 2019, 12, 30) - date(&rt, 2020, 1, 2), SignedDuration::days(-3));
 }
 
 /// The `n`-th Monday after the day, by both calls.
@@ -97,9 +99,9 @@ fn mondays_after(rt: HostRuntime) {
     ] {
         let date_before = date(&rt, year, month, day);
         let want = date(&rt, want_year, want_month, want_day);
-        assert_eq!(rt; next_mondays(date_before, n), Some((want, want)));
+        same(&rt, next_mondays(date_before, n), Some((want, want)));
     }
-    assert_eq!(rt; next_mondays(date(&rt, 2023, 6, 26), 0), None);
+    same(&rt, next_mondays(date(&rt, 2023, 6, 26), 0), None);
 }
 
 #[test]
@@ -110,25 +112,19 @@ fn mondays_before(rt: HostRuntime) {
     ] {
         let date_after = date(&rt, year, month, day);
         let want = date(&rt, want_year, want_month, want_day);
-        assert_eq!(rt; prev_mondays(date_after, n), Some((want, want)));
+        same(&rt, prev_mondays(date_after, n), Some((want, want)));
     }
-    assert_eq!(rt; prev_mondays(date(&rt, 2023, 6, 26), 0), None);
+    same(&rt, prev_mondays(date(&rt, 2023, 6, 26), 0), None);
 }
 
 #[test]
 fn nearest_occurrences(rt: HostRuntime) {
     let (wednesday, monday) = (date(&rt, 2023, 6, 28), date(&rt, 2023, 6, 19));
-    assert_eq!(rt;
-        nearest_mondays(wednesday),
-        Some((date(&rt, 2023, 7, 3), date(&rt, 2023, 6, 26)))
-    );
-    assert_eq!(rt;
-        nearest_mondays(monday),
-        Some((date(&rt, 2023, 6, 26), date(&rt, 2023, 6, 12)))
-    );
+    same(&rt, nearest_mondays(wednesday), Some((date(&rt, 2023, 7, 3), date(&rt, 2023, 6, 26))));
+    same(&rt, nearest_mondays(monday), Some((date(&rt, 2023, 6, 26), date(&rt, 2023, 6, 12))));
     for weekday in Weekday::iter_from(Weekday::Monday).take(7) {
-        assert_eq!(rt; Date::MAX.checked_next_occurrence(weekday), None);
-        assert_eq!(rt; Date::MIN.checked_prev_occurrence(weekday), None);
+        same(&rt, Date::MAX.checked_next_occurrence(weekday), None);
+        same(&rt, Date::MIN.checked_prev_occurrence(weekday), None);
     }
 }
 
@@ -143,8 +139,8 @@ fn replaced_years(rt: HostRuntime) {
         let Ok(new) = old.replace_year(new_year) else {
             panic!(rt; "{old} in {new_year} is refused");
         };
-        assert_eq!(rt; new, date(&rt, new_year, month, day));
-        assert_eq!(rt; new.ordinal(), ordinal);
+        same(&rt, new, date(&rt, new_year, month, day));
+        same(&rt, new.ordinal(), ordinal);
     }
     let leap_day = date(&rt, 2024, 2, 29);
     for (year, name, is_conditional) in [(2023, "day", true), (LAST_YEAR + 1, "year", false)] {
@@ -172,7 +168,7 @@ fn replaced_months_days_and_ordinals(rt: HostRuntime) {
         let Ok(new) = answer else {
             panic!(rt; "{} is refused", *day);
         };
-        assert_eq!(rt; *new, *day);
+        same(&rt, *new, *day);
     }
 }
 

@@ -1,5 +1,5 @@
 //! Offsets from UTC.
-use crate::tests::{check, offset};
+use crate::tests::{check, offset, same};
 use crate::{UtcOffset, extent};
 
 #[test]
@@ -13,13 +13,13 @@ fn offsets_of_components(rt: HostRuntime) {
         ((0, 0, -1), -1, (0, 0, -1)),
     ] {
         let offset = offset(&rt, hours, minutes, seconds);
-        assert_eq!(rt; offset.whole_seconds(), number);
-        assert_eq!(rt; offset.as_hms(), parts);
-        assert_eq!(rt; offset.whole_hours(), parts.0);
-        assert_eq!(rt; offset.minutes_past_hour(), parts.1);
-        assert_eq!(rt; offset.seconds_past_minute(), parts.2);
+        same(&rt, offset.whole_seconds(), number);
+        same(&rt, offset.as_hms(), parts);
+        same(&rt, offset.whole_hours(), parts.0);
+        same(&rt, offset.minutes_past_hour(), parts.1);
+        same(&rt, offset.seconds_past_minute(), parts.2);
     }
-    assert_eq!(rt; offset(&rt, -5, 30, 59).whole_minutes(), -330);
+    same(&rt, offset(&rt, -5, 30, 59).whole_minutes(), -330);
 }
 
 #[test]
@@ -32,10 +32,10 @@ fn offsets_of_seconds(rt: HostRuntime) {
         let Ok(offset) = UtcOffset::from_whole_seconds(seconds) else {
             panic!(rt; "{seconds} is refused");
         };
-        assert_eq!(rt; offset.as_hms(), parts);
+        same(&rt, offset.as_hms(), parts);
     }
     let least = offset(&rt, -25, -59, -59);
-    assert_eq!(rt; (-least).whole_seconds(), 93_599);
+    same(&rt, (-least).whole_seconds(), 93_599);
 }
 
 #[test]
@@ -66,15 +66,12 @@ fn offsets_are_ordered_by_their_seconds(rt: HostRuntime) {
         UtcOffset::UTC,
     );
     assert!(rt; west < east && east < utc);
-    assert_eq!(rt; extent(&[west, east, utc]), Some((west, utc)));
+    same(&rt, extent(&[west, east, utc]), Some((west, utc)));
     for (offset, signs) in [
         (utc, (true, false, false)),
         (offset(&rt, 0, 0, -1), (false, true, false)),
         (-west, (false, false, true)),
     ] {
-        assert_eq!(rt;
-            (offset.is_utc(), offset.is_negative(), offset.is_positive()),
-            signs
-        );
+        same(&rt, (offset.is_utc(), offset.is_negative(), offset.is_positive()), signs);
     }
 }

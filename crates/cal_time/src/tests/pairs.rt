@@ -1,6 +1,6 @@
 //! Dates and times of day together.
 use crate::tests::range::DAYS;
-use crate::tests::{date, time};
+use crate::tests::{date, same_at, time};
 use crate::{Date, SignedDuration, Time, add_to_pair, sub_from_pair};
 
 #[test]
@@ -26,11 +26,7 @@ fn pairs_moved_on(rt: HostRuntime) {
         (Date::MIN, Time::MIDNIGHT, whole_range, None),
         (Date::MIN, Time::MIDNIGHT, SignedDuration::MIN, None),
     ] {
-        assert_eq!(rt;
-            add_to_pair(date, time, duration),
-            want,
-            "{date} {time} and {duration}"
-        );
+        same_at(&rt, (date, time, duration), add_to_pair(date, time, duration), want);
     }
 }
 
@@ -52,10 +48,6 @@ fn pairs_moved_back(rt: HostRuntime) {
             Some((Date::MIN, Time::MIDNIGHT)),
         ),
     ] {
-        assert_eq!(rt;
-            sub_from_pair(date, time, duration),
-            want,
-            "{date} {time} less {duration}"
-        );
+        same_at(&rt, (date, time, duration), sub_from_pair(date, time, duration), want);
     }
 }

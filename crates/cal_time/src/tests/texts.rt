@@ -1,6 +1,6 @@
 //! The texts of values, plain, padded, and for debugging.
 use crate::error::{ComponentRange, ConversionRange, InvalidVariant};
-use crate::tests::{date, offset, time};
+use crate::tests::{date, offset, same, time};
 use crate::{Date, Month, SignedDuration, Time, UtcOffset, Weekday};
 use std::test::Fail;
 
@@ -17,8 +17,8 @@ fn texts_of_dates(rt: HostRuntime) -> Result<(), Fail> {
         (Date::MAX, "+999999-12-31"),
         (Date::MIN, "-999999-01-01"),
     ] {
-        assert_eq!(rt; format!(in rt.alloc(); "{date}")?.as_str(), text);
-        assert_eq!(rt; format!(in rt.alloc(); "{date:?}")?.as_str(), text);
+        same(&rt, format!(in rt.alloc(); "{date}")?.as_str(), text);
+        same(&rt, format!(in rt.alloc(); "{date:?}")?.as_str(), text);
     }
     Ok(())
 }
@@ -30,8 +30,8 @@ fn texts_of_times(rt: HostRuntime) -> Result<(), Fail> {
         (time(&rt, 9, 5, 0, 120_000_000), "9:05:00.12"),
         (Time::MAX, "23:59:59.999999999"),
     ] {
-        assert_eq!(rt; format!(in rt.alloc(); "{time}")?.as_str(), text);
-        assert_eq!(rt; format!(in rt.alloc(); "{time:?}")?.as_str(), text);
+        same(&rt, format!(in rt.alloc(); "{time}")?.as_str(), text);
+        same(&rt, format!(in rt.alloc(); "{time:?}")?.as_str(), text);
     }
     Ok(())
 }
@@ -44,8 +44,8 @@ fn texts_of_offsets(rt: HostRuntime) -> Result<(), Fail> {
         (offset(&rt, 0, 0, -1), "-00:00:01"),
         (offset(&rt, 25, 59, 59), "+25:59:59"),
     ] {
-        assert_eq!(rt; format!(in rt.alloc(); "{offset}")?.as_str(), text);
-        assert_eq!(rt; format!(in rt.alloc(); "{offset:?}")?.as_str(), text);
+        same(&rt, format!(in rt.alloc(); "{offset}")?.as_str(), text);
+        same(&rt, format!(in rt.alloc(); "{offset:?}")?.as_str(), text);
     }
     Ok(())
 }
@@ -65,7 +65,7 @@ fn texts_of_durations(rt: HostRuntime) -> Result<(), Fail> {
             "106751991167300d15h30m7s999ms999µs999ns",
         ),
     ] {
-        assert_eq!(rt; format!(in rt.alloc(); "{duration}")?.as_str(), text);
+        same(&rt, format!(in rt.alloc(); "{duration}")?.as_str(), text);
     }
     Ok(())
 }
@@ -76,18 +76,15 @@ fn texts_of_each_hour(rt: HostRuntime) -> Result<(), Fail> {
     for hour in 0..24 {
         let text = format!(in rt.alloc(); "{hour}:00:00.0")?;
         let time = time(&rt, hour, 0, 0, 0);
-        assert_eq!(rt; format!(in rt.alloc(); "{time}")?.as_str(), text.as_str());
-        assert_eq!(rt; format!(in rt.alloc(); "{time:?}")?.as_str(), text.as_str());
+        same(&rt, format!(in rt.alloc(); "{time}")?.as_str(), text.as_str());
+        same(&rt, format!(in rt.alloc(); "{time:?}")?.as_str(), text.as_str());
     }
     for hours in -25i8..26 {
         let sign = if hours < 0 { "-" } else { "+" };
         let text = format!(in rt.alloc(); "{sign}{:02}:00:00", hours.unsigned_abs())?;
         let offset = offset(&rt, hours, 0, 0);
-        assert_eq!(rt; format!(in rt.alloc(); "{offset}")?.as_str(), text.as_str());
-        assert_eq!(rt;
-            format!(in rt.alloc(); "{offset:?}")?.as_str(),
-            text.as_str()
-        );
+        same(&rt, format!(in rt.alloc(); "{offset}")?.as_str(), text.as_str());
+        same(&rt, format!(in rt.alloc(); "{offset:?}")?.as_str(), text.as_str());
     }
     Ok(())
 }
@@ -97,26 +94,26 @@ fn texts_of_each_hour(rt: HostRuntime) -> Result<(), Fail> {
 fn padded_texts(rt: HostRuntime) -> Result<(), Fail> {
     let day = date(&rt, 2019, 1, 2);
     let padded = format!(in rt.alloc(); "{day:>12}|{day:_<11}|{day:2}|")?;
-    assert_eq!(rt; padded.as_str(), "  2019-01-02|2019-01-02_|2019-01-02|");
+    same(&rt, padded.as_str(), "  2019-01-02|2019-01-02_|2019-01-02|");
     let five_digits = date(&rt, 10_000, 1, 1);
     let padded = format!(in rt.alloc(); "{five_digits:>14}|{five_digits:2}|")?;
-    assert_eq!(rt; padded.as_str(), "  +10000-01-01|+10000-01-01|");
+    same(&rt, padded.as_str(), "  +10000-01-01|+10000-01-01|");
     let midnight = Time::MIDNIGHT;
     let padded = format!(in rt.alloc(); "{midnight:>11}|{midnight:_<10}|{midnight:2}|")?;
-    assert_eq!(rt; padded.as_str(), "  0:00:00.0|0:00:00.0_|0:00:00.0|");
+    same(&rt, padded.as_str(), "  0:00:00.0|0:00:00.0_|0:00:00.0|");
     let west = offset(&rt, -5, -30, 0);
     let padded = format!(in rt.alloc(); "{west:>11}|{west:_<10}|{west:2}|")?;
-    assert_eq!(rt; padded.as_str(), "  -05:30:00|-05:30:00_|-05:30:00|");
+    same(&rt, padded.as_str(), "  -05:30:00|-05:30:00_|-05:30:00|");
     let padded = format!(in rt.alloc();
         "{:>6}|{:_<5}|{:2}|",
         Month::May,
         Month::June,
         Month::July
     )?;
-    assert_eq!(rt; padded.as_str(), "   May|June_|July|");
+    same(&rt, padded.as_str(), "   May|June_|July|");
     let friday = Weekday::Friday;
     let padded = format!(in rt.alloc(); "{friday:>8}|{friday:_<7}|{friday:2}|")?;
-    assert_eq!(rt; padded.as_str(), "  Friday|Friday_|Friday|");
+    same(&rt, padded.as_str(), "  Friday|Friday_|Friday|");
     Ok(())
 }
 
@@ -125,11 +122,11 @@ fn padded_texts(rt: HostRuntime) -> Result<(), Fail> {
 fn styled_texts_for_debugging(rt: HostRuntime) -> Result<(), Fail> {
     let (day, midnight, utc) = (date(&rt, 2019, 1, 2), Time::MIDNIGHT, UtcOffset::UTC);
     let padded = format!(in rt.alloc(); "{day:>12?}|{midnight:_<10?}|{utc:2?}|")?;
-    assert_eq!(rt; padded.as_str(), "  2019-01-02|0:00:00.0_|+00:00:00|");
+    same(&rt, padded.as_str(), "  2019-01-02|0:00:00.0_|+00:00:00|");
     let padded = format!(in rt.alloc(); "{day:#?}|{midnight:#?}|{utc:#?}|")?;
-    assert_eq!(rt; padded.as_str(), "2019-01-02|0:00:00.0|+00:00:00|");
+    same(&rt, padded.as_str(), "2019-01-02|0:00:00.0|+00:00:00|");
     let padded = format!(in rt.alloc(); "{:>24?}|", Time::MAX)?;
-    assert_eq!(rt; padded.as_str(), "      23:59:59.999999999|");
+    same(&rt, padded.as_str(), "      23:59:59.999999999|");
     Ok(())
 }
 
@@ -142,15 +139,9 @@ fn texts_of_errors(rt: HostRuntime) -> Result<(), Fail> {
             "offset hour was not in range",
         ),
     ] {
-        assert_eq!(rt; format!(in rt.alloc(); "{error}")?.as_str(), text);
+        same(&rt, format!(in rt.alloc(); "{error}")?.as_str(), text);
     }
-    assert_eq!(rt;
-        format!(in rt.alloc(); "{ConversionRange}")?.as_str(),
-        "Source value is out of range for the target type"
-    );
-    assert_eq!(rt;
-        format!(in rt.alloc(); "{InvalidVariant}")?.as_str(),
-        "value was not a valid variant"
-    );
+    same(&rt, format!(in rt.alloc(); "{ConversionRange}")?.as_str(), "Source value is out of range for the target type");
+    same(&rt, format!(in rt.alloc(); "{InvalidVariant}")?.as_str(), "value was not a valid variant");
     Ok(())
 }

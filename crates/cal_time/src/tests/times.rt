@@ -1,5 +1,5 @@
 //! Times of day.
-use crate::tests::{check, time};
+use crate::tests::{check, same, time};
 use crate::util::DateAdjustment;
 use crate::{SignedDuration, Time};
 
@@ -21,10 +21,10 @@ fn making(rt: HostRuntime) {
         let Ok(time) = answer else {
             panic!(rt; "{:?} is refused", *parts);
         };
-        assert_eq!(rt; time.as_hms_nano(), *parts);
+        same(&rt, time.as_hms_nano(), *parts);
     }
-    assert_eq!(rt; Time::MIDNIGHT.as_hms_nano(), (0, 0, 0, 0));
-    assert_eq!(rt; Time::MAX.as_hms_nano(), (23, 59, 59, 999_999_999));
+    same(&rt, Time::MIDNIGHT.as_hms_nano(), (0, 0, 0, 0));
+    same(&rt, Time::MAX.as_hms_nano(), (23, 59, 59, 999_999_999));
 }
 
 #[test]
@@ -56,14 +56,14 @@ fn components_out_of_range(rt: HostRuntime) {
 #[test]
 fn parts(rt: HostRuntime) {
     let time = time(&rt, 1, 2, 3, 4_005_006);
-    assert_eq!(rt; time.as_hms(), (1, 2, 3));
-    assert_eq!(rt; time.as_hms_milli(), (1, 2, 3, 4));
-    assert_eq!(rt; time.as_hms_micro(), (1, 2, 3, 4_005));
-    assert_eq!(rt; time.as_hms_nano(), (1, 2, 3, 4_005_006));
-    assert_eq!(rt; (time.hour(), time.minute(), time.second()), (1, 2, 3));
-    assert_eq!(rt; time.millisecond(), 4);
-    assert_eq!(rt; time.microsecond(), 4_005);
-    assert_eq!(rt; time.nanosecond(), 4_005_006);
+    same(&rt, time.as_hms(), (1, 2, 3));
+    same(&rt, time.as_hms_milli(), (1, 2, 3, 4));
+    same(&rt, time.as_hms_micro(), (1, 2, 3, 4_005));
+    same(&rt, time.as_hms_nano(), (1, 2, 3, 4_005_006));
+    same(&rt, (time.hour(), time.minute(), time.second()), (1, 2, 3));
+    same(&rt, time.millisecond(), 4);
+    same(&rt, time.microsecond(), 4_005);
+    same(&rt, time.nanosecond(), 4_005_006);
 }
 
 #[test]
@@ -89,7 +89,7 @@ fn replaced_parts(rt: HostRuntime) {
         let Ok(new) = answer else {
             panic!(rt; "{:?} is refused", *parts);
         };
-        assert_eq!(rt; new.as_hms_nano(), *parts);
+        same(&rt, new.as_hms_nano(), *parts);
     }
 }
 
@@ -130,7 +130,7 @@ fn truncated_times(rt: HostRuntime) {
         (old.truncate_to_millisecond(), (1, 2, 3, 4_000_000)),
         (old.truncate_to_microsecond(), (1, 2, 3, 4_005_000)),
     ] {
-        assert_eq!(rt; new.as_hms_nano(), parts);
+        same(&rt, new.as_hms_nano(), parts);
     }
 }
 
@@ -142,37 +142,28 @@ fn durations_between_times(rt: HostRuntime) {
         time(&rt, 0, 0, 0, 200_000_000),
     );
     let way = SignedDuration::milliseconds(700);
-    assert_eq!(rt; before.duration_until(after), way);
-    assert_eq!(rt; after.duration_since(before), way);
-    assert_eq!(rt; eleven.duration_until(one), SignedDuration::hours(2));
-    assert_eq!(rt; Time::MIDNIGHT - eleven, SignedDuration::hours(-23));
+    same(&rt, before.duration_until(after), way);
+    same(&rt, after.duration_since(before), way);
+    same(&rt, eleven.duration_until(one), SignedDuration::hours(2));
+    same(&rt, Time::MIDNIGHT - eleven, SignedDuration::hours(-23));
 }
 
 #[test]
 fn times_moved_into_the_neighbouring_days(rt: HostRuntime) {
     let midnight = Time::MIDNIGHT;
-    assert_eq!(rt;
-        midnight.adjusting_add(SignedDuration::MIN),
-        (DateAdjustment::Previous, time(&rt, 8, 29, 51, 1))
-    );
-    assert_eq!(rt;
-        midnight.adjusting_sub(SignedDuration::MIN),
-        (DateAdjustment::None, time(&rt, 15, 30, 8, 999_999_999))
-    );
-    assert_eq!(rt;
-        Time::MAX.adjusting_add(SignedDuration::MAX),
-        (DateAdjustment::Next, time(&rt, 15, 30, 7, 999_999_998))
-    );
+    same(&rt, midnight.adjusting_add(SignedDuration::MIN), (DateAdjustment::Previous, time(&rt, 8, 29, 51, 1)));
+    same(&rt, midnight.adjusting_sub(SignedDuration::MIN), (DateAdjustment::None, time(&rt, 15, 30, 8, 999_999_999)));
+    same(&rt, Time::MAX.adjusting_add(SignedDuration::MAX), (DateAdjustment::Next, time(&rt, 15, 30, 7, 999_999_998)));
 }
 
 #[test]
 fn times_moved_round_the_clock(rt: HostRuntime) {
     let last = time(&rt, 23, 59, 59, 0);
     let mut moved = time(&rt, 0, 0, 1, 0);
-    assert_eq!(rt; moved + SignedDuration::seconds(-2), last);
-    assert_eq!(rt; moved - SignedDuration::seconds(2), last);
+    same(&rt, moved + SignedDuration::seconds(-2), last);
+    same(&rt, moved - SignedDuration::seconds(2), last);
     moved -= SignedDuration::seconds(2);
-    assert_eq!(rt; moved, last);
+    same(&rt, moved, last);
     moved += SignedDuration::hours(25);
-    assert_eq!(rt; moved, time(&rt, 0, 59, 59, 0));
+    same(&rt, moved, time(&rt, 0, 59, 59, 0));
 }

@@ -1,6 +1,7 @@
 //! Lengths of the least and the greatest year, and the longest steps round a cycle.
 ghost use Rattle.std.specs.Prelude.{◌<◌};
 
+use crate::tests::{same, same_at};
 use crate::iter::{MonthIter, WeekdayIter};
 use crate::util::{days_in_month, days_in_year, days_in_year_month, is_leap_year, weeks_in_year};
 use crate::{Cycle, Month, Weekday, nth_in};
@@ -12,14 +13,14 @@ const LENGTHS: [u8; 12] = [31, 28, 31, 30, 31, 30, 31, 31, 30, 31, 30, 31];
 #[test]
 fn years_at_the_ends(rt: HostRuntime) {
     for (year, is_leap, days) in [(i32::MIN, true, 366), (i32::MAX, false, 365)] {
-        assert_eq!(rt; is_leap_year(year), is_leap);
-        assert_eq!(rt; days_in_year(year), days);
-        assert_eq!(rt; weeks_in_year(year), 52);
+        same(&rt, is_leap_year(year), is_leap);
+        same(&rt, days_in_year(year), days);
+        same(&rt, weeks_in_year(year), 52);
         for (month, length) in Month::iter_from(Month::January).take(12).zip(&LENGTHS) {
             let length = *length + u8::from(is_leap && month == Month::February);
-            assert_eq!(rt; days_in_month(month, year), length);
-            assert_eq!(rt; days_in_year_month(year, month), length);
-            assert_eq!(rt; month.length(year), length);
+            same(&rt, days_in_month(month, year), length);
+            same(&rt, days_in_year_month(year, month), length);
+            same(&rt, month.length(year), length);
         }
     }
 }
@@ -36,7 +37,7 @@ fn numbers_of_months(rt: HostRuntime) {
         } else {
             Ok(number)
         };
-        assert_eq!(rt; told, want, "{number}");
+        same_at(&rt, number, told, want);
     }
 }
 
@@ -63,16 +64,13 @@ fn months_far_on_and_far_back(rt: HostRuntime) {
         for n in [0, 255] {
             let on = place_after(place, usize::from(n), 12);
             let back = place_before(place, usize::from(n), 12);
-            assert_eq!(rt; start.nth_next(n) as u8 - 1, on, "{start} {n}");
-            assert_eq!(rt; start.nth_prev(n) as u8 - 1, back, "{start} {n}");
+            same_at(&rt, (start, n), start.nth_next(n) as u8 - 1, on);
+            same_at(&rt, (start, n), start.nth_prev(n) as u8 - 1, back);
         }
         let far = nth_in(start, usize::MAX);
-        assert_eq!(rt; far.place(), place_after(place, usize::MAX, 12), "{start}");
+        same_at(&rt, start, far.place(), place_after(place, usize::MAX, 12));
     }
-    assert_eq!(rt;
-        (Month::at(0), Month::at(11)),
-        (Month::January, Month::December)
-    );
+    same(&rt, (Month::at(0), Month::at(11)), (Month::January, Month::December));
 }
 
 #[test]
@@ -82,31 +80,28 @@ fn weekdays_far_on_and_far_back(rt: HostRuntime) {
         for n in [0, 255] {
             let on = place_after(place, usize::from(n), 7);
             let back = place_before(place, usize::from(n), 7);
-            assert_eq!(rt; start.nth_next(n) as u8, on, "{start} {n}");
-            assert_eq!(rt; start.nth_prev(n) as u8, back, "{start} {n}");
+            same_at(&rt, (start, n), start.nth_next(n) as u8, on);
+            same_at(&rt, (start, n), start.nth_prev(n) as u8, back);
         }
         let far = nth_in(start, usize::MAX);
-        assert_eq!(rt; far.place(), place_after(place, usize::MAX, 7), "{start}");
+        same_at(&rt, start, far.place(), place_after(place, usize::MAX, 7));
     }
-    assert_eq!(rt;
-        (Weekday::at(0), Weekday::at(6)),
-        (Weekday::Monday, Weekday::Sunday)
-    );
+    same(&rt, (Weekday::at(0), Weekday::at(6)), (Weekday::Monday, Weekday::Sunday));
 }
 
 // The greatest step is 3 more than a multiple of 12, and 1 more than one of 7.
 #[test]
 fn endless_walks_by_the_greatest_step(rt: HostRuntime) {
     let mut walk = MonthIter::new(Month::January);
-    assert_eq!(rt; walk.nth(usize::MAX), Some(Month::April));
-    assert_eq!(rt; walk.next(), Some(Month::May));
+    same(&rt, walk.nth(usize::MAX), Some(Month::April));
+    same(&rt, walk.next(), Some(Month::May));
     let mut walk = MonthIter::new(Month::January).rev();
-    assert_eq!(rt; walk.nth(usize::MAX), Some(Month::October));
-    assert_eq!(rt; walk.next(), Some(Month::September));
+    same(&rt, walk.nth(usize::MAX), Some(Month::October));
+    same(&rt, walk.next(), Some(Month::September));
     let mut walk = WeekdayIter::new(Weekday::Monday);
-    assert_eq!(rt; walk.nth(usize::MAX), Some(Weekday::Tuesday));
-    assert_eq!(rt; walk.next(), Some(Weekday::Wednesday));
+    same(&rt, walk.nth(usize::MAX), Some(Weekday::Tuesday));
+    same(&rt, walk.next(), Some(Weekday::Wednesday));
     let mut walk = WeekdayIter::new(Weekday::Monday).rev();
-    assert_eq!(rt; walk.nth(usize::MAX), Some(Weekday::Sunday));
-    assert_eq!(rt; walk.next(), Some(Weekday::Saturday));
+    same(&rt, walk.nth(usize::MAX), Some(Weekday::Sunday));
+    same(&rt, walk.next(), Some(Weekday::Saturday));
 }

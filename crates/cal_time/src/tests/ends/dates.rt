@@ -1,5 +1,5 @@
 //! Dates at both ends of the range and of the types that they are made of.
-use crate::tests::date;
+use crate::tests::{date, same, same_at};
 use crate::tests::ends::{Told, told};
 use crate::tests::range::{DAYS, FIRST_JULIAN_DAY, FIRST_YEAR, LAST_JULIAN_DAY, LAST_YEAR};
 use crate::{Counted, Date, Month, SignedDuration, Weekday, extent, is_rising};
@@ -86,7 +86,7 @@ fn julian_days(rt: HostRuntime) {
         } else {
             Err(("julian_day", false))
         };
-        assert_eq!(rt; told(&Date::from_julian_day(julian_day)), want);
+        same(&rt, told(&Date::from_julian_day(julian_day)), want);
     }
 }
 
@@ -94,11 +94,7 @@ fn julian_days(rt: HostRuntime) {
 fn ordinal_dates(rt: HostRuntime) {
     for year in YEARS {
         for ordinal in ORDINALS {
-            assert_eq!(rt;
-                told(&Date::from_ordinal_date(year, ordinal)),
-                of_ordinal(year, ordinal),
-                "{year} {ordinal}"
-            );
+            same_at(&rt, (year, ordinal), told(&Date::from_ordinal_date(year, ordinal)), of_ordinal(year, ordinal));
         }
     }
 }
@@ -108,11 +104,7 @@ fn calendar_dates(rt: HostRuntime) {
     for year in YEARS {
         for (month, length, before) in MONTHS {
             for day in DAYS_OF_MONTH {
-                assert_eq!(rt;
-                    told(&Date::from_calendar_date(year, month, day)),
-                    of_day(year, length, before, day),
-                    "{year} {month} {day}"
-                );
+                same_at(&rt, (year, month, day), told(&Date::from_calendar_date(year, month, day)), of_day(year, length, before, day));
             }
         }
     }
@@ -132,11 +124,7 @@ fn iso_week_dates(rt: HostRuntime) {
         (LAST_YEAR, 52, Weekday::Saturday, Err(("weekday", true))),
         (LAST_YEAR, 52, Weekday::Sunday, Err(("weekday", true))),
     ] {
-        assert_eq!(rt;
-            told(&Date::from_iso_week_date(year, week, weekday)),
-            want,
-            "{year} {week} {weekday}"
-        );
+        same_at(&rt, (year, week, weekday), told(&Date::from_iso_week_date(year, week, weekday)), want);
     }
 }
 
@@ -150,11 +138,7 @@ fn iso_years_and_weeks(rt: HostRuntime) {
                 } else {
                     Err(("year", false))
                 };
-                assert_eq!(rt;
-                    told(&Date::from_iso_week_date(year, week, weekday)),
-                    want,
-                    "{year} {week} {weekday}"
-                );
+                same_at(&rt, (year, week, weekday), told(&Date::from_iso_week_date(year, week, weekday)), want);
             }
         }
     }
@@ -195,7 +179,7 @@ fn written_out(rt: HostRuntime) {
             true,
         ),
     ] {
-        assert_eq!(rt; told, Err((name, is_conditional)));
+        same(&rt, told, Err((name, is_conditional)));
     }
 }
 
@@ -204,18 +188,14 @@ fn replaced_years(rt: HostRuntime) {
     let leap_day = date(&rt, 2024, 2, 29);
     for year in YEARS {
         for (date, ordinal) in [(Date::MIN, 1), (Date::MAX, 365)] {
-            assert_eq!(rt;
-                told(&date.replace_year(year)),
-                of_ordinal(year, ordinal),
-                "{date} {year}"
-            );
+            same_at(&rt, (date, year), told(&date.replace_year(year)), of_ordinal(year, ordinal));
         }
         let want = if is_in_range(year) {
             Err(("day", true))
         } else {
             Err(("year", false))
         };
-        assert_eq!(rt; told(&leap_day.replace_year(year)), want, "{year}");
+        same_at(&rt, year, told(&leap_day.replace_year(year)), want);
     }
 }
 
@@ -223,9 +203,9 @@ fn replaced_years(rt: HostRuntime) {
 fn replaced_months(rt: HostRuntime) {
     for (month, length, before) in MONTHS {
         let want = of_day(FIRST_YEAR, length, before, 1);
-        assert_eq!(rt; told(&Date::MIN.replace_month(month)), want, "{month}");
+        same_at(&rt, month, told(&Date::MIN.replace_month(month)), want);
         let want = of_day(LAST_YEAR, length, before, 31);
-        assert_eq!(rt; told(&Date::MAX.replace_month(month)), want, "{month}");
+        same_at(&rt, month, told(&Date::MAX.replace_month(month)), want);
     }
 }
 
@@ -233,15 +213,15 @@ fn replaced_months(rt: HostRuntime) {
 fn replaced_days_and_ordinals(rt: HostRuntime) {
     for day in DAYS_OF_MONTH {
         let want = of_day(FIRST_YEAR, 31, 0, day);
-        assert_eq!(rt; told(&Date::MIN.replace_day(day)), want, "{day}");
+        same_at(&rt, day, told(&Date::MIN.replace_day(day)), want);
         let want = of_day(LAST_YEAR, 31, 334, day);
-        assert_eq!(rt; told(&Date::MAX.replace_day(day)), want, "{day}");
+        same_at(&rt, day, told(&Date::MAX.replace_day(day)), want);
     }
     for ordinal in ORDINALS {
         let want = of_ordinal(FIRST_YEAR, ordinal);
-        assert_eq!(rt; told(&Date::MIN.replace_ordinal(ordinal)), want);
+        same(&rt, told(&Date::MIN.replace_ordinal(ordinal)), want);
         let want = of_ordinal(LAST_YEAR, ordinal);
-        assert_eq!(rt; told(&Date::MAX.replace_ordinal(ordinal)), want);
+        same(&rt, told(&Date::MAX.replace_ordinal(ordinal)), want);
     }
 }
 
@@ -250,13 +230,13 @@ fn neighbours_and_order(rt: HostRuntime) {
     let (min, max) = (Date::MIN, Date::MAX);
     let second = i128::from(FIRST_JULIAN_DAY) + 1;
     let eve = i128::from(LAST_JULIAN_DAY) - 1;
-    assert_eq!(rt; min.previous_day(), None);
-    assert_eq!(rt; min.next_day().map(Counted::number), Some(second));
-    assert_eq!(rt; max.previous_day().map(Counted::number), Some(eve));
-    assert_eq!(rt; max.next_day(), None);
+    same(&rt, min.previous_day(), None);
+    same(&rt, min.next_day().map(Counted::number), Some(second));
+    same(&rt, max.previous_day().map(Counted::number), Some(eve));
+    same(&rt, max.next_day(), None);
     assert!(rt; min < max && min != max);
     assert!(rt; is_rising(&[min, max]) && !is_rising(&[max, min]));
-    assert_eq!(rt; extent(&[max, min]), Some((min, max)));
-    assert_eq!(rt; max - min, SignedDuration::days(DAYS - 1));
-    assert_eq!(rt; min - max, SignedDuration::days(1 - DAYS));
+    same(&rt, extent(&[max, min]), Some((min, max)));
+    same(&rt, max - min, SignedDuration::days(DAYS - 1));
+    same(&rt, min - max, SignedDuration::days(1 - DAYS));
 }

@@ -1,7 +1,7 @@
 //! A walk over a new year and a leap day, emptied from both ends, beside a list of its days.
 use crate::Date;
 use crate::iter::DateIter;
-use crate::tests::date;
+use crate::tests::{date, same};
 use std::process::Abort;
 
 /// The Julian days from 2019-12-25 to 2020-03-05.
@@ -41,17 +41,11 @@ fn check_step(
     walk: &DateIter,
     left: &[i32],
 ) {
-    assert_eq!(rt; item.map(Date::to_julian_day), want);
+    same(rt, item.map(Date::to_julian_day), want);
     let length = left.len();
-    assert_eq!(rt;
-        (walk.len(), walk.size_hint(), walk.clone().count()),
-        (length, (length, Some(length)), length)
-    );
+    same(rt, (walk.len(), walk.size_hint(), walk.clone().count()), (length, (length, Some(length)), length));
     let (min, max) = (walk.clone().min(), walk.clone().max());
-    assert_eq!(rt;
-        (min.map(Date::to_julian_day), max.map(Date::to_julian_day)),
-        (left.first().copied(), left.last().copied())
-    );
+    same(rt, (min.map(Date::to_julian_day), max.map(Date::to_julian_day)), (left.first().copied(), left.last().copied()));
 }
 
 /// Stops the test unless one step of each kind, two of them `k` places far, takes what the list has. Gives what is left of it.
@@ -78,7 +72,7 @@ fn drained_by_steps_of_each_kind(rt: HostRuntime) {
     for k in 0..10 {
         let mut walk = first.iter_to(last);
         let mut left: &[i32] = &days;
-        assert_eq!(rt; walk.len(), 72);
+        same(&rt, walk.len(), 72);
         for _ in 0..72 {
             if left.is_empty() {
                 break;

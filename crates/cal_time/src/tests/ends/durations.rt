@@ -1,4 +1,5 @@
 //! Durations at both ends of the type and of what they are made of.
+use crate::tests::{same, same_at};
 use crate::{Counted, SignedDuration, extent, is_rising};
 
 /// The nanoseconds of the least duration.
@@ -152,15 +153,12 @@ fn sums_and_differences(rt: HostRuntime) {
         for (b, y) in ends() {
             let (sum, difference) = (x.saturating_add(y), x.saturating_sub(y));
             let number = SignedDuration::whole_nanoseconds;
-            assert_eq!(rt; a.checked_add(b).map(number), exact(sum));
-            assert_eq!(rt; a.checked_sub(b).map(number), exact(difference));
-            assert_eq!(rt; a.saturating_add(b).number(), clamped(sum));
-            assert_eq!(rt; a.saturating_sub(b).number(), clamped(difference));
-            assert_eq!(rt; sums(a, b).map(numbers), exact(sum).map(twice));
-            assert_eq!(rt;
-                differences(a, b).map(numbers),
-                exact(difference).map(twice)
-            );
+            same(&rt, a.checked_add(b).map(number), exact(sum));
+            same(&rt, a.checked_sub(b).map(number), exact(difference));
+            same(&rt, a.saturating_add(b).number(), clamped(sum));
+            same(&rt, a.saturating_sub(b).number(), clamped(difference));
+            same(&rt, sums(a, b).map(numbers), exact(sum).map(twice));
+            same(&rt, differences(a, b).map(numbers), exact(difference).map(twice));
         }
     }
 }
@@ -172,18 +170,11 @@ fn products_and_quotients(rt: HostRuntime) {
             let product = x.saturating_mul(i128::from(k));
             let quotient = exact_quotient(x, i128::from(k));
             let number = SignedDuration::whole_nanoseconds;
-            assert_eq!(rt; a.checked_mul(k).map(number), exact(product), "{a} by {k}");
-            assert_eq!(rt;
-                a.saturating_mul(k).number(),
-                clamped(product),
-                "{a} by {k}"
-            );
-            assert_eq!(rt; a.checked_div(k).map(number), quotient, "{a} by {k}");
-            assert_eq!(rt;
-                products_by_i32(a, k).map(numbers),
-                exact(product).map(twice)
-            );
-            assert_eq!(rt; quotients_by_i32(a, k).map(numbers), quotient.map(twice));
+            same_at(&rt, (a, k), a.checked_mul(k).map(number), exact(product));
+            same_at(&rt, (a, k), a.saturating_mul(k).number(), clamped(product));
+            same_at(&rt, (a, k), a.checked_div(k).map(number), quotient);
+            same(&rt, products_by_i32(a, k).map(numbers), exact(product).map(twice));
+            same(&rt, quotients_by_i32(a, k).map(numbers), quotient.map(twice));
         }
     }
 }
@@ -194,14 +185,14 @@ fn products_and_quotients_by_signed_operands(rt: HostRuntime) {
         for k in [i8::MIN, -1, 0, 1, i8::MAX] {
             let product = exact(x.saturating_mul(i128::from(k)));
             let quotient = exact_quotient(x, i128::from(k));
-            assert_eq!(rt; products_by_i8(a, k).map(numbers), product.map(twice));
-            assert_eq!(rt; quotients_by_i8(a, k).map(numbers), quotient.map(twice));
+            same(&rt, products_by_i8(a, k).map(numbers), product.map(twice));
+            same(&rt, quotients_by_i8(a, k).map(numbers), quotient.map(twice));
         }
         for k in [i16::MIN, -1, 0, 1, i16::MAX] {
             let product = exact(x.saturating_mul(i128::from(k)));
             let quotient = exact_quotient(x, i128::from(k));
-            assert_eq!(rt; products_by_i16(a, k).map(numbers), product.map(twice));
-            assert_eq!(rt; quotients_by_i16(a, k).map(numbers), quotient.map(twice));
+            same(&rt, products_by_i16(a, k).map(numbers), product.map(twice));
+            same(&rt, quotients_by_i16(a, k).map(numbers), quotient.map(twice));
         }
     }
 }
@@ -212,14 +203,14 @@ fn products_and_quotients_by_unsigned_operands(rt: HostRuntime) {
         for k in [0, 1, u8::MAX] {
             let product = exact(x.saturating_mul(i128::from(k)));
             let quotient = exact_quotient(x, i128::from(k));
-            assert_eq!(rt; products_by_u8(a, k).map(numbers), product.map(twice));
-            assert_eq!(rt; quotients_by_u8(a, k).map(numbers), quotient.map(twice));
+            same(&rt, products_by_u8(a, k).map(numbers), product.map(twice));
+            same(&rt, quotients_by_u8(a, k).map(numbers), quotient.map(twice));
         }
         for k in [0, 1, u16::MAX] {
             let product = exact(x.saturating_mul(i128::from(k)));
             let quotient = exact_quotient(x, i128::from(k));
-            assert_eq!(rt; products_by_u16(a, k).map(numbers), product.map(twice));
-            assert_eq!(rt; quotients_by_u16(a, k).map(numbers), quotient.map(twice));
+            same(&rt, products_by_u16(a, k).map(numbers), product.map(twice));
+            same(&rt, quotients_by_u16(a, k).map(numbers), quotient.map(twice));
         }
     }
 }
@@ -240,7 +231,7 @@ fn products_and_quotients_by_u32(rt: HostRuntime) {
         (min / u32::MAX, LEAST / 4_294_967_295),
         (max / u32::MAX, GREATEST / 4_294_967_295),
     ] {
-        assert_eq!(rt; scaled.whole_nanoseconds(), number);
+        same(&rt, scaled.whole_nanoseconds(), number);
     }
 }
 
@@ -266,10 +257,10 @@ fn written_out(rt: HostRuntime) {
         (Some(max.saturating_sub(min)), Some(max)),
         (Some(min.saturating_sub(max)), Some(min)),
     ] {
-        assert_eq!(rt; answer, want);
+        same(&rt, answer, want);
     }
-    assert_eq!(rt; min.whole_days(), -106_751_991_167_300);
-    assert_eq!(rt; min.whole_weeks(), -15_250_284_452_471);
+    same(&rt, min.whole_days(), -106_751_991_167_300);
+    same(&rt, min.whole_weeks(), -15_250_284_452_471);
 }
 
 #[test]
@@ -277,18 +268,12 @@ fn signs_and_magnitudes(rt: HostRuntime) {
     for (a, x) in ends() {
         let number = SignedDuration::whole_nanoseconds;
         let size = x.saturating_abs();
-        assert_eq!(rt;
-            (a.is_zero(), a.is_negative(), a.is_positive()),
-            (x == 0, x < 0, x > 0)
-        );
-        assert_eq!(rt; a.checked_neg().map(number), exact(x.saturating_neg()));
-        assert_eq!(rt; opposite(a).map(number), exact(x.saturating_neg()));
-        assert_eq!(rt; a.abs().number(), clamped(size));
+        same(&rt, (a.is_zero(), a.is_negative(), a.is_positive()), (x == 0, x < 0, x > 0));
+        same(&rt, a.checked_neg().map(number), exact(x.saturating_neg()));
+        same(&rt, opposite(a).map(number), exact(x.saturating_neg()));
+        same(&rt, a.abs().number(), clamped(size));
         let (seconds, nanoseconds) = a.unsigned_abs();
-        assert_eq!(rt;
-            (i128::from(seconds), i128::from(nanoseconds)),
-            (size / SECOND, size % SECOND)
-        );
+        same(&rt, (i128::from(seconds), i128::from(nanoseconds)), (size / SECOND, size % SECOND));
     }
 }
 
@@ -305,28 +290,9 @@ fn parts(rt: HostRuntime) {
             a.whole_microseconds(),
             a.whole_nanoseconds(),
         ];
-        assert_eq!(rt;
-            whole,
-            [
-                x / (7 * DAY),
-                x / DAY,
-                x / HOUR,
-                x / MINUTE,
-                x / SECOND,
-                x / 1_000_000,
-                x / 1_000,
-                x,
-            ]
-        );
+        same(&rt, whole, [ x / (7 * DAY), x / DAY, x / HOUR, x / MINUTE, x / SECOND, x / 1_000_000, x / 1_000, x, ]);
         let past = x % SECOND;
-        assert_eq!(rt;
-            [
-                i128::from(a.subsec_milliseconds()),
-                i128::from(a.subsec_microseconds()),
-                i128::from(a.subsec_nanoseconds()),
-            ],
-            [past / 1_000_000, past / 1_000, past]
-        );
+        same(&rt, [ i128::from(a.subsec_milliseconds()), i128::from(a.subsec_microseconds()), i128::from(a.subsec_nanoseconds()), ], [past / 1_000_000, past / 1_000, past]);
     }
 }
 
@@ -334,13 +300,10 @@ fn parts(rt: HostRuntime) {
 fn durations_of_each_unit(rt: HostRuntime) {
     for n in [i64::MIN, -1, 0, 1, i64::MAX] {
         let number = i128::from(n);
-        assert_eq!(rt; SignedDuration::seconds(n).number(), number * SECOND);
-        assert_eq!(rt;
-            SignedDuration::milliseconds(n).number(),
-            number * 1_000_000
-        );
-        assert_eq!(rt; SignedDuration::microseconds(n).number(), number * 1_000);
-        assert_eq!(rt; SignedDuration::nanoseconds(n).number(), number);
+        same(&rt, SignedDuration::seconds(n).number(), number * SECOND);
+        same(&rt, SignedDuration::milliseconds(n).number(), number * 1_000_000);
+        same(&rt, SignedDuration::microseconds(n).number(), number * 1_000);
+        same(&rt, SignedDuration::nanoseconds(n).number(), number);
     }
 }
 
@@ -362,7 +325,7 @@ fn durations_of_seconds_and_nanoseconds(rt: HostRuntime) {
         (SignedDuration::nanoseconds_i128(LEAST), LEAST),
         (SignedDuration::nanoseconds_i128(GREATEST), GREATEST),
     ] {
-        assert_eq!(rt; duration.whole_nanoseconds(), number);
+        same(&rt, duration.whole_nanoseconds(), number);
     }
 }
 
@@ -370,22 +333,22 @@ fn durations_of_seconds_and_nanoseconds(rt: HostRuntime) {
 fn order(rt: HostRuntime) {
     for (a, x) in ends() {
         for (b, y) in ends() {
-            assert_eq!(rt; a.cmp(&b), x.cmp(&y));
-            assert_eq!(rt; a == b, x == y);
+            same(&rt, a.cmp(&b), x.cmp(&y));
+            same(&rt, a == b, x == y);
         }
     }
     assert!(rt; is_rising(&ends().map(|(duration, _)| duration)));
     let (min, max) = (SignedDuration::MIN, SignedDuration::MAX);
-    assert_eq!(rt; extent(&[max, min]), Some((min, max)));
+    same(&rt, extent(&[max, min]), Some((min, max)));
 }
 
 #[test]
 fn sums_of_slices(rt: HostRuntime) {
     let (min, max) = (SignedDuration::MIN, SignedDuration::MAX);
     let less_second = SignedDuration::seconds(-1);
-    assert_eq!(rt; SignedDuration::try_sum(&[min]), Some(min));
-    assert_eq!(rt; SignedDuration::try_sum(&[max]), Some(max));
-    assert_eq!(rt; SignedDuration::try_sum(&[min, max]), Some(less_second));
-    assert_eq!(rt; SignedDuration::try_sum(&[max, min, min]), None);
-    assert_eq!(rt; SignedDuration::try_sum(&[min, min, max, max]), None);
+    same(&rt, SignedDuration::try_sum(&[min]), Some(min));
+    same(&rt, SignedDuration::try_sum(&[max]), Some(max));
+    same(&rt, SignedDuration::try_sum(&[min, max]), Some(less_second));
+    same(&rt, SignedDuration::try_sum(&[max, min, min]), None);
+    same(&rt, SignedDuration::try_sum(&[min, min, max, max]), None);
 }

@@ -1,4 +1,5 @@
 //! The first two and the last two years of the range, day by day and week by week. None of them is a leap year.
+use crate::tests::same;
 use crate::tests::ends::told;
 use crate::tests::range::{FIRST_JULIAN_DAY, FIRST_YEAR, LAST_JULIAN_DAY, LAST_YEAR};
 use crate::{Counted, Date, Month, Weekday};
@@ -91,56 +92,20 @@ fn check_constructors(rt: &impl Abort, running: Running, month: Month, day: u8) 
     let (Some(weekday), Ok(week)) = (weekday, u8::try_from(week)) else {
         panic!(rt; "{week} is no week");
     };
-    assert_eq!(rt; told(&Date::from_julian_day(running.julian_day)), number);
-    assert_eq!(rt; told(&Date::from_calendar_date(year, month, day)), number);
-    assert_eq!(rt;
-        told(&Date::from_ordinal_date(year, running.ordinal)),
-        number
-    );
-    assert_eq!(rt;
-        told(&Date::from_iso_week_date(iso_year, week, weekday)),
-        number
-    );
+    same(rt, told(&Date::from_julian_day(running.julian_day)), number);
+    same(rt, told(&Date::from_calendar_date(year, month, day)), number);
+    same(rt, told(&Date::from_ordinal_date(year, running.ordinal)), number);
+    same(rt, told(&Date::from_iso_week_date(iso_year, week, weekday)), number);
 }
 
 /// Stops the test unless the date has what this day has.
 fn check_parts(rt: &impl Abort, date: Date, running: Running, month: Month, day: u8) {
     let (iso_year, week) = running.iso_week();
     let (its_year, its_week, its_weekday) = date.to_iso_week_date();
-    assert_eq!(rt;
-        (
-            date.to_julian_day(),
-            date.to_calendar_date(),
-            date.to_ordinal_date()
-        ),
-        (
-            running.julian_day,
-            (running.year, month, day),
-            (running.year, running.ordinal)
-        )
-    );
-    assert_eq!(rt;
-        (its_year, i32::from(its_week), its_weekday as u8),
-        (iso_year, week, running.weekday)
-    );
-    assert_eq!(rt;
-        (
-            date.year(),
-            date.month(),
-            date.day(),
-            date.ordinal(),
-            date.weekday() as u8
-        ),
-        (running.year, month, day, running.ordinal, running.weekday)
-    );
-    assert_eq!(rt;
-        (
-            i32::from(date.iso_week()),
-            date.sunday_based_week(),
-            date.monday_based_week()
-        ),
-        (week, running.sundays, running.mondays)
-    );
+    same(rt, ( date.to_julian_day(), date.to_calendar_date(), date.to_ordinal_date() ), ( running.julian_day, (running.year, month, day), (running.year, running.ordinal) ));
+    same(rt, (its_year, i32::from(its_week), its_weekday as u8), (iso_year, week, running.weekday));
+    same(rt, ( date.year(), date.month(), date.day(), date.ordinal(), date.weekday() as u8 ), (running.year, month, day, running.ordinal, running.weekday));
+    same(rt, ( i32::from(date.iso_week()), date.sunday_based_week(), date.monday_based_week() ), (week, running.sundays, running.mondays));
 }
 
 /// Stops the test unless the days around the date are its neighbours.
@@ -149,14 +114,8 @@ fn check_neighbours(rt: &impl Abort, date: Date, julian_day: i32) {
     let after = i128::from(julian_day) + 1;
     let has_day_before = julian_day != FIRST_JULIAN_DAY;
     let has_day_after = julian_day != LAST_JULIAN_DAY;
-    assert_eq!(rt;
-        date.previous_day().map(Counted::number),
-        has_day_before.then_some(before)
-    );
-    assert_eq!(rt;
-        date.next_day().map(Counted::number),
-        has_day_after.then_some(after)
-    );
+    same(rt, date.previous_day().map(Counted::number), has_day_before.then_some(before));
+    same(rt, date.next_day().map(Counted::number), has_day_after.then_some(after));
 }
 
 /// Stops the test unless all days of the year are those of the calendar. Gives what runs on to the next year.
@@ -187,8 +146,8 @@ fn each_day(rt: HostRuntime) {
         let end = check_year(&rt, Running::on_new_year(year, julian_day, weekday));
         let new_year = Running::on_new_year(year + 1, end.julian_day, end.weekday);
         let end = check_year(&rt, new_year);
-        assert_eq!(rt; end.julian_day, julian_day + 730);
-        assert_eq!(rt; end.weekday, (weekday + 2) % 7);
+        same(&rt, end.julian_day, julian_day + 730);
+        same(&rt, end.weekday, (weekday + 2) % 7);
     }
 }
 
@@ -200,7 +159,7 @@ fn each_week(rt: HostRuntime) {
             for weekday in WEEKDAYS {
                 match Date::from_iso_week_date(year, week, weekday) {
                     Ok(date) => {
-                        assert_eq!(rt; date.to_iso_week_date(), (year, week, weekday));
+                        same(&rt, date.to_iso_week_date(), (year, week, weekday));
                         accepted = accepted.wrapping_add(1);
                     }
                     Err(error) => {
@@ -212,5 +171,5 @@ fn each_week(rt: HostRuntime) {
             }
         }
     }
-    assert_eq!(rt; (accepted, weeks, weekdays), (1_461, 77, 2));
+    same(&rt, (accepted, weeks, weekdays), (1_461, 77, 2));
 }

@@ -1,4 +1,5 @@
 //! Offsets at both ends of their parts.
+use crate::tests::same;
 use crate::UtcOffset;
 use crate::tests::ends::{Told, told};
 
@@ -38,10 +39,7 @@ fn offsets_of_parts(rt: HostRuntime) {
     for hours in HOURS {
         for minutes in SIXTIETHS {
             for seconds in SIXTIETHS {
-                assert_eq!(rt;
-                    told(&UtcOffset::from_hms(hours, minutes, seconds)),
-                    of_parts(hours, minutes, seconds)
-                );
+                same(&rt, told(&UtcOffset::from_hms(hours, minutes, seconds)), of_parts(hours, minutes, seconds));
             }
         }
     }
@@ -55,7 +53,7 @@ fn least_parts(rt: HostRuntime) {
         (told(&UtcOffset::from_hms(0, 0, -128)), "offset second"),
         (told(&UtcOffset::from_whole_seconds(i32::MIN)), "seconds"),
     ] {
-        assert_eq!(rt; told, Err((name, false)));
+        same(&rt, told, Err((name, false)));
     }
 }
 
@@ -67,7 +65,7 @@ fn offsets_of_seconds(rt: HostRuntime) {
         } else {
             Ok(i128::from(seconds))
         };
-        assert_eq!(rt; told(&UtcOffset::from_whole_seconds(seconds)), want);
+        same(&rt, told(&UtcOffset::from_whole_seconds(seconds)), want);
     }
 }
 
@@ -80,22 +78,9 @@ fn parts_of_the_ends(rt: HostRuntime) {
         let Ok(offset) = UtcOffset::from_whole_seconds(seconds) else {
             panic!(rt; "{seconds} is refused");
         };
-        assert_eq!(rt;
-            (
-                offset.as_hms(),
-                offset.whole_hours(),
-                offset.whole_minutes()
-            ),
-            ((hours, minutes, past_minute), hours, all_minutes)
-        );
-        assert_eq!(rt;
-            (offset.minutes_past_hour(), offset.seconds_past_minute()),
-            (minutes, past_minute)
-        );
-        assert_eq!(rt; (-offset).whole_seconds(), seconds.wrapping_neg());
-        assert_eq!(rt;
-            (offset.is_negative(), offset.is_utc(), offset.is_positive()),
-            (seconds < 0, false, seconds > 0)
-        );
+        same(&rt, ( offset.as_hms(), offset.whole_hours(), offset.whole_minutes() ), ((hours, minutes, past_minute), hours, all_minutes));
+        same(&rt, (offset.minutes_past_hour(), offset.seconds_past_minute()), (minutes, past_minute));
+        same(&rt, (-offset).whole_seconds(), seconds.wrapping_neg());
+        same(&rt, (offset.is_negative(), offset.is_utc(), offset.is_positive()), (seconds < 0, false, seconds > 0));
     }
 }

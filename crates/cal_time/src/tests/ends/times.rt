@@ -1,6 +1,7 @@
 //! Times at both ends of their parts, and moved by the least and the greatest duration.
 ghost use Rattle.std.specs.Prelude.{pos, ◌<ℤ◌};
 
+use crate::tests::{same, same_at};
 use crate::tests::ends::durations::ends;
 use crate::tests::ends::{Told, told};
 use crate::util::DateAdjustment;
@@ -61,10 +62,7 @@ fn times_of_clocks(rt: HostRuntime) {
     for hour in HOURS {
         for minute in SIXTIETHS {
             for second in SIXTIETHS {
-                assert_eq!(rt;
-                    told(&Time::from_hms(hour, minute, second)),
-                    clock(hour, minute, second)
-                );
+                same(&rt, told(&Time::from_hms(hour, minute, second)), clock(hour, minute, second));
             }
         }
     }
@@ -75,18 +73,9 @@ fn times_of_clocks_and_parts_of_a_second(rt: HostRuntime) {
     for (hour, minute, second) in [(0, 0, 0), (23, 59, 59), (23, 59, 60), (255, 255, 255)] {
         let clock = clock(hour, minute, second);
         for (milli, micro, nano) in PARTS {
-            assert_eq!(rt;
-                told(&Time::from_hms_milli(hour, minute, second, milli)),
-                with_part(&clock, u32::from(milli), 1_000, "millisecond")
-            );
-            assert_eq!(rt;
-                told(&Time::from_hms_micro(hour, minute, second, micro)),
-                with_part(&clock, micro, 1_000_000, "microsecond")
-            );
-            assert_eq!(rt;
-                told(&Time::from_hms_nano(hour, minute, second, nano)),
-                with_part(&clock, nano, 1_000_000_000, "nanosecond")
-            );
+            same(&rt, told(&Time::from_hms_milli(hour, minute, second, milli)), with_part(&clock, u32::from(milli), 1_000, "millisecond"));
+            same(&rt, told(&Time::from_hms_micro(hour, minute, second, micro)), with_part(&clock, micro, 1_000_000, "microsecond"));
+            same(&rt, told(&Time::from_hms_nano(hour, minute, second, nano)), with_part(&clock, nano, 1_000_000_000, "nanosecond"));
         }
     }
 }
@@ -105,7 +94,7 @@ fn greatest_parts(rt: HostRuntime) {
         ),
         (told(&Time::from_hms_nano(0, 0, 0, greatest)), "nanosecond"),
     ] {
-        assert_eq!(rt; told, Err((name, false)));
+        same(&rt, told, Err((name, false)));
     }
 }
 
@@ -126,13 +115,13 @@ fn replaced_hours_minutes_and_seconds(rt: HostRuntime) {
         let number = i128::from(number);
         for value in HOURS {
             let want = with_unit(number, value, HOUR, 24, "hour");
-            assert_eq!(rt; told(&time.replace_hour(value)), want, "{value}");
+            same_at(&rt, value, told(&time.replace_hour(value)), want);
         }
         for value in SIXTIETHS {
             let want = with_unit(number, value, MINUTE, 60, "minute");
-            assert_eq!(rt; told(&time.replace_minute(value)), want, "{value}");
+            same_at(&rt, value, told(&time.replace_minute(value)), want);
             let want = with_unit(number, value, SECOND, 60, "second");
-            assert_eq!(rt; told(&time.replace_second(value)), want, "{value}");
+            same_at(&rt, value, told(&time.replace_second(value)), want);
         }
     }
 }
@@ -143,18 +132,9 @@ fn replaced_parts_of_a_second(rt: HostRuntime) {
         let number = i128::from(number);
         let seconds = Ok(number - number % SECOND);
         for (milli, micro, nano) in PARTS {
-            assert_eq!(rt;
-                told(&time.replace_millisecond(milli)),
-                with_part(&seconds, u32::from(milli), 1_000, "millisecond")
-            );
-            assert_eq!(rt;
-                told(&time.replace_microsecond(micro)),
-                with_part(&seconds, micro, 1_000_000, "microsecond")
-            );
-            assert_eq!(rt;
-                told(&time.replace_nanosecond(nano)),
-                with_part(&seconds, nano, 1_000_000_000, "nanosecond")
-            );
+            same(&rt, told(&time.replace_millisecond(milli)), with_part(&seconds, u32::from(milli), 1_000, "millisecond"));
+            same(&rt, told(&time.replace_microsecond(micro)), with_part(&seconds, micro, 1_000_000, "microsecond"));
+            same(&rt, told(&time.replace_nanosecond(nano)), with_part(&seconds, nano, 1_000_000_000, "nanosecond"));
         }
     }
 }
@@ -170,7 +150,7 @@ fn truncated_ends(rt: HostRuntime) {
             (time.truncate_to_millisecond(), 1_000_000),
             (time.truncate_to_microsecond(), 1_000),
         ] {
-            assert_eq!(rt; cut.number(), number - number % unit);
+            same(&rt, cut.number(), number - number % unit);
         }
     }
 }
@@ -181,9 +161,9 @@ fn ways_between_the_ends(rt: HostRuntime) {
         for (to, end) in TIMES {
             let (start, end) = (i128::from(start), i128::from(end));
             let way = (end - start).rem_euclid(DAY);
-            assert_eq!(rt; from.duration_until(to).whole_nanoseconds(), way);
-            assert_eq!(rt; to.duration_since(from).whole_nanoseconds(), way);
-            assert_eq!(rt; (to - from).whole_nanoseconds(), end - start);
+            same(&rt, from.duration_until(to).whole_nanoseconds(), way);
+            same(&rt, to.duration_since(from).whole_nanoseconds(), way);
+            same(&rt, (to - from).whole_nanoseconds(), end - start);
         }
     }
 }
@@ -206,9 +186,9 @@ fn ends_moved_by_the_ends_of_durations(rt: HostRuntime) {
         let number = i128::from(number);
         for (duration, moved) in ends() {
             let (step, later) = time.adjusting_add(duration);
-            assert_eq!(rt; (step, later.number()), carried(number + moved % DAY));
+            same(&rt, (step, later.number()), carried(number + moved % DAY));
             let (step, earlier) = time.adjusting_sub(duration);
-            assert_eq!(rt; (step, earlier.number()), carried(number - moved % DAY));
+            same(&rt, (step, earlier.number()), carried(number - moved % DAY));
         }
     }
 }
@@ -223,9 +203,9 @@ fn ends_moved_round_the_clock(rt: HostRuntime) {
             let (mut plus, mut minus) = (time, time);
             plus += duration;
             minus -= duration;
-            assert_eq!(rt; (plus.number(), minus.number()), (later, earlier));
-            assert_eq!(rt; (time + duration).number(), later);
-            assert_eq!(rt; (time - duration).number(), earlier);
+            same(&rt, (plus.number(), minus.number()), (later, earlier));
+            same(&rt, (time + duration).number(), later);
+            same(&rt, (time - duration).number(), earlier);
         }
     }
 }

@@ -1,7 +1,7 @@
 //! Walks over all days of the range, and steps of the greatest length.
 use crate::Date;
 use crate::iter::DateIter;
-use crate::tests::date;
+use crate::tests::{date, same, same_at};
 use crate::tests::range::{DAYS, LAST_YEAR};
 
 /// The place of the last day in a walk over the whole range.
@@ -25,12 +25,12 @@ fn is_empty(walk: &DateIter) -> bool {
 #[test]
 fn the_whole_range(rt: HostRuntime) {
     let walk = Date::MIN.iter_to(Date::MAX);
-    assert_eq!(rt; walk.len() as i64, DAYS);
-    assert_eq!(rt; walk.size_hint(), (walk.len(), Some(walk.len())));
-    assert_eq!(rt; walk.clone().count(), walk.len());
-    assert_eq!(rt; walk.clone().min(), Some(Date::MIN));
-    assert_eq!(rt; walk.clone().max(), Some(Date::MAX));
-    assert_eq!(rt; walk.clone().last(), Some(Date::MAX));
+    same(&rt, walk.len() as i64, DAYS);
+    same(&rt, walk.size_hint(), (walk.len(), Some(walk.len())));
+    same(&rt, walk.clone().count(), walk.len());
+    same(&rt, walk.clone().min(), Some(Date::MIN));
+    same(&rt, walk.clone().max(), Some(Date::MAX));
+    same(&rt, walk.clone().last(), Some(Date::MAX));
     assert!(rt; walk.is_sorted());
 }
 
@@ -44,12 +44,12 @@ fn steps_from_the_front(rt: HostRuntime) {
         (usize::MAX, None),
     ] {
         let mut walk = DateIter::new(Date::MIN, Date::MAX);
-        assert_eq!(rt; walk.nth(n), want, "{n}");
-        assert_eq!(rt; walk.len(), LAST_PLACE.saturating_sub(n), "{n}");
+        same_at(&rt, n, walk.nth(n), want);
+        same_at(&rt, n, walk.len(), LAST_PLACE.saturating_sub(n));
         if n >= LAST_PLACE {
             assert!(rt; is_empty(&walk), "{n}");
         } else {
-            assert_eq!(rt; walk.next_back(), Some(Date::MAX), "{n}");
+            same_at(&rt, n, walk.next_back(), Some(Date::MAX));
         }
     }
 }
@@ -64,12 +64,12 @@ fn steps_from_the_back(rt: HostRuntime) {
         (usize::MAX, None),
     ] {
         let mut walk = DateIter::new(Date::MIN, Date::MAX);
-        assert_eq!(rt; walk.nth_back(n), want, "{n}");
-        assert_eq!(rt; walk.len(), LAST_PLACE.saturating_sub(n), "{n}");
+        same_at(&rt, n, walk.nth_back(n), want);
+        same_at(&rt, n, walk.len(), LAST_PLACE.saturating_sub(n));
         if n >= LAST_PLACE {
             assert!(rt; is_empty(&walk), "{n}");
         } else {
-            assert_eq!(rt; walk.next(), Some(Date::MIN), "{n}");
+            same_at(&rt, n, walk.next(), Some(Date::MIN));
         }
     }
 }
@@ -80,13 +80,13 @@ fn what_empty_walks_keep(rt: HostRuntime) {
     let empty = DateIter::new(Date::MAX, Date::MIN);
     assert!(rt; is_empty(&empty));
     let mut walk = DateIter::new(Date::MAX, Date::MAX);
-    assert_eq!(rt; walk.nth_back(usize::MAX), None);
+    same(&rt, walk.nth_back(usize::MAX), None);
     assert!(rt; walk == empty && is_empty(&walk));
     let mut walk = DateIter::new(Date::MIN, Date::MAX);
-    assert_eq!(rt; walk.nth(LAST_PLACE - 1), Date::MAX.previous_day());
-    assert_eq!(rt; walk.nth(usize::MAX), None);
+    same(&rt, walk.nth(LAST_PLACE - 1), Date::MAX.previous_day());
+    same(&rt, walk.nth(usize::MAX), None);
     assert!(rt; walk == empty && is_empty(&walk));
     let mut walk = DateIter::new(Date::MIN, Date::MAX);
-    assert_eq!(rt; walk.nth(LAST_PLACE), Some(Date::MAX));
+    same(&rt, walk.nth(LAST_PLACE), Some(Date::MAX));
     assert!(rt; walk != empty && is_empty(&walk));
 }

@@ -1,4 +1,6 @@
-//! A duration, a time and a date.
+//! When a flight arrives: a whole program over the calendar.
+#![tactic(auto)]
+
 use cal_time::{Date, Month, SignedDuration, Time, add_to_pair};
 use std::io;
 
@@ -14,11 +16,11 @@ fn arrival(day: u8) -> Option<(Date, Time)> {
     add_to_pair(date, time, flight)
 }
 
-pub fn show(rt: &impl Print) -> io::Result<()> {
+fn main(rt: HostRuntime) -> io::Result<()> {
     for day in [31, 32] {
         match arrival(day) {
             Some((date, time)) => println!(rt; "{date} {time}")?,
-            None => println!(rt; "no such day")?,
+            None => println!(rt; "December has no day {day}")?,
         }
     }
     Ok(())
