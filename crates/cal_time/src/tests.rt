@@ -56,8 +56,16 @@ fn same<T: Copy + Debug + PartialEq>(rt: &impl Abort, found: T, wanted: T) {
 }
 
 /// The same, with the place in a table.
-fn same_at<T: Copy + Debug + PartialEq, P: Copy + Debug>(rt: &impl Abort, place: P, found: T, wanted: T) {
-    assert!(rt; found == wanted, "{found:?} and not {wanted:?} at {place:?}");
+fn same_at<T: Copy + Debug + PartialEq, P: Copy + Debug>(
+    rt: &impl Abort,
+    place: P,
+    found: T,
+    wanted: T,
+) {
+    assert!(rt;
+        found == wanted,
+        "{found:?} and not {wanted:?} at {place:?}"
+    );
 }
 
 fn hash_of<T: Hash>(value: &T) -> u64 {

@@ -51,7 +51,11 @@ fn parts(rt: HostRuntime) {
     same(&rt, leap_day.month(), Month::February);
     same(&rt, leap_day.day(), 29);
     same(&rt, leap_day.ordinal(), 60);
-    same(&rt, leap_day.to_calendar_date(), (2000, Month::February, 29));
+    same(
+        &rt,
+        leap_day.to_calendar_date(),
+        (2000, Month::February, 29),
+    );
 }
 
 #[test]
@@ -73,7 +77,12 @@ fn days_have_iso_week_dates(rt: HostRuntime) {
             panic!(rt; "{iso_year} {week} {weekday} is refused");
         };
         same_at(&rt, (iso_year, week, weekday), by_week, date);
-        same_at(&rt, date, date.to_iso_week_date(), (iso_year, week, weekday));
+        same_at(
+            &rt,
+            date,
+            date.to_iso_week_date(),
+            (iso_year, week, weekday),
+        );
         same_at(&rt, date, date.iso_week(), week);
     }
 }
@@ -82,7 +91,12 @@ fn days_have_iso_week_dates(rt: HostRuntime) {
 fn weeks_of_the_year_from_sunday_and_from_monday_on(rt: HostRuntime) {
     for ((year, month, day), weeks) in [((2019, 1, 1), (0, 0)), ((2020, 12, 31), (52, 52))] {
         let date = date(&rt, year, month, day);
-        same_at(&rt, date, (date.sunday_based_week(), date.monday_based_week()), weeks);
+        same_at(
+            &rt,
+            date,
+            (date.sunday_based_week(), date.monday_based_week()),
+            weeks,
+        );
     }
 }
 

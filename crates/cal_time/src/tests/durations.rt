@@ -123,14 +123,26 @@ fn parts(rt: HostRuntime) {
 #[test]
 fn signs_and_magnitudes(rt: HostRuntime) {
     let (min, max) = (SignedDuration::MIN, SignedDuration::MAX);
-    same(&rt, min.unsigned_abs(), (9_223_372_036_854_775_808, 999_999_999));
+    same(
+        &rt,
+        min.unsigned_abs(),
+        (9_223_372_036_854_775_808, 999_999_999),
+    );
     same(&rt, min.abs(), max);
     for (duration, signs) in [
         (SignedDuration::ZERO, (true, false, false)),
         (SignedDuration::nanoseconds(-1), (false, true, false)),
         (SignedDuration::NANOSECOND, (false, false, true)),
     ] {
-        same(&rt, ( duration.is_zero(), duration.is_negative(), duration.is_positive() ), signs);
+        same(
+            &rt,
+            (
+                duration.is_zero(),
+                duration.is_negative(),
+                duration.is_positive(),
+            ),
+            signs,
+        );
     }
 }
 
@@ -149,7 +161,11 @@ fn slices_of_durations(rt: HostRuntime) -> Result<(), Fail> {
     let (max, one) = (SignedDuration::MAX, SignedDuration::NANOSECOND);
     let less_one = SignedDuration::nanoseconds(-1);
     same(&rt, SignedDuration::try_sum(&[max, one, less_one]), None);
-    same(&rt, SignedDuration::try_sum(&[max, less_one, one]), Some(max));
+    same(
+        &rt,
+        SignedDuration::try_sum(&[max, less_one, one]),
+        Some(max),
+    );
     same(&rt, SignedDuration::try_sum(&none), Some(zero));
     Ok(())
 }
@@ -170,7 +186,11 @@ fn sums_and_differences(rt: HostRuntime) {
     same(&rt, zero.saturating_sub(min), max);
     same(&rt, max.saturating_add(one), max);
     same(&rt, min.checked_neg(), None);
-    same(&rt, max.checked_neg().map(fields), Some((-9_223_372_036_854_775_807, -999_999_999)));
+    same(
+        &rt,
+        max.checked_neg().map(fields),
+        Some((-9_223_372_036_854_775_807, -999_999_999)),
+    );
     same(&rt, less_one - least_seconds, max);
     same(&rt, fields(SignedDuration::SECOND + one), (1, 1));
     same(&rt, fields(-one), (0, -1));
@@ -181,7 +201,11 @@ fn products_and_quotients(rt: HostRuntime) {
     let (min, max) = (SignedDuration::MIN, SignedDuration::MAX);
     let two_seconds = SignedDuration::seconds(2);
     same(&rt, two_seconds.checked_mul(-3).map(fields), Some((-6, 0)));
-    same(&rt, two_seconds.saturating_mul(3), SignedDuration::seconds(6));
+    same(
+        &rt,
+        two_seconds.saturating_mul(3),
+        SignedDuration::seconds(6),
+    );
     let third = SignedDuration::new(-3_074_457_345_618_258_602, -999_999_999);
     same(&rt, third.checked_mul(-3), None);
     same(&rt, third.saturating_mul(-3), max);

@@ -182,7 +182,11 @@ fn equality_and_clones(rt: HostRuntime) -> Result<(), Fail> {
     same(&rt, InvalidVariant.eq(&InvalidVariant), true);
     same(&rt, Date::MAX.clone()?, cloned(&Date::MAX)?);
     same(&rt, Time::MAX.clone()?, cloned(&Time::MAX)?);
-    same(&rt, SignedDuration::MAX.clone()?, cloned(&SignedDuration::MAX)?);
+    same(
+        &rt,
+        SignedDuration::MAX.clone()?,
+        cloned(&SignedDuration::MAX)?,
+    );
     let west = offset(&rt, -5, -30, 0);
     same(&rt, west.clone()?, cloned(&west)?);
     same(&rt, Month::May.clone()?, cloned(&Month::May)?);
@@ -196,7 +200,11 @@ fn numbers_and_places(rt: HostRuntime) {
     let west = offset(&rt, -5, -30, 0);
     same(&rt, Date::MAX.number(), number(Date::MAX));
     same(&rt, Time::MAX.number(), number(Time::MAX));
-    same(&rt, SignedDuration::MAX.number(), number(SignedDuration::MAX));
+    same(
+        &rt,
+        SignedDuration::MAX.number(),
+        number(SignedDuration::MAX),
+    );
     same(&rt, west.number(), number(west));
     same(&rt, Month::May.place(), place(Month::May));
     same(&rt, Weekday::Friday.place(), place(Weekday::Friday));
@@ -232,7 +240,11 @@ fn moved(date: Date, duration: SignedDuration) -> Option<[(Date, Date); 2]> {
 fn operators_of_dates(rt: HostRuntime) {
     let day = date(&rt, 2020, 1, 2);
     let (next, before) = (date(&rt, 2020, 1, 3), date(&rt, 2020, 1, 1));
-    same(&rt, moved(day, SignedDuration::DAY), Some([(next, next), (before, before)]));
+    same(
+        &rt,
+        moved(day, SignedDuration::DAY),
+        Some([(next, next), (before, before)]),
+    );
     same(&rt, day.sub(Date::MIN), difference(day, Date::MIN));
 }
 

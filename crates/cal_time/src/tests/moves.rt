@@ -39,8 +39,16 @@ fn dates_moved_on(rt: HostRuntime) {
         same_at(&rt, (from, duration), &from.checked_add(duration), &want);
         same(&rt, sums(from, duration), twice(want));
     }
-    same(&rt, Date::MAX.saturating_add(SignedDuration::DAY), Date::MAX);
-    same(&rt, Date::MIN.saturating_add(SignedDuration::MIN), Date::MIN);
+    same(
+        &rt,
+        Date::MAX.saturating_add(SignedDuration::DAY),
+        Date::MAX,
+    );
+    same(
+        &rt,
+        Date::MIN.saturating_add(SignedDuration::MIN),
+        Date::MIN,
+    );
 }
 
 #[test]
@@ -58,14 +66,26 @@ fn dates_moved_back(rt: HostRuntime) {
         same_at(&rt, (from, duration), &from.checked_sub(duration), &want);
         same(&rt, differences(from, duration), twice(want));
     }
-    same(&rt, Date::MIN.saturating_sub(SignedDuration::DAY), Date::MIN);
-    same(&rt, Date::MAX.saturating_sub(SignedDuration::MIN), Date::MAX);
+    same(
+        &rt,
+        Date::MIN.saturating_sub(SignedDuration::DAY),
+        Date::MIN,
+    );
+    same(
+        &rt,
+        Date::MAX.saturating_sub(SignedDuration::MIN),
+        Date::MAX,
+    );
 }
 
 #[test]
 fn days_between(rt: HostRuntime) {
     same(&rt, Date::MAX - Date::MIN, SignedDuration::days(DAYS - 1));
-    same(&rt, date(&rt, 2019, 12, 30) - date(&rt, 2020, 1, 2), SignedDuration::days(-3));
+    same(
+        &rt,
+        date(&rt, 2019, 12, 30) - date(&rt, 2020, 1, 2),
+        SignedDuration::days(-3),
+    );
 }
 
 /// The `n`-th Monday after the day, by both calls.
@@ -120,8 +140,16 @@ fn mondays_before(rt: HostRuntime) {
 #[test]
 fn nearest_occurrences(rt: HostRuntime) {
     let (wednesday, monday) = (date(&rt, 2023, 6, 28), date(&rt, 2023, 6, 19));
-    same(&rt, nearest_mondays(wednesday), Some((date(&rt, 2023, 7, 3), date(&rt, 2023, 6, 26))));
-    same(&rt, nearest_mondays(monday), Some((date(&rt, 2023, 6, 26), date(&rt, 2023, 6, 12))));
+    same(
+        &rt,
+        nearest_mondays(wednesday),
+        Some((date(&rt, 2023, 7, 3), date(&rt, 2023, 6, 26))),
+    );
+    same(
+        &rt,
+        nearest_mondays(monday),
+        Some((date(&rt, 2023, 6, 26), date(&rt, 2023, 6, 12))),
+    );
     for weekday in Weekday::iter_from(Weekday::Monday).take(7) {
         same(&rt, Date::MAX.checked_next_occurrence(weekday), None);
         same(&rt, Date::MIN.checked_prev_occurrence(weekday), None);

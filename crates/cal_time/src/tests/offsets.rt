@@ -72,6 +72,10 @@ fn offsets_are_ordered_by_their_seconds(rt: HostRuntime) {
         (offset(&rt, 0, 0, -1), (false, true, false)),
         (-west, (false, false, true)),
     ] {
-        same(&rt, (offset.is_utc(), offset.is_negative(), offset.is_positive()), signs);
+        same(
+            &rt,
+            (offset.is_utc(), offset.is_negative(), offset.is_positive()),
+            signs,
+        );
     }
 }

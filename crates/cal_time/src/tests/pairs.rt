@@ -26,7 +26,12 @@ fn pairs_moved_on(rt: HostRuntime) {
         (Date::MIN, Time::MIDNIGHT, whole_range, None),
         (Date::MIN, Time::MIDNIGHT, SignedDuration::MIN, None),
     ] {
-        same_at(&rt, (date, time, duration), add_to_pair(date, time, duration), want);
+        same_at(
+            &rt,
+            (date, time, duration),
+            add_to_pair(date, time, duration),
+            want,
+        );
     }
 }
 
@@ -48,6 +53,11 @@ fn pairs_moved_back(rt: HostRuntime) {
             Some((Date::MIN, Time::MIDNIGHT)),
         ),
     ] {
-        same_at(&rt, (date, time, duration), sub_from_pair(date, time, duration), want);
+        same_at(
+            &rt,
+            (date, time, duration),
+            sub_from_pair(date, time, duration),
+            want,
+        );
     }
 }

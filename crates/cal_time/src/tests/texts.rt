@@ -76,15 +76,31 @@ fn texts_of_each_hour(rt: HostRuntime) -> Result<(), Fail> {
     for hour in 0..24 {
         let text = format!(in rt.alloc(); "{hour}:00:00.0")?;
         let time = time(&rt, hour, 0, 0, 0);
-        same(&rt, format!(in rt.alloc(); "{time}")?.as_str(), text.as_str());
-        same(&rt, format!(in rt.alloc(); "{time:?}")?.as_str(), text.as_str());
+        same(
+            &rt,
+            format!(in rt.alloc(); "{time}")?.as_str(),
+            text.as_str(),
+        );
+        same(
+            &rt,
+            format!(in rt.alloc(); "{time:?}")?.as_str(),
+            text.as_str(),
+        );
     }
     for hours in -25i8..26 {
         let sign = if hours < 0 { "-" } else { "+" };
         let text = format!(in rt.alloc(); "{sign}{:02}:00:00", hours.unsigned_abs())?;
         let offset = offset(&rt, hours, 0, 0);
-        same(&rt, format!(in rt.alloc(); "{offset}")?.as_str(), text.as_str());
-        same(&rt, format!(in rt.alloc(); "{offset:?}")?.as_str(), text.as_str());
+        same(
+            &rt,
+            format!(in rt.alloc(); "{offset}")?.as_str(),
+            text.as_str(),
+        );
+        same(
+            &rt,
+            format!(in rt.alloc(); "{offset:?}")?.as_str(),
+            text.as_str(),
+        );
     }
     Ok(())
 }
@@ -141,7 +157,15 @@ fn texts_of_errors(rt: HostRuntime) -> Result<(), Fail> {
     ] {
         same(&rt, format!(in rt.alloc(); "{error}")?.as_str(), text);
     }
-    same(&rt, format!(in rt.alloc(); "{ConversionRange}")?.as_str(), "Source value is out of range for the target type");
-    same(&rt, format!(in rt.alloc(); "{InvalidVariant}")?.as_str(), "value was not a valid variant");
+    same(
+        &rt,
+        format!(in rt.alloc(); "{ConversionRange}")?.as_str(),
+        "Source value is out of range for the target type",
+    );
+    same(
+        &rt,
+        format!(in rt.alloc(); "{InvalidVariant}")?.as_str(),
+        "value was not a valid variant",
+    );
     Ok(())
 }

@@ -151,9 +151,21 @@ fn durations_between_times(rt: HostRuntime) {
 #[test]
 fn times_moved_into_the_neighbouring_days(rt: HostRuntime) {
     let midnight = Time::MIDNIGHT;
-    same(&rt, midnight.adjusting_add(SignedDuration::MIN), (DateAdjustment::Previous, time(&rt, 8, 29, 51, 1)));
-    same(&rt, midnight.adjusting_sub(SignedDuration::MIN), (DateAdjustment::None, time(&rt, 15, 30, 8, 999_999_999)));
-    same(&rt, Time::MAX.adjusting_add(SignedDuration::MAX), (DateAdjustment::Next, time(&rt, 15, 30, 7, 999_999_998)));
+    same(
+        &rt,
+        midnight.adjusting_add(SignedDuration::MIN),
+        (DateAdjustment::Previous, time(&rt, 8, 29, 51, 1)),
+    );
+    same(
+        &rt,
+        midnight.adjusting_sub(SignedDuration::MIN),
+        (DateAdjustment::None, time(&rt, 15, 30, 8, 999_999_999)),
+    );
+    same(
+        &rt,
+        Time::MAX.adjusting_add(SignedDuration::MAX),
+        (DateAdjustment::Next, time(&rt, 15, 30, 7, 999_999_998)),
+    );
 }
 
 #[test]

@@ -3,8 +3,8 @@ ghost use Rattle.std.specs.Iterator.{IsFinite};
 
 use crate::Date;
 use crate::iter::DateIter;
-use crate::tests::{date, same};
 use crate::tests::range::DAYS;
+use crate::tests::{date, same};
 
 /// How many items an iterator gives.
 fn count_items<I: Iterator + Drop>(items: I) -> usize

@@ -1,8 +1,8 @@
 //! Lengths of the least and the greatest year, and the longest steps round a cycle.
 ghost use Rattle.std.specs.Prelude.{◌<◌};
 
-use crate::tests::{same, same_at};
 use crate::iter::{MonthIter, WeekdayIter};
+use crate::tests::{same, same_at};
 use crate::util::{days_in_month, days_in_year, days_in_year_month, is_leap_year, weeks_in_year};
 use crate::{Cycle, Month, Weekday, nth_in};
 
@@ -70,7 +70,11 @@ fn months_far_on_and_far_back(rt: HostRuntime) {
         let far = nth_in(start, usize::MAX);
         same_at(&rt, start, far.place(), place_after(place, usize::MAX, 12));
     }
-    same(&rt, (Month::at(0), Month::at(11)), (Month::January, Month::December));
+    same(
+        &rt,
+        (Month::at(0), Month::at(11)),
+        (Month::January, Month::December),
+    );
 }
 
 #[test]
@@ -86,7 +90,11 @@ fn weekdays_far_on_and_far_back(rt: HostRuntime) {
         let far = nth_in(start, usize::MAX);
         same_at(&rt, start, far.place(), place_after(place, usize::MAX, 7));
     }
-    same(&rt, (Weekday::at(0), Weekday::at(6)), (Weekday::Monday, Weekday::Sunday));
+    same(
+        &rt,
+        (Weekday::at(0), Weekday::at(6)),
+        (Weekday::Monday, Weekday::Sunday),
+    );
 }
 
 // The greatest step is 3 more than a multiple of 12, and 1 more than one of 7.

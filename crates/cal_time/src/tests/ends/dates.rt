@@ -1,7 +1,7 @@
 //! Dates at both ends of the range and of the types that they are made of.
-use crate::tests::{date, same, same_at};
 use crate::tests::ends::{Told, told};
 use crate::tests::range::{DAYS, FIRST_JULIAN_DAY, FIRST_YEAR, LAST_JULIAN_DAY, LAST_YEAR};
+use crate::tests::{date, same, same_at};
 use crate::{Counted, Date, Month, SignedDuration, Weekday, extent, is_rising};
 
 /// The years at both ends of the type and of the range.
@@ -94,7 +94,12 @@ fn julian_days(rt: HostRuntime) {
 fn ordinal_dates(rt: HostRuntime) {
     for year in YEARS {
         for ordinal in ORDINALS {
-            same_at(&rt, (year, ordinal), told(&Date::from_ordinal_date(year, ordinal)), of_ordinal(year, ordinal));
+            same_at(
+                &rt,
+                (year, ordinal),
+                told(&Date::from_ordinal_date(year, ordinal)),
+                of_ordinal(year, ordinal),
+            );
         }
     }
 }
@@ -104,7 +109,12 @@ fn calendar_dates(rt: HostRuntime) {
     for year in YEARS {
         for (month, length, before) in MONTHS {
             for day in DAYS_OF_MONTH {
-                same_at(&rt, (year, month, day), told(&Date::from_calendar_date(year, month, day)), of_day(year, length, before, day));
+                same_at(
+                    &rt,
+                    (year, month, day),
+                    told(&Date::from_calendar_date(year, month, day)),
+                    of_day(year, length, before, day),
+                );
             }
         }
     }
@@ -124,7 +134,12 @@ fn iso_week_dates(rt: HostRuntime) {
         (LAST_YEAR, 52, Weekday::Saturday, Err(("weekday", true))),
         (LAST_YEAR, 52, Weekday::Sunday, Err(("weekday", true))),
     ] {
-        same_at(&rt, (year, week, weekday), told(&Date::from_iso_week_date(year, week, weekday)), want);
+        same_at(
+            &rt,
+            (year, week, weekday),
+            told(&Date::from_iso_week_date(year, week, weekday)),
+            want,
+        );
     }
 }
 
@@ -138,7 +153,12 @@ fn iso_years_and_weeks(rt: HostRuntime) {
                 } else {
                     Err(("year", false))
                 };
-                same_at(&rt, (year, week, weekday), told(&Date::from_iso_week_date(year, week, weekday)), want);
+                same_at(
+                    &rt,
+                    (year, week, weekday),
+                    told(&Date::from_iso_week_date(year, week, weekday)),
+                    want,
+                );
             }
         }
     }
@@ -188,7 +208,12 @@ fn replaced_years(rt: HostRuntime) {
     let leap_day = date(&rt, 2024, 2, 29);
     for year in YEARS {
         for (date, ordinal) in [(Date::MIN, 1), (Date::MAX, 365)] {
-            same_at(&rt, (date, year), told(&date.replace_year(year)), of_ordinal(year, ordinal));
+            same_at(
+                &rt,
+                (date, year),
+                told(&date.replace_year(year)),
+                of_ordinal(year, ordinal),
+            );
         }
         let want = if is_in_range(year) {
             Err(("day", true))

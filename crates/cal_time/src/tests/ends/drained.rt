@@ -43,9 +43,17 @@ fn check_step(
 ) {
     same(rt, item.map(Date::to_julian_day), want);
     let length = left.len();
-    same(rt, (walk.len(), walk.size_hint(), walk.clone().count()), (length, (length, Some(length)), length));
+    same(
+        rt,
+        (walk.len(), walk.size_hint(), walk.clone().count()),
+        (length, (length, Some(length)), length),
+    );
     let (min, max) = (walk.clone().min(), walk.clone().max());
-    same(rt, (min.map(Date::to_julian_day), max.map(Date::to_julian_day)), (left.first().copied(), left.last().copied()));
+    same(
+        rt,
+        (min.map(Date::to_julian_day), max.map(Date::to_julian_day)),
+        (left.first().copied(), left.last().copied()),
+    );
 }
 
 /// Stops the test unless one step of each kind, two of them `k` places far, takes what the list has. Gives what is left of it.

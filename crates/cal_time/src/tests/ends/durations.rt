@@ -158,7 +158,11 @@ fn sums_and_differences(rt: HostRuntime) {
             same(&rt, a.saturating_add(b).number(), clamped(sum));
             same(&rt, a.saturating_sub(b).number(), clamped(difference));
             same(&rt, sums(a, b).map(numbers), exact(sum).map(twice));
-            same(&rt, differences(a, b).map(numbers), exact(difference).map(twice));
+            same(
+                &rt,
+                differences(a, b).map(numbers),
+                exact(difference).map(twice),
+            );
         }
     }
 }
@@ -173,8 +177,16 @@ fn products_and_quotients(rt: HostRuntime) {
             same_at(&rt, (a, k), a.checked_mul(k).map(number), exact(product));
             same_at(&rt, (a, k), a.saturating_mul(k).number(), clamped(product));
             same_at(&rt, (a, k), a.checked_div(k).map(number), quotient);
-            same(&rt, products_by_i32(a, k).map(numbers), exact(product).map(twice));
-            same(&rt, quotients_by_i32(a, k).map(numbers), quotient.map(twice));
+            same(
+                &rt,
+                products_by_i32(a, k).map(numbers),
+                exact(product).map(twice),
+            );
+            same(
+                &rt,
+                quotients_by_i32(a, k).map(numbers),
+                quotient.map(twice),
+            );
         }
     }
 }
@@ -192,7 +204,11 @@ fn products_and_quotients_by_signed_operands(rt: HostRuntime) {
             let product = exact(x.saturating_mul(i128::from(k)));
             let quotient = exact_quotient(x, i128::from(k));
             same(&rt, products_by_i16(a, k).map(numbers), product.map(twice));
-            same(&rt, quotients_by_i16(a, k).map(numbers), quotient.map(twice));
+            same(
+                &rt,
+                quotients_by_i16(a, k).map(numbers),
+                quotient.map(twice),
+            );
         }
     }
 }
@@ -210,7 +226,11 @@ fn products_and_quotients_by_unsigned_operands(rt: HostRuntime) {
             let product = exact(x.saturating_mul(i128::from(k)));
             let quotient = exact_quotient(x, i128::from(k));
             same(&rt, products_by_u16(a, k).map(numbers), product.map(twice));
-            same(&rt, quotients_by_u16(a, k).map(numbers), quotient.map(twice));
+            same(
+                &rt,
+                quotients_by_u16(a, k).map(numbers),
+                quotient.map(twice),
+            );
         }
     }
 }
@@ -268,12 +288,20 @@ fn signs_and_magnitudes(rt: HostRuntime) {
     for (a, x) in ends() {
         let number = SignedDuration::whole_nanoseconds;
         let size = x.saturating_abs();
-        same(&rt, (a.is_zero(), a.is_negative(), a.is_positive()), (x == 0, x < 0, x > 0));
+        same(
+            &rt,
+            (a.is_zero(), a.is_negative(), a.is_positive()),
+            (x == 0, x < 0, x > 0),
+        );
         same(&rt, a.checked_neg().map(number), exact(x.saturating_neg()));
         same(&rt, opposite(a).map(number), exact(x.saturating_neg()));
         same(&rt, a.abs().number(), clamped(size));
         let (seconds, nanoseconds) = a.unsigned_abs();
-        same(&rt, (i128::from(seconds), i128::from(nanoseconds)), (size / SECOND, size % SECOND));
+        same(
+            &rt,
+            (i128::from(seconds), i128::from(nanoseconds)),
+            (size / SECOND, size % SECOND),
+        );
     }
 }
 
@@ -290,9 +318,30 @@ fn parts(rt: HostRuntime) {
             a.whole_microseconds(),
             a.whole_nanoseconds(),
         ];
-        same(&rt, whole, [ x / (7 * DAY), x / DAY, x / HOUR, x / MINUTE, x / SECOND, x / 1_000_000, x / 1_000, x, ]);
+        same(
+            &rt,
+            whole,
+            [
+                x / (7 * DAY),
+                x / DAY,
+                x / HOUR,
+                x / MINUTE,
+                x / SECOND,
+                x / 1_000_000,
+                x / 1_000,
+                x,
+            ],
+        );
         let past = x % SECOND;
-        same(&rt, [ i128::from(a.subsec_milliseconds()), i128::from(a.subsec_microseconds()), i128::from(a.subsec_nanoseconds()), ], [past / 1_000_000, past / 1_000, past]);
+        same(
+            &rt,
+            [
+                i128::from(a.subsec_milliseconds()),
+                i128::from(a.subsec_microseconds()),
+                i128::from(a.subsec_nanoseconds()),
+            ],
+            [past / 1_000_000, past / 1_000, past],
+        );
     }
 }
 
@@ -301,8 +350,16 @@ fn durations_of_each_unit(rt: HostRuntime) {
     for n in [i64::MIN, -1, 0, 1, i64::MAX] {
         let number = i128::from(n);
         same(&rt, SignedDuration::seconds(n).number(), number * SECOND);
-        same(&rt, SignedDuration::milliseconds(n).number(), number * 1_000_000);
-        same(&rt, SignedDuration::microseconds(n).number(), number * 1_000);
+        same(
+            &rt,
+            SignedDuration::milliseconds(n).number(),
+            number * 1_000_000,
+        );
+        same(
+            &rt,
+            SignedDuration::microseconds(n).number(),
+            number * 1_000,
+        );
         same(&rt, SignedDuration::nanoseconds(n).number(), number);
     }
 }

@@ -1,7 +1,7 @@
 //! The first two and the last two years of the range, day by day and week by week. None of them is a leap year.
-use crate::tests::same;
 use crate::tests::ends::told;
 use crate::tests::range::{FIRST_JULIAN_DAY, FIRST_YEAR, LAST_JULIAN_DAY, LAST_YEAR};
+use crate::tests::same;
 use crate::{Counted, Date, Month, Weekday};
 use std::process::Abort;
 
@@ -93,19 +93,65 @@ fn check_constructors(rt: &impl Abort, running: Running, month: Month, day: u8) 
         panic!(rt; "{week} is no week");
     };
     same(rt, told(&Date::from_julian_day(running.julian_day)), number);
-    same(rt, told(&Date::from_calendar_date(year, month, day)), number);
-    same(rt, told(&Date::from_ordinal_date(year, running.ordinal)), number);
-    same(rt, told(&Date::from_iso_week_date(iso_year, week, weekday)), number);
+    same(
+        rt,
+        told(&Date::from_calendar_date(year, month, day)),
+        number,
+    );
+    same(
+        rt,
+        told(&Date::from_ordinal_date(year, running.ordinal)),
+        number,
+    );
+    same(
+        rt,
+        told(&Date::from_iso_week_date(iso_year, week, weekday)),
+        number,
+    );
 }
 
 /// Stops the test unless the date has what this day has.
 fn check_parts(rt: &impl Abort, date: Date, running: Running, month: Month, day: u8) {
     let (iso_year, week) = running.iso_week();
     let (its_year, its_week, its_weekday) = date.to_iso_week_date();
-    same(rt, ( date.to_julian_day(), date.to_calendar_date(), date.to_ordinal_date() ), ( running.julian_day, (running.year, month, day), (running.year, running.ordinal) ));
-    same(rt, (its_year, i32::from(its_week), its_weekday as u8), (iso_year, week, running.weekday));
-    same(rt, ( date.year(), date.month(), date.day(), date.ordinal(), date.weekday() as u8 ), (running.year, month, day, running.ordinal, running.weekday));
-    same(rt, ( i32::from(date.iso_week()), date.sunday_based_week(), date.monday_based_week() ), (week, running.sundays, running.mondays));
+    same(
+        rt,
+        (
+            date.to_julian_day(),
+            date.to_calendar_date(),
+            date.to_ordinal_date(),
+        ),
+        (
+            running.julian_day,
+            (running.year, month, day),
+            (running.year, running.ordinal),
+        ),
+    );
+    same(
+        rt,
+        (its_year, i32::from(its_week), its_weekday as u8),
+        (iso_year, week, running.weekday),
+    );
+    same(
+        rt,
+        (
+            date.year(),
+            date.month(),
+            date.day(),
+            date.ordinal(),
+            date.weekday() as u8,
+        ),
+        (running.year, month, day, running.ordinal, running.weekday),
+    );
+    same(
+        rt,
+        (
+            i32::from(date.iso_week()),
+            date.sunday_based_week(),
+            date.monday_based_week(),
+        ),
+        (week, running.sundays, running.mondays),
+    );
 }
 
 /// Stops the test unless the days around the date are its neighbours.
@@ -114,8 +160,16 @@ fn check_neighbours(rt: &impl Abort, date: Date, julian_day: i32) {
     let after = i128::from(julian_day) + 1;
     let has_day_before = julian_day != FIRST_JULIAN_DAY;
     let has_day_after = julian_day != LAST_JULIAN_DAY;
-    same(rt, date.previous_day().map(Counted::number), has_day_before.then_some(before));
-    same(rt, date.next_day().map(Counted::number), has_day_after.then_some(after));
+    same(
+        rt,
+        date.previous_day().map(Counted::number),
+        has_day_before.then_some(before),
+    );
+    same(
+        rt,
+        date.next_day().map(Counted::number),
+        has_day_after.then_some(after),
+    );
 }
 
 /// Stops the test unless all days of the year are those of the calendar. Gives what runs on to the next year.

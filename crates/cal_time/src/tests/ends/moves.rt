@@ -1,7 +1,7 @@
 //! Dates at both ends of the range, moved by durations and to weekdays.
-use crate::tests::{date, same};
 use crate::tests::ends::durations::ends;
 use crate::tests::range::{DAYS, FIRST_JULIAN_DAY, LAST_JULIAN_DAY, LAST_YEAR};
+use crate::tests::{date, same};
 use crate::{Counted, Date, SignedDuration, Weekday};
 
 const DAY: i128 = 86_400_000_000_000;
@@ -151,8 +151,16 @@ fn occurrences_at_the_ends(rt: HostRuntime) {
         for weekday in Weekday::iter_from(Weekday::Monday).take(7) {
             for n in [0, 1, 2, 255] {
                 let place = weekday as u8;
-                same(&rt, next_occurrences(date, weekday, n), nth_after(from, place, n).map(|day| [day, day, day]));
-                same(&rt, prev_occurrences(date, weekday, n), nth_before(from, place, n).map(|day| [day, day, day]));
+                same(
+                    &rt,
+                    next_occurrences(date, weekday, n),
+                    nth_after(from, place, n).map(|day| [day, day, day]),
+                );
+                same(
+                    &rt,
+                    prev_occurrences(date, weekday, n),
+                    nth_before(from, place, n).map(|day| [day, day, day]),
+                );
             }
         }
     }
@@ -162,6 +170,10 @@ fn occurrences_at_the_ends(rt: HostRuntime) {
 fn fridays_of_the_last_week(rt: HostRuntime) {
     let date = date(&rt, LAST_YEAR, 12, 24);
     for (n, want) in [(0, None), (1, Some(Date::MAX)), (2, None)] {
-        same(&rt, date.checked_nth_next_occurrence(Weekday::Friday, n), want);
+        same(
+            &rt,
+            date.checked_nth_next_occurrence(Weekday::Friday, n),
+            want,
+        );
     }
 }

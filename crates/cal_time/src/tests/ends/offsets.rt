@@ -1,7 +1,7 @@
 //! Offsets at both ends of their parts.
-use crate::tests::same;
 use crate::UtcOffset;
 use crate::tests::ends::{Told, told};
+use crate::tests::same;
 
 /// The hours at both ends of the range and of the type.
 const HOURS: [i8; 7] = [-128, -26, -25, 0, 25, 26, 127];
@@ -39,7 +39,11 @@ fn offsets_of_parts(rt: HostRuntime) {
     for hours in HOURS {
         for minutes in SIXTIETHS {
             for seconds in SIXTIETHS {
-                same(&rt, told(&UtcOffset::from_hms(hours, minutes, seconds)), of_parts(hours, minutes, seconds));
+                same(
+                    &rt,
+                    told(&UtcOffset::from_hms(hours, minutes, seconds)),
+                    of_parts(hours, minutes, seconds),
+                );
             }
         }
     }
@@ -78,9 +82,25 @@ fn parts_of_the_ends(rt: HostRuntime) {
         let Ok(offset) = UtcOffset::from_whole_seconds(seconds) else {
             panic!(rt; "{seconds} is refused");
         };
-        same(&rt, ( offset.as_hms(), offset.whole_hours(), offset.whole_minutes() ), ((hours, minutes, past_minute), hours, all_minutes));
-        same(&rt, (offset.minutes_past_hour(), offset.seconds_past_minute()), (minutes, past_minute));
+        same(
+            &rt,
+            (
+                offset.as_hms(),
+                offset.whole_hours(),
+                offset.whole_minutes(),
+            ),
+            ((hours, minutes, past_minute), hours, all_minutes),
+        );
+        same(
+            &rt,
+            (offset.minutes_past_hour(), offset.seconds_past_minute()),
+            (minutes, past_minute),
+        );
         same(&rt, (-offset).whole_seconds(), seconds.wrapping_neg());
-        same(&rt, (offset.is_negative(), offset.is_utc(), offset.is_positive()), (seconds < 0, false, seconds > 0));
+        same(
+            &rt,
+            (offset.is_negative(), offset.is_utc(), offset.is_positive()),
+            (seconds < 0, false, seconds > 0),
+        );
     }
 }

@@ -1,9 +1,9 @@
 //! Times at both ends of their parts, and moved by the least and the greatest duration.
 ghost use Rattle.std.specs.Prelude.{pos, ◌<ℤ◌};
 
-use crate::tests::{same, same_at};
 use crate::tests::ends::durations::ends;
 use crate::tests::ends::{Told, told};
+use crate::tests::{same, same_at};
 use crate::util::DateAdjustment;
 use crate::{Counted, SignedDuration, Time};
 
@@ -62,7 +62,11 @@ fn times_of_clocks(rt: HostRuntime) {
     for hour in HOURS {
         for minute in SIXTIETHS {
             for second in SIXTIETHS {
-                same(&rt, told(&Time::from_hms(hour, minute, second)), clock(hour, minute, second));
+                same(
+                    &rt,
+                    told(&Time::from_hms(hour, minute, second)),
+                    clock(hour, minute, second),
+                );
             }
         }
     }
@@ -73,9 +77,21 @@ fn times_of_clocks_and_parts_of_a_second(rt: HostRuntime) {
     for (hour, minute, second) in [(0, 0, 0), (23, 59, 59), (23, 59, 60), (255, 255, 255)] {
         let clock = clock(hour, minute, second);
         for (milli, micro, nano) in PARTS {
-            same(&rt, told(&Time::from_hms_milli(hour, minute, second, milli)), with_part(&clock, u32::from(milli), 1_000, "millisecond"));
-            same(&rt, told(&Time::from_hms_micro(hour, minute, second, micro)), with_part(&clock, micro, 1_000_000, "microsecond"));
-            same(&rt, told(&Time::from_hms_nano(hour, minute, second, nano)), with_part(&clock, nano, 1_000_000_000, "nanosecond"));
+            same(
+                &rt,
+                told(&Time::from_hms_milli(hour, minute, second, milli)),
+                with_part(&clock, u32::from(milli), 1_000, "millisecond"),
+            );
+            same(
+                &rt,
+                told(&Time::from_hms_micro(hour, minute, second, micro)),
+                with_part(&clock, micro, 1_000_000, "microsecond"),
+            );
+            same(
+                &rt,
+                told(&Time::from_hms_nano(hour, minute, second, nano)),
+                with_part(&clock, nano, 1_000_000_000, "nanosecond"),
+            );
         }
     }
 }
@@ -132,9 +148,21 @@ fn replaced_parts_of_a_second(rt: HostRuntime) {
         let number = i128::from(number);
         let seconds = Ok(number - number % SECOND);
         for (milli, micro, nano) in PARTS {
-            same(&rt, told(&time.replace_millisecond(milli)), with_part(&seconds, u32::from(milli), 1_000, "millisecond"));
-            same(&rt, told(&time.replace_microsecond(micro)), with_part(&seconds, micro, 1_000_000, "microsecond"));
-            same(&rt, told(&time.replace_nanosecond(nano)), with_part(&seconds, nano, 1_000_000_000, "nanosecond"));
+            same(
+                &rt,
+                told(&time.replace_millisecond(milli)),
+                with_part(&seconds, u32::from(milli), 1_000, "millisecond"),
+            );
+            same(
+                &rt,
+                told(&time.replace_microsecond(micro)),
+                with_part(&seconds, micro, 1_000_000, "microsecond"),
+            );
+            same(
+                &rt,
+                told(&time.replace_nanosecond(nano)),
+                with_part(&seconds, nano, 1_000_000_000, "nanosecond"),
+            );
         }
     }
 }

@@ -1,8 +1,8 @@
 //! Walks over all days of the range, and steps of the greatest length.
 use crate::Date;
 use crate::iter::DateIter;
-use crate::tests::{date, same, same_at};
 use crate::tests::range::{DAYS, LAST_YEAR};
+use crate::tests::{date, same, same_at};
 
 /// The place of the last day in a walk over the whole range.
 const LAST_PLACE: usize = DAYS as usize - 1;
