@@ -122,28 +122,28 @@ impl DateIter {
         self.front.days_until(back) as usize + 1
     }
 
-    /// How many days are left: what [`Self::len`] returns.
+    /// How many days are left: what [`Self::len`] returns, so 4 from 2019-12-30 to 2020-01-02.
     pub fn count(self) -> usize
         ensures { result ≡ length (days_of self) }
     {
         self.len()
     }
 
-    /// The last day, or `None` where no days are left.
+    /// The last day, or `None` where no days are left. From 2019-12-30 to 2020-01-02 it is 2020-01-02.
     pub fn last(self) -> Option<Date>
         ensures { result ≡ slice_get (reverse (days_of self)) 0 }
     {
         self.back
     }
 
-    /// The greatest day, which is the last, or `None` where no days are left.
+    /// The greatest day, which is the last, or `None` where no days are left. From 2019-12-30 to 2020-01-02 it is 2020-01-02.
     pub fn max(self) -> Option<Date>
         ensures { result ≡ slice_get (reverse (days_of self)) 0 }
     {
         self.back
     }
 
-    /// The least day, which is the first, or `None` where no days are left.
+    /// The least day, which is the first, or `None` where no days are left. From 2019-12-30 to 2020-01-02 it is 2019-12-30.
     pub fn min(self) -> Option<Date>
         ensures { result ≡ slice_get (days_of self) 0 }
     {
@@ -161,7 +161,8 @@ impl DateIter {
         true
     }
 
-    /// A walk of its own over the same days.
+    /// A walk of its own over the same days: after one call of `next` on the clone of a walk over 4 days, that has 3 left and the
+    /// walk itself 4.
     pub fn clone(&self) -> Self
         ensures { result ≡ self.now }
     {
