@@ -124,7 +124,7 @@ fn numbered_weekday(number: u8) -> Option<Weekday>
     Some(Weekday::Monday.nth_next(number - 1))
 }
 
-/// The first word, and what comes after the space that ends it. There is none if no space stands in the bytes.
+/// The first word, and what comes after the space that ends it. There is none if no space is in the bytes.
 #[tactic(auto, using(crate::proofs::Parts::words_of_some, crate::proofs::Parts::words_of_none, std::proofs::lemmas::List::take_rest))]
 fn first_word(bytes: &[u8]) -> Option<(&[u8], &[u8])>
     ensures { MatchOption result (words_of bytes.now ≡ bytes.now ∷ [])

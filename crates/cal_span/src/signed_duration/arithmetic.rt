@@ -191,7 +191,7 @@ impl SignedDuration {
 /// The seconds to carry over from the nanoseconds: what is left of these is then less than a second,
 /// and not against the seconds.
 ///
-/// It is counted from two comparisons. A branch on a sign that the data decide is mispredicted half
+/// It is counted from two comparisons. A branch on a data-dependent sign is mispredicted half
 /// of the time.
 fn carry_of(seconds: i64, nanoseconds: i32) -> i32
     requires { CanCarry seconds nanoseconds }
