@@ -7,3 +7,4 @@ pub mod DayForms
 pub mod Printed
 pub mod UnixTimes
 pub mod NumberTexts
+mod Fractions

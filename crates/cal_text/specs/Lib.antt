@@ -3,3 +3,5 @@ pub mod Reading
 pub mod ErrorText
 pub mod Unix
 pub mod JulianForm
+pub mod Line
+pub mod Rfc3339

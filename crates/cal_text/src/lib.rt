@@ -9,7 +9,9 @@ mod error;
 mod form;
 pub mod julian_day;
 mod laws;
+mod line;
 mod print;
+pub mod rfc3339;
 pub mod unix;
 mod year;
 

@@ -4,10 +4,9 @@ ghost use Rattle.std.specs.Fmt.{padded};
 ghost use Rattle.std.specs.Str.{IsAscii};
 ghost use Rattle.cal_text.specs.DateForms.{ordinal_text, week_text};
 
-use crate::print::{digit, three_digits, two_digits, year_bytes};
+use crate::print::{ascii_text, digit, three_digits, two_digits, year_bytes};
 use cal_time::Date;
 use std::fmt;
-use std::str::from_utf8;
 
 /// A date that prints its ordinal date, as `2024-060`. Under a width the whole text is padded.
 #[derive(Clone, Copy, Debug, PartialEq, Eq)]
@@ -64,12 +63,4 @@ impl fmt::Display for WeekText {
         let (bytes, start) = week_bytes(self.0);
         f.pad(ascii_text(&bytes[start..]))
     }
-}
-
-/// Bytes of ASCII as a text.
-fn ascii_text(bytes: &[u8]) -> &str
-    requires { IsAscii bytes.now }
-    ensures { result.now ≡ bytes.now }
-{
-    from_utf8(bytes).unwrap()
 }

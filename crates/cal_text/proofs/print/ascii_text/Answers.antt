@@ -1,6 +1,6 @@
 use Rattle.std.proofs.Common.{rules}
 use Rattle.std.proofs.lemmas.Str.{IsUtf8-from_ascii}
-use Rattle.cal_text.proofs.date.display.ascii_text.Goals as goal
+use Rattle.cal_text.proofs.print.ascii_text.Goals as goal
 
 pub unwrap-requires : goal.unwrap-requires
 unwrap-requires c =

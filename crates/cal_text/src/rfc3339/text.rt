@@ -1,0 +1,127 @@
+//! The text of a date, a time of day and an offset from UTC.
+ghost use Rattle.std.specs.Prelude.{◌≡◌, ◌+◌, ◌<◌, ◌≤◌, ◌++◌, SomeIff, codes, length, pos, Some};
+ghost use Rattle.std.specs.Fmt.{padded};
+ghost use Rattle.cal_time.specs.Date.{year_at, month_at, day_of_month_at};
+ghost use Rattle.cal_time.specs.DateText.{digits_at_least};
+ghost use Rattle.cal_time.specs.Time.{hour_of, minute_of, second_of};
+ghost use Rattle.cal_text.specs.DateForms.{year_text};
+ghost use Rattle.cal_text.specs.Line.{HasRoom};
+ghost use Rattle.cal_text.specs.Rfc3339.{HasMomentText, fraction_text, offset_text, moment_text};
+
+use crate::line::Line;
+use crate::print::{fraction_digits, year_bytes};
+use cal_time::{Date, Time, UtcOffset};
+use std::fmt;
+
+/// A date, a time of day and an offset from UTC that print as RFC 3339 has them, as `2024-02-29T23:59:59.25+01:00`.
+///
+/// The fraction of the second has no zeros at its end, and is left out where it is zero; the offset of UTC is `Z`. Under a width
+/// the whole text is padded.
+#[derive(Clone, Copy, Debug, PartialEq, Eq)]
+pub struct Text {
+    date: Date,
+    time: Time,
+    offset: UtcOffset,
+}
+
+impl Text {
+    /// The date and the time of day that a clock shows at this offset from UTC, to be printed.
+    ///
+    /// It is `None` exactly where RFC 3339 has no text: for a year outside 0 to 9999, an offset of a day and more, and one with
+    /// seconds, as `+05:30:15`.
+    pub fn new(date: Date, time: Time, offset: UtcOffset) -> Option<Self>
+        ensures { SomeIff result (HasMomentText date offset) (record { date = date; time = time; offset = offset }) }
+    {
+        let year = date.year();
+        let seconds = offset.whole_seconds().unsigned_abs();
+        if year < 0 || year > 9999 || seconds % 60 != 0 || seconds >= 86_400 {
+            return None;
+        }
+        Some(Text { date, time, offset })
+    }
+
+    /// The text in bytes.
+    fn line(self) -> Line
+        ensures { result ≡ moment_text self.date self.time self.offset }
+    {
+        let mut line = Line::new();
+        push_date(&mut line, self.date);
+        line.push(b"T");
+        push_clock(&mut line, self.time);
+        push_fraction(&mut line, self.time.nanosecond());
+        push_offset(&mut line, self.offset);
+        line
+    }
+}
+
+/// The year, the month and the day of the month.
+fn push_date(line: &mut Line, date: Date)
+    requires { HasRoom 13 line.old }
+    ensures text { line.new ≡ line.old ++ year_text (year_at date) ++ codes "-" ++ digits_at_least 2 (month_at date)
+        ++ codes "-" ++ digits_at_least 2 (day_of_month_at date) }
+    ensures short { length line.new ≤ length line.old + 13 }
+{
+    let (year, month, day) = date.to_calendar_date();
+    let (bytes, start) = year_bytes(year);
+    line.push(&bytes[start..]);
+    line.push(b"-");
+    line.push_two_digits(u32::from(month as u8));
+    line.push(b"-");
+    line.push_two_digits(u32::from(day));
+}
+
+/// The hour, the minute and the second.
+fn push_clock(line: &mut Line, time: Time)
+    requires { HasRoom 8 line.old }
+    ensures text { line.new ≡ line.old ++ digits_at_least 2 (hour_of time) ++ codes ":" ++ digits_at_least 2 (minute_of time)
+        ++ codes ":" ++ digits_at_least 2 (second_of time) }
+    ensures longer { length line.new ≡ length line.old + 8 }
+{
+    line.push_two_digits(u32::from(time.hour()));
+    line.push(b":");
+    line.push_two_digits(u32::from(time.minute()));
+    line.push(b":");
+    line.push_two_digits(u32::from(time.second()));
+}
+
+/// The nanoseconds past the second.
+fn push_fraction(line: &mut Line, nanosecond: u32)
+    requires room { HasRoom 10 line.old }
+    requires below { nanosecond < 1_000_000_000 }
+    ensures text { line.new ≡ line.old ++ fraction_text nanosecond }
+    ensures short { length line.new ≤ length line.old + 10 }
+{
+    if nanosecond == 0 {
+        return;
+    }
+    let (digits, end) = fraction_digits(nanosecond);
+    line.push(b".");
+    line.push(&digits[..end]);
+}
+
+/// The offset from UTC.
+fn push_offset(line: &mut Line, offset: UtcOffset)
+    requires { HasRoom 6 line.old }
+    ensures { line.new ≡ line.old ++ offset_text offset }
+{
+    if offset.is_utc() {
+        line.push(b"Z");
+        return;
+    }
+    let minutes = offset.whole_seconds().unsigned_abs() / 60;
+    line.push(if offset.is_negative() { b"-" } else { b"+" });
+    line.push_two_digits(minutes / 60);
+    line.push(b":");
+    line.push_two_digits(minutes % 60);
+}
+
+impl fmt::Display for Text {
+    ghost output = { λ t. Some (moment_text t.date t.time t.offset) };
+
+    ghost styled_output = { λ t spec. Some (padded spec (moment_text t.date t.time t.offset)) };
+
+    fn fmt<W: fmt::Write>(&self, f: &mut fmt::Formatter<W>) -> fmt::Result {
+        let line = self.line();
+        f.pad(line.as_str())
+    }
+}
