@@ -78,10 +78,10 @@ digits-printed (c ∷ d ∷ ds) h some few =
     ]
 
 -- one byte more
-in_range : (c : ℕ) → is_ascii_digit c ≡ true → IsInRange 48 57 c
+pub in_range : (c : ℕ) → is_ascii_digit c ≡ true → IsInRange 48 57 c
 in_range c e = grind (arith, nat_tests)
 
-not_in_range : (c : ℕ) → is_ascii_digit c ≡ false → ¬ (IsInRange 48 57 c)
+pub not_in_range : (c : ℕ) → is_ascii_digit c ≡ false → ¬ (IsInRange 48 57 c)
 not_in_range c e h = grind (arith, nat_tests)
 
 pub digits-turn : (ds : List ℕ) (i : ℕ) → i < length ds → is_ascii_digit (get_or ds i 0) ≡ true → AllDigits 10 (take i ds)

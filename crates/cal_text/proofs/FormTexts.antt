@@ -11,18 +11,18 @@ use Rattle.cal_text.proofs.DigitTexts.{digits_at_least-digits, digits_at_least-l
 below-nine_digits : (width n : ℕ) → width ≤ 9 → n < 10 ^ width → n < 10 ^ 9
 below-nine_digits width n few below = let more : 10 ^ width ≤ 10 ^ 9 = pow-le-pow_right (lit< tt) few in omega (arith, more, below)
 
--- two numbers around a hyphen
-pub record IsPair (text : List ℕ) (first second m n : ℕ) : Type 0 where
+-- two numbers around a separator
+pub record IsPair (text : List ℕ) (first second m n between : ℕ) : Type 0 where
   pub long : length text ≡ first + 1 + second
-  pub hyphen : get_or text first 0 ≡ 45
+  pub separator : get_or text first 0 ≡ between
   pub front : take first text ≡ digits_at_least first m
   pub back : drop (first + 1) text ≡ digits_at_least second n
   pub front_small : m < 10 ^ 9
   pub back_small : n < 10 ^ 9
 
-pub pair : (text : List ℕ) (first second m n : ℕ) → (1 ≤ first) × (first ≤ 2) → (1 ≤ second) × (second ≤ 2) → m < 10 ^ first → n < 10 ^ second
-    → text ≡ digits_at_least first m ++ 45 ∷ digits_at_least second n → IsPair text first second m n
-pair text first second m n f s a b e =
+pub pair : (text : List ℕ) (first second m n between : ℕ) → (1 ≤ first) × (first ≤ 2) → (1 ≤ second) × (second ≤ 2) → m < 10 ^ first → n < 10 ^ second
+    → text ≡ digits_at_least first m ++ between ∷ digits_at_least second n → IsPair text first second m n between
+pair text first second m n between f s a b e =
     let xs = digits_at_least first m in
     let ys = digits_at_least second n in
     let small_m = below-nine_digits first m (omega (arith, f.1)) a in
@@ -30,10 +30,10 @@ pair text first second m n f s a b e =
     let long_x : length xs ≡ first = digits_at_least-length first m (omega (arith, f.0)) a small_m in
     let long_y : length ys ≡ second = digits_at_least-length second n (omega (arith, s.0)) b small_n in
     record {
-      long = ap length e ∙ length-append xs (45 ∷ ys) ∙ omega (arith, long_x, long_y);
-      hyphen = ap (λ all. get_or all first 0) e ∙ get_or_at xs 45 ys 0 first long_x;
-      front = ap (take first) e ∙ take_at xs (45 ∷ ys) first long_x;
-      back = ap (drop (first + 1)) e ∙ sym (drop-drop 1 first (xs ++ 45 ∷ ys)) ∙ ap (drop 1) (drop_at xs (45 ∷ ys) first long_x);
+      long = ap length e ∙ length-append xs (between ∷ ys) ∙ omega (arith, long_x, long_y);
+      separator = ap (λ all. get_or all first 0) e ∙ get_or_at xs between ys 0 first long_x;
+      front = ap (take first) e ∙ take_at xs (between ∷ ys) first long_x;
+      back = ap (drop (first + 1)) e ∙ sym (drop-drop 1 first (xs ++ between ∷ ys)) ∙ ap (drop 1) (drop_at xs (between ∷ ys) first long_x);
       front_small = small_m;
       back_small = small_n;
     }
@@ -47,14 +47,14 @@ week_and_weekday-pair w d = ap (λ all. 87 ∷ all) (append_assoc (digits_at_lea
 
 pub month_and_day-length : (m d : ℕ) → m < 100 → d < 100 → length (month_and_day_text m d) ≡ 5
 month_and_day-length m d a b =
-    (pair (month_and_day_text m d) 2 2 m d (lit≤ tt, lit≤ tt) (lit≤ tt, lit≤ tt) a b (month_and_day-pair m d)).long
+    (pair (month_and_day_text m d) 2 2 m d 45 (lit≤ tt, lit≤ tt) (lit≤ tt, lit≤ tt) a b (month_and_day-pair m d)).long
 
 pub ordinal-length : (o : ℕ) → o < 1000 → length (ordinal_digits o) ≡ 3
 ordinal-length o a = digits_at_least-length 3 o (lit< tt) a (omega arith)
 
 pub week_and_weekday-length : (w d : ℕ) → w < 100 → d < 10 → length (week_and_weekday_text w d) ≡ 5
 week_and_weekday-length w d a b =
-    ap length (week_and_weekday-pair w d) ∙ ap suc (pair (digits_at_least 2 w ++ 45 ∷ digits_at_least 1 d) 2 1 w d (lit≤ tt, lit≤ tt) (lit≤ tt, lit≤ tt) a b refl).long
+    ap length (week_and_weekday-pair w d) ∙ ap suc (pair (digits_at_least 2 w ++ 45 ∷ digits_at_least 1 d) 2 1 w d 45 (lit≤ tt, lit≤ tt) (lit≤ tt, lit≤ tt) a b refl).long
 
 pub month_and_day-first : (m d : ℕ) → m < 100 → get_or (month_and_day_text m d) 0 0 ≢ 87
 month_and_day-first m d a e =

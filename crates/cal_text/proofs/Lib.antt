@@ -8,3 +8,6 @@ pub mod Printed
 pub mod UnixTimes
 pub mod NumberTexts
 mod Fractions
+mod MomentTexts
+mod MomentForms
+mod MomentReads

@@ -5,3 +5,4 @@ pub mod Unix
 pub mod JulianForm
 pub mod Line
 pub mod Rfc3339
+pub mod Rfc3339Form

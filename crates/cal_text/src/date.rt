@@ -14,8 +14,8 @@ use crate::form::form_of;
 use cal_time::Date;
 
 mod display;
-mod of_form;
-mod place;
+pub(crate) mod of_form;
+pub(crate) mod place;
 
 pub use display::{OrdinalText, WeekText};
 

@@ -2,7 +2,7 @@
 
 mod reading;
 
-pub(crate) use reading::form_of;
+pub(crate) use reading::{form_of, numbers_around};
 
 /// The numbers of a date in text, which need not be those of a day.
 #[derive(Clone, Copy)]

@@ -33,7 +33,7 @@ pub(super) fn date_of(form: Form) -> Result<Date, ComponentRange>
 }
 
 /// The day of the year that has the month of this number, and this day of the month.
-fn calendar_date(year: i32, month: u8, day: u8) -> Result<Date, ComponentRange>
+pub(crate) fn calendar_date(year: i32, month: u8, day: u8) -> Result<Date, ComponentRange>
     ensures every { (n : ℕ) → IsDate n → HasCalendarDate year month day n → result ≡ Ok n }
     ensures has { IfOk result (λ n. IsDate n × HasCalendarDate year month day n) }
     ensures reason { IfErr result (λ e. (refusal e ≡ month_out_of_range) ⊎ (refusal e ≡ year_out_of_range) ⊎ (refusal e ≡ day_out_of_range)) }

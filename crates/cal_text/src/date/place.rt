@@ -62,7 +62,7 @@ fn wrong_after_year(text: &[u8]) -> usize
 }
 
 /// How many bytes at the front of a text are as the pattern says.
-fn matching(text: &[u8], pattern: &[u8]) -> usize
+pub(crate) fn matching(text: &[u8], pattern: &[u8]) -> usize
     ensures { result ≤ length text.now }
 {
     let mut count = 0;
@@ -98,7 +98,7 @@ fn leading(text: &[u8], low: u8, high: u8, most: usize) -> usize
     count
 }
 
-fn begins_with(text: &[u8], byte: u8) -> bool
+pub(crate) fn begins_with(text: &[u8], byte: u8) -> bool
     ensures { IsTrue result → 0 < length text.now }
 {
     match text {

@@ -31,27 +31,32 @@ fn form_after_year(year: i32, rest: &[u8]) -> Option<Form>
         return None;
     }
     if rest[0] == b'W' {
-        let (week, weekday) = numbers_around_hyphen(&rest[1..], 2, 1)?;
+        let (week, weekday) = numbers_around(&rest[1..], 2, 1, b'-')?;
         return if weekday == 0 || weekday > 7 {
             None
         } else {
             Some(Form::Week(year, week, weekday))
         };
     }
-    let (month, day) = numbers_around_hyphen(rest, 2, 2)?;
+    let (month, day) = numbers_around(rest, 2, 2, b'-')?;
     Some(Form::Calendar(year, month, day))
 }
 
-/// Two numbers of at most two digits each, with a hyphen between them.
-fn numbers_around_hyphen(text: &[u8], first: usize, second: usize) -> Option<(u8, u8)>
+/// Two numbers of at most two digits each, with that byte between them.
+pub(crate) fn numbers_around(
+    text: &[u8],
+    first: usize,
+    second: usize,
+    separator: u8,
+) -> Option<(u8, u8)>
     requires first { (1 ≤ first) × (first ≤ 2) }
     requires second { (1 ≤ second) × (second ≤ 2) }
     ensures every { (m n : ℕ) → m < 10 ^ first → n < 10 ^ second
-        → text.now ≡ digits_at_least first m ++ 45 ∷ digits_at_least second n → result ≡ Some (m, n) }
+        → text.now ≡ digits_at_least first m ++ separator ∷ digits_at_least second n → result ≡ Some (m, n) }
     ensures has { IfSome result (λ found. (found.0 < 10 ^ first) × (found.1 < 10 ^ second)
-        × (text.now ≡ digits_at_least first found.0 ++ 45 ∷ digits_at_least second found.1)) }
+        × (text.now ≡ digits_at_least first found.0 ++ separator ∷ digits_at_least second found.1)) }
 {
-    if text.len() != first + 1 + second || text[first] != b'-' {
+    if text.len() != first + 1 + second || text[first] != separator {
         return None;
     }
     let front = number_of(&text[..first])?;

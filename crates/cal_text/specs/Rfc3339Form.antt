@@ -1,0 +1,138 @@
+-- The forms of a moment in text (RFC 3339, internet date and time format), whose numbers need not be those of a moment.
+use Rattle.std.specs.Prelude.{◌≡◌, ◌⊎◌, ℕ, ◌+◌, ◌-◌, ◌*◌, ◌^◌, ◌<◌, ◌≤◌, ◌∷◌, ℤ, pos, neg_ℤ, List, [], ◌++◌, codes, length, take, Option, Some, None}
+use Rattle.std.specs.Str.Parse.{AllDigits, digits_value}
+use Rattle.cal_time.specs.Date.{IsDate, IsDayOfMonth, HasCalendarDate}
+use Rattle.cal_time.specs.DateText.{digits_at_least, date_digits}
+use Rattle.cal_time.specs.Month.{month_out_of_range}
+use Rattle.cal_time.specs.Refusal.{Refusal}
+use Rattle.cal_time.specs.Refusals.{day_out_of_range}
+use Rattle.cal_time.specs.Time.{time_of, hour_out_of_range, minute_out_of_range, second_out_of_range}
+use Rattle.cal_time.specs.UtcOffset.{offset_hour_out_of_range, offset_minute_out_of_range}
+use Rattle.cal_text.specs.declared.rfc3339.moment.Moment.{Moment}
+use Rattle.cal_text.specs.declared.rfc3339.moment.Zone.{Zone}
+use Rattle.cal_text.specs.declared.rfc3339.moment.Zone.TheVariants.{Utc, East, West}
+use Rattle.cal_text.specs.Reading.{IsMonth}
+
+-- ---- parts
+-- T, t or a space, between the date and the time
+abbrev pub IsSeparator : ℕ → Type 0
+IsSeparator byte = (byte ≡ 84) ⊎ (byte ≡ 116) ⊎ (byte ≡ 32)
+
+-- two digits each of the hour, the minute and the second
+abbrev pub clock_digits : ℕ → ℕ → ℕ → List ℕ
+clock_digits h m s = digits_at_least 2 h ++ codes ":" ++ digits_at_least 2 m ++ codes ":" ++ digits_at_least 2 s
+
+-- the nanoseconds of the digits after a point: the number of the first nine, times ten for each that is missing
+abbrev pub nanoseconds_of : List ℕ → ℕ
+nanoseconds_of digits = digits_value 10 (take 9 digits) * 10 ^ (9 - length digits)
+
+-- a fraction of a second: none, or a point and digits
+pub record IsPointAndDigits (fraction digits : List ℕ) (nanosecond : ℕ) : Type 0 where
+  pub some : 0 < length digits
+  pub all : AllDigits 10 digits
+  pub bytes_are : fraction ≡ 46 ∷ digits
+  pub value : nanosecond ≡ nanoseconds_of digits
+
+abbrev pub IsFraction : List ℕ → ℕ → Type 0
+IsFraction fraction n = ((fraction ≡ []) × (n ≡ 0)) ⊎ ((digits : List ℕ) × IsPointAndDigits fraction digits n)
+
+-- a byte that a fraction has
+abbrev pub IsDigit : ℕ → Type 0
+IsDigit byte = (48 ≤ byte) × (byte ≤ 57)
+
+abbrev pub IsDigitOrPoint : ℕ → Type 0
+IsDigitOrPoint byte = (byte ≡ 46) ⊎ IsDigit byte
+
+-- the offset: Z or z, or a sign and two digits each of the hours and the minutes
+abbrev pub IsZone : List ℕ → Zone → Type 0
+IsZone zone Utc = (zone ≡ codes "Z") ⊎ (zone ≡ codes "z")
+IsZone zone (East h m) = (h < 100) × (m < 100) × (zone ≡ 43 ∷ (digits_at_least 2 h ++ 58 ∷ digits_at_least 2 m))
+IsZone zone (West h m) = (h < 100) × (m < 100) × (zone ≡ 45 ∷ (digits_at_least 2 h ++ 58 ∷ digits_at_least 2 m))
+
+-- ---- the whole
+-- its numbers have no more digits than the form has
+pub record IsMoment (m : Moment) : Type 0 where
+  pub year : m.year < 10000
+  pub month : m.month < 100
+  pub day : m.day < 100
+  pub hour : m.hour < 100
+  pub minute : m.minute < 100
+  pub second : m.second < 100
+  pub nanosecond : m.nanosecond < 1000000000
+
+-- the bytes have the form, with these numbers
+pub record HasMomentForm (bytes : List ℕ) (m : Moment) : Type 0 where
+  pub numbers : IsMoment m
+  pub separator : ℕ
+  pub fraction : List ℕ
+  pub zone : List ℕ
+  pub is_separator : IsSeparator separator
+  pub is_fraction : IsFraction fraction m.nanosecond
+  pub is_zone : IsZone zone m.zone
+  pub bytes_are : bytes ≡ date_digits m.year m.month m.day ++ separator ∷ (clock_digits m.hour m.minute m.second ++ (fraction ++ zone))
+
+-- ---- the day, the time of day and the offset that have the numbers
+abbrev pub IsOffsetOf : Zone → ℤ → Type 0
+IsOffsetOf Utc o = o ≡ pos 0
+IsOffsetOf (East h m) o = (h ≤ 23) × (m ≤ 59) × (o ≡ pos (3600 * h + 60 * m))
+IsOffsetOf (West h m) o = (h ≤ 23) × (m ≤ 59) × (o ≡ neg_ℤ (pos (3600 * h + 60 * m)))
+
+pub record IsAt (m : Moment) (n t : ℕ) (o : ℤ) : Type 0 where
+  pub date : HasCalendarDate (pos m.year) m.month m.day n
+  pub hour : m.hour ≤ 23
+  pub minute : m.minute ≤ 59
+  pub second : m.second ≤ 59
+  pub time : t ≡ time_of m.hour m.minute m.second m.nanosecond
+  pub offset : IsOffsetOf m.zone o
+
+-- the bytes are a text of day n and time t at that offset
+abbrev pub IsMomentText : List ℕ → ℕ → ℕ → ℤ → Type 0
+IsMomentText bytes n t o = (m : Moment) × HasMomentForm bytes m × IsAt m n t o
+
+-- ---- the first component at fault
+abbrev pub LacksMonth : Moment → Type 0
+LacksMonth m = ¬ IsMonth m.month
+
+abbrev pub LacksDay : Moment → Type 0
+LacksDay m = IsMonth m.month × ¬ IsDayOfMonth (pos m.year) m.month m.day
+
+abbrev pub HasDay : Moment → Type 0
+HasDay m = IsMonth m.month × IsDayOfMonth (pos m.year) m.month m.day
+
+abbrev pub LacksHour : Moment → Type 0
+LacksHour m = HasDay m × (23 < m.hour)
+
+abbrev pub LacksMinute : Moment → Type 0
+LacksMinute m = HasDay m × (m.hour ≤ 23) × (59 < m.minute)
+
+abbrev pub LacksSecond : Moment → Type 0
+LacksSecond m = HasDay m × (m.hour ≤ 23) × (m.minute ≤ 59) × (59 < m.second)
+
+abbrev pub HasClock : Moment → Type 0
+HasClock m = HasDay m × (m.hour ≤ 23) × (m.minute ≤ 59) × (m.second ≤ 59)
+
+abbrev pub IsPastHours : Zone → Type 0
+IsPastHours Utc = ⊥
+IsPastHours (East h m) = 23 < h
+IsPastHours (West h m) = 23 < h
+
+abbrev pub IsPastMinutes : Zone → Type 0
+IsPastMinutes Utc = ⊥
+IsPastMinutes (East h m) = (h ≤ 23) × (59 < m)
+IsPastMinutes (West h m) = (h ≤ 23) × (59 < m)
+
+abbrev pub LacksOffsetHour : Moment → Type 0
+LacksOffsetHour m = HasClock m × IsPastHours m.zone
+
+abbrev pub LacksOffsetMinute : Moment → Type 0
+LacksOffsetMinute m = HasClock m × IsPastMinutes m.zone
+
+-- the bytes have the form of a moment that lacks this
+abbrev pub HasMomentThat : (Moment → Type 0) → List ℕ → Type 0
+HasMomentThat Lacks bytes = (m : Moment) × HasMomentForm bytes m × Lacks m
+
+-- why moments are refused
+abbrev pub IsMomentReason : Option Refusal → Type 0
+IsMomentReason why =
+    (why ≡ None) ⊎ (why ≡ Some month_out_of_range) ⊎ (why ≡ Some day_out_of_range) ⊎ (why ≡ Some hour_out_of_range) ⊎ (why ≡ Some minute_out_of_range)
+    ⊎ (why ≡ Some second_out_of_range) ⊎ (why ≡ Some offset_hour_out_of_range) ⊎ (why ≡ Some offset_minute_out_of_range)

@@ -1,0 +1,133 @@
+//! The numbers of the form that a text has.
+ghost use Rattle.std.specs.Prelude.{◌≡◌, ◌⊎◌, ℕ, List, ◌+◌, ◌<◌, ◌≤◌, ◌^◌, ◌∷◌, ◌++◌, length, take, get_or, IfSome, IsTrue, ◌↔◌, Some};
+ghost use Rattle.std.specs.Str.Parse.{AllDigits};
+ghost use Rattle.cal_time.specs.DateText.{digits_at_least};
+ghost use Rattle.cal_text.specs.declared.rfc3339.moment.Moment.{Moment};
+ghost use Rattle.cal_text.specs.declared.rfc3339.moment.Zone.{Zone};
+ghost use Rattle.cal_text.specs.Rfc3339Form.{IsSeparator, IsFraction, IsDigit, IsDigitOrPoint, IsZone, nanoseconds_of, HasMomentForm};
+
+use crate::digits::number_of;
+use crate::form::numbers_around;
+use crate::rfc3339::moment::{Moment, Zone};
+
+/// The numbers of the moment whose form the text has.
+pub(super) fn moment_of(text: &[u8]) -> Option<Moment>
+    ensures every { (m : Moment) → HasMomentForm text.now m → result ≡ Some m }
+    ensures has { IfSome result (HasMomentForm text.now) }
+{
+    if text.len() < 19 || !is_separator(text[10]) {
+        return None;
+    }
+    let (year, month, day) = three_numbers(&text[..10], 4, b'-')?;
+    let (hour, minute, second) = three_numbers(&text[11..19], 2, b':')?;
+    let (nanosecond, end) = fraction_of(&text[19..]);
+    let zone = zone_of(&text[19 + end..])?;
+    Some(Moment {
+        year,
+        month,
+        day,
+        hour: hour as u8,
+        minute,
+        second,
+        nanosecond,
+        zone,
+    })
+}
+
+pub(super) fn is_separator(byte: u8) -> bool
+    ensures { IsTrue result ↔ IsSeparator byte }
+{
+    byte == b'T' || byte == b't' || byte == b' '
+}
+
+/// A number of so many digits, two or four, and two numbers of two digits, with that byte between them.
+fn three_numbers(text: &[u8], first: usize, separator: u8) -> Option<(u16, u8, u8)>
+    requires { (first ≡ 2) ⊎ (first ≡ 4) }
+    ensures every { (a b c : ℕ) → a < 10 ^ first → b < 100 → c < 100
+        → text.now ≡ digits_at_least first a ++ separator ∷ (digits_at_least 2 b ++ separator ∷ digits_at_least 2 c)
+        → result ≡ Some (a, b, c) }
+    ensures has { IfSome result (λ found. (found.0 < 10 ^ first) × (found.1 < 100) × (found.2 < 100)
+        × (text.now ≡ digits_at_least first found.0 ++ separator ∷ (digits_at_least 2 found.1 ++ separator ∷ digits_at_least 2 found.2))) }
+{
+    if text.len() != first + 6 || text[first] != separator {
+        return None;
+    }
+    let front = number_of(&text[..first])?;
+    let (middle, back) = numbers_around(&text[first + 1..], 2, 2, separator)?;
+    Some((front as u16, middle, back))
+}
+
+/// The nanoseconds of the fraction at the front of the text, and where it ends. Without digits after the point it has none.
+fn fraction_of(text: &[u8]) -> (u32, usize)
+    ensures has { IsFraction (take result.1 text.now) result.0 }
+    ensures below { result.0 < 1_000_000_000 }
+    ensures end { result.1 ≤ length text.now }
+    ensures every { (fraction rest : List ℕ) (n : ℕ) → text.now ≡ fraction ++ rest → IsFraction fraction n
+        → ¬ IsDigitOrPoint (get_or rest 0 0) → result ≡ (n, length fraction) }
+{
+    if text.is_empty() || text[0] != b'.' {
+        return (0, 0);
+    }
+    let count = leading_digits(&text[1..]);
+    if count == 0 {
+        return (0, 0);
+    }
+    (nanoseconds_of(&text[1..1 + count]), 1 + count)
+}
+
+/// How many digits the text begins with.
+pub(super) fn leading_digits(text: &[u8]) -> usize
+    ensures digits { AllDigits 10 (take result text.now) }
+    ensures end { result ≤ length text.now }
+    ensures last { ¬ IsDigit (get_or text.now result 0) }
+{
+    let mut count = 0;
+    for byte in text {
+        if !byte.is_ascii_digit() {
+            return count;
+        }
+        count += 1;
+    }
+    count
+}
+
+/// The nanoseconds of these digits after a point.
+fn nanoseconds_of(digits: &[u8]) -> u32
+    requires some { 0 < length digits.now }
+    requires digits { AllDigits 10 digits.now }
+    ensures value { result ≡ nanoseconds_of digits.now }
+    ensures below { result < 1_000_000_000 }
+{
+    let length = digits.len().min(9);
+    match number_of(&digits[..length]) {
+        Some(number) => number * 10u32.pow(9 - length as u32),
+        None => 0,
+    }
+}
+
+/// The offset that the whole text is.
+fn zone_of(text: &[u8]) -> Option<Zone>
+    ensures every { (zone : Zone) → IsZone text.now zone → result ≡ Some zone }
+    ensures has { IfSome result (IsZone text.now) }
+{
+    if text.is_empty() {
+        return None;
+    }
+    let first = text[0];
+    if first == b'Z' || first == b'z' {
+        return if text.len() == 1 {
+            Some(Zone::Utc)
+        } else {
+            None
+        };
+    }
+    if first != b'+' && first != b'-' {
+        return None;
+    }
+    let (hours, minutes) = numbers_around(&text[1..], 2, 2, b':')?;
+    Some(if first == b'+' {
+        Zone::East(hours, minutes)
+    } else {
+        Zone::West(hours, minutes)
+    })
+}
