@@ -5,6 +5,8 @@ use crate::{Unreadable, julian_day, unix};
 use cal_time::{Date, Month, SignedDuration, Time, UtcOffset};
 use std::test::Fail;
 
+mod moments;
+
 #[test]
 fn dates_in_three_forms(rt: HostRuntime) -> Result<(), Fail> {
     for (text, year, month, day) in [
