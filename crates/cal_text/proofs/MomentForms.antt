@@ -1,5 +1,5 @@
 -- A text that has the form of a moment, cut into its parts, and put together from them.
-use Rattle.std.proofs.Common.{◌≡◌, ℕ, suc, ◌+◌, ◌-◌, ◌<◌, ◌≤◌, ◌^◌, Some, List, [], ◌∷◌, ◌++◌, length, get_or, take, drop, refl, sym, ap, subst, ◌∙◌, arith, lit<, lit≤, inl, inr}
+use Rattle.std.proofs.Common.{◌≡◌, ℕ, ◌+◌, ◌≤◌, Some, List, [], ◌∷◌, ◌++◌, length, get_or, take, drop, sym, ap, subst, ◌∙◌, arith, lit≤, inl, inr}
 use Rattle.std.proofs.lemmas.List.{length-append, append_assoc, get_or_at, take_at, drop_at, drop-drop, drop_more, take-append-drop}
 use Rattle.cal_time.specs.DateText.{digits_at_least, date_digits}
 use Rattle.cal_text.specs.declared.rfc3339.moment.Moment.{Moment}

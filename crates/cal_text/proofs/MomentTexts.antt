@@ -1,6 +1,6 @@
 -- The parts of a moment in text: three numbers, the digits of a fraction, and the offset.
 use Rattle.std.proofs.Math.Nat.{pow-le-pow_right, mul-lt-mul_of_pos_right, min-eq_left, min-eq_right}
-use Rattle.std.proofs.Common.{◌≡◌, ℕ, zero, suc, ◌+◌, ◌-◌, ◌*◌, ◌<◌, ◌≤◌, ◌^◌, min, pow-add, Some, None, List, [], ◌∷◌, ◌++◌, length, get_or, take, drop, refl, sym, ap, subst, ◌∙◌, arith, lit<, lit≤, inl, inr}
+use Rattle.std.proofs.Common.{◌≡◌, ℕ, zero, suc, ◌+◌, ◌-◌, ◌*◌, ◌<◌, ◌≤◌, ◌^◌, min, pow-add, List, [], ◌∷◌, ◌++◌, length, get_or, take, drop, refl, sym, ap, subst, ◌∙◌, arith, lit<, lit≤, inl, inr}
 use Rattle.std.specs.Str.Parse.{AllDigits, digits_value}
 use Rattle.std.proofs.lemmas.Bool.{cases_lt}
 use Rattle.std.proofs.lemmas.Int.Digits.{digits_value-lt}
@@ -112,12 +112,15 @@ pub point_and_digits : (text : List ℕ) (r n : ℕ) → get_or text 0 0 ≡ 46 
 point_and_digits [] r n e some low all v = absurd (omega (arith, low, some))
 point_and_digits (c ∷ cs) r n e some low all v =
     let next : 1 + r ≡ suc r = omega arith in
-    inr (take r cs, record {
-      some = omega (arith, length-take-le r cs low, some);
-      all = all;
-      bytes_are = ap (λ k. take k (c ∷ cs)) next ∙ ap (λ x. x ∷ take r cs) e;
-      value = v;
-    })
+    inr (
+      take r cs,
+      record {
+        some = omega (arith, length-take-le r cs low, some);
+        all = all;
+        bytes_are = ap (λ k. take k (c ∷ cs)) next ∙ ap (λ x. x ∷ take r cs) e;
+        value = v;
+      },
+    )
 
 same_count : (ds rest : List ℕ) (r : ℕ) → AllDigits 10 ds → ¬ IsDigit (get_or rest 0 0) → AllDigits 10 (take r (ds ++ rest)) → r ≤ length (ds ++ rest)
     → ¬ IsDigit (get_or (ds ++ rest) r 0) → r ≡ length ds
@@ -136,7 +139,7 @@ fraction_same text fraction rest r n v point digits low last value e is other = 
       let ds = some.0 in
       let tail : drop 1 text ≡ ds ++ rest = ap (drop 1) (e ∙ ap (λ front. front ++ rest) some.1.bytes_are) in
       let count : r ≡ length ds = same_count ds rest r some.1.all (λ digit. other (inr digit)) (subst (λ all. AllDigits 10 (take r all)) tail digits)
-          (subst (λ all. r ≤ length all) tail low) (subst (λ all. ¬ IsDigit (get_or all r 0)) tail last) in
+      (subst (λ all. r ≤ length all) tail low) (subst (λ all. ¬ IsDigit (get_or all r 0)) tail last) in
       let taken : take r (drop 1 text) ≡ ds = ap (take r) tail ∙ take_at ds rest r (sym count) in
       let v_is : v ≡ n = value ∙ ap nanoseconds_of taken ∙ sym some.1.value in
       let long : 1 + r ≡ length fraction = omega (arith, count, ap length some.1.bytes_are) in

@@ -1,7 +1,7 @@
 -- The forms of a moment in text (RFC 3339, internet date and time format), whose numbers need not be those of a moment.
 use Rattle.std.specs.Prelude.{◌≡◌, ◌⊎◌, ℕ, ◌+◌, ◌-◌, ◌*◌, ◌^◌, ◌<◌, ◌≤◌, ◌∷◌, ℤ, pos, neg_ℤ, List, [], ◌++◌, codes, length, take, Option, Some, None}
 use Rattle.std.specs.Str.Parse.{AllDigits, digits_value}
-use Rattle.cal_time.specs.Date.{IsDate, IsDayOfMonth, HasCalendarDate}
+use Rattle.cal_time.specs.Date.{IsDayOfMonth, HasCalendarDate}
 use Rattle.cal_time.specs.DateText.{digits_at_least, date_digits}
 use Rattle.cal_time.specs.Month.{month_out_of_range}
 use Rattle.cal_time.specs.Refusal.{Refusal}

@@ -31,7 +31,12 @@ pub(super) fn parts_of(moment: Moment) -> Result<(Date, Time, UtcOffset), Compon
         Ok(date) => date,
         Err(error) => return Err(error),
     };
-    let time = match Time::from_hms_nano(moment.hour, moment.minute, moment.second, moment.nanosecond) {
+    let time = match Time::from_hms_nano(
+        moment.hour,
+        moment.minute,
+        moment.second,
+        moment.nanosecond,
+    ) {
         Ok(time) => time,
         Err(error) => return Err(error),
     };

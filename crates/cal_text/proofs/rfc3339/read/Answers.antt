@@ -1,4 +1,4 @@
-use Rattle.std.proofs.Common.{◌≡◌, Ok, ap, refl}
+use Rattle.std.proofs.Common.{refl}
 use Rattle.std.proofs.lemmas.Bool.{false≢true}
 use Rattle.std.proofs.lemmas.Option.{none-some}
 use Rattle.cal_text.specs.Rfc3339Form.{LacksMonth, LacksDay, LacksHour, LacksMinute, LacksSecond, LacksOffsetHour, LacksOffsetMinute}

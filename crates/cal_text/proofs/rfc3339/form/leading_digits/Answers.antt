@@ -1,5 +1,4 @@
-use Rattle.std.proofs.Common.{◌≡◌, ◌∙◌, arith, sym, ap, subst, get_or, take}
-use Rattle.std.specs.Str.Parse.{AllDigits}
+use Rattle.std.proofs.Common.{◌∙◌, arith, sym, subst, get_or}
 use Rattle.cal_text.specs.Rfc3339Form.{IsDigit}
 use Rattle.cal_text.proofs.DigitTexts.{digits-turn, not_in_range}
 use Rattle.cal_text.proofs.rfc3339.form.leading_digits.Goals as goal

@@ -1,8 +1,6 @@
-use Rattle.std.proofs.Common.{◌≡◌, ◌<◌, ◌≤◌, ◌^◌, sym, arith, length, take, Some, None}
-use Rattle.std.proofs.Math.Nat.{pow-le-pow_right}
+use Rattle.std.proofs.Common.{arith, length, take}
 use Rattle.std.specs.Str.Parse.{digits_value}
 use Rattle.std.proofs.lemmas.Option.{none-some}
-use Rattle.cal_text.proofs.DigitTexts.{digits-printed}
 use Rattle.cal_text.proofs.MomentTexts.{value_of, first_digits}
 use Rattle.cal_text.proofs.rfc3339.form.nanoseconds_of.Goals as goal
 

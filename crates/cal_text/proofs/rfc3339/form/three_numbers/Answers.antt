@@ -1,6 +1,4 @@
-use Rattle.std.proofs.Common.{◌≡◌, ◌∙◌, ◌+◌, ◌≤◌, ap, Some, inl, inr, length, arith}
-use Rattle.std.proofs.lemmas.Slice.{between_to_end}
-use Rattle.std.proofs.lemmas.Option.{none-some}
+use Rattle.std.proofs.Common.{arith}
 use Rattle.cal_text.proofs.MomentTexts.{three}
 use Rattle.cal_text.proofs.rfc3339.form.three_numbers.Goals as goal
 use Rattle.cal_text.proofs.rfc3339.form.three_numbers.Goals.{then-text-first-via-then-text-first, then-text-first-via-else-text-first+then-text-first-2}

@@ -1,4 +1,4 @@
-use Rattle.std.proofs.Common.{◌≡◌, ◌<◌, ◌≤◌, Some, ap, inl, inr, ◌∙◌, arith, pos, w32, to_z, of_z}
+use Rattle.std.proofs.Common.{◌≡◌, ◌≤◌, Some, ap, inl, inr, ◌∙◌, arith, pos, w32, to_z, of_z}
 use Rattle.std.proofs.lemmas.Bool.{cases_lt}
 use Rattle.cal_time.specs.Refusal.{refusal}
 use Rattle.cal_text.specs.Rfc3339Form.{IsMomentReason}
