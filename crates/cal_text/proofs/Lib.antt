@@ -11,3 +11,5 @@ mod Fractions
 mod MomentTexts
 mod MomentForms
 mod MomentReads
+mod Stripped
+mod PrintedMoments

@@ -1,13 +1,15 @@
-//! What follows from reading: a text belongs to one day, and has one form.
-ghost use Rattle.std.specs.Prelude.{◌≡◌, ℕ};
+//! What follows from reading: a text belongs to one day, has one form, and belongs to one moment.
+ghost use Rattle.std.specs.Prelude.{◌≡◌, ℕ, ℤ};
 ghost use Rattle.cal_time.specs.Date.{IsDate};
 ghost use Rattle.cal_text.specs.declared.form.Form.{Form};
 ghost use Rattle.cal_text.specs.DateForms.{IsDateText, HasForm};
+ghost use Rattle.cal_text.specs.Rfc3339Form.{IsMomentText};
 
 use crate::date::read;
 use crate::error::Unreadable;
 use crate::form::{Form, form_of};
-use cal_time::Date;
+use crate::rfc3339;
+use cal_time::{Date, Time, UtcOffset};
 
 /// No two days share a text, be it of one form or of two.
 pub(crate) fn one_day(text: &[u8]) -> Result<Date, Unreadable>
@@ -21,4 +23,12 @@ pub(crate) fn one_form(text: &[u8]) -> Option<Form>
     ensures { (f g : Form) → HasForm text.now f → HasForm text.now g → f ≡ g }
 {
     form_of(text)
+}
+
+/// No two moments share a text.
+pub(crate) fn one_moment(text: &[u8]) -> Result<(Date, Time, UtcOffset), Unreadable>
+    ensures { (m n s t : ℕ) → (o p : ℤ) → IsDate m → IsDate n → IsMomentText text.now m s o → IsMomentText text.now n t p
+        → (m ≡ n) × (s ≡ t) × (o ≡ p) }
+{
+    rfc3339::read(text)
 }

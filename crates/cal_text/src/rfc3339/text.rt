@@ -1,5 +1,5 @@
 //! The text of a date, a time of day and an offset from UTC.
-ghost use Rattle.std.specs.Prelude.{◌≡◌, ◌+◌, ◌<◌, ◌≤◌, ◌++◌, SomeIff, codes, length, pos, Some};
+ghost use Rattle.std.specs.Prelude.{◌≡◌, ◌+◌, ◌<◌, ◌≤◌, ◌++◌, IfSome, SomeIff, codes, length, pos, Some};
 ghost use Rattle.std.specs.Fmt.{padded};
 ghost use Rattle.cal_time.specs.Date.{year_at, month_at, day_of_month_at};
 ghost use Rattle.cal_time.specs.DateText.{digits_at_least};
@@ -7,6 +7,7 @@ ghost use Rattle.cal_time.specs.Time.{hour_of, minute_of, second_of};
 ghost use Rattle.cal_text.specs.DateForms.{year_text};
 ghost use Rattle.cal_text.specs.Line.{HasRoom};
 ghost use Rattle.cal_text.specs.Rfc3339.{HasMomentText, fraction_text, offset_text, moment_text};
+ghost use Rattle.cal_text.specs.Rfc3339Form.{IsMomentText};
 
 use crate::line::Line;
 use crate::print::{fraction_digits, year_bytes};
@@ -30,8 +31,13 @@ impl Text {
     /// It is `None` exactly where RFC 3339 has no text: for a year outside 0 to 9999, an offset of a day and more, and one with
     /// seconds, as `+05:30:15`.
     pub fn new(date: Date, time: Time, offset: UtcOffset) -> Option<Self>
-        ensures { SomeIff result (HasMomentText date offset) (record { date = date; time = time; offset = offset }) }
+        ensures parts { SomeIff result (HasMomentText date offset) (record { date = date; time = time; offset = offset }) }
+
+        // What it prints reads back.
+        ensures text { IfSome result (λ text. IsMomentText (moment_text text.date text.time text.offset) date time offset) }
     {
+        // The clause of the hour says that the time is one of the day.
+        let _ = time.hour();
         let year = date.year();
         let seconds = offset.whole_seconds().unsigned_abs();
         if year < 0 || year > 9999 || seconds % 60 != 0 || seconds >= 86_400 {

@@ -1,0 +1,129 @@
+-- The text of a moment is one that reads as that moment.
+use Rattle.std.proofs.Common.{◌≡◌, ℕ, zero, suc, ◌-◌, ◌*◌, ◌/◌, ◌%◌, ◌<◌, ◌≤◌, ◌^◌, ℤ, pos, negsuc, ◌≤ℤ◌, unsigned_abs, List, [], ◌∷◌, ◌++◌, length, refl, sym, ap, ◌∙◌, arith, inl, inr, false}
+use Rattle.std.specs.Prelude.{◌==◌}
+use Rattle.std.proofs.lemmas.Bool.Decides.{nat_tests}
+use Rattle.std.proofs.lemmas.Int.{ints}
+use Rattle.std.proofs.lemmas.List.{append_assoc, take_all}
+use Rattle.std.specs.Str.Parse.{digits_value}
+use Rattle.cal_time.specs.CalendarDay.{calendar_day}
+use Rattle.cal_time.specs.Date.{IsDate, year_at, month_at, day_of_month_at}
+use Rattle.cal_time.specs.DateText.{digits_at_least}
+use Rattle.cal_time.specs.Digits.{nine_digits, without_last_zeros}
+use Rattle.cal_time.specs.Time.{IsTime, hour_of, minute_of, second_of, nanosecond_of}
+use Rattle.cal_text.specs.DateForms.{year_text}
+use Rattle.cal_text.specs.declared.rfc3339.moment.Zone.{Zone}
+use Rattle.cal_text.specs.declared.rfc3339.moment.Zone.TheVariants.{Utc, East, West}
+use Rattle.cal_text.specs.Rfc3339.{fraction_text, offset_text, moment_text, HasMomentText}
+use Rattle.cal_text.specs.Rfc3339Form.{IsFraction, IsZone, IsOffsetOf, IsMomentText}
+use Rattle.cal_text.proofs.Ranges.{month_at-below, day_of_month_at-below}
+use Rattle.cal_text.proofs.Stripped.{stripped, nine}
+use Rattle.cal_text.proofs.YearTexts.{year-plain}
+
+-- the fraction
+nonempty : (ds : List ℕ) (ns : ℕ) → ns ≡ digits_value 10 ds * 10 ^ (9 - length ds) → 0 < ns → 0 < length ds
+nonempty [] ns e some = absurd (omega (arith, e, some))
+nonempty (d ∷ ds) ns e some = omega arith
+
+kept : (ns : ℕ) → ns < 1000000000 → 0 < ns → IsFraction (46 ∷ without_last_zeros (nine_digits ns)) ns
+kept ns h some =
+    let all = nine ns h in
+    let s = stripped (nine_digits ns) 9 (omega arith) all.0 in
+    let ds = without_last_zeros (nine_digits ns) in
+    let value : ns ≡ digits_value 10 ds * 10 ^ (9 - length ds) = sym all.1 ∙ s.value in
+    let long : length ds ≤ 9 = s.long in
+    inr (
+      ds,
+      record {
+        some = nonempty ds ns value some;
+        all = s.digits;
+        bytes_are = refl;
+        value = value ∙ ap (λ xs. digits_value 10 xs * 10 ^ (9 - length ds)) (sym (take_all 9 ds long));
+      },
+    )
+
+not_zero : (k : ℕ) → (suc k == 0) ≡ false
+not_zero k = grind (arith, nat_tests)
+
+pub fraction : (ns : ℕ) → ns < 1000000000 → IsFraction (fraction_text ns) ns
+fraction zero h = inl (refl, refl)
+fraction (suc k) h = rw (not_zero k) (kept (suc k) h (omega arith))
+
+-- the offset
+abbrev pub zone_at : ℤ → Zone
+zone_at (pos zero) = Utc
+zone_at (pos (suc k)) = East (suc k / 3600) (suc k / 60 % 60)
+zone_at (negsuc k) = West (suc k / 3600) (suc k / 60 % 60)
+
+signed : (sign : ℕ) (xs ys : List ℕ) → sign ∷ [] ++ xs ++ 58 ∷ [] ++ ys ≡ sign ∷ (xs ++ 58 ∷ ys)
+signed sign xs ys = simp append_assoc
+
+pub zone : (o : ℤ) → unsigned_abs o < 86400 → IsZone (offset_text o) (zone_at o)
+zone (pos zero) h = inl refl
+zone (pos (suc k)) h = rw (not_zero k) (omega arith, omega arith, signed 43 (digits_at_least 2 (suc k / 3600)) (digits_at_least 2 (suc k / 60 % 60)))
+zone (negsuc k) h = rw (not_zero k) (omega arith, omega arith, signed 45 (digits_at_least 2 (suc k / 3600)) (digits_at_least 2 (suc k / 60 % 60)))
+
+pub offset : (o : ℤ) → unsigned_abs o < 86400 → unsigned_abs o % 60 ≡ 0 → IsOffsetOf (zone_at o) o
+offset (pos zero) h whole = refl
+offset (pos (suc k)) h whole = (omega arith, omega arith, omega (arith, ints, whole))
+offset (negsuc k) h whole = (omega arith, omega arith, omega (arith, ints, whole))
+
+-- the whole
+year-digits : (y : ℤ) → pos 0 ≤ℤ y → y ≤ℤ pos 9999 → year_text y ≡ digits_at_least 4 (unsigned_abs y)
+year-digits (pos k) low high = year-plain k (omega (arith, ints, high))
+year-digits (negsuc k) low high = absurd (omega (arith, ints, low))
+
+year-is : (y : ℤ) → pos 0 ≤ℤ y → y ≡ pos (unsigned_abs y)
+year-is (pos k) low = refl
+year-is (negsuc k) low = absurd (omega (arith, ints, low))
+
+joined : (ys ms ds hs ns ss fs os : List ℕ) → ys ++ 45 ∷ [] ++ ms ++ 45 ∷ [] ++ ds ++ 84 ∷ [] ++ hs ++ 58 ∷ [] ++ ns ++ 58 ∷ [] ++ ss ++ fs ++ os
+    ≡ (ys ++ 45 ∷ [] ++ ms ++ 45 ∷ [] ++ ds) ++ 84 ∷ ((hs ++ 58 ∷ [] ++ ns ++ 58 ∷ [] ++ ss) ++ (fs ++ os))
+joined ys ms ds hs ns ss fs os = simp append_assoc
+
+pub printed : (n t : ℕ) (o : ℤ) → IsDate n → IsTime t → HasMomentText n o → IsMomentText (moment_text n t o) n t o
+printed n t o date time has =
+    let y = unsigned_abs (year_at n) in
+    let below = time.below_day in
+    let ns : nanosecond_of t < 1000000000 = omega arith in
+    let year : year_at n ≡ pos y = year-is (year_at n) has.from_year_0 in (
+      record {
+        year = y;
+        month = month_at n;
+        day = day_of_month_at n;
+        hour = hour_of t;
+        minute = minute_of t;
+        second = second_of t;
+        nanosecond = nanosecond_of t;
+        zone = zone_at o;
+      },
+      record {
+        numbers = record {
+          year = omega (arith, ints, has.to_year_9999, has.from_year_0);
+          month = month_at-below n;
+          day = day_of_month_at-below n;
+          hour = omega (arith, below);
+          minute = omega arith;
+          second = omega arith;
+          nanosecond = ns;
+        };
+        separator = 84;
+        fraction = fraction_text (nanosecond_of t);
+        zone = offset_text o;
+        is_separator = inl refl;
+        is_fraction = fraction (nanosecond_of t) ns;
+        is_zone = zone o has.below_day;
+        bytes_are = ap (λ ys. ys ++ 45 ∷ [] ++ digits_at_least 2 (month_at n) ++ 45 ∷ [] ++ digits_at_least 2 (day_of_month_at n) ++ 84 ∷ [] ++ digits_at_least 2 (hour_of t)
+            ++ 58 ∷ [] ++ digits_at_least 2 (minute_of t) ++ 58 ∷ [] ++ digits_at_least 2 (second_of t) ++ fraction_text (nanosecond_of t) ++ offset_text o)
+            (year-digits (year_at n) has.from_year_0 has.to_year_9999)
+            ∙ joined (digits_at_least 4 y) (digits_at_least 2 (month_at n)) (digits_at_least 2 (day_of_month_at n)) (digits_at_least 2 (hour_of t)) (digits_at_least 2 (minute_of t))
+            (digits_at_least 2 (second_of t)) (fraction_text (nanosecond_of t)) (offset_text o);
+      },
+      record {
+        date = ap (λ z. calendar_day z (month_at n) (day_of_month_at n)) year;
+        hour = omega (arith, below);
+        minute = omega arith;
+        second = omega arith;
+        time = omega (arith, below);
+        offset = offset o has.below_day has.whole_minutes;
+      },
+    )
