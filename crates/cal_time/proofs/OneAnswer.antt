@@ -1,10 +1,9 @@
 -- Each kind of contract that is no plain equation leaves one answer.
-use Rattle.std.proofs.Common.{◌≡◌, ℕ, ◌+◌, ◌*◌, ◌<◌, refl, sym, ap, ◌∙◌, arith, ℤ, pos, Option, Some, None, Result, Ok, Err, SomeIff}
+use Rattle.std.proofs.Common.{◌≡◌, ℕ, refl, sym, ap, ◌∙◌, arith, ℤ, Option, Some, None, Result, Ok, Err, SomeIff}
 use Rattle.std.specs.Prelude.{IfOk, IfErr, ◌↔◌}
 use Rattle.std.proofs.lemmas.Int.{ints}
 use Rattle.cal_units.specs.Refusal.{Refusal, refusal, IsRefused}
 use Rattle.cal_units.specs.declared.error.ComponentRange.{ComponentRange}
-use Rattle.cal_span.specs.SignedDuration.{day}
 use Rattle.cal_date.specs.Date.{IsDate}
 use Rattle.cal_time.specs.Pair.{HasMoment, PairAt}
 

@@ -1,7 +1,6 @@
 -- Laws for callers: how the words of the contracts are related.
-use Rattle.std.proofs.Common.{◌≡◌, ℕ, suc, ◌+◌, ◌-◌, ◌*◌, ◌%◌, ◌<◌, ◌≤◌, sym, arith, ℤ, Some, None, if◌then◌else◌, nat_le, length, inl, inr}
-use Rattle.std.specs.Prelude.{IsSome, List}
-use Rattle.cal_units.specs.Weekday.{place}
+use Rattle.std.proofs.Common.{◌≡◌, ℕ, suc, ◌+◌, ◌-◌, ◌*◌, ◌%◌, ◌<◌, ◌≤◌, ℤ, Some, None, if◌then◌else◌, nat_le, length}
+use Rattle.std.specs.Prelude.{IsSome}
 use Rattle.cal_date.specs.Date.{last_day, weekday_at, IsDate, HasOrdinalDate, HasCalendarDate}
 use Rattle.cal_date.specs.IsoWeekDate.{HasIsoWeekDate}
 use Rattle.cal_date.specs.Occurrence.{next_occurrences, prev_occurrences, kth}

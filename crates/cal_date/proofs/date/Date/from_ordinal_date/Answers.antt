@@ -1,5 +1,5 @@
 use Rattle.std.proofs.Common.{ap, sym, ◌∙◌, arith, refl, Ok, ◌≡◌, ℤ, ℕ, to_z, of_z, w32}
-use Rattle.std.proofs.lemmas.Int.{ints, to_z-of_z}
+use Rattle.std.proofs.lemmas.Int.{to_z-of_z}
 use Rattle.std.proofs.lemmas.Bool.{false≢true}
 use Rattle.cal_date.specs.Date.{IsYear, IsOrdinal}
 use Rattle.cal_date.specs.PackedDate.{HasOrdinalDate-ordinal_number}
