@@ -11,6 +11,7 @@ mod order;
 mod parts;
 mod printing;
 mod refusals;
+mod texts;
 mod walking;
 
 use std::io;
@@ -26,5 +27,6 @@ fn main(rt: HostRuntime) -> io::Result<()> {
     generic::show(&rt)?;
     clauses::show(&rt)?;
     callers::show(&rt)?;
-    names::show(&rt)
+    names::show(&rt)?;
+    texts::show(&rt)
 }
