@@ -13,3 +13,6 @@ mod MomentForms
 mod MomentReads
 mod Stripped
 mod PrintedMoments
+mod UnixTexts
+mod UnixForms
+mod UnixReads

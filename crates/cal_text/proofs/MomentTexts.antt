@@ -84,7 +84,7 @@ value_of ds k n p e printed below power =
       small = subst (λ q. n * q < 10 ^ 9) (sym power) (omega (arith, times, all));
     }
 
-AllDigits-take : (k : ℕ) (ds : List ℕ) → AllDigits 10 ds → AllDigits 10 (take k ds)
+pub AllDigits-take : (k : ℕ) (ds : List ℕ) → AllDigits 10 ds → AllDigits 10 (take k ds)
 AllDigits-take zero ds h = tt
 AllDigits-take (suc k) [] h = tt
 AllDigits-take (suc k) (d ∷ ds) h = (h.0, AllDigits-take k ds h.1)
@@ -122,7 +122,7 @@ point_and_digits (c ∷ cs) r n e some low all v =
       },
     )
 
-same_count : (ds rest : List ℕ) (r : ℕ) → AllDigits 10 ds → ¬ IsDigit (get_or rest 0 0) → AllDigits 10 (take r (ds ++ rest)) → r ≤ length (ds ++ rest)
+pub same_count : (ds rest : List ℕ) (r : ℕ) → AllDigits 10 ds → ¬ IsDigit (get_or rest 0 0) → AllDigits 10 (take r (ds ++ rest)) → r ≤ length (ds ++ rest)
     → ¬ IsDigit (get_or (ds ++ rest) r 0) → r ≡ length ds
 same_count [] [] r all other digits low last = omega (arith, low)
 same_count [] (c ∷ cs) zero all other digits low last = refl

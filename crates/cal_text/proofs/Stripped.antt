@@ -9,6 +9,7 @@ use Rattle.std.proofs.lemmas.Int.Digits.{digits_value_more}
 use Rattle.std.proofs.lemmas.List.{length-take-le}
 use Rattle.cal_time.specs.Digits.{nine_digits, without_last_zeros}
 use Rattle.cal_text.proofs.Fractions.{zero_last, other_last}
+use Rattle.cal_text.proofs.MomentTexts.{AllDigits-take}
 
 -- of the first n digits
 pub record IsStripped (ds : List ℕ) (n : ℕ) : Type 0 where
@@ -20,11 +21,6 @@ one_more : (a b p l j : ℕ) → a ≡ b * 10 ^ p → l ≤ j → p ≡ j - l �
 one_more a b p l j e low is =
     let next : suc j - l ≡ suc p = omega (arith, low, is) in
     ap (λ x. x * 10) e ∙ mul_assoc b (10 ^ p) 10 ∙ ap (λ x. b * x) (sym (pow-suc 10 p)) ∙ ap (λ k. b * 10 ^ k) (sym next)
-
-all-taken : (n : ℕ) (ds : List ℕ) → AllDigits 10 ds → AllDigits 10 (take n ds)
-all-taken zero ds h = tt
-all-taken (suc n) [] h = tt
-all-taken (suc n) (d ∷ ds) h = (h.0, all-taken n ds h.1)
 
 none-stripped : without_last_zeros [] ≡ []
 unfolding without_last_zeros
@@ -55,7 +51,7 @@ stripped ds (suc j) low all =
           let none : suc j - length (without_last_zeros (take (suc j) ds)) ≡ 0 = omega (arith, long) in
           record {
             value = ap (digits_value 10) same ∙ sym (mul-one _) ∙ ap (λ k. digits_value 10 (without_last_zeros (take (suc j) ds)) * 10 ^ k) (sym none);
-            digits = subst (AllDigits 10) same (all-taken (suc j) ds all);
+            digits = subst (AllDigits 10) same (AllDigits-take (suc j) ds all);
             long = omega (arith, long);
           }
     ]

@@ -6,3 +6,4 @@ pub mod JulianForm
 pub mod Line
 pub mod Rfc3339
 pub mod Rfc3339Form
+pub mod UnixText

@@ -7,6 +7,7 @@ pub mod date;
 mod digits;
 mod error;
 mod form;
+mod fraction;
 pub mod julian_day;
 mod laws;
 mod line;

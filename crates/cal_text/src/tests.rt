@@ -280,6 +280,68 @@ fn unix_times_at_the_ends(rt: HostRuntime) -> Result<(), Fail> {
 }
 
 #[test]
+fn unix_times_read(rt: HostRuntime) -> Result<(), Fail> {
+    for (text, seconds, nanoseconds) in [
+        ("@0", 0, 0),
+        ("@1709164800.5", 1_709_164_800, 500_000_000),
+        ("@1709164800.50", 1_709_164_800, 500_000_000),
+        ("@-0.000000001", 0, -1),
+        ("@-1.25", -1, -250_000_000),
+        ("@2147483647", 2_147_483_647, 0),
+        ("@31494784780799.999999999", 31_494_784_780_799, 999_999_999),
+        ("@-31619087596800", -31_619_087_596_800, 0),
+    ] {
+        let since = SignedDuration::seconds(seconds).saturating_add(SignedDuration::nanoseconds(
+            nanoseconds,
+        ));
+        let Some(pair) = unix::pair_of(since, UtcOffset::UTC) else {
+            return Err(Fail::from("a date and a time"));
+        };
+        assert_eq!(rt; unix::read(text.as_bytes()), Ok(pair), "{text}");
+    }
+    for text in [
+        "@31494784780800",
+        "@-31619087596800.000000001",
+        "@999999999999999999",
+    ] {
+        match unix::read(text.as_bytes()) {
+            Err(Unreadable::OutOfRange(error)) => assert_eq!(rt; error.name(), "timestamp"),
+            other => assert!(rt; false, "{text}: {other:?}"),
+        }
+    }
+    Ok(())
+}
+
+#[test]
+fn first_wrong_bytes_of_unix_times(rt: HostRuntime) {
+    for (text, place) in [
+        ("", 0),
+        ("1709164800", 0),
+        ("@", 1),
+        ("@+1", 1),
+        ("@-", 2),
+        ("@--1", 2),
+        ("@01", 2),
+        ("@-00", 3),
+        ("@-0", 3),
+        ("@-0x", 3),
+        ("@-0.", 4),
+        ("@-0.0", 5),
+        ("@-0.000000000", 12),
+        ("@-0.00000000x", 12),
+        ("@1.", 3),
+        ("@1.5x", 4),
+        ("@1.1234567890", 12),
+        ("@1,5", 2),
+        ("@1709164800 ", 11),
+        ("@1000000000000000000", 19),
+    ] {
+        let wrong = Err(Unreadable::UnexpectedByte(place));
+        assert_eq!(rt; unix::read(text.as_bytes()), wrong, "{text}");
+    }
+}
+
+#[test]
 fn julian_days(rt: HostRuntime) -> Result<(), Fail> {
     for (text, number) in [
         ("J2460370", 2_460_370),

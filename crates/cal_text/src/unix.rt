@@ -1,12 +1,19 @@
-//! Unix time, as a duration from 1970-01-01 00:00 UTC.
-ghost use Rattle.std.specs.Prelude.{◌≡◌, pos, ◌+ℤ◌, ◌*ℤ◌};
+//! Unix time, as a duration from 1970-01-01 00:00 UTC and in text.
+ghost use Rattle.std.specs.Prelude.{◌≡◌, ◌⊎◌, ℕ, ℤ, pos, ◌+ℤ◌, ◌*ℤ◌, ◌↔◌, IfOk, IfErr, IsErr, Ok, None, Some};
 ghost use Rattle.cal_time.specs.Date.{julian_day_at};
 ghost use Rattle.cal_time.specs.Pair.{PairAt};
 ghost use Rattle.cal_time.specs.SignedDuration.{second};
 ghost use Rattle.cal_time.specs.Time.{IsTime};
+ghost use Rattle.cal_text.specs.Reading.{component_of, IsRefusedFor, IsRefusedForForm};
 ghost use Rattle.cal_text.specs.Unix.{epoch_day, epoch, unix_time};
+ghost use Rattle.cal_text.specs.UnixText.{HasUnixForm, IsUnixText, IsUnixFormOfNone, timestamp_out_of_range};
 
+use crate::error::Unreadable;
+use crate::unix::reading::{first_wrong_byte, unix_of};
+use cal_time::error::ComponentRange;
 use cal_time::{Date, SignedDuration, Time, UtcOffset, add_to_pair};
+
+mod reading;
 
 /// The Julian day of 1970-01-01.
 const EPOCH_DAY: i32 = 2_440_588;
@@ -31,6 +38,30 @@ pub fn pair_of(duration: SignedDuration, offset: UtcOffset) -> Option<(Date, Tim
 {
     let shown = duration.checked_add(SignedDuration::seconds(i64::from(offset.whole_seconds())))?;
     add_to_pair(epoch_date(), Time::MIDNIGHT, shown)
+}
+
+/// The date and the time of day, at UTC, whose Unix time the text is, as `@1709164800.5`.
+///
+/// After the `@` come the whole seconds, with a minus sign before a time before 1970, no plus sign and no zeros before their
+/// digits, of which there are at most 18. A fraction of one to nine digits may follow. `@1709164800.5` is 0:00:00.5 on 2024-02-29.
+///
+/// Another text is refused with the place of the first byte that no such text has there. A number that no day of the range has is
+/// refused as `timestamp`.
+pub fn read(text: &[u8]) -> Result<(Date, Time), Unreadable>
+    ensures every { (n t : ℕ) → IsUnixText text.now n t → result ≡ Ok (n, t) }
+    ensures has { IfOk result (λ pair. IsUnixText text.now pair.0 pair.1) }
+    ensures refused { IsErr result ↔ ((n t : ℕ) → ¬ IsUnixText text.now n t) }
+    ensures reason { IfErr result (λ e. (component_of e ≡ None) ⊎ (component_of e ≡ Some timestamp_out_of_range)) }
+    ensures form { IsRefusedForForm result ↔ ((v : ℤ) → ¬ HasUnixForm text.now v) }
+    ensures timestamp { IsRefusedFor timestamp_out_of_range result ↔ IsUnixFormOfNone text.now }
+{
+    match unix_of(text) {
+        Some(duration) => match pair_of(duration, UtcOffset::UTC) {
+            Some(pair) => Ok(pair),
+            None => Err(Unreadable::OutOfRange(ComponentRange::unconditional("timestamp"))),
+        },
+        None => Err(Unreadable::UnexpectedByte(first_wrong_byte(text))),
+    }
 }
 
 /// 1970-01-01.

@@ -84,7 +84,7 @@ fn is_as_wanted(byte: u8, wanted: u8) -> bool {
 }
 
 /// How many bytes at the front of a text are from one to another, and at most so many.
-fn leading(text: &[u8], low: u8, high: u8, most: usize) -> usize
+pub(crate) fn leading(text: &[u8], low: u8, high: u8, most: usize) -> usize
     ensures within { result ≤ length text.now }
     ensures most { result ≤ most }
 {

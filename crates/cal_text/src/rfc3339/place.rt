@@ -2,7 +2,8 @@
 ghost use Rattle.std.specs.Prelude.{◌≤◌, length};
 
 use crate::date::place::{begins_with, matching};
-use crate::rfc3339::form::{is_separator, leading_digits};
+use crate::fraction::leading_digits;
+use crate::rfc3339::form::is_separator;
 
 /// The place of the first byte that no moment has there, or the length of a text that ends too early.
 pub(super) fn first_wrong_byte(text: &[u8]) -> usize

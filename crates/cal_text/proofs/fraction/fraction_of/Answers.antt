@@ -3,7 +3,7 @@ use Rattle.std.specs.Str.Parse.{AllDigits}
 use Rattle.std.proofs.lemmas.Slice.{between_to_end}
 use Rattle.cal_text.specs.Rfc3339Form.{IsDigit, nanoseconds_of}
 use Rattle.cal_text.proofs.MomentTexts.{point_and_digits, fraction_same}
-use Rattle.cal_text.proofs.rfc3339.form.fraction_of.Goals as goal
+use Rattle.cal_text.proofs.fraction.fraction_of.Goals as goal
 
 -- the digits that were counted are those after the point
 record IsCounted (c : goal.After-nanoseconds_of) : Type 0 where

@@ -1,7 +1,7 @@
 use Rattle.std.proofs.Common.{◌∙◌, arith, sym, subst, get_or}
 use Rattle.cal_text.specs.Rfc3339Form.{IsDigit}
 use Rattle.cal_text.proofs.DigitTexts.{digits-turn, not_in_range}
-use Rattle.cal_text.proofs.rfc3339.form.leading_digits.Goals as goal
+use Rattle.cal_text.proofs.fraction.leading_digits.Goals as goal
 
 pub loop-byte-preserved : goal.loop-byte-preserved
 loop-byte-preserved c =

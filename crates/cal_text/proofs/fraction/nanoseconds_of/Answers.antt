@@ -2,7 +2,7 @@ use Rattle.std.proofs.Common.{arith, length, take}
 use Rattle.std.specs.Str.Parse.{digits_value}
 use Rattle.std.proofs.lemmas.Option.{none-some}
 use Rattle.cal_text.proofs.MomentTexts.{value_of, first_digits}
-use Rattle.cal_text.proofs.rfc3339.form.nanoseconds_of.Goals as goal
+use Rattle.cal_text.proofs.fraction.nanoseconds_of.Goals as goal
 
 pub overflow_mul-result : goal.overflow_mul-result
 overflow_mul-result c =

@@ -1,6 +1,6 @@
 use Rattle.std.proofs.Common.{◌≡◌, take}
 use Rattle.std.specs.Str.Parse.{AllDigits}
-use Rattle.cal_text.proofs.rfc3339.form.leading_digits.Given as goal
+use Rattle.cal_text.proofs.fraction.leading_digits.Given as goal
 
 abbrev pub invariant-loop-byte : goal.invariant-loop-byte
 invariant-loop-byte l = record {
