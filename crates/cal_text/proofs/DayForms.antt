@@ -7,13 +7,30 @@ use Rattle.cal_time.specs.DateText.{text}
 use Rattle.cal_time.specs.IsoWeekDate.{iso_year_at, iso_week_at}
 use Rattle.cal_text.specs.declared.form.Form.{Form}
 use Rattle.cal_text.specs.declared.form.Form.TheVariants.{Calendar, Ordinal, Week}
-use Rattle.cal_text.specs.DateForms.{IsDateText, HasForm, form_text}
+use Rattle.cal_text.specs.DateForms.{IsDateText, HasForm, form_text, ordinal_text, week_text}
 use Rattle.cal_text.specs.Reading.{IsOnDay}
 use Rattle.cal_text.proofs.Ranges.{year_at-written, iso_year_at-written, month_at-below, day_of_month_at-below, ordinal_at-below, iso_week_at-below, weekday_at-below}
 
 -- the text of a date as a form
 text-is : (n : ℕ) → text n ≡ form_text (Calendar (year_at n) (month_at n) (day_of_month_at n))
 text-is n = simp append_assoc
+
+-- the form that each text of a day has
+abbrev pub HasOnDay : List ℕ → Form → ℕ → Type 0
+HasOnDay bytes form n = HasForm bytes form × IsOnDay form n
+
+pub calendar-of : (bytes : List ℕ) (n : ℕ) → IsDate n → bytes ≡ text n → HasOnDay bytes (Calendar (year_at n) (month_at n) (day_of_month_at n)) n
+calendar-of bytes n date e =
+    (record { form = (year_at-written n (omega arith), month_at-below n, day_of_month_at-below n); bytes_are = e ∙ text-is n }, refl)
+
+pub ordinal-of : (bytes : List ℕ) (n : ℕ) → IsDate n → bytes ≡ ordinal_text n → HasOnDay bytes (Ordinal (year_at n) (ordinal_at n)) n
+ordinal-of bytes n date e = (record { form = (year_at-written n (omega arith), ordinal_at-below n); bytes_are = e }, (refl, refl))
+
+pub week-of : (bytes : List ℕ) (n : ℕ) → IsDate n → bytes ≡ week_text n → HasOnDay bytes (Week (iso_year_at n) (iso_week_at n) (weekday_at n + 1)) n
+week-of bytes n date e = (
+  record { form = (iso_year_at-written n date, iso_week_at-below n, omega arith, (let below = weekday_at-below n in omega arith)); bytes_are = e },
+  (refl, refl, omega arith),
+)
 
 pub record FormOfDay (bytes : List ℕ) (n : ℕ) : Type 0 where
   pub form : Form
@@ -22,22 +39,10 @@ pub record FormOfDay (bytes : List ℕ) (n : ℕ) : Type 0 where
 
 pub form-of-day : (bytes : List ℕ) (n : ℕ) → IsDate n → IsDateText bytes n → FormOfDay bytes n
 form-of-day bytes n date t = elim t as (λ _. FormOfDay bytes n) [
-  | inl e ↦ record {
-    form = Calendar (year_at n) (month_at n) (day_of_month_at n);
-    has = record { form = (year_at-written n (omega arith), month_at-below n, day_of_month_at-below n); bytes_are = e ∙ text-is n };
-    on_day = refl;
-  }
+  | inl e ↦ let is = calendar-of bytes n date e in record { form = _; has = is.0; on_day = is.1 }
   | inr rest ↦ elim rest as (λ _. FormOfDay bytes n) [
-    | inl e ↦ record {
-      form = Ordinal (year_at n) (ordinal_at n);
-      has = record { form = (year_at-written n (omega arith), ordinal_at-below n); bytes_are = e };
-      on_day = (refl, refl);
-    }
-    | inr e ↦ record {
-      form = Week (iso_year_at n) (iso_week_at n) (weekday_at n + 1);
-      has = record { form = (iso_year_at-written n date, iso_week_at-below n, omega arith, (let below = weekday_at-below n in omega arith)); bytes_are = e };
-      on_day = (refl, refl, omega arith);
-    }
+    | inl e ↦ let is = ordinal-of bytes n date e in record { form = _; has = is.0; on_day = is.1 }
+    | inr e ↦ let is = week-of bytes n date e in record { form = _; has = is.0; on_day = is.1 }
   ]
 ]
 

@@ -16,3 +16,8 @@ mod PrintedMoments
 mod UnixTexts
 mod UnixForms
 mod UnixReads
+mod Results
+mod Shapes
+mod Components
+mod AnyForms
+mod UnixPrinted

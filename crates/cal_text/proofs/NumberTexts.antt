@@ -1,9 +1,9 @@
 -- The digits of a number without zeros before them, and its sign.
-use Rattle.std.proofs.Common.{◌≡◌, ◌≢◌, ℕ, suc, ◌-◌, ◌<◌, ◌≤◌, ◌^◌, ℤ, pos, negsuc, unsigned_abs, List, ◌++◌, length, get_or, drop, replicate, refl, sym, ap, ◌∙◌, arith, inl, inr, lit<}
+use Rattle.std.proofs.Common.{◌≡◌, ◌≢◌, ℕ, suc, ◌-◌, ◌<◌, ◌≤◌, ◌^◌, ℤ, pos, negsuc, unsigned_abs, List, [], ◌∷◌, ◌+◌, ◌/◌, ◌%◌, ◌++◌, length, get_or, drop, replicate, refl, sym, ap, ◌∙◌, arith, inl, inr, lit<}
 use Rattle.std.specs.Prelude.{decimal}
 use Rattle.std.specs.Fmt.{signed_decimal}
 use Rattle.std.proofs.lemmas.Bool.{cases_lt}
-use Rattle.std.proofs.lemmas.Fmt.{length-decimal-le, decimal_nonempty, first_decimal, decimal_is_IsNumeral}
+use Rattle.std.proofs.lemmas.Fmt.{length-decimal-le, decimal_nonempty, decimal_step, decimal_digit, first_decimal, decimal_is_IsNumeral}
 use Rattle.std.proofs.lemmas.Str.Parse.{digit_at}
 use Rattle.cal_time.specs.DateText.{digits_at_least}
 use Rattle.cal_text.proofs.DigitTexts.{full-width}
@@ -49,3 +49,10 @@ minus-number bytes (negsuc k) small e first = record { k = k; number_is = refl; 
 pub signed-some : (bytes : List ℕ) (j : ℤ) → unsigned_abs j < 10 ^ 9 → bytes ≡ signed_decimal j → 0 < length bytes
 signed-some bytes (pos n) small e = omega (arith, ap length e, decimal-some n small)
 signed-some bytes (negsuc k) small e = omega (arith, ap length e)
+
+-- the last digit after the others
+pub decimal-last : (n d : ℕ) → 10 ≤ n → n < 2 ^ 64 → d ≡ 48 + n % 10 → decimal n ≡ decimal (n / 10) ++ d ∷ []
+decimal-last n d many small e = decimal_step n many small ∙ ap (λ x. decimal (n / 10) ++ x ∷ []) (sym e)
+
+pub decimal-one : (n d : ℕ) → n < 10 → d ≡ 48 + n → decimal n ≡ d ∷ []
+decimal-one n d few e = decimal_digit n few ∙ ap (λ x. x ∷ []) (sym e)

@@ -48,6 +48,10 @@ pub fraction : (ns : ℕ) → ns < 1000000000 → IsFraction (fraction_text ns) 
 fraction zero h = inl (refl, refl)
 fraction (suc k) h = rw (not_zero k) (kept (suc k) h (omega arith))
 
+pub fraction-long : (ns : ℕ) → ns < 1000000000 → length (fraction_text ns) ≤ 10
+fraction-long zero h = omega arith
+fraction-long (suc k) h = rw (not_zero k) (omega (arith, (stripped (nine_digits (suc k)) 9 (omega arith) (nine (suc k) h).0).long))
+
 -- the offset
 abbrev pub zone_at : ℤ → Zone
 zone_at (pos zero) = Utc

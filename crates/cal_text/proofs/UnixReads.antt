@@ -1,9 +1,8 @@
 -- A Unix time in text is that of one day and time, or of none.
-use Rattle.std.proofs.Common.{◌≡◌, ℕ, ℤ, pos, ◌+ℤ◌, ◌*ℤ◌, Option, Some, None, List, ap, sym, subst, ◌∙◌, arith}
+use Rattle.std.proofs.Common.{◌≡◌, ℕ, ℤ, pos, ◌+ℤ◌, ◌*ℤ◌, Some, List, sym, subst, ◌∙◌, arith}
 use Rattle.std.proofs.lemmas.Int.{ints}
-use Rattle.cal_time.specs.Date.{IsDate}
 use Rattle.cal_time.specs.Pair.{moment, HasMoment, NoPair}
-use Rattle.cal_time.specs.SignedDuration.{day, second}
+use Rattle.cal_time.specs.SignedDuration.{second}
 use Rattle.cal_time.specs.Time.{IsTime}
 use Rattle.cal_text.specs.Unix.{epoch, unix_time}
 use Rattle.cal_text.specs.UnixText.{HasUnixForm, IsUnixText, IsUnixFormOfNone}

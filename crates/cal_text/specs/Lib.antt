@@ -7,3 +7,4 @@ pub mod Line
 pub mod Rfc3339
 pub mod Rfc3339Form
 pub mod UnixText
+pub mod AnyForm

@@ -5,12 +5,12 @@ ghost use Rattle.cal_time.specs.Month.{month_out_of_range};
 ghost use Rattle.cal_time.specs.Refusals.{year_out_of_range, day_out_of_range, ordinal_out_of_range, week_out_of_range, weekday_out_of_range};
 ghost use Rattle.cal_text.specs.declared.form.Form.{Form};
 ghost use Rattle.cal_text.specs.DateForms.{IsDateText, HasForm};
-ghost use Rattle.cal_text.specs.Reading.{component_of, IsRefusedFor, IsRefusedForForm, IsDateReason, HasFormThat, LacksMonth, LacksYear, LacksDay, LacksOrdinal, LacksWeek, LacksWeekday};
+ghost use Rattle.cal_text.specs.Reading.{component_of, IsOnDay, IsRefusedFor, IsRefusedForForm, IsDateReason, HasFormThat, LacksMonth, LacksYear, LacksDay, LacksOrdinal, LacksWeek, LacksWeekday};
 
 use crate::date::of_form::date_of;
 use crate::date::place::first_wrong_byte;
 use crate::error::Unreadable;
-use crate::form::form_of;
+use crate::form::{Form, form_of};
 use cal_time::Date;
 
 mod display;
@@ -43,9 +43,28 @@ pub fn read(text: &[u8]) -> Result<Date, Unreadable>
     ensures week { IsRefusedFor week_out_of_range result ↔ HasFormThat LacksWeek text.now }
     ensures weekday { IsRefusedFor weekday_out_of_range result ↔ HasFormThat LacksWeekday text.now }
 {
+    match form_and_date(text) {
+        Ok(found) => Ok(found.1),
+        Err(error) => Err(error),
+    }
+}
+
+/// The form that the text has, and its day.
+pub(crate) fn form_and_date(text: &[u8]) -> Result<(Form, Date), Unreadable>
+    ensures every { (form : Form) (n : ℕ) → IsDate n → HasForm text.now form → IsOnDay form n → result ≡ Ok (form, n) }
+    ensures has { IfOk result (λ found. IsDate found.1 × HasForm text.now found.0 × IsOnDay found.0 found.1) }
+    ensures reason { IfErr result (λ e. IsDateReason (component_of e)) }
+    ensures form { IsRefusedForForm result ↔ ((form : Form) → ¬ HasForm text.now form) }
+    ensures month { IsRefusedFor month_out_of_range result ↔ HasFormThat LacksMonth text.now }
+    ensures year { IsRefusedFor year_out_of_range result ↔ HasFormThat LacksYear text.now }
+    ensures day { IsRefusedFor day_out_of_range result ↔ HasFormThat LacksDay text.now }
+    ensures ordinal { IsRefusedFor ordinal_out_of_range result ↔ HasFormThat LacksOrdinal text.now }
+    ensures week { IsRefusedFor week_out_of_range result ↔ HasFormThat LacksWeek text.now }
+    ensures weekday { IsRefusedFor weekday_out_of_range result ↔ HasFormThat LacksWeekday text.now }
+{
     match form_of(text) {
         Some(form) => match date_of(form) {
-            Ok(date) => Ok(date),
+            Ok(date) => Ok((form, date)),
             Err(error) => Err(Unreadable::OutOfRange(error)),
         },
         None => Err(Unreadable::UnexpectedByte(first_wrong_byte(text))),

@@ -2,9 +2,12 @@
 ghost use Rattle.std.specs.Prelude.{◌≡◌, ℕ, ℤ};
 ghost use Rattle.cal_time.specs.Date.{IsDate};
 ghost use Rattle.cal_text.specs.declared.form.Form.{Form};
+ghost use Rattle.cal_text.specs.declared.any.DateOrMoment.{DateOrMoment};
+ghost use Rattle.cal_text.specs.AnyForm.{IsTextOf};
 ghost use Rattle.cal_text.specs.DateForms.{IsDateText, HasForm};
 ghost use Rattle.cal_text.specs.Rfc3339Form.{IsMomentText};
 
+use crate::any::{DateOrMoment, read_any};
 use crate::date::read;
 use crate::error::Unreadable;
 use crate::form::{Form, form_of};
@@ -23,6 +26,13 @@ pub(crate) fn one_form(text: &[u8]) -> Option<Form>
     ensures { (f g : Form) → HasForm text.now f → HasForm text.now g → f ≡ g }
 {
     form_of(text)
+}
+
+/// No text is in two of the six forms, nor is it that of two dates or moments.
+pub(crate) fn one_reading(text: &[u8]) -> Result<DateOrMoment, Unreadable>
+    ensures { (a b : DateOrMoment) → IsTextOf text.now a → IsTextOf text.now b → a ≡ b }
+{
+    read_any(text)
 }
 
 /// No two moments share a text.

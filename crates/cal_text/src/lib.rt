@@ -3,6 +3,7 @@
 //! A text reads as a day exactly where it is one of the texts that the day prints.
 #![tactic(auto)]
 
+mod any;
 pub mod date;
 mod digits;
 mod error;
@@ -16,6 +17,7 @@ pub mod rfc3339;
 pub mod unix;
 mod year;
 
+pub use any::{DateOrMoment, read_any};
 pub use error::Unreadable;
 
 #[cfg(test)]

@@ -1,10 +1,11 @@
 //! The bytes of one text, put together part by part.
-ghost use Rattle.std.specs.Prelude.{◌≡◌, ◌+◌, ◌<◌, ◌++◌, [], length};
+ghost use Rattle.std.specs.Prelude.{◌≡◌, ◌+◌, ◌<◌, ◌≤◌, ◌++◌, [], length, decimal};
 ghost use Rattle.std.specs.Str.{IsAscii};
 ghost use Rattle.cal_time.specs.DateText.{digits_at_least};
 ghost use Rattle.cal_text.specs.Line.{HasRoom};
+ghost use Rattle.cal_text.specs.Rfc3339.{fraction_text};
 
-use crate::print::{ascii_text, two_digits};
+use crate::print::{ascii_text, digit, fraction_digits, two_digits};
 use std::marker::Model;
 
 /// The most bytes that a text has: 22 up to the second, 10 of the fraction and 6 of the offset.
@@ -67,5 +68,34 @@ impl Line {
         ensures longer { length self.new ≡ length self.old + 2 }
     {
         self.push(&two_digits(number));
+    }
+
+    /// Appends the digits of a number, without zeros before them.
+    pub(crate) fn push_decimal(&mut self, number: u64)
+        requires { HasRoom (length (decimal number)) self.old }
+        ensures appended { self.new ≡ self.old ++ decimal number }
+        ensures longer { length self.new ≡ length self.old + length (decimal number) }
+    {
+        if number < 10 {
+            self.push(&[digit(number as u32)]);
+            return;
+        }
+        self.push_decimal(number / 10);
+        self.push(&[digit((number % 10) as u32)]);
+    }
+
+    /// Appends a fraction of a second, by its nanoseconds.
+    pub(crate) fn push_fraction(&mut self, nanosecond: u32)
+        requires room { HasRoom 10 self.old }
+        requires below { nanosecond < 1_000_000_000 }
+        ensures appended { self.new ≡ self.old ++ fraction_text nanosecond }
+        ensures short { length self.new ≤ length self.old + 10 }
+    {
+        if nanosecond == 0 {
+            return;
+        }
+        let (digits, end) = fraction_digits(nanosecond);
+        self.push(b".");
+        self.push(&digits[..end]);
     }
 }

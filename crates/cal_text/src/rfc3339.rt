@@ -21,6 +21,7 @@ mod of_moment;
 mod place;
 mod text;
 
+pub(crate) use form::is_separator;
 pub use text::Text;
 
 /// The date, the time of day and the offset from UTC of a text of RFC 3339, as `2024-02-29T23:59:59.25+01:00`.

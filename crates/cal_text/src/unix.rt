@@ -14,6 +14,9 @@ use cal_time::error::ComponentRange;
 use cal_time::{Date, SignedDuration, Time, UtcOffset, add_to_pair};
 
 mod reading;
+mod text;
+
+pub use text::Text;
 
 /// The Julian day of 1970-01-01.
 const EPOCH_DAY: i32 = 2_440_588;

@@ -1,7 +1,10 @@
 //! Dates and moments in text.
+ghost use Rattle.std.specs.Prelude.{◌≡◌, IfSome};
+ghost use Rattle.cal_time.specs.DateText.{text};
+
 use cal_text::rfc3339::{self, Text};
-use cal_text::{date, unix};
-use cal_time::UtcOffset;
+use cal_text::{DateOrMoment, date, read_any, unix};
+use cal_time::{Date, UtcOffset};
 use std::io;
 
 /// Reads a date in any of the three forms of ISO 8601, and prints its calendar date or why there is none.
@@ -28,10 +31,36 @@ fn show_moment(rt: &impl Print, text: &str) -> io::Result<()> {
     Ok(())
 }
 
+/// The day of a calendar date, and of no other text.
+fn calendar_day(bytes: &[u8]) -> Option<Date>
+    ensures { IfSome result (λ n. bytes.now ≡ text n) }
+{
+    match read_any(bytes).ok()? {
+        DateOrMoment::Calendar(date) => Some(date),
+        _ => None,
+    }
+}
+
+/// Prints what a text is, by the form that it has, as a Unix time where it is a moment.
+fn show_any(rt: &impl Print, text: &str) -> io::Result<()> {
+    match read_any(text.as_bytes()) {
+        Ok(DateOrMoment::Rfc3339(date, time, offset)) => {
+            println!(rt; "{}", unix::Text::new(date, time, offset))
+        }
+        Ok(DateOrMoment::Unix(date, time)) => println!(rt; "{date} {time}"),
+        Ok(found) => println!(rt; "{found:?}"),
+        Err(error) => println!(rt; "{text}: {error}"),
+    }
+}
+
 pub fn show(rt: &impl Print) -> io::Result<()> {
     for text in ["2024-060", "2024-W09-4", "2023-02-29", "2024-02-3"] {
         show_date(rt, text)?;
     }
     show_moment(rt, "2024-02-29T23:59:59.25+01:00")?;
-    show_moment(rt, "1990-12-31T23:59:60Z")
+    show_moment(rt, "1990-12-31T23:59:60Z")?;
+    for text in ["2024-02-29T23:59:59.25+01:00", "@1709164800.5", "J2460370"] {
+        show_any(rt, text)?;
+    }
+    println!(rt; "{:?}", calendar_day(b"2024-W09-4"))
 }

@@ -1,5 +1,5 @@
 //! The place of the first wrong byte of a date.
-ghost use Rattle.std.specs.Prelude.{◌≤◌, ◌<◌, length, IfOk, IfErr, IsTrue};
+ghost use Rattle.std.specs.Prelude.{◌≡◌, ◌↔◌, ◌≤◌, ◌<◌, length, get_or, IfOk, IfErr, IsTrue};
 
 /// A digit, in a pattern.
 const DIGIT: u8 = b'd';
@@ -8,7 +8,7 @@ const DIGIT: u8 = b'd';
 const WEEKDAY: u8 = b'w';
 
 /// The place of the first byte that no date has there, or the length of a text that ends too early.
-pub(super) fn first_wrong_byte(text: &[u8]) -> usize
+pub(crate) fn first_wrong_byte(text: &[u8]) -> usize
     ensures { result ≤ length text.now }
 {
     match hyphen_after_year(text) {
@@ -99,7 +99,7 @@ pub(crate) fn leading(text: &[u8], low: u8, high: u8, most: usize) -> usize
 }
 
 pub(crate) fn begins_with(text: &[u8], byte: u8) -> bool
-    ensures { IsTrue result → 0 < length text.now }
+    ensures { IsTrue result ↔ (0 < length text.now) × (get_or text.now 0 0 ≡ byte) }
 {
     match text {
         [first, ..] => *first == byte,

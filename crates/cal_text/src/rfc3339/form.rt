@@ -35,7 +35,7 @@ pub(super) fn moment_of(text: &[u8]) -> Option<Moment>
     })
 }
 
-pub(super) fn is_separator(byte: u8) -> bool
+pub(crate) fn is_separator(byte: u8) -> bool
     ensures { IsTrue result ↔ IsSeparator byte }
 {
     byte == b'T' || byte == b't' || byte == b' '

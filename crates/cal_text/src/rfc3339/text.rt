@@ -1,16 +1,16 @@
 //! The text of a date, a time of day and an offset from UTC.
-ghost use Rattle.std.specs.Prelude.{◌≡◌, ◌+◌, ◌<◌, ◌≤◌, ◌++◌, IfSome, SomeIff, codes, length, pos, Some};
+ghost use Rattle.std.specs.Prelude.{◌≡◌, ◌+◌, ◌≤◌, ◌++◌, IfSome, SomeIff, codes, length, pos, Some};
 ghost use Rattle.std.specs.Fmt.{padded};
 ghost use Rattle.cal_time.specs.Date.{year_at, month_at, day_of_month_at};
 ghost use Rattle.cal_time.specs.DateText.{digits_at_least};
 ghost use Rattle.cal_time.specs.Time.{hour_of, minute_of, second_of};
 ghost use Rattle.cal_text.specs.DateForms.{year_text};
 ghost use Rattle.cal_text.specs.Line.{HasRoom};
-ghost use Rattle.cal_text.specs.Rfc3339.{HasMomentText, fraction_text, offset_text, moment_text};
+ghost use Rattle.cal_text.specs.Rfc3339.{HasMomentText, offset_text, moment_text};
 ghost use Rattle.cal_text.specs.Rfc3339Form.{IsMomentText};
 
 use crate::line::Line;
-use crate::print::{fraction_digits, year_bytes};
+use crate::print::year_bytes;
 use cal_time::{Date, Time, UtcOffset};
 use std::fmt;
 
@@ -54,7 +54,7 @@ impl Text {
         push_date(&mut line, self.date);
         line.push(b"T");
         push_clock(&mut line, self.time);
-        push_fraction(&mut line, self.time.nanosecond());
+        line.push_fraction(self.time.nanosecond());
         push_offset(&mut line, self.offset);
         line
     }
@@ -88,21 +88,6 @@ fn push_clock(line: &mut Line, time: Time)
     line.push_two_digits(u32::from(time.minute()));
     line.push(b":");
     line.push_two_digits(u32::from(time.second()));
-}
-
-/// The nanoseconds past the second.
-fn push_fraction(line: &mut Line, nanosecond: u32)
-    requires room { HasRoom 10 line.old }
-    requires below { nanosecond < 1_000_000_000 }
-    ensures text { line.new ≡ line.old ++ fraction_text nanosecond }
-    ensures short { length line.new ≤ length line.old + 10 }
-{
-    if nanosecond == 0 {
-        return;
-    }
-    let (digits, end) = fraction_digits(nanosecond);
-    line.push(b".");
-    line.push(&digits[..end]);
 }
 
 /// The offset from UTC.

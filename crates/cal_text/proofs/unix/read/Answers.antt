@@ -1,7 +1,7 @@
-use Rattle.std.proofs.Common.{◌≡◌, Ok, ap, refl}
+use Rattle.std.proofs.Common.{Ok, ap, refl}
 use Rattle.std.proofs.lemmas.Bool.{false≢true}
 use Rattle.std.proofs.lemmas.Option.{none-some}
-use Rattle.cal_text.proofs.UnixReads.{text_of_pair, moment_of_text, pair_of_text, of_none, some_at}
+use Rattle.cal_text.proofs.UnixReads.{text_of_pair, moment_of_text, pair_of_text, some_at}
 use Rattle.cal_text.proofs.unix.read.Goals as goal
 
 pub returns-in-Some-pair_of-clause-every : goal.returns-in-Some-pair_of-clause-every

@@ -1,0 +1,40 @@
+use Rattle.std.proofs.Common.{ℕ, sym, ◌∙◌, inl, inr}
+use Rattle.std.proofs.lemmas.Option.{none-some}
+use Rattle.cal_text.specs.declared.any.DateOrMoment.TheVariants.{Unix}
+use Rattle.cal_text.specs.AnyForm.{IsFault}
+use Rattle.cal_text.proofs.AnyForms.{unix-found, unix-any, unix-fault, same_reason, reason_of}
+use Rattle.cal_text.proofs.Results.{same_mapped, not_ok}
+use Rattle.cal_text.proofs.any.by_form.unix_time_in.Goals as goal
+
+pub returns-in-Ok-clause-every : goal.returns-in-Ok-clause-every
+returns-in-Ok-clause-every c =
+    unix-found c.args.text.now _ c.requires (λ n t is. same_mapped {A = ℕ × ℕ} (λ p. Unix p.0 p.1) c.in-Ok.found (n, t) (c.in-Ok.ensures.every n t is))
+
+pub returns-in-Ok-clause-component : goal.returns-in-Ok-clause-component
+returns-in-Ok-clause-component c why = (λ e. absurd e, λ is. c.in-Ok.ensures.timestamp.1 (unix-fault c.args.text.now why c.requires is).1)
+
+pub returns-in-Err-clause-every : goal.returns-in-Err-clause-every
+returns-in-Err-clause-every c =
+    unix-found c.args.text.now _ c.requires (λ n t is. absurd (not_ok _ _ (c.in-Err.ensures.every n t is)))
+
+pub returns-in-Err-clause-form : goal.returns-in-Err-clause-form
+returns-in-Err-clause-form c = (
+  λ none any.
+      let form = unix-any c.args.text.now c.requires any in
+      c.in-Err.ensures.form.0 none form.0 form.1,
+  λ none. c.in-Err.ensures.form.1 (λ j h. none (inr (inr (inr (j, h))))),
+)
+
+pub returns-in-Err-clause-component : goal.returns-in-Err-clause-component
+returns-in-Err-clause-component c why = (
+  λ e. elim c.in-Err.ensures.reason as (λ _. IsFault c.args.text.now why) [
+    | inl none ↦ absurd (none-some _ (sym none ∙ e))
+    | inr is ↦
+        let why_is = same_reason _ _ _ is e in
+        let h = c.in-Err.ensures.timestamp.0 is in
+        inr (inr (inr (why_is, h)))
+  ],
+  λ is.
+      let fault = unix-fault c.args.text.now why c.requires is in
+      reason_of _ _ _ fault.0 (c.in-Err.ensures.timestamp.1 fault.1),
+)

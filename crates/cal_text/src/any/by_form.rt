@@ -1,0 +1,88 @@
+//! A text read by the one form that its first byte, or the one at 10, leaves open.
+ghost use Rattle.std.specs.Prelude.{◌≡◌, ◌≢◌, ◌↔◌, IfOk, Ok, get_or};
+ghost use Rattle.cal_time.specs.Refusal.{Refusal};
+ghost use Rattle.cal_text.specs.declared.any.DateOrMoment.{DateOrMoment};
+ghost use Rattle.cal_text.specs.AnyForm.{IsTextOf, IsFault, HasAnyForm};
+ghost use Rattle.cal_text.specs.Reading.{component_of, IsRefusedFor, IsRefusedForForm};
+ghost use Rattle.cal_text.specs.Rfc3339Form.{IsSeparator};
+
+use crate::any::DateOrMoment;
+use crate::date::form_and_date;
+use crate::date::place::first_wrong_byte;
+use crate::error::Unreadable;
+use crate::form::Form;
+use crate::{julian_day, rfc3339, unix};
+
+/// The date by the Julian day that the text is.
+pub(super) fn julian_day_in(text: &[u8]) -> Result<DateOrMoment, Unreadable>
+    requires { get_or text.now 0 0 ≡ 74 }
+    ensures every { (found : DateOrMoment) → IsTextOf text.now found → result ≡ Ok found }
+    ensures has { IfOk result (IsTextOf text.now) }
+    ensures form { IsRefusedForForm result ↔ ¬ HasAnyForm text.now }
+    ensures component { (why : Refusal) → IsRefusedFor why result ↔ IsFault text.now why }
+{
+    match julian_day::read(text) {
+        Ok(date) => Ok(DateOrMoment::JulianDay(date)),
+        Err(error) => Err(error),
+    }
+}
+
+/// The date and the time of the Unix time that the text is.
+pub(super) fn unix_time_in(text: &[u8]) -> Result<DateOrMoment, Unreadable>
+    requires { get_or text.now 0 0 ≡ 64 }
+    ensures every { (found : DateOrMoment) → IsTextOf text.now found → result ≡ Ok found }
+    ensures has { IfOk result (IsTextOf text.now) }
+    ensures form { IsRefusedForForm result ↔ ¬ HasAnyForm text.now }
+    ensures component { (why : Refusal) → IsRefusedFor why result ↔ IsFault text.now why }
+{
+    match unix::read(text) {
+        Ok(found) => Ok(DateOrMoment::Unix(found.0, found.1)),
+        Err(error) => Err(error),
+    }
+}
+
+/// The moment of RFC 3339 that the text is.
+pub(super) fn moment_in(text: &[u8]) -> Result<DateOrMoment, Unreadable>
+    requires first { (get_or text.now 0 0 ≢ 74) × (get_or text.now 0 0 ≢ 64) }
+    requires separator { IsSeparator (get_or text.now 10 0) }
+    ensures every { (found : DateOrMoment) → IsTextOf text.now found → result ≡ Ok found }
+    ensures has { IfOk result (IsTextOf text.now) }
+    ensures form { IsRefusedForForm result ↔ ¬ HasAnyForm text.now }
+    ensures component { (why : Refusal) → IsRefusedFor why result ↔ IsFault text.now why }
+{
+    match rfc3339::read(text) {
+        Ok(found) => Ok(DateOrMoment::Rfc3339(found.0, found.1, found.2)),
+        Err(error) => Err(further(error, text)),
+    }
+}
+
+/// The error, at the place that a date goes on to where it goes on further: a date may have a sign.
+fn further(error: Unreadable, text: &[u8]) -> Unreadable
+    ensures { component_of result ≡ component_of error }
+{
+    match error {
+        Unreadable::UnexpectedByte(place) => {
+            Unreadable::UnexpectedByte(place.max(first_wrong_byte(text)))
+        }
+        Unreadable::OutOfRange(component) => Unreadable::OutOfRange(component),
+    }
+}
+
+/// The date that the text is, in one of the three forms of ISO 8601.
+pub(super) fn date_in(text: &[u8]) -> Result<DateOrMoment, Unreadable>
+    requires first { (get_or text.now 0 0 ≢ 74) × (get_or text.now 0 0 ≢ 64) }
+    requires separator { ¬ IsSeparator (get_or text.now 10 0) }
+    ensures every { (found : DateOrMoment) → IsTextOf text.now found → result ≡ Ok found }
+    ensures has { IfOk result (IsTextOf text.now) }
+    ensures form { IsRefusedForForm result ↔ ¬ HasAnyForm text.now }
+    ensures component { (why : Refusal) → IsRefusedFor why result ↔ IsFault text.now why }
+{
+    match form_and_date(text) {
+        Ok(found) => match found.0 {
+            Form::Calendar(..) => Ok(DateOrMoment::Calendar(found.1)),
+            Form::Ordinal(..) => Ok(DateOrMoment::Ordinal(found.1)),
+            Form::Week(..) => Ok(DateOrMoment::Week(found.1)),
+        },
+        Err(error) => Err(error),
+    }
+}

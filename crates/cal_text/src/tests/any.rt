@@ -1,0 +1,82 @@
+//! Texts read in whichever form they come.
+use crate::{DateOrMoment, Unreadable, read_any};
+use cal_time::{Date, Month, Time, UtcOffset};
+use std::test::Fail;
+
+#[test]
+fn texts_in_any_form(rt: HostRuntime) -> Result<(), Fail> {
+    let Ok(date) = Date::from_calendar_date(2024, Month::February, 29) else {
+        return Err(Fail::from("a date"));
+    };
+    let Ok(time) = Time::from_hms_nano(0, 0, 0, 500_000_000) else {
+        return Err(Fail::from("a time"));
+    };
+    let Ok(hour_east) = UtcOffset::from_hms(1, 0, 0) else {
+        return Err(Fail::from("an offset"));
+    };
+    for (text, found) in [
+        ("2024-02-29", DateOrMoment::Calendar(date)),
+        ("2024-060", DateOrMoment::Ordinal(date)),
+        ("2024-W09-4", DateOrMoment::Week(date)),
+        ("J2460370", DateOrMoment::JulianDay(date)),
+        (
+            "2024-02-29T00:00:00.5+01:00",
+            DateOrMoment::Rfc3339(date, time, hour_east),
+        ),
+        (
+            "2024-02-29 00:00:00.500z",
+            DateOrMoment::Rfc3339(date, time, UtcOffset::UTC),
+        ),
+        ("@1709164800.5", DateOrMoment::Unix(date, time)),
+        ("+999999-12-31", DateOrMoment::Calendar(Date::MAX)),
+        ("-999999-001", DateOrMoment::Ordinal(Date::MIN)),
+    ] {
+        assert_eq!(rt; read_any(text.as_bytes()), Ok(found), "{text}");
+    }
+    Ok(())
+}
+
+#[test]
+fn components_of_texts_in_any_form(rt: HostRuntime) {
+    for (text, name, is_conditional) in [
+        ("2023-02-29", "day", true),
+        ("2023-366", "ordinal", true),
+        ("2023-W53-1", "week", true),
+        ("+1000000-01-01", "year", false),
+        ("J999999999", "julian_day", false),
+        ("2023-02-29T00:00:00Z", "day", true),
+        ("1990-12-31T23:59:60Z", "second", false),
+        ("@-31619087596801", "timestamp", false),
+    ] {
+        match read_any(text.as_bytes()) {
+            Err(Unreadable::OutOfRange(error)) => {
+                assert_eq!(rt; error.name(), name, "{text}");
+                assert_eq!(rt; error.is_conditional(), is_conditional, "{text}");
+            }
+            other => assert!(rt; false, "{text}: {other:?}"),
+        }
+    }
+}
+
+/// The form that goes on furthest has the place.
+#[test]
+fn first_wrong_bytes_in_any_form(rt: HostRuntime) {
+    for (text, place) in [
+        ("", 0),
+        ("K2460370", 0),
+        ("J", 1),
+        ("J2460370T", 8),
+        ("@1709164800T", 11),
+        ("2024-02-29_", 10),
+        ("2024-02-29T", 11),
+        ("2024-02-29T00:00:00", 19),
+        ("2024-02-2T00:00:00Z", 9),
+        ("2024-W09-4T00:00:00Z", 10),
+        ("-2024-060 ", 9),
+        ("+999999-02T00:00:00Z", 10),
+        ("+999999-0 T", 9),
+    ] {
+        let wrong = Err(Unreadable::UnexpectedByte(place));
+        assert_eq!(rt; read_any(text.as_bytes()), wrong, "{text}");
+    }
+}
