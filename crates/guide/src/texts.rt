@@ -35,21 +35,27 @@ fn show_moment(rt: &impl Print, text: &str) -> io::Result<()> {
 fn calendar_day(bytes: &[u8]) -> Option<Date>
     ensures { IfSome result (λ n. bytes.now ≡ text n) }
 {
-    match read_any(bytes).ok()? {
-        DateOrMoment::Calendar(date) => Some(date),
-        _ => None,
+    match read_any(bytes) {
+        Ok(found) => match found {
+            DateOrMoment::Calendar(date) => Some(date),
+            _ => None,
+        },
+        Err(_) => None,
     }
 }
 
-/// Prints what a text is, by the form that it has, as a Unix time where it is a moment.
+/// Prints a moment of RFC 3339 by its Unix time, and any other text by what it is.
 fn show_any(rt: &impl Print, text: &str) -> io::Result<()> {
-    match read_any(text.as_bytes()) {
-        Ok(DateOrMoment::Rfc3339(date, time, offset)) => {
+    let found = match read_any(text.as_bytes()) {
+        Ok(found) => found,
+        Err(error) => return println!(rt; "{text}: {error}"),
+    };
+    match found {
+        DateOrMoment::Rfc3339(date, time, offset) => {
             println!(rt; "{}", unix::Text::new(date, time, offset))
         }
-        Ok(DateOrMoment::Unix(date, time)) => println!(rt; "{date} {time}"),
-        Ok(found) => println!(rt; "{found:?}"),
-        Err(error) => println!(rt; "{text}: {error}"),
+        DateOrMoment::Unix(date, time) => println!(rt; "{date} {time}"),
+        found => println!(rt; "{found:?}"),
     }
 }
 
