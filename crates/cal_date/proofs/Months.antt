@@ -43,3 +43,8 @@ start y i low =
     (record { early = λ h. grind (arith, nat_tests); late = λ h. grind (arith, nat_tests) })
     (record { early = λ h. grind (arith, nat_tests); late = λ h. grind (arith, nat_tests) })
     i low
+
+-- no month is shorter than 28 days
+pub month-least : (y : ℤ) (m : ℕ) → 28 ≤ days_in_month y m
+unfolding days_in_month
+month-least y m = grind (arith, nat_tests)

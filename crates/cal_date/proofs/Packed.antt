@@ -1,9 +1,9 @@
 -- What the packed value of an ordinal date is made of.
-use Rattle.std.proofs.Common.{◌≡◌, inl, inr, refl, Bool, ℕ, ◌*◌, ◌+◌, ◌%◌, ◌≤◌, ◌∙◌, sym, ap, subst, arith, rules, ℤ, pos, neg_ℤ, ◌+ℤ◌, ◌*ℤ◌, ◌≤ℤ◌, unsigned_abs, to_z, of_z, w32, FitsSigned, bit_and}
+use Rattle.std.proofs.Common.{◌≡◌, inl, inr, refl, Bool, ℕ, ◌*◌, ◌+◌, ◌%◌, ◌≤◌, ◌∙◌, sym, ap, subst, arith, rules, ℤ, pos, neg_ℤ, ◌+ℤ◌, ◌*ℤ◌, ◌≤ℤ◌, unsigned_abs, to_z, of_z, w32, FitsSigned, bit_and, bit_or, ◌^◌, ◌<◌}
 use Rattle.std.proofs.lemmas.Int.{ints, to_z-of_z}
 use Rattle.std.proofs.lemmas.Bool.Decides.{nat_tests}
 use Rattle.std.proofs.lemmas.Bool.{cases_Bool}
-use Rattle.std.proofs.lemmas.Nat.{and_mask}
+use Rattle.std.proofs.lemmas.Nat.{and_mask, or_shifted}
 use lib.Signed.{shr_z}
 use mir.Val.{bool_byte}
 use Rattle.cal_units.specs.Lengths.{is_leap_year, days_in_year}
@@ -135,21 +135,43 @@ moved p days n at low high =
           ∙ ordinal_number-moved y (ordinal_at n) o days at.ordinal.0 ordinal.0 is ∙ ap (λ k. pos k +ℤ days) (sym at.number_is);
     }
 
--- the sum that makes a packed value, in i32
+-- the bits that make a packed value
 leap_mark-byte : (y : ℤ) → leap_mark y ≡ 512 * bool_byte (is_leap_year y)
 leap_mark-byte y = elim (cases_Bool (is_leap_year y)) [ inl leap ↦ rw leap refl | inr common ↦ rw common refl ]
 
 bool_byte-most : (b : Bool) → bool_byte b ≤ 1
 bool_byte-most b = elim (cases_Bool b) [ inl is ↦ rw is (omega arith) | inr is ↦ rw is (omega arith) ]
 
-packed-parts : (y leap o z : ℤ) (m k : ℕ) → IsYear y → k ≤ 366 → m ≤ 1 → leap ≡ pos m → o ≡ pos k → z ≡ y *ℤ pos 1024 +ℤ pos (512 * m + k)
-    → to_z w32 (of_z w32 (to_z w32 (of_z w32 (y *ℤ pos 1024)) +ℤ to_z w32 (of_z w32 (to_z w32 (of_z w32 leap) *ℤ pos 512)))) +ℤ to_z w32 (of_z w32 o) ≡ z
-packed-parts y leap o z m k h short low e f g = omega (arith, ints)
+-- the year above ten bits, as a number of 22 bits
+year_bits : (y : ℤ) → of_z w32 y * 1024 % 4294967296 ≡ (of_z w32 y % 4194304) * 2 ^ 10
+year_bits y = omega arith
 
-pub packed-sum : (y leap o : ℤ) (k : ℕ) → IsYear y → IsOrdinal y k → leap ≡ pos (bool_byte (is_leap_year y)) → o ≡ pos k
-    → to_z w32 (of_z w32 (to_z w32 (of_z w32 (y *ℤ pos 1024)) +ℤ to_z w32 (of_z w32 (to_z w32 (of_z w32 leap) *ℤ pos 512)))) +ℤ to_z w32 (of_z w32 o) ≡ packed y k
+packed-parts : (y z : ℤ) (m k : ℕ) → IsYear y → k ≤ 366 → m ≤ 1 → z ≡ y *ℤ pos 1024 +ℤ pos (512 * m + k)
+    → to_z w32 ((of_z w32 y % 4194304 * 2 + m) * 2 ^ 9 + k) ≡ z
+packed-parts y z m k h short low e = grind (arith, ints)
+
+-- parts that share no bits, put together by `|`
+joined : (b m k : ℕ) → k ≤ 366 → m ≤ 1 → bit_or (bit_or (b * 2 ^ 10) (m * 512)) k ≡ (b * 2 + m) * 2 ^ 9 + k
+joined b m k short low =
+    let mark : m * 512 < 2 ^ 10 = omega arith in
+    let ordinal : k < 2 ^ 9 = omega arith in
+    let doubled : b * 2 ^ 10 + m * 512 ≡ (b * 2 + m) * 2 ^ 9 = omega arith in
+    ap (λ n. bit_or n k) (or_shifted b 10 (m * 512) mark ∙ doubled) ∙ or_shifted (b * 2 + m) 9 k ordinal
+
+of_pos : (z : ℤ) (n : ℕ) → z ≡ pos n → n ≤ 366 → of_z w32 z ≡ n
+of_pos z n e h = ap (of_z w32) e ∙ grind (arith, ints)
+
+pub packed-bits : (y leap o : ℤ) (k : ℕ) → IsYear y → IsOrdinal y k → leap ≡ pos (bool_byte (is_leap_year y)) → o ≡ pos k
+    → to_z w32 (bit_or (bit_or (of_z w32 y * 1024 % 4294967296) (of_z w32 leap * 512 % 4294967296)) (of_z w32 o)) ≡ packed y k
 unfolding packed
-packed-sum y leap o k h f mark e =
+packed-bits y leap o k h f mark e =
+    let m = bool_byte (is_leap_year y) in
+    let low : m ≤ 1 = bool_byte-most (is_leap_year y) in
     let short : k ≤ 366 = grind (arith, nat_tests) in
-    let is : packed y k ≡ y *ℤ pos 1024 +ℤ pos (512 * bool_byte (is_leap_year y) + k) = ap (λ b. y *ℤ pos 1024 +ℤ pos (b + k)) (leap_mark-byte y) in
-    packed-parts y leap o (packed y k) (bool_byte (is_leap_year y)) k h short (bool_byte-most (is_leap_year y)) mark e is
+    let is : packed y k ≡ y *ℤ pos 1024 +ℤ pos (512 * m + k) = ap (λ b. y *ℤ pos 1024 +ℤ pos (b + k)) (leap_mark-byte y) in
+    let mark_bits : of_z w32 leap * 512 % 4294967296 ≡ m * 512 = omega (arith, of_pos leap m mark (omega (arith, low)), low) in
+    ap (λ n. to_z w32 (bit_or (bit_or n (of_z w32 leap * 512 % 4294967296)) (of_z w32 o))) (year_bits y)
+    ∙ ap (λ n. to_z w32 (bit_or (bit_or ((of_z w32 y % 4194304) * 2 ^ 10) n) (of_z w32 o))) mark_bits
+    ∙ ap (λ n. to_z w32 (bit_or (bit_or ((of_z w32 y % 4194304) * 2 ^ 10) (m * 512)) n)) (of_pos o k e short)
+    ∙ ap (to_z w32) (joined (of_z w32 y % 4194304) m k short low)
+    ∙ packed-parts y (packed y k) m k h short low is

@@ -52,6 +52,17 @@ fn is_year(year: i32) -> bool
     year >= MIN_YEAR && year <= MAX_YEAR
 }
 
+/// Whether the year has that ordinal. Up to 365 the year is not asked.
+fn has_ordinal(year: i32, ordinal: u16) -> bool
+    ensures { IsTrue result ↔ IsOrdinal year ordinal }
+{
+    match ordinal {
+        0 => false,
+        1..=365 => true,
+        _ => ordinal <= days_in_year(year),
+    }
+}
+
 /// A day of the proleptic Gregorian calendar, from -999999-01-01 to 999999-12-31.
 ///
 /// Years are astronomical, as in ISO 8601: the year 0 stands before the year 1, and -1 before that. Contracts see a date
@@ -112,7 +123,7 @@ impl Date {
         if !is_year(year) {
             return Err(ComponentRange::unconditional("year"));
         }
-        if ordinal == 0 || ordinal > days_in_year(year) {
+        if !has_ordinal(year, ordinal) {
             return Err(ComponentRange::conditional("ordinal"));
         }
         Ok(Date::at_ordinal(year, ordinal))
@@ -241,7 +252,7 @@ impl Date {
         ensures in_range { IsDate result }
     {
         Date {
-            packed: year * 1024 + i32::from(leap) * LEAP_MARK + i32::from(ordinal),
+            packed: year << 10 | i32::from(leap) << 9 | i32::from(ordinal),
         }
     }
 

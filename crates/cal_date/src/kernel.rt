@@ -125,7 +125,7 @@ impl JulianKernel {
     fn is_leap_year(self) -> bool
         ensures { result ≡ is_leap_by_kernel self }
     {
-        self.years % 4 == 0 && self.is_julian_year()
+        self.is_julian_year() && self.years % 4 == 0
     }
 
     /// Whether the year has the days that it has where every fourth year is a leap year: all years but the first of a

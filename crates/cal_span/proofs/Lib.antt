@@ -5,3 +5,4 @@ pub mod Carry
 pub mod Clamp
 pub mod Product
 pub mod Quotient
+pub mod PartTexts

@@ -5,9 +5,9 @@ use Rattle.cal_span.specs.SignedDuration.{day, hour, minute, second, millisecond
 
 pub parts_text-fields : (s n : ℕ) → n < second →
     part (s / 86_400) (codes "d")
-    ++ (part (s / 3_600 % 24) (codes "h")
-    ++ (part (s / 60 % 60) (codes "m")
-    ++ (part (s % 60) (codes "s")
+    ++ (part (s % 86_400 / 3_600) (codes "h")
+    ++ (part (s % 86_400 / 60 % 60) (codes "m")
+    ++ (part (s % 86_400 % 60) (codes "s")
     ++ (part (n / 1_000_000) (codes "ms")
     ++ (part (n / 1_000 % 1_000) (0xc2 ∷ 0xb5 ∷ codes "s")
     ++ part (n % 1_000) (codes "ns"))))))
@@ -15,9 +15,9 @@ pub parts_text-fields : (s n : ℕ) → n < second →
 parts_text-fields s n below =
     let v = s * second + n in
     let days : s / 86_400 ≡ v / day = omega arith in
-    let hours : s / 3_600 % 24 ≡ v / hour % 24 = omega arith in
-    let minutes : s / 60 % 60 ≡ v / minute % 60 = omega arith in
-    let seconds : s % 60 ≡ v / second % 60 = omega arith in
+    let hours : s % 86_400 / 3_600 ≡ v / hour % 24 = omega arith in
+    let minutes : s % 86_400 / 60 % 60 ≡ v / minute % 60 = omega arith in
+    let seconds : s % 86_400 % 60 ≡ v / second % 60 = omega arith in
     let milliseconds : n / 1_000_000 ≡ v / millisecond % 1_000 = omega arith in
     let microseconds : n / 1_000 % 1_000 ≡ v / microsecond % 1_000 = omega arith in
     let nanoseconds : n % 1_000 ≡ v % 1_000 = omega arith in

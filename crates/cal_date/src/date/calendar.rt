@@ -1,5 +1,5 @@
 //! Dates by year, month and day of the month.
-ghost use Rattle.std.specs.Prelude.{◌≡◌, ℕ, ◌<◌, ◌≤◌, pos, ◌↔◌, ◌⊎◌, IfOk, IfErr, IsErr, Ok, [], ◌∷◌};
+ghost use Rattle.std.specs.Prelude.{◌≡◌, ℕ, ◌<◌, ◌≤◌, pos, ◌↔◌, ◌⊎◌, IfOk, IfErr, IsErr, IsTrue, Ok, [], ◌∷◌, ℤ};
 ghost use Rattle.cal_units.specs.Month.{place, number};
 ghost use Rattle.cal_units.specs.Refusal.{refusal, IsRefused};
 ghost use Rattle.cal_units.specs.Lengths.{is_leap_year};
@@ -40,10 +40,12 @@ impl Date {
         if !is_year(year) {
             return Err(ComponentRange::unconditional("year"));
         }
-        if day == 0 || day > month.length(year) {
+        if !has_day(year, month, day) {
             return Err(ComponentRange::conditional("day"));
         }
-        Ok(Date::at_ordinal(year, days_before_month(month, year) + u16::from(day)))
+        let leap = is_leap_year(year);
+        let ordinal = days_before_month(month, leap) + u16::from(day);
+        Ok(Date::from_parts(year, leap, ordinal))
     }
 
     /// The month. That of 2020-02-29 is February.
@@ -117,11 +119,21 @@ impl Date {
     }
 }
 
-/// The days of the year that come before the month.
-fn days_before_month(month: Month, year: i32) -> u16
-    ensures { result ≡ days_of_months year (place month) }
+/// Whether the month has that day in the year. Up to 28 neither is asked.
+fn has_day(year: i32, month: Month, day: u8) -> bool
+    ensures { IsTrue result ↔ IsDayOfMonth year (number month) day }
+{
+    match day {
+        0 => false,
+        1..=28 => true,
+        _ => day <= month.length(year),
+    }
+}
+
+/// The days that come before the month, in a leap year or in a common one.
+fn days_before_month(month: Month, leap: bool) -> u16
+    ensures { (year : ℤ) → leap ≡ is_leap_year year → result ≡ days_of_months year (place month) }
 {
     let place = usize::from(month.place());
-    let leap_day = u16::from(place >= 2 && is_leap_year(year));
-    DAYS_BEFORE_MONTH[place] + leap_day
+    DAYS_BEFORE_MONTH[place] + u16::from(place >= 2 && leap)
 }

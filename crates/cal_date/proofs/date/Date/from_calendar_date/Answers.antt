@@ -2,7 +2,7 @@ use Rattle.std.proofs.Common.{ap, sym, ◌∙◌, arith, refl, Ok, ◌≡◌, �
 use Rattle.std.proofs.lemmas.Int.{to_z-of_z}
 use Rattle.std.proofs.lemmas.Bool.{false≢true}
 use Rattle.std.proofs.lemmas.Bool.Decides.{nat_tests}
-use Rattle.cal_units.specs.Lengths.{days_in_year}
+use Rattle.cal_units.specs.Lengths.{days_in_year, is_leap_year}
 use Rattle.cal_units.specs.Month.{place, number}
 use Rattle.cal_units.specs.MonthCycle.{place-below}
 use Rattle.cal_date.specs.Date.{IsYear, IsOrdinal, IsDayOfMonth}
@@ -10,7 +10,7 @@ use Rattle.cal_date.specs.PackedDate.{ordinal_number}
 use Rattle.cal_date.proofs.Dates.{IsDate-ordinal_number}
 use Rattle.cal_date.proofs.Calendar.{ordinal_in, stands_at, calendar_in_range, IsOrdinal-ordinal_in, NoDate-calendar_date}
 use Rattle.cal_date.proofs.date.Date.from_calendar_date.Goals as goal
-use Rattle.cal_date.proofs.date.Date.from_calendar_date.Goals.{After-from, After-at_ordinal, then-day-eq0-via-then-day-eq0, then-day-eq0-via-else-day-eq0+then-day-length}
+use Rattle.cal_date.proofs.date.Date.from_calendar_date.Goals.{After-from, After-from_parts}
 
 no_year : (c : goal.After-unconditional) → ¬ IsYear c.args.year
 no_year c year = let is = rw (to_z-of_z w32 _ c.ranges.year) at c.is_year.ensures in false≢true (sym c.if-not-is_year.true ∙ is.1 year)
@@ -23,21 +23,19 @@ returns-then-not-is_year-clause-refused c = (λ e. NoDate-calendar_date _ (place
 
 no_day : (c : goal.After-conditional) → ¬ IsDayOfMonth c.args.year (number c.args.month) c.args.day
 no_day c day =
-    let same : to_z w32 (of_z w32 c.args.year) ≡ c.args.year = to_z-of_z w32 _ c.ranges.year in
-    elim c.then-day-eq0.branch [
-      | then-day-eq0-via-then-day-eq0 w ↦ omega arith
-      | then-day-eq0-via-else-day-eq0+then-day-length w ↦ let long = rw same at w.length.ensures.value in omega arith
-    ]
+    let is = rw (to_z-of_z w32 _ c.ranges.year) at c.has_day.ensures in
+    false≢true (sym c.if-not-has_day.true ∙ is.1 day)
 
-pub returns-then-day-eq0-clause-every : goal.returns-then-day-eq0-clause-every
-returns-then-day-eq0-clause-every c = λ n h has. absurd (no_day c (calendar_in_range n _ (place c.args.month) _ h has).day)
+pub returns-then-not-has_day-clause-every : goal.returns-then-not-has_day-clause-every
+returns-then-not-has_day-clause-every c = λ n h has. absurd (no_day c (calendar_in_range n _ (place c.args.month) _ h has).day)
 
-pub returns-then-day-eq0-clause-refused : goal.returns-then-day-eq0-clause-refused
-returns-then-day-eq0-clause-refused c = (λ e. NoDate-calendar_date _ (place c.args.month) _ (λ h. no_day c h.1), λ none. refl)
+pub returns-then-not-has_day-clause-refused : goal.returns-then-not-has_day-clause-refused
+returns-then-not-has_day-clause-refused c = (λ e. NoDate-calendar_date _ (place c.args.month) _ (λ h. no_day c h.1), λ none. refl)
 
 -- past both tests the year and the day are in their ranges
 record Fits (c : After-from) : Type 0 where
   same : to_z w32 (of_z w32 c.args.year) ≡ c.args.year
+  leap : c.is_leap_year-leap.result ≡ is_leap_year c.args.year
   year : IsYear c.args.year
   day : IsDayOfMonth c.args.year (number c.args.month) c.args.day
   ordinal_is : c.days_before_month.result + c.from.result ≡ ordinal_in c.args.year (place c.args.month) c.args.day
@@ -46,32 +44,37 @@ record Fits (c : After-from) : Type 0 where
 fits : (c : After-from) → Fits c
 fits c =
     let same : to_z w32 (of_z w32 c.args.year) ≡ c.args.year = to_z-of_z w32 _ c.ranges.year in
-    let long = rw same at c.length.ensures.value in
-    let before = rw same at c.days_before_month.ensures in
+    let leap = rw same at c.is_leap_year-leap.ensures in
+    let before = c.days_before_month.ensures c.args.year leap in
     let year = rw same at (c.is_year.ensures.0 c.if-not-is_year.false) in
-    let day : IsDayOfMonth c.args.year (number c.args.month) c.args.day = (omega arith, omega arith) in
+    let is = rw same at c.has_day.ensures in
+    let day = is.0 c.if-not-has_day.false in
     record {
       same = same;
+      leap = leap;
       year = year;
       day = day;
       ordinal_is = omega arith;
       ordinal = IsOrdinal-ordinal_in c.args.year (place c.args.month) c.args.day year.0 (place-below c.args.month) day;
     }
 
-pub overflow_add-days_before_month : goal.overflow_add-days_before_month
-overflow_add-days_before_month c =
+pub overflow_add-ordinal : goal.overflow_add-ordinal
+overflow_add-ordinal c =
     let f = fits c in
     let most : days_in_year c.args.year ≤ 366 = grind (arith, nat_tests) in
     omega (arith, f.ordinal.1, f.ordinal_is)
 
-pub at_ordinal-requires-clause-year : goal.at_ordinal-requires-clause-year
-at_ordinal-requires-clause-year c = let f = fits c in rw f.same f.year
+pub from_parts-requires-clause-year : goal.from_parts-requires-clause-year
+from_parts-requires-clause-year c = let f = fits c in rw f.same f.year
 
-pub at_ordinal-requires-clause-ordinal : goal.at_ordinal-requires-clause-ordinal
-at_ordinal-requires-clause-ordinal c = let f = fits c in rw (f.same, f.ordinal_is) f.ordinal
+pub from_parts-requires-clause-ordinal : goal.from_parts-requires-clause-ordinal
+from_parts-requires-clause-ordinal c = let f = fits c in rw (f.same, f.ordinal_is) f.ordinal
 
-number_is : (c : After-at_ordinal) → c.at_ordinal.result ≡ ordinal_number c.args.year (ordinal_in c.args.year (place c.args.month) c.args.day)
-number_is c = let f = fits c.before in rw (f.same, f.ordinal_is) at c.at_ordinal.ensures.number
+pub from_parts-requires-clause-leap : goal.from_parts-requires-clause-leap
+from_parts-requires-clause-leap c = let f = fits c in rw f.same f.leap
+
+number_is : (c : After-from_parts) → c.from_parts.result ≡ ordinal_number c.args.year (ordinal_in c.args.year (place c.args.month) c.args.day)
+number_is c = let f = fits c.before in rw (f.same, f.ordinal_is) at c.from_parts.ensures.number
 
 pub returns-clause-every : goal.returns-clause-every
 returns-clause-every c = λ n h has. let f = fits c.before in ap Ok (number_is c ∙ sym (calendar_in_range n _ (place c.args.month) _ h has).number_is)

@@ -5,7 +5,6 @@ use Rattle.cal_date.specs.Date.{IsYear, IsOrdinal}
 use Rattle.cal_date.specs.PackedDate.{HasOrdinalDate-ordinal_number}
 use Rattle.cal_date.proofs.Dates.{in_range, IsDate-ordinal_number, NoDate-ordinal_date}
 use Rattle.cal_date.proofs.date.Date.from_ordinal_date.Goals as goal
-use Rattle.cal_date.proofs.date.Date.from_ordinal_date.Goals.{Else-ordinal-days_in_year, then-ordinal-eq0-via-then-ordinal-eq0, then-ordinal-eq0-via-else-ordinal-eq0+then-ordinal-days_in_year}
 
 no_year : (c : goal.After-unconditional) → ¬ IsYear c.args.year
 no_year c year = let is = rw (to_z-of_z w32 _ c.ranges.year) at c.is_year.ensures in false≢true (sym c.if-not-is_year.true ∙ is.1 year)
@@ -19,16 +18,13 @@ returns-then-not-is_year-clause-refused c = (λ e. NoDate-ordinal_date _ _ (λ h
 no_ordinal : (c : goal.After-conditional) → ¬ IsOrdinal c.args.year c.args.ordinal
 no_ordinal c ordinal =
     let same : to_z w32 (of_z w32 c.args.year) ≡ c.args.year = to_z-of_z w32 _ c.ranges.year in
-    elim c.then-ordinal-eq0.branch [
-      | then-ordinal-eq0-via-then-ordinal-eq0 w ↦ omega arith
-      | then-ordinal-eq0-via-else-ordinal-eq0+then-ordinal-days_in_year w ↦ let long = rw same at w.days_in_year.ensures.value in omega arith
-    ]
+    false≢true (sym c.if-not-has_ordinal.true ∙ (rw same at c.has_ordinal.ensures).1 ordinal)
 
-pub returns-then-ordinal-eq0-clause-every : goal.returns-then-ordinal-eq0-clause-every
-returns-then-ordinal-eq0-clause-every c = λ n h has. absurd (no_ordinal c (in_range n _ _ h has).ordinal)
+pub returns-then-not-has_ordinal-clause-every : goal.returns-then-not-has_ordinal-clause-every
+returns-then-not-has_ordinal-clause-every c = λ n h has. absurd (no_ordinal c (in_range n _ _ h has).ordinal)
 
-pub returns-then-ordinal-eq0-clause-refused : goal.returns-then-ordinal-eq0-clause-refused
-returns-then-ordinal-eq0-clause-refused c = (λ e. NoDate-ordinal_date _ _ (λ h. no_ordinal c h.1), λ none. refl)
+pub returns-then-not-has_ordinal-clause-refused : goal.returns-then-not-has_ordinal-clause-refused
+returns-then-not-has_ordinal-clause-refused c = (λ e. NoDate-ordinal_date _ _ (λ h. no_ordinal c h.1), λ none. refl)
 
 -- past both tests the year and the ordinal are in their ranges
 record Fits (year : ℤ) (ordinal : ℕ) : Type 0 where
@@ -36,11 +32,10 @@ record Fits (year : ℤ) (ordinal : ℕ) : Type 0 where
   in_range : IsYear year
   in_year : IsOrdinal year ordinal
 
-fits : (c : Else-ordinal-days_in_year) → Fits c.args.year c.args.ordinal
+fits : (c : goal.Else-not-has_ordinal) → Fits c.args.year c.args.ordinal
 fits c =
     let same : to_z w32 (of_z w32 c.args.year) ≡ c.args.year = to_z-of_z w32 _ c.ranges.year in
-    let long = rw same at c.days_in_year.ensures.value in
-    record { same = same; in_range = rw same at (c.is_year.ensures.0 c.if-not-is_year.false); in_year = (omega arith, omega arith) }
+    record { same = same; in_range = rw same at (c.is_year.ensures.0 c.if-not-is_year.false); in_year = rw same at (c.has_ordinal.ensures.0 c.if-not-has_ordinal.false) }
 
 pub at_ordinal-requires-clause-year : goal.at_ordinal-requires-clause-year
 at_ordinal-requires-clause-year c = let f = fits c in rw f.same f.in_range

@@ -1,5 +1,4 @@
-use Rattle.std.proofs.Common.{◌≡◌, ◌∙◌, ap, arith, w32}
-use Rattle.std.proofs.lemmas.Int.{to_z-of_z}
+use Rattle.std.proofs.Common.{◌≡◌, ◌∙◌, ap, arith}
 use Rattle.std.proofs.lemmas.Bool.{lt-leb}
 use mir.Val.{bool_byte}
 use Rattle.cal_units.specs.Lengths.{is_leap_year}
@@ -10,15 +9,14 @@ use Rattle.cal_date.proofs.date.calendar.days_before_month.Goals as goal
 use Rattle.cal_date.proofs.date.calendar.days_before_month.Goals.{then-place-ge2, else-place-ge2}
 
 pub returns : goal.returns
-returns c =
+returns c year same =
     let at : c.from-place.result ≡ place c.args.month = c.from-place.ensures ∙ c.place.ensures in
-    let is = start c.args.year (place c.args.month) (place-below c.args.month) in
+    let is = start year (place c.args.month) (place-below c.args.month) in
     elim c.if-place-ge2.branch [
       | then-place-ge2 w ↦
-          let leap : c.from-leap_day.result ≡ bool_byte (is_leap_year c.args.year) =
-          c.from-leap_day.ensures ∙ ap bool_byte (w.from-is ∙ w.is_leap_year.ensures ∙ ap is_leap_year (to_z-of_z w32 _ c.ranges.year)) in
+          let leap : c.from.result ≡ bool_byte (is_leap_year year) = c.from.ensures ∙ ap bool_byte (w.from-is ∙ same) in
           rw (at, leap) (is.late (omega arith))
       | else-place-ge2 w ↦
-          let none : c.from-leap_day.result ≡ 0 = c.from-leap_day.ensures ∙ ap bool_byte (w.from-is ∙ lt-leb 2 _ (omega arith)) in
+          let none : c.from.result ≡ 0 = c.from.ensures ∙ ap bool_byte (w.from-is ∙ lt-leb 2 _ (omega arith)) in
           rw at (omega (arith, is.early (omega arith)))
     ]
