@@ -1,9 +1,9 @@
 -- Seconds and nanoseconds with a carry between them: when they are a duration, and which.
-use Rattle.std.proofs.Common.{◌≡◌, true, false, ℤ, pos, negsuc, neg_ℤ, ◌+ℤ◌, ◌-ℤ◌, ◌*ℤ◌, ◌≤ℤ◌, ◌<ℤ◌, Option, SomeIff, FitsSigned, int_rem, sym, ap, ◌∙◌, subst, arith}
+use Rattle.std.proofs.Common.{◌≡◌, true, false, ℤ, pos, negsuc, neg_ℤ, ◌+ℤ◌, ◌-ℤ◌, ◌*ℤ◌, ◌≤ℤ◌, ◌<ℤ◌, Option, SomeIff, FitsSigned, ap, ◌∙◌, subst, arith}
 use Rattle.std.specs.Int.{w64, from_bool}
 use Rattle.std.specs.Int.Signed.{lt_z}
-use Rattle.std.proofs.lemmas.Int.{ints, by_lt_z, quot-rem, rem_below}
-use Rattle.cal_span.specs.SignedDuration.{second, IsDuration, IsWithin, cut}
+use Rattle.std.proofs.lemmas.Int.{ints, by_lt_z}
+use Rattle.cal_span.specs.SignedDuration.{second, IsDuration, IsWithin}
 use Rattle.cal_span.specs.Fields.{nanoseconds_in, IsNormal, CanCarry, IsCarry}
 use Rattle.cal_span.specs.FieldsLaws.{times-second}
 use Rattle.cal_span.specs.declared.signed_duration.SignedDuration.TheInside.{Inside}

@@ -1,10 +1,7 @@
 -- The text of a small number and its unit, at the end of its digits.
-use Rattle.std.proofs.Common.{◌≡◌, ℕ, ◌+◌, ◌/◌, ◌%◌, ◌<◌, ◌≤◌, List, [], ◌∷◌, ◌++◌, drop, decimal, refl, sym, ap, ◌∙◌, arith}
-use Rattle.std.specs.Str.{IsAscii}
+use Rattle.std.proofs.Common.{◌≡◌, ℕ, ◌+◌, ◌/◌, ◌%◌, ◌<◌, ◌≤◌, List, [], ◌∷◌, ◌++◌, decimal, sym, ap, ◌∙◌, arith}
 use Rattle.std.proofs.lemmas.Fmt.{decimal_step, decimal_digit}
-use Rattle.std.proofs.lemmas.List.{append_assoc}
 use Rattle.std.proofs.lemmas.Bool.Decides.{nat_tests}
-use Rattle.cal_units.specs.Digits.{two_digits}
 use Rattle.cal_span.specs.SignedDuration.{part}
 
 -- the digits of a number below 1000

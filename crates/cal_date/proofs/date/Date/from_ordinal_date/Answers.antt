@@ -1,4 +1,4 @@
-use Rattle.std.proofs.Common.{ap, sym, ◌∙◌, arith, refl, Ok, ◌≡◌, ℤ, ℕ, to_z, of_z, w32}
+use Rattle.std.proofs.Common.{ap, sym, ◌∙◌, refl, Ok, ◌≡◌, ℤ, ℕ, to_z, of_z, w32}
 use Rattle.std.proofs.lemmas.Int.{to_z-of_z}
 use Rattle.std.proofs.lemmas.Bool.{false≢true}
 use Rattle.cal_date.specs.Date.{IsYear, IsOrdinal}

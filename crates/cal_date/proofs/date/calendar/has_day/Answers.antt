@@ -1,4 +1,4 @@
-use Rattle.std.proofs.Common.{◌≤◌, arith, refl, to_z, of_z, w32}
+use Rattle.std.proofs.Common.{◌≤◌, arith, refl}
 use Rattle.cal_units.specs.Lengths.{days_in_month}
 use Rattle.cal_units.specs.Month.{number}
 use Rattle.cal_date.proofs.Months.{month-least}
