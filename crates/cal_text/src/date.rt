@@ -17,7 +17,7 @@ mod display;
 pub(crate) mod of_form;
 pub(crate) mod place;
 
-pub use display::{OrdinalText, WeekText};
+pub use display::{CalendarText, OrdinalText, WeekText};
 
 /// The day whose calendar date, ordinal date or week date the text is, as `2024-02-29`, `2024-060` or `2024-W09-4`.
 ///

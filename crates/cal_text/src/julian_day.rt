@@ -8,12 +8,24 @@ ghost use Rattle.cal_text.specs.Reading.{component_of, IsRefusedFor, IsRefusedFo
 
 use crate::digits::number_of;
 use crate::error::Unreadable;
+use crate::line::Line;
 use cal_time::Date;
 use std::fmt;
 
 /// A date that prints its Julian day after a letter J, as `J2460370`.
 #[derive(Clone, Copy, Debug, PartialEq, Eq)]
 pub struct JulianText(pub Date);
+
+impl JulianText {
+    /// The text in bytes.
+    pub fn line(self) -> Line
+        ensures { result ≡ julian_text self.0 }
+    {
+        let mut line = Line::of(b"J");
+        line.push_signed(self.0.to_julian_day());
+        line
+    }
+}
 
 impl fmt::Display for JulianText {
     ghost output = { λ t. Some (julian_text t.0) };

@@ -19,6 +19,7 @@ mod year;
 
 pub use any::{DateOrMoment, read_any};
 pub use error::Unreadable;
+pub use line::Line;
 
 #[cfg(test)]
 mod tests;

@@ -1,19 +1,25 @@
 //! The bytes of one text, put together part by part.
-ghost use Rattle.std.specs.Prelude.{◌≡◌, ◌+◌, ◌<◌, ◌≤◌, ◌++◌, [], length, decimal};
+ghost use Rattle.std.specs.Prelude.{◌≡◌, ◌+◌, ◌<◌, ◌≤◌, ◌++◌, [], codes, length, decimal};
+ghost use Rattle.std.specs.Fmt.{signed_decimal};
 ghost use Rattle.std.specs.Str.{IsAscii};
+ghost use Rattle.cal_time.specs.Date.{year_at, month_at, day_of_month_at};
 ghost use Rattle.cal_time.specs.DateText.{digits_at_least};
+ghost use Rattle.cal_text.specs.DateForms.{year_text};
 ghost use Rattle.cal_text.specs.Line.{HasRoom};
 ghost use Rattle.cal_text.specs.Rfc3339.{fraction_text};
 
-use crate::print::{ascii_text, digit, fraction_digits, two_digits};
+use crate::print::{ascii_text, digit, fraction_digits, two_digits, year_bytes};
+use cal_time::Date;
 use std::marker::Model;
 
 /// The most bytes that a text has: 22 up to the second, 10 of the fraction and 6 of the offset.
 const CAPACITY: usize = 38;
 
-/// Bytes of ASCII, at most 38.
+/// What a date or a moment prints, in bytes: ASCII, at most 38 of them, in place and without a formatter.
+///
+/// The types that print give it by their call `line`: `WeekText(date).line().as_str()` is `2024-W09-4`.
 #[derive(Drop)]
-pub(crate) struct Line {
+pub struct Line {
     bytes: [u8; CAPACITY],
     filled: usize,
 }
@@ -41,11 +47,39 @@ impl Line {
         }
     }
 
+    /// These bytes.
+    pub(crate) fn of(bytes: &[u8]) -> Self
+        requires room { HasRoom (length bytes.now) [] }
+        requires ascii { IsAscii bytes.now }
+        ensures { result ≡ bytes.now }
+    {
+        let mut line = Line::new();
+        line.push(bytes);
+        line
+    }
+
+    /// The digits of a number, after a minus sign below 0: that of -7 is `-7`.
+    pub fn of_number(number: i32) -> Self
+        ensures { result ≡ signed_decimal number }
+    {
+        let mut line = Line::new();
+        line.push_signed(number);
+        line
+    }
+
     /// The text.
-    pub(crate) fn as_str(&self) -> &str
+    pub fn as_str(&self) -> &str
         ensures { result.now ≡ self.now }
     {
         ascii_text(&self.bytes[..self.filled])
+    }
+
+    /// The bytes of the text, at most 38.
+    pub fn as_bytes(&self) -> &[u8]
+        ensures bytes { result.now ≡ self.now }
+        ensures short { length result.now ≤ 38 }
+    {
+        &self.bytes[..self.filled]
     }
 
     /// Appends the bytes.
@@ -82,6 +116,34 @@ impl Line {
         }
         self.push_decimal(number / 10);
         self.push(&[digit((number % 10) as u32)]);
+    }
+
+    /// Appends the digits of a number, after a minus sign below 0.
+    pub(crate) fn push_signed(&mut self, number: i32)
+        requires { HasRoom 11 self.old }
+        ensures appended { self.new ≡ self.old ++ signed_decimal number }
+        ensures short { length self.new ≤ length self.old + 11 }
+    {
+        if number < 0 {
+            self.push(b"-");
+        }
+        self.push_decimal(u64::from(number.unsigned_abs()));
+    }
+
+    /// Appends the year, the month and the day of the month.
+    pub(crate) fn push_date(&mut self, date: Date)
+        requires { HasRoom 13 self.old }
+        ensures text { self.new ≡ self.old ++ year_text (year_at date) ++ codes "-" ++ digits_at_least 2 (month_at date)
+            ++ codes "-" ++ digits_at_least 2 (day_of_month_at date) }
+        ensures short { length self.new ≤ length self.old + 13 }
+    {
+        let (year, month, day) = date.to_calendar_date();
+        let (bytes, start) = year_bytes(year);
+        self.push(&bytes[start..]);
+        self.push(b"-");
+        self.push_two_digits(u32::from(month as u8));
+        self.push(b"-");
+        self.push_two_digits(u32::from(day));
     }
 
     /// Appends a fraction of a second, by its nanoseconds.

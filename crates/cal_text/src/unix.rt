@@ -1,5 +1,5 @@
 //! Unix time, as a duration from 1970-01-01 00:00 UTC and in text.
-ghost use Rattle.std.specs.Prelude.{◌≡◌, ◌⊎◌, ℕ, ℤ, pos, ◌+ℤ◌, ◌*ℤ◌, ◌↔◌, IfOk, IfErr, IsErr, Ok, None, Some};
+ghost use Rattle.std.specs.Prelude.{◌≡◌, ◌⊎◌, ℕ, ℤ, pos, ◌+ℤ◌, ◌*ℤ◌, ◌*◌, ◌<◌, unsigned_abs, ◌↔◌, IfOk, IfErr, IsErr, Ok, None, Some};
 ghost use Rattle.cal_time.specs.Date.{julian_day_at};
 ghost use Rattle.cal_time.specs.Pair.{PairAt};
 ghost use Rattle.cal_time.specs.SignedDuration.{second};
@@ -24,9 +24,10 @@ const EPOCH_DAY: i32 = 2_440_588;
 /// The Unix time of a date and a time of day, which a clock shows at this offset from UTC.
 ///
 /// It is exact, to the nanosecond: that of 2024-02-29 at 0:00:00.5 and UTC is 1709164800.5 seconds. At an offset of one hour
-/// east it is an hour less. Each day has 86400 seconds, as no leap second is counted.
+/// east it is an hour less. Each day has 86400 seconds, as no leap second is counted. It lies within 40000000000000 seconds of 0.
 pub fn duration_of(date: Date, time: Time, offset: UtcOffset) -> SignedDuration
-    ensures { result ≡ unix_time date time offset }
+    ensures value { result ≡ unix_time date time offset }
+    ensures range { unsigned_abs result < 40000000000000 * second }
 {
     let days = date.to_julian_day() - EPOCH_DAY;
     SignedDuration::days(i64::from(days)) + since_midnight(time)

@@ -1,16 +1,13 @@
 //! The text of a date, a time of day and an offset from UTC.
 ghost use Rattle.std.specs.Prelude.{◌≡◌, ◌+◌, ◌≤◌, ◌++◌, IfSome, SomeIff, codes, length, pos, Some};
 ghost use Rattle.std.specs.Fmt.{padded};
-ghost use Rattle.cal_time.specs.Date.{year_at, month_at, day_of_month_at};
 ghost use Rattle.cal_time.specs.DateText.{digits_at_least};
 ghost use Rattle.cal_time.specs.Time.{hour_of, minute_of, second_of};
-ghost use Rattle.cal_text.specs.DateForms.{year_text};
 ghost use Rattle.cal_text.specs.Line.{HasRoom};
 ghost use Rattle.cal_text.specs.Rfc3339.{HasMomentText, offset_text, moment_text};
 ghost use Rattle.cal_text.specs.Rfc3339Form.{IsMomentText};
 
 use crate::line::Line;
-use crate::print::year_bytes;
 use cal_time::{Date, Time, UtcOffset};
 use std::fmt;
 
@@ -47,33 +44,17 @@ impl Text {
     }
 
     /// The text in bytes.
-    fn line(self) -> Line
+    pub fn line(self) -> Line
         ensures { result ≡ moment_text self.date self.time self.offset }
     {
         let mut line = Line::new();
-        push_date(&mut line, self.date);
+        line.push_date(self.date);
         line.push(b"T");
         push_clock(&mut line, self.time);
         line.push_fraction(self.time.nanosecond());
         push_offset(&mut line, self.offset);
         line
     }
-}
-
-/// The year, the month and the day of the month.
-fn push_date(line: &mut Line, date: Date)
-    requires { HasRoom 13 line.old }
-    ensures text { line.new ≡ line.old ++ year_text (year_at date) ++ codes "-" ++ digits_at_least 2 (month_at date)
-        ++ codes "-" ++ digits_at_least 2 (day_of_month_at date) }
-    ensures short { length line.new ≤ length line.old + 13 }
-{
-    let (year, month, day) = date.to_calendar_date();
-    let (bytes, start) = year_bytes(year);
-    line.push(&bytes[start..]);
-    line.push(b"-");
-    line.push_two_digits(u32::from(month as u8));
-    line.push(b"-");
-    line.push_two_digits(u32::from(day));
 }
 
 /// The hour, the minute and the second.

@@ -26,17 +26,13 @@ impl Text {
         // What it prints says this time.
         ensures text { HasUnixForm (unix_text result.since_epoch) (unix_time date time offset) }
     {
-        // The clause of the hour says that the time is one of the day, that of the seconds that the offset is small.
-        let _ = time.hour();
-        let _ = offset.whole_seconds();
-        let _ = date.to_julian_day();
         Text {
             since_epoch: duration_of(date, time, offset),
         }
     }
 
     /// The text in bytes.
-    fn line(self) -> Line
+    pub fn line(self) -> Line
         ensures { result ≡ unix_text self.since_epoch }
     {
         let (seconds, nanosecond) = self.since_epoch.unsigned_abs();

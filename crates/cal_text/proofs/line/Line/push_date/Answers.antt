@@ -6,7 +6,7 @@ use Rattle.cal_time.specs.DateText.{digits_at_least}
 use Rattle.cal_text.specs.DateForms.{year_text}
 use Rattle.cal_text.proofs.YearTexts.{written-cast}
 use Rattle.cal_text.proofs.Ranges.{year_at-written}
-use Rattle.cal_text.proofs.rfc3339.text.push_date.Goals as goal
+use Rattle.cal_text.proofs.line.Line.push_date.Goals as goal
 
 pub returns-clause-text : goal.returns-clause-text
 returns-clause-text c =
@@ -19,7 +19,7 @@ returns-clause-text c =
     let year_is = between_to_end bytes c.year_bytes-start.result.1 7 (omega (arith, long)) ∙ c.year_bytes-start.ensures.text ∙ ap year_text year in
     let month_is = ap (digits_at_least 2) ((search (rules, c.from.ensures)) ∙ sym (ap (λ (d : CalendarDay). d.month) found)) in
     let day_is = ap (digits_at_least 2) (c.from-2.ensures ∙ sym (ap (λ (d : CalendarDay). d.day) found)) in
-    let line = c.push.ensures.appended ∙ ap (λ part. c.args.line.now ++ part) year_is in
+    let line = c.push.ensures.appended ∙ ap (λ part. c.args.self.now ++ part) year_is in
     let line = c.push-2.ensures.appended ∙ ap (λ front. front ++ 45 ∷ []) line in
     let line = c.push_two_digits.ensures.appended ∙ ap (λ part. c.push-2.new.self ++ part) month_is ∙ ap (λ front. front ++ digits_at_least 2 (month_at n)) line in
     let line = c.push-3.ensures.appended ∙ ap (λ front. front ++ 45 ∷ []) line in

@@ -1,0 +1,5 @@
+pub mod Parts
+pub mod Known
+pub mod Texts
+pub mod Numbers
+pub mod Steps

@@ -1,0 +1,353 @@
+-- How far a run is after each of its steps.
+use Rattle.std.proofs.Common.{◌≡◌, ℕ, ◌+◌, ◌-◌, ◌<◌, ◌≤◌, ◌^◌, Bool, true, false, List, [], ◌∷◌, ◌++◌, length, take, drop, Option, refl, sym, ap, ◌∙◌, subst, arith, append_assoc, length-append, length-take, length-drop, take-append-drop, min}
+use Rattle.std.specs.List.{slice_split}
+use Rattle.std.specs.Prelude.{All}
+use Rattle.std.specs.Io.KnownBytes.{Appends}
+use Rattle.std.proofs.KnownBytes.{Appends-trans, Appends-nil}
+use Rattle.std.proofs.Math.Nat.{min-eq_left}
+use Rattle.std.proofs.lemmas.List.{append-nil}
+use Rattle.std.proofs.lemmas.List.Elements.{All-append, All-head, All-take, All-drop}
+use Rattle.std.proofs.lemmas.List.Splits.{slice_split_at, slice_split_none, length-slice_split}
+use Rattle.std.proofs.lemmas.Bool.{false≢true}
+use Rattle.caldate.specs.Answers.{LacksAnswer}
+use Rattle.caldate.specs.Lines.{is_end, lines_of, text_of, without_empty_last}
+use Rattle.caldate.specs.Runs.{AnswersAll, AnswersEnded, AnswersFront, AppendsFront, AppendsThat, IsAllowed, StopsAt}
+use Rattle.caldate.specs.Standing.{AreReplies, IsReply, IsHeld, NoEnd, Stands, counted}
+use Rattle.caldate.specs.declared.place.Place.{Place}
+use Rattle.caldate.specs.declared.request.Filter.{Filter}
+
+-- ---- replies
+pub one_reply : (Allowed : List ℕ → List ℕ → Type 0) (lines : List (List ℕ)) (line out reply : List ℕ)
+    → AreReplies Allowed lines out → IsReply Allowed line reply → AreReplies Allowed (lines ++ line ∷ []) (out ++ reply)
+one_reply Allowed [] line out reply h r = (reply, [], r, ap (λ l. l ++ reply) h ∙ sym (append-nil reply), refl)
+one_reply Allowed (l ∷ lines) line out reply h r =
+    (h.0, h.1 ++ reply, h.2, ap (λ o. o ++ reply) h.3 ∙ append_assoc h.0 h.1 reply, one_reply Allowed lines line h.1 reply h.4 r)
+
+-- ---- the line that was held
+kept_no_end : (b : Bool) (kept pending : List ℕ) → IsHeld b kept pending → NoEnd kept
+kept_no_end false kept pending h = subst NoEnd (sym h) (λ k d l. absurd (omega arith))
+kept_no_end true kept pending h = h.1
+
+-- the first byte of a line, where it is the first of what is pending
+first_of : (first : ℕ) (more line after : List ℕ) → first ∷ more ≡ line ++ 10 ∷ after → is_end first ≡ false
+    → (rest : List ℕ) × (line ≡ first ∷ rest)
+first_of first more [] after e n = absurd (false≢true (sym n ∙ ap (λ l. is_end (head_or l)) e))
+    where
+      head_or : List ℕ → ℕ
+      head_or [] = 0
+      head_or (x ∷ xs) = x
+first_of first more (x ∷ xs) after e n = (xs, ap (λ f. f ∷ xs) (sym (ap head_or e)))
+    where
+      head_or : List ℕ → ℕ
+      head_or [] = 0
+      head_or (y ∷ ys) = y
+
+pub held_line : (b : Bool) (kept pending line after : List ℕ) → IsHeld b kept pending → pending ≡ line ++ 10 ∷ after → IsHeld b kept line
+held_line false kept pending line after h e = h
+held_line true kept pending line after h e =
+    let found = first_of h.2 h.3 line after (sym h.4 ∙ e) h.5 in
+    (h.0, h.1, (h.2, found.0, found.1, h.5))
+
+no_end_append : (xs ys : List ℕ) → NoEnd xs → NoEnd ys → NoEnd (xs ++ ys)
+no_end_append xs ys h e = All-append (λ byte. is_end byte ≡ false) xs ys h e
+
+-- ---- one line
+cut_line : (kept line after more pending : List ℕ) → NoEnd kept → NoEnd line → pending ≡ line ++ 10 ∷ after
+    → slice_split is_end (kept ++ (pending ++ more)) ≡ (kept ++ line) ∷ slice_split is_end (after ++ more)
+cut_line kept line after more pending h n e =
+    ap (λ p. slice_split is_end (kept ++ (p ++ more))) e
+    ∙ ap (slice_split is_end) (ap (λ l. kept ++ l) (append_assoc line (10 ∷ after) more) ∙ sym (append_assoc kept line (10 ∷ (after ++ more))))
+    ∙ slice_split_at is_end (kept ++ line) 10 (after ++ more) (no_end_append kept line h n) refl
+
+counted_more : (n m : ℕ) → m ≡ counted n → counted (m + 1) ≡ counted (n + 1)
+counted_more n m e = omega (arith, e)
+
+pub answered : (Allowed : List ℕ → List ℕ → Type 0) (input : List ℕ) (start now : Option (List ℕ)) (gathered gathered_now pending line after : List ℕ) (place place_now : Place)
+    → NoEnd line → pending ≡ line ++ 10 ∷ after
+    → ((kept : List ℕ) → IsHeld place.is_long kept line → AppendsThat (IsReply Allowed (kept ++ line)) gathered gathered_now)
+    → place_now.is_long ≡ false → place_now.number ≡ counted (place.number + 1)
+    → Stands Allowed input start now gathered pending place → Stands Allowed input start now gathered_now after place_now
+answered Allowed input start now gathered gathered_now pending line after place place_now n e reply short number s =
+    let r = reply s.kept (held_line place.is_long s.kept pending line after s.held e) in
+    record {
+      lines = s.lines ++ (s.kept ++ line) ∷ [];
+      kept = [];
+      out = s.out ++ r.0;
+      written = s.written;
+      cut = λ more. s.cut more ∙ ap (λ parts. s.lines ++ parts) (cut_line s.kept line after more pending (kept_no_end place.is_long s.kept pending s.held) n e)
+          ∙ sym (append_assoc s.lines ((s.kept ++ line) ∷ []) (slice_split is_end (after ++ more)));
+      replies = one_reply Allowed s.lines (s.kept ++ line) s.out r.0 s.replies r.2;
+      whole = ap (λ o. o ++ r.0) s.whole ∙ append_assoc s.written gathered r.0 ∙ ap (λ l. s.written ++ l) (sym r.1);
+      taken = s.taken;
+      held = subst (λ b. IsHeld b [] after) (sym short) refl;
+      number = number ∙ counted_more (length s.lines) place.number s.number ∙ ap counted (sym (length-append s.lines ((s.kept ++ line) ∷ [])));
+    }
+
+-- ---- what was gathered goes out, all of it or a front of it
+pub gone : (Allowed : List ℕ → List ℕ → Type 0) (input : List ℕ) (start now new : Option (List ℕ)) (gathered left written pending : List ℕ) (place : Place)
+    → gathered ≡ written ++ left → Appends now new written
+    → Stands Allowed input start now gathered pending place → Stands Allowed input start new left pending place
+gone Allowed input start now new gathered left written pending place e a s = record {
+  lines = s.lines;
+  kept = s.kept;
+  out = s.out;
+  written = s.written ++ written;
+  cut = s.cut;
+  replies = s.replies;
+  whole = s.whole ∙ ap (λ l. s.written ++ l) e ∙ sym (append_assoc s.written written left);
+  taken = Appends-trans start now new _ _ s.taken a;
+  held = s.held;
+  number = s.number;
+}
+
+-- ---- the lines of the input
+part_counts : (part : List ℕ) (parts : List (List ℕ)) → 0 < length parts
+    → without_empty_last (part ∷ parts) ≡ part ∷ without_empty_last parts
+part_counts [] [] h = absurd (omega arith)
+part_counts (b ∷ bs) [] h = absurd (omega arith)
+part_counts [] (p ∷ parts) h = refl
+part_counts (b ∷ bs) (p ∷ parts) h = refl
+
+some_parts : (lines : List (List ℕ)) (parts : List (List ℕ)) → 0 < length parts → 0 < length (lines ++ parts)
+some_parts lines parts h = omega (arith, h, length-append lines parts)
+
+lines_begin : (lines : List (List ℕ)) (parts : List (List ℕ)) → 0 < length parts
+    → without_empty_last (lines ++ parts) ≡ lines ++ without_empty_last parts
+lines_begin [] parts h = refl
+lines_begin (l ∷ lines) parts h = part_counts l (lines ++ parts) (some_parts lines parts h) ∙ ap (λ ls. l ∷ ls) (lines_begin lines parts h)
+
+split_some : (xs : List ℕ) → 0 < length (slice_split is_end xs)
+split_some xs = omega (arith, length-slice_split is_end xs)
+
+-- those that are answered, and those that are pending
+lines_are : (input kept pending : List ℕ) (lines : List (List ℕ))
+    → ((more : List ℕ) → slice_split is_end (input ++ more) ≡ lines ++ slice_split is_end (kept ++ (pending ++ more)))
+    → slice_split is_end input ≡ lines ++ slice_split is_end (kept ++ pending)
+lines_are input kept pending lines cut =
+    ap (slice_split is_end) (sym (append-nil input)) ∙ cut [] ∙ ap (λ p. lines ++ slice_split is_end (kept ++ p)) (append-nil pending)
+
+lines_of_are : (input kept pending : List ℕ) (lines : List (List ℕ))
+    → ((more : List ℕ) → slice_split is_end (input ++ more) ≡ lines ++ slice_split is_end (kept ++ (pending ++ more)))
+    → lines_of input ≡ lines ++ lines_of (kept ++ pending)
+lines_of_are input kept pending lines cut =
+    ap without_empty_last (lines_are input kept pending lines cut) ∙ lines_begin lines (slice_split is_end (kept ++ pending)) (split_some (kept ++ pending))
+
+-- a line that has a byte and no end
+one_line : (line : List ℕ) → NoEnd line → 0 < length line → lines_of line ≡ line ∷ []
+one_line [] n h = absurd (omega arith)
+one_line (b ∷ bs) n h = ap without_empty_last (slice_split_none is_end (b ∷ bs) n)
+
+-- ---- a write that failed
+front_more : (start now new : Option (List ℕ)) (written gathered out : List ℕ) → out ≡ written ++ gathered → Appends start now written
+    → AppendsFront now new gathered → AppendsFront start new out
+front_more start now new written gathered out e a f = record {
+  front = written ++ f.front;
+  rest = f.rest;
+  whole = e ∙ ap (λ l. written ++ l) f.whole ∙ sym (append_assoc written f.front f.rest);
+  left = f.left;
+  taken = Appends-trans start now new _ _ a f.taken;
+}
+
+pub failed : (filter : Filter) (input : List ℕ) (start now new : Option (List ℕ)) (gathered pending : List ℕ) (place : Place)
+    → AppendsFront now new gathered
+    → Stands (IsAllowed filter) input start now gathered pending place → AnswersFront filter input start new
+failed filter input start now new gathered pending place f s = record {
+  lines = s.lines;
+  more = lines_of (s.kept ++ pending);
+  out = s.out;
+  cut = lines_of_are input s.kept pending s.lines s.cut;
+  replies = s.replies;
+  taken = front_more start now new s.written gathered s.out s.whole s.taken f;
+}
+
+-- ---- a line without an answer
+all_more : (start now new : Option (List ℕ)) (written gathered out : List ℕ) → out ≡ written ++ gathered → Appends start now written
+    → Appends now new gathered → Appends start new out
+all_more start now new written gathered out e a f = subst (Appends start new) (sym e) (Appends-trans start now new _ _ a f)
+
+pub stopped : (filter : Filter) (input : List ℕ) (start now new : Option (List ℕ)) (gathered pending line after : List ℕ) (place : Place) (number : ℕ)
+    → NoEnd line → pending ≡ line ++ 10 ∷ after → filter.is_strict ≡ true
+    → ((kept : List ℕ) → IsHeld place.is_long kept line → ((words : List ℕ) × LacksAnswer filter.request (text_of (kept ++ line)) words))
+    → number ≡ counted (place.number + 1) → Appends now new gathered
+    → Stands (IsAllowed filter) input start now gathered pending place → StopsAt filter number input start new
+stopped filter input start now new gathered pending line after place number n e strict lack number_is f s =
+    let lacks = lack s.kept (held_line place.is_long s.kept pending line after s.held e) in
+    let held = kept_no_end place.is_long s.kept pending s.held in
+    let parts = cut_line s.kept line after [] pending held n e in
+    let parts = ap (λ p. slice_split is_end (s.kept ++ p)) (sym (append-nil pending)) ∙ parts ∙ ap (λ a. (s.kept ++ line) ∷ slice_split is_end a) (append-nil after) in
+    record {
+      lines = s.lines;
+      line = s.kept ++ line;
+      more = lines_of after;
+      words = lacks.0;
+      out = s.out;
+      strict = strict;
+      cut = lines_of_are input s.kept pending s.lines s.cut
+          ∙ ap (λ p. s.lines ++ without_empty_last p) parts ∙ ap (λ l. s.lines ++ l) (part_counts (s.kept ++ line) (slice_split is_end after) (split_some after));
+      lacks = lacks.1;
+      number_is = number_is ∙ counted_more (length s.lines) place.number s.number;
+      replies = s.replies;
+      taken = all_more start now new s.written gathered s.out s.whole s.taken f;
+    }
+
+-- ---- the end of the input
+kept_none : (b : Bool) (kept : List ℕ) → IsHeld b kept [] → kept ≡ []
+kept_none false kept h = h
+kept_none true kept h = absurd (omega (arith, ap length h.4))
+
+held_some : (b : Bool) (kept pending : List ℕ) → IsHeld b kept pending → 0 < length pending → 0 < length (kept ++ pending)
+held_some b kept pending h l = omega (arith, l, length-append kept pending)
+
+pub all_answered : (filter : Filter) (input : List ℕ) (start now : Option (List ℕ)) (place : Place)
+    → Stands (IsAllowed filter) input start now [] [] place → AnswersAll filter input start now
+all_answered filter input start now place s =
+    let none = kept_none place.is_long s.kept s.held in
+    let lines : lines_of input ≡ s.lines =
+    lines_of_are input s.kept [] s.lines s.cut ∙ ap (λ k. s.lines ++ lines_of (k ++ [])) none ∙ append-nil s.lines in
+    record {
+      out = s.out;
+      replies = subst (λ ls. AreReplies (IsAllowed filter) ls s.out) (sym lines) s.replies;
+      taken = subst (Appends start now) (sym (s.whole ∙ append-nil s.written)) s.taken;
+    }
+
+-- the lines, and the last one, which has no end
+with_last : (filter : Filter) (input : List ℕ) (start now : Option (List ℕ)) (gathered line : List ℕ) (place : Place)
+    → NoEnd line → 0 < length line → (s : Stands (IsAllowed filter) input start now gathered line place)
+    → lines_of input ≡ s.lines ++ (s.kept ++ line) ∷ []
+with_last filter input start now gathered line place n l s =
+    lines_of_are input s.kept line s.lines s.cut
+    ∙ ap (λ ls. s.lines ++ ls) (one_line (s.kept ++ line) (no_end_append s.kept line (kept_no_end place.is_long s.kept line s.held) n) (held_some place.is_long s.kept line s.held l))
+
+pub last_answered : (filter : Filter) (input : List ℕ) (start now new : Option (List ℕ)) (gathered line : List ℕ) (place : Place)
+    → NoEnd line → 0 < length line
+    → ((kept : List ℕ) → IsHeld place.is_long kept line → AppendsThat (IsReply (IsAllowed filter) (kept ++ line)) [] gathered)
+    → Appends now new gathered
+    → Stands (IsAllowed filter) input start now [] line place → AnswersAll filter input start new
+last_answered filter input start now new gathered line place n l reply f s =
+    let r = reply s.kept s.held in
+    record {
+      out = s.out ++ r.0;
+      replies = subst (λ ls. AreReplies (IsAllowed filter) ls (s.out ++ r.0)) (sym (with_last filter input start now [] line place n l s))
+          (one_reply (IsAllowed filter) s.lines (s.kept ++ line) s.out r.0 s.replies r.2);
+      taken = all_more start now new s.written gathered (s.out ++ r.0) (ap (λ o. o ++ r.0) (s.whole ∙ append-nil s.written) ∙ ap (λ g. s.written ++ g) (sym r.1)) s.taken f;
+    }
+
+pub last_failed : (filter : Filter) (input : List ℕ) (start now new : Option (List ℕ)) (gathered line : List ℕ) (place : Place)
+    → NoEnd line → 0 < length line
+    → ((kept : List ℕ) → IsHeld place.is_long kept line → AppendsThat (IsReply (IsAllowed filter) (kept ++ line)) [] gathered)
+    → AppendsFront now new gathered
+    → Stands (IsAllowed filter) input start now [] line place → AnswersFront filter input start new
+last_failed filter input start now new gathered line place n l reply f s =
+    let r = reply s.kept s.held in
+    record {
+      lines = s.lines ++ (s.kept ++ line) ∷ [];
+      more = [];
+      out = s.out ++ r.0;
+      cut = with_last filter input start now [] line place n l s ∙ sym (append-nil (s.lines ++ (s.kept ++ line) ∷ []));
+      replies = one_reply (IsAllowed filter) s.lines (s.kept ++ line) s.out r.0 s.replies r.2;
+      taken = front_more start now new s.written gathered (s.out ++ r.0) (ap (λ o. o ++ r.0) (s.whole ∙ append-nil s.written) ∙ ap (λ g. s.written ++ g) (sym r.1)) s.taken f;
+    }
+
+pub last_stopped : (filter : Filter) (input : List ℕ) (start now : Option (List ℕ)) (line : List ℕ) (place : Place) (number : ℕ)
+    → NoEnd line → 0 < length line → filter.is_strict ≡ true
+    → ((kept : List ℕ) → IsHeld place.is_long kept line → ((words : List ℕ) × LacksAnswer filter.request (text_of (kept ++ line)) words))
+    → number ≡ counted (place.number + 1)
+    → Stands (IsAllowed filter) input start now [] line place → StopsAt filter number input start now
+last_stopped filter input start now line place number n l strict lack number_is s =
+    let lacks = lack s.kept s.held in
+    record {
+      lines = s.lines;
+      line = s.kept ++ line;
+      more = [];
+      words = lacks.0;
+      out = s.out;
+      strict = strict;
+      cut = with_last filter input start now [] line place n l s;
+      lacks = lacks.1;
+      number_is = number_is ∙ counted_more (length s.lines) place.number s.number;
+      replies = s.replies;
+      taken = subst (Appends start now) (sym (s.whole ∙ append-nil s.written)) s.taken;
+    }
+
+-- ---- reads
+pub begun : (Allowed : List ℕ → List ℕ → Type 0) (start : Option (List ℕ)) (place : Place) → place.is_long ≡ false → place.number ≡ 0
+    → Stands Allowed [] start start [] [] place
+begun Allowed start place short zero = record {
+  lines = [];
+  kept = [];
+  out = [];
+  written = [];
+  cut = λ more. refl;
+  replies = refl;
+  whole = refl;
+  taken = Appends-nil start;
+  held = subst (λ b. IsHeld b [] []) (sym short) refl;
+  number = zero;
+}
+
+held_more : (b : Bool) (kept pending given : List ℕ) → IsHeld b kept pending → IsHeld b kept (pending ++ given)
+held_more false kept pending given h = h
+held_more true kept pending given h = (h.0, h.1, (h.2, h.3 ++ given, ap (λ p. p ++ given) h.4, h.5))
+
+pub read : (Allowed : List ℕ → List ℕ → Type 0) (input given : List ℕ) (start now : Option (List ℕ)) (gathered pending : List ℕ) (place : Place)
+    → Stands Allowed input start now gathered pending place → Stands Allowed (input ++ given) start now gathered (pending ++ given) place
+read Allowed input given start now gathered pending place s = record {
+  lines = s.lines;
+  kept = s.kept;
+  out = s.out;
+  written = s.written;
+  cut = λ more. ap (slice_split is_end) (append_assoc input given more) ∙ s.cut (given ++ more)
+      ∙ ap (λ p. s.lines ++ slice_split is_end (s.kept ++ p)) (sym (append_assoc pending given more));
+  replies = s.replies;
+  whole = s.whole;
+  taken = s.taken;
+  held = held_more place.is_long s.kept pending given s.held;
+  number = s.number;
+}
+
+pub ended_answered : (filter : Filter) (input : List ℕ) (start now : Option (List ℕ)) (pending : List ℕ) (place : Place) → NoEnd pending
+    → Stands (IsAllowed filter) input start now [] pending place → AnswersEnded filter input start now
+ended_answered filter input start now pending place n s = record {
+  lines = s.lines;
+  rest = s.kept ++ pending;
+  out = s.out;
+  cut = lines_are input s.kept pending s.lines s.cut
+      ∙ ap (λ parts. s.lines ++ parts) (slice_split_none is_end (s.kept ++ pending) (no_end_append s.kept pending (kept_no_end place.is_long s.kept pending s.held) n));
+  replies = s.replies;
+  taken = subst (Appends start now) (sym (s.whole ∙ append-nil s.written)) s.taken;
+}
+
+-- ---- a long line is let go but for its last byte
+one_byte : (xs : List ℕ) → 0 < length xs → NoEnd xs → (first : ℕ) × (more : List ℕ) × (xs ≡ first ∷ more) × (is_end first ≡ false)
+one_byte [] h n = absurd (omega arith)
+one_byte (x ∷ xs) h n = (x, xs, refl, All-head (λ byte. is_end byte ≡ false) x xs n)
+
+pub let_go : (Allowed : List ℕ → List ℕ → Type 0) (input : List ℕ) (start now : Option (List ℕ)) (gathered pending : List ℕ) (place place_now : Place)
+    → NoEnd pending → 4097 < length pending → place_now.is_long ≡ true → place_now.number ≡ place.number
+    → Stands Allowed input start now gathered pending place
+    → Stands Allowed input start now gathered (drop (length pending - 1) pending) place_now
+let_go Allowed input start now gathered pending place place_now n long is_long same s =
+    let k = length pending - 1 in
+    let front : length (take k pending) ≡ k = length-take k pending ∙ min-eq_left (omega arith) in
+    let last : length (drop k pending) ≡ 1 = omega (arith, length-drop k pending) in
+    let n_front : NoEnd (take k pending) = All-take (λ byte. is_end byte ≡ false) k pending n in
+    let n_last : NoEnd (drop k pending) = All-drop (λ byte. is_end byte ≡ false) k pending n in
+    let whole : (more : List ℕ) → s.kept ++ (pending ++ more) ≡ (s.kept ++ take k pending) ++ (drop k pending ++ more) = λ more.
+    ap (λ p. s.kept ++ (p ++ more)) (sym (take-append-drop k pending)) ∙ ap (λ l. s.kept ++ l) (append_assoc (take k pending) (drop k pending) more)
+    ∙ sym (append_assoc s.kept (take k pending) (drop k pending ++ more)) in
+    let held : IsHeld true (s.kept ++ take k pending) (drop k pending) =
+    (omega (arith, front, length-append s.kept (take k pending)),
+     no_end_append s.kept (take k pending) (kept_no_end place.is_long s.kept pending s.held) n_front,
+     one_byte (drop k pending) (omega (arith, last)) n_last) in
+    record {
+      lines = s.lines;
+      kept = s.kept ++ take k pending;
+      out = s.out;
+      written = s.written;
+      cut = λ more. s.cut more ∙ ap (λ p. s.lines ++ slice_split is_end p) (whole more);
+      replies = s.replies;
+      whole = s.whole;
+      taken = s.taken;
+      held = subst (λ b. IsHeld b (s.kept ++ take k pending) (drop k pending)) (sym is_long) held;
+      number = same ∙ s.number;
+    }

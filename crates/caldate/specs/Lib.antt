@@ -1,0 +1,7 @@
+pub mod Answers
+pub mod Ending
+pub mod Lines
+pub mod Requests
+pub mod Room
+pub mod Runs
+pub mod Standing

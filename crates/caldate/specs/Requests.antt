@@ -1,0 +1,135 @@
+-- What the arguments ask for.
+use Rattle.std.specs.Prelude.{◌≡◌, ℕ, ◌<◌, nat_lt, nat_le, ◌&&◌, Bool, true, false, ℤ, pos, neg_ℤ, ◌*ℤ◌, int_le, nat_abs, List, [], ◌∷◌, ◌==◌, length, Option, Some, None, MatchOption, option_map, option_and_then, bytes_eq, codes, if◌then◌else◌}
+use Rattle.std.specs.List.{slice_split}
+use Rattle.std.specs.Option.{option_zip}
+use Rattle.std.specs.Str.{all_ascii_digits}
+use Rattle.std.specs.Str.Parse.{signed_digits_value, without_leading_sign}
+use Rattle.cal_time.specs.SignedDuration.{second, minute, hour, day, week}
+use Rattle.cal_time.specs.declared.Weekday.{Weekday}
+use Rattle.cal_time.specs.declared.Weekday.TheVariants as weekday
+use Rattle.cal_text.specs.AnyForm.{IsTextOf}
+use Rattle.cal_text.specs.declared.any.DateOrMoment.{DateOrMoment}
+use Rattle.caldate.specs.declared.request.Form.{Form}
+use Rattle.caldate.specs.declared.request.Form.TheVariants.{Calendar, Ordinal, Week, JulianDay, Weekday as WeekdayName, Rfc3339, Unix}
+use Rattle.caldate.specs.declared.request.Filter.{Filter}
+use Rattle.caldate.specs.declared.request.Request.{Request}
+use Rattle.caldate.specs.declared.request.Request.TheVariants.{To, Add, Next, Last, Until}
+use Rattle.caldate.specs.declared.request.Asked.{Asked}
+use Rattle.caldate.specs.declared.request.Asked.TheVariants.{Help, Version, Lines}
+
+-- the arguments, between which stands the byte 0, of which no argument has one
+abbrev pub arguments_of : List ℕ → List (List ℕ)
+arguments_of bytes = slice_split (λ byte. byte == 0) bytes
+
+-- what reads a text as the date or the moment whose text it is
+abbrev pub IsReading : (List ℕ → Option DateOrMoment) → Type 0
+IsReading reading = (bytes : List ℕ) → MatchOption (reading bytes) ((found : DateOrMoment) → ¬ IsTextOf bytes found) (IsTextOf bytes)
+
+-- ---- words
+-- a number: digits, perhaps after a sign, that is from -9223372036854775808 to 9223372036854775807
+abbrev pub is_number : List ℕ → Bool
+is_number word =
+    nat_lt 0 (length (without_leading_sign word)) && all_ascii_digits (without_leading_sign word)
+    && int_le (neg_ℤ (pos 9223372036854775808)) (signed_digits_value 10 word) && int_le (signed_digits_value 10 word) (pos 9223372036854775807)
+
+abbrev pub number_of : List ℕ → Option ℤ
+number_of word = if is_number word then Some (signed_digits_value 10 word) else None
+
+-- a number from 1 to 255
+abbrev pub count_in : ℤ → Option ℕ
+count_in z = if int_le (pos 1) z && int_le z (pos 255) then Some (nat_abs z) else None
+
+abbrev pub count_of : List ℕ → Option ℕ
+count_of word = option_and_then count_in (number_of word)
+
+abbrev pub form_of : List ℕ → Option Form
+form_of word =
+    if bytes_eq word (codes "calendar") then Some Calendar else
+    if bytes_eq word (codes "ordinal") then Some Ordinal else
+    if bytes_eq word (codes "week") then Some Week else
+    if bytes_eq word (codes "julian") then Some JulianDay else
+    if bytes_eq word (codes "weekday") then Some WeekdayName else
+    if bytes_eq word (codes "rfc3339") then Some Rfc3339 else
+    if bytes_eq word (codes "unix") then Some Unix else
+    None
+
+abbrev pub weekday_of : List ℕ → Option Weekday
+weekday_of word =
+    if bytes_eq word (codes "Monday") then Some weekday.Monday else
+    if bytes_eq word (codes "Tuesday") then Some weekday.Tuesday else
+    if bytes_eq word (codes "Wednesday") then Some weekday.Wednesday else
+    if bytes_eq word (codes "Thursday") then Some weekday.Thursday else
+    if bytes_eq word (codes "Friday") then Some weekday.Friday else
+    if bytes_eq word (codes "Saturday") then Some weekday.Saturday else
+    if bytes_eq word (codes "Sunday") then Some weekday.Sunday else
+    None
+
+-- so many seconds as a duration, where they are one
+abbrev pub seconds_in : ℤ → ℤ → Option ℤ
+seconds_in unit amount =
+    let seconds = amount *ℤ unit in
+    if int_le (neg_ℤ (pos 9223372036854775808)) seconds && int_le seconds (pos 9223372036854775807) then Some (seconds *ℤ pos second) else None
+
+-- the seconds of a unit
+abbrev pub unit_of : List ℕ → Option ℤ
+unit_of word =
+    if bytes_eq word (codes "days") then Some (pos 86400) else
+    if bytes_eq word (codes "weeks") then Some (pos 604800) else
+    if bytes_eq word (codes "hours") then Some (pos 3600) else
+    if bytes_eq word (codes "minutes") then Some (pos 60) else
+    if bytes_eq word (codes "seconds") then Some (pos 1) else
+    None
+
+-- ---- requests
+-- `to FORM`
+abbrev pub to_request : List (List ℕ) → Option Request
+to_request (form ∷ []) = option_map To (form_of form)
+to_request words = None
+
+-- `add N`, in days, and `add N UNIT`
+abbrev pub amount_in : List ℕ → ℤ → Option Request
+amount_in number unit = option_map Add (option_and_then (seconds_in unit) (number_of number))
+
+abbrev pub add_request : List (List ℕ) → Option Request
+add_request (number ∷ []) = amount_in number (pos 86400)
+add_request (number ∷ unit ∷ []) = option_and_then (amount_in number) (unit_of unit)
+add_request words = None
+
+-- a weekday, and how often it comes, which is once where nothing is said
+abbrev pub occurrence_of : List (List ℕ) → Option (Weekday × ℕ)
+occurrence_of (name ∷ []) = option_map (λ w. (w, 1)) (weekday_of name)
+occurrence_of (name ∷ count ∷ []) = option_zip (weekday_of name) (count_of count)
+occurrence_of words = None
+
+-- `next WEEKDAY` and `next WEEKDAY N`, and the same with `last`
+abbrev pub occurrence_request : (Weekday → ℕ → Request) → List (List ℕ) → Option Request
+occurrence_request request words = option_map (λ o. request o.0 o.1) (occurrence_of words)
+
+-- `until TEXT`
+abbrev pub until_request : (List ℕ → Option DateOrMoment) → List (List ℕ) → Option Request
+until_request reading (text ∷ []) = option_map Until (reading text)
+until_request reading words = None
+
+abbrev pub request_of : (List ℕ → Option DateOrMoment) → List (List ℕ) → Option Request
+request_of reading (verb ∷ word ∷ words) =
+    if bytes_eq verb (codes "to") then to_request (word ∷ words) else
+    if bytes_eq verb (codes "add") then add_request (word ∷ words) else
+    if bytes_eq verb (codes "next") then occurrence_request Next (word ∷ words) else
+    if bytes_eq verb (codes "last") then occurrence_request Last (word ∷ words) else
+    if bytes_eq verb (codes "until") then until_request reading (word ∷ words) else
+    None
+request_of reading words = None
+
+-- ---- the whole: `--help`, `--version`, or a request, perhaps after `--strict`
+abbrev pub filter_of : Bool → Option Request → Option Asked
+filter_of is_strict request = option_map (λ q. Lines (record { request = q; is_strict = is_strict })) request
+
+abbrev pub asked_of : (List ℕ → Option DateOrMoment) → List (List ℕ) → Option Asked
+asked_of reading [] = None
+asked_of reading (first ∷ []) =
+    if bytes_eq first (codes "--help") then Some Help else
+    if bytes_eq first (codes "--version") then Some Version else
+    None
+asked_of reading (first ∷ second ∷ words) =
+    if bytes_eq first (codes "--strict") then filter_of true (request_of reading (second ∷ words))
+    else filter_of false (request_of reading (first ∷ second ∷ words))

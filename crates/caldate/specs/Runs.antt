@@ -1,0 +1,99 @@
+-- What a run does to the bytes of its reader and its writer, where those are told.
+use Rattle.std.specs.Prelude.{◌≡◌, ℕ, ◌+◌, ◌<◌, Bool, true, false, List, [], ◌∷◌, ◌++◌, length, Option}
+use Rattle.std.specs.List.{slice_split}
+use Rattle.std.specs.Io.KnownBytes.{Appends, Consumes, IsAtEnd}
+use Rattle.caldate.specs.Answers.{HasAnswer, LacksAnswer, IsAnswer}
+use Rattle.caldate.specs.Lines.{is_end, lines_of, text_of}
+use Rattle.caldate.specs.Standing.{AreReplies, Stands, counted}
+use Rattle.caldate.specs.declared.place.Place.{Place}
+use Rattle.caldate.specs.declared.request.Filter.{Filter}
+use Rattle.caldate.specs.declared.request.Request.{Request}
+
+-- what may be written for a text: any answer, or in a strict run one that the text has
+abbrev pub Allowed : Bool → Request → List ℕ → List ℕ → Type 0
+Allowed true q = HasAnswer q
+Allowed false q = IsAnswer q
+
+abbrev pub IsAllowed : Filter → List ℕ → List ℕ → Type 0
+IsAllowed filter = Allowed filter.is_strict filter.request
+
+-- new is old and words of this kind
+abbrev pub AppendsThat : (List ℕ → Type 0) → List ℕ → List ℕ → Type 0
+AppendsThat IsOne old new = (words : List ℕ) × (new ≡ old ++ words) × IsOne words
+
+-- the reader gave some bytes, which come after the old ones
+abbrev pub HasRead : Option (List ℕ) → Option (List ℕ) → List ℕ → List ℕ → Type 0
+HasRead before after old new = (given : List ℕ) × Consumes before after given × (new ≡ old ++ given)
+
+-- the writer took a beginning of the bytes, perhaps none of them, and never all
+pub record AppendsFront (old new : Option (List ℕ)) (bytes : List ℕ) : Type 0 where
+  pub front : List ℕ
+  pub rest : List ℕ
+  pub whole : bytes ≡ front ++ rest
+  pub left : 0 < length rest
+  pub taken : Appends old new front
+
+-- the writer took a beginning of the bytes, perhaps none of them or all
+pub record AppendsUpTo (old new : Option (List ℕ)) (bytes : List ℕ) : Type 0 where
+  pub front : List ℕ
+  pub rest : List ℕ
+  pub whole : bytes ≡ front ++ rest
+  pub taken : Appends old new front
+
+-- the writer took just the replies to all lines of the input
+pub record AnswersAll (filter : Filter) (input : List ℕ) (old new : Option (List ℕ)) : Type 0 where
+  pub out : List ℕ
+  pub replies : AreReplies (IsAllowed filter) (lines_of input) out
+  pub taken : Appends old new out
+
+-- it took just the replies to the lines of the input that have ended
+pub record AnswersEnded (filter : Filter) (input : List ℕ) (old new : Option (List ℕ)) : Type 0 where
+  pub lines : List (List ℕ)
+  pub rest : List ℕ
+  pub out : List ℕ
+  pub cut : slice_split is_end input ≡ lines ++ rest ∷ []
+  pub replies : AreReplies (IsAllowed filter) lines out
+  pub taken : Appends old new out
+
+-- it took a beginning of the replies to the first lines of the input, and never all of them
+pub record AnswersFront (filter : Filter) (input : List ℕ) (old new : Option (List ℕ)) : Type 0 where
+  pub lines : List (List ℕ)
+  pub more : List (List ℕ)
+  pub out : List ℕ
+  pub cut : lines_of input ≡ lines ++ more
+  pub replies : AreReplies (IsAllowed filter) lines out
+  pub taken : AppendsFront old new out
+
+-- it took just the replies to the lines before the first that has no answer, which has this number, counted from 1
+pub record StopsAt (filter : Filter) (number : ℕ) (input : List ℕ) (old new : Option (List ℕ)) : Type 0 where
+  pub lines : List (List ℕ)
+  pub line : List ℕ
+  pub more : List (List ℕ)
+  pub words : List ℕ
+  pub out : List ℕ
+  pub strict : filter.is_strict ≡ true
+  pub cut : lines_of input ≡ lines ++ line ∷ more
+  pub lacks : LacksAnswer filter.request (text_of line) words
+  pub number_is : number ≡ counted (length lines + 1)
+  pub replies : AreReplies (IsAllowed filter) lines out
+  pub taken : Appends old new out
+
+-- the reader gave this input
+abbrev pub Gives : Option (List ℕ) → Option (List ℕ) → (List ℕ → Type 0) → Type 0
+Gives old new P = (input : List ℕ) × Consumes old new input × P input
+
+-- ---- from where a run stands
+-- it ends as after a write that failed
+abbrev pub FailsFrom : Filter → Option (List ℕ) → Option (List ℕ) → List ℕ → List ℕ → Place → Type 0
+FailsFrom filter old new gathered pending place =
+    (input : List ℕ) (start : Option (List ℕ)) → Stands (IsAllowed filter) input start old gathered pending place → AnswersFront filter input start new
+
+-- it ends at the line of this number
+abbrev pub StopsFrom : Filter → ℕ → Option (List ℕ) → Option (List ℕ) → List ℕ → List ℕ → Place → Type 0
+StopsFrom filter number old new gathered pending place =
+    (input : List ℕ) (start : Option (List ℕ)) → Stands (IsAllowed filter) input start old gathered pending place → StopsAt filter number input start new
+
+-- it ends with all lines answered
+abbrev pub EndsFrom : Filter → Option (List ℕ) → Option (List ℕ) → List ℕ → List ℕ → Place → Type 0
+EndsFrom filter old new gathered pending place =
+    (input : List ℕ) (start : Option (List ℕ)) → Stands (IsAllowed filter) input start old gathered pending place → AnswersAll filter input start new

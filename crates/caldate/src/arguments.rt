@@ -1,0 +1,33 @@
+//! The arguments of the program.
+ghost use Rattle.std.specs.Prelude.{◌≤◌, IfSome};
+
+use std::env::{Env, FillError};
+
+/// The most bytes that the arguments may have together.
+pub const MOST_BYTES: usize = 4096;
+
+/// Puts the arguments into the front of the buffer, with a zero byte between them, and returns how many bytes these are. `None`
+/// where they have no room.
+pub fn join<E: Env>(env: &E, buffer: &mut [u8; MOST_BYTES]) -> Option<usize>
+    ensures { IfSome result (λ n. n ≤ 4096) }
+{
+    let mut filled = 0;
+    // Argument 0 is the name of the program.
+    for i in 1..=MOST_BYTES {
+        let start = if i == 1 { 0 } else { MOST_BYTES.min(filled + 1) };
+        match env.arg(i, &mut buffer[start..]) {
+            Ok(length) => {
+                if i > 1 {
+                    if filled == MOST_BYTES {
+                        return None;
+                    }
+                    buffer[filled] = 0;
+                }
+                filled = start + length;
+            }
+            Err(FillError::NotPresent) => return Some(filled),
+            Err(FillError::TooLong) => return None,
+        }
+    }
+    None
+}

@@ -1,0 +1,88 @@
+//! Replies that go out in one write.
+ghost use Rattle.std.specs.Prelude.{◌≡◌, ◌↔◌, ◌+◌, ◌≤◌, ◌++◌, [], length, take, IsTrue};
+ghost use Rattle.caldate.specs.Room.{HasRoom, longest_reply};
+
+use std::marker::Model;
+
+/// The most bytes that go out in one write.
+const CAPACITY: usize = 65_536;
+
+/// The most bytes that a reply may have. The longest has fewer.
+const LONGEST_REPLY: usize = 256;
+
+/// Replies gathered for one write.
+#[derive(Drop)]
+pub struct Gathered {
+    buffer: [u8; CAPACITY],
+    filled: usize,
+}
+
+impl Model for Gathered {
+    ghost use Rattle.std.specs.Prelude.{ℕ, ◌≤◌, List, take};
+    ghost use Rattle.caldate.specs.Room.{capacity};
+
+    ghost Value = { List ℕ };
+
+    ghost view = { λ gathered. take gathered.filled gathered.buffer };
+
+    ghost invariant = { λ gathered. gathered.filled ≤ capacity };
+}
+
+impl Gathered {
+    /// No bytes.
+    pub fn new() -> Self
+        ensures { result ≡ [] }
+    {
+        Gathered {
+            buffer: [0; CAPACITY],
+            filled: 0,
+        }
+    }
+
+    /// The bytes gathered so far.
+    pub fn as_bytes(&self) -> &[u8]
+        ensures { result.now ≡ self.now }
+    {
+        &self.buffer[..self.filled]
+    }
+
+    /// How many they are.
+    pub fn len(&self) -> usize
+        ensures { result ≡ length self.now }
+    {
+        self.filled
+    }
+
+    /// Whether there is room for a reply.
+    pub fn has_room_for_a_reply(&self) -> bool
+        ensures { IsTrue result ↔ HasRoom longest_reply self.now }
+    {
+        self.filled <= CAPACITY - LONGEST_REPLY
+    }
+
+    /// Appends the bytes.
+    pub fn push(&mut self, bytes: &[u8])
+        requires { HasRoom (length bytes.now) self.old }
+        ensures appended { self.new ≡ self.old ++ bytes.now }
+        ensures longer { length self.new ≡ length self.old + length bytes.now }
+    {
+        let end = self.filled + bytes.len();
+        self.buffer[self.filled..end].copy_from_slice(bytes);
+        self.filled = end;
+    }
+
+    /// Keeps the first bytes alone.
+    pub fn truncate(&mut self, length: usize)
+        requires { length ≤ length self.old }
+        ensures { self.new ≡ take length self.old }
+    {
+        self.filled = length;
+    }
+
+    /// Drops the bytes.
+    pub fn clear(&mut self)
+        ensures { self.new ≡ [] }
+    {
+        self.filled = 0;
+    }
+}

@@ -1,0 +1,36 @@
+//! Answers each line of standard input, a date or a moment in text, with one line on standard output.
+#![tactic(auto)]
+
+mod answer;
+mod arguments;
+mod asked;
+mod ending;
+mod fault;
+mod gathered;
+mod help;
+mod input;
+mod lines;
+mod output;
+mod patience;
+mod place;
+mod program;
+mod reply;
+mod request;
+mod run;
+#[cfg(test)]
+mod tests;
+mod text;
+
+use std::io;
+use std::process::ExitCode;
+
+/// Ends with status 0, or with another one and the reason on standard error.
+fn main(rt: HostRuntime) -> ExitCode {
+    let mut arguments = [0u8; arguments::MOST_BYTES];
+    let asked = match arguments::join(&rt, &mut arguments) {
+        Some(length) => asked::asked_of(&arguments[..length]),
+        None => None,
+    };
+    let mut reader = rt.reader();
+    ExitCode::from(program::perform(asked, &mut reader, &mut io::writer(&rt), &mut rt.stderr()))
+}

@@ -1,0 +1,33 @@
+//! What the program does for its arguments.
+ghost use Rattle.std.specs.Prelude.{◌≡◌, None};
+
+use crate::ending::end;
+use crate::help::{HELP, USAGE, VERSION};
+use crate::output::write_all;
+use crate::request::Asked;
+use crate::run::run;
+use std::io::{Read, Write};
+
+/// Does what is asked for, and returns the status. Where the arguments make no sense nothing is read, and the status is 2.
+pub fn perform<R: Read, W: Write, E: Write>(asked: Option<Asked>, reader: &mut R, writer: &mut W, errors: &mut E) -> u8
+    ensures senseless { asked ≡ None → (reader.new ≡ reader.old) × (writer.new ≡ writer.old) × (result ≡ 2) }
+{
+    match asked {
+        Some(Asked::Lines(filter)) => {
+            let outcome = run(filter, reader, writer);
+            end(outcome, errors)
+        }
+        Some(Asked::Help) => {
+            let outcome = write_all(writer, HELP);
+            end(outcome, errors)
+        }
+        Some(Asked::Version) => {
+            let outcome = write_all(writer, VERSION);
+            end(outcome, errors)
+        }
+        None => {
+            let _ = write_all(errors, USAGE);
+            2
+        }
+    }
+}

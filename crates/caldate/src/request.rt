@@ -1,0 +1,55 @@
+//! What is asked of the lines.
+use cal_text::DateOrMoment;
+use cal_time::{SignedDuration, Weekday};
+
+/// A form in which a day or a moment is written.
+#[derive(Clone, Copy)]
+pub enum Form {
+    /// As `2024-02-29`.
+    Calendar,
+    /// As `2024-060`.
+    Ordinal,
+    /// As `2024-W09-4`.
+    Week,
+    /// As `J2460370`.
+    JulianDay,
+    /// As `Thursday`.
+    Weekday,
+    /// As `2024-02-29T00:00:00Z`.
+    Rfc3339,
+    /// As `@1709164800`.
+    Unix,
+}
+
+/// What each line is answered.
+#[derive(Clone, Copy)]
+pub enum Request {
+    /// `to FORM`: the same in this form.
+    To(Form),
+    /// `add N UNIT`: the date or the moment that much later.
+    Add(SignedDuration),
+    /// `next WEEKDAY N`: the day that is the N-th with the weekday after it.
+    Next(Weekday, u8),
+    /// `last WEEKDAY N`: the day that is the N-th with the weekday before it.
+    Last(Weekday, u8),
+    /// `until TEXT`: the days to this date, or the duration to this moment.
+    Until(DateOrMoment),
+}
+
+/// A request, and whether the run ends at the first line without an answer.
+#[derive(Clone, Copy)]
+pub struct Filter {
+    pub request: Request,
+    pub is_strict: bool,
+}
+
+/// What the arguments ask for.
+#[derive(Clone, Copy)]
+pub enum Asked {
+    /// `--help`: the page of examples.
+    Help,
+    /// `--version`: the version.
+    Version,
+    /// To answer the lines of the input.
+    Lines(Filter),
+}

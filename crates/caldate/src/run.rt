@@ -1,0 +1,160 @@
+//! The run: the answers to the lines of an input of any length.
+ghost use Rattle.std.specs.Prelude.{◌≡◌, ◌⊎◌, ◌≤◌, ◌-◌, ◌++◌, ℕ, List, [], length, drop, Option, OnOk, OnErr, IfOk, IfErr, IsErrOf};
+ghost use Rattle.std.specs.Io.KnownBytes.{Appends, Consumes, IsAtEnd, Keeps};
+ghost use Rattle.caldate.specs.Room.{HasRoom, longest_reply, longest_text};
+ghost use Rattle.caldate.specs.Runs.{AnswersAll, AnswersEnded, AnswersFront, AppendsFront, Gives, IsAllowed, StopsAt};
+ghost use Rattle.caldate.specs.Standing.{Advances, NoEnd, Stands};
+
+use crate::fault::Fault;
+use crate::gathered::Gathered;
+use crate::input::Input;
+use crate::lines::first_line;
+use crate::output::write_all;
+use crate::place::Place;
+use crate::reply::push_reply;
+use crate::request::Filter;
+use std::io::{Read, Write};
+
+/// The most bytes of a line that are kept where it has not ended: those of a text, and a carriage return.
+const MOST_KEPT: usize = 4097;
+
+/// Answers the lines of the input, in order, to its end.
+///
+/// The answers to what one read gave go out before the next read. It gives up as after a failed read once it has read 2^64 - 1 times.
+pub fn run<R: Read, W: Write>(filter: Filter, reader: &mut R, writer: &mut W) -> Result<(), Fault>
+    ensures ok { OnOk result (IsAtEnd (R.remaining reader.new) × Gives (R.remaining reader.old) (R.remaining reader.new)
+        (λ input. AnswersAll filter input (W.contents writer.old) (W.contents writer.new))) }
+    ensures write { (IsErrOf result Fault.Write ⊎ IsErrOf result Fault.Closed) → Gives (R.remaining reader.old) (R.remaining reader.new)
+        (λ input. AnswersFront filter input (W.contents writer.old) (W.contents writer.new)) }
+    ensures read { IsErrOf result Fault.Read → Gives (R.remaining reader.old) (R.remaining reader.new)
+        (λ input. AnswersEnded filter input (W.contents writer.old) (W.contents writer.new)) }
+    ensures unanswered { (number : ℕ) → IsErrOf result (Fault.Unanswered number) → Gives (R.remaining reader.old) (R.remaining reader.new)
+        (λ input. StopsAt filter number input (W.contents writer.old) (W.contents writer.new)) }
+{
+    let mut input = Input::new();
+    let mut gathered = Gathered::new();
+    let mut place = Place {
+        number: 0,
+        is_long: false,
+    };
+    let mut reads = u64::MAX;
+    while reads > 0 {
+        if input.read_more(reader)? == 0 {
+            return answer_last(filter, &mut place, &mut gathered, writer, input.as_bytes());
+        }
+        let left = answer_lines(filter, &mut place, &mut gathered, writer, input.as_bytes())?;
+        input.keep_last(left);
+        let_go(&mut input, &mut place);
+        flush(&mut gathered, writer)?;
+        reads -= 1;
+    }
+    Err(Fault::Read)
+}
+
+/// Answers the lines that end within the bytes, and returns how many bytes come after them.
+fn answer_lines<W: Write>(
+    filter: Filter,
+    place: &mut Place,
+    gathered: &mut Gathered,
+    writer: &mut W,
+    bytes: &[u8],
+) -> Result<usize, Fault>
+    ensures within { IfOk result (λ left. left ≤ length bytes.now) }
+    ensures no_end { IfOk result (λ left. NoEnd (drop (length bytes.now - left) bytes.now)) }
+    ensures ok { IfOk result (λ left. Advances (IsAllowed filter) (W.contents writer.old) (W.contents writer.new) gathered.old gathered.new
+        bytes.now (drop (length bytes.now - left) bytes.now) place.old place.new) }
+    ensures write { (IsErrOf result Fault.Write ⊎ IsErrOf result Fault.Closed)
+        → FailsFrom filter (W.contents writer.old) (W.contents writer.new) gathered.old bytes.now place.old }
+    ensures unanswered { (number : ℕ) → IsErrOf result (Fault.Unanswered number)
+        → StopsFrom filter number (W.contents writer.old) (W.contents writer.new) gathered.old bytes.now place.old }
+    ensures no_read { IsErrOf result Fault.Read → ⊥ }
+{
+    let mut rest = bytes;
+    while let Some((line, after)) = first_line(rest) {
+        make_room(gathered, writer)?;
+        if !push_reply(gathered, filter, place.is_long, line) {
+            return stop(place, gathered, writer);
+        }
+        place.number = place.number.saturating_add(1);
+        place.is_long = false;
+        rest = after;
+    }
+    Ok(rest.len())
+}
+
+/// Ends a strict run at a line without an answer: what was answered before goes out.
+fn stop<W: Write>(
+    place: &Place,
+    gathered: &Gathered,
+    writer: &mut W,
+) -> Result<usize, Fault>
+    ensures err { OnErr result ⊤ }
+{
+    write_all(writer, gathered.as_bytes())?;
+    Err(Fault::Unanswered(place.number.saturating_add(1)))
+}
+
+/// Answers the last line where it does not end, and lets the answers go out.
+fn answer_last<W: Write>(
+    filter: Filter,
+    place: &mut Place,
+    gathered: &mut Gathered,
+    writer: &mut W,
+    line: &[u8],
+) -> Result<(), Fault>
+    requires no_end { NoEnd line.now }
+    requires none { gathered.old ≡ [] }
+    ensures ok { OnOk result (EndsFrom filter (W.contents writer.old) (W.contents writer.new) [] line.now place.old) }
+    ensures write { (IsErrOf result Fault.Write ⊎ IsErrOf result Fault.Closed)
+        → FailsFrom filter (W.contents writer.old) (W.contents writer.new) [] line.now place.old }
+    ensures unanswered { (number : ℕ) → IsErrOf result (Fault.Unanswered number)
+        → StopsFrom filter number (W.contents writer.old) (W.contents writer.new) [] line.now place.old }
+    ensures no_read { IsErrOf result Fault.Read → ⊥ }
+{
+    if line.is_empty() {
+        return Ok(());
+    }
+    if !push_reply(gathered, filter, place.is_long, line) {
+        return Err(Fault::Unanswered(place.number.saturating_add(1)));
+    }
+    write_all(writer, gathered.as_bytes())
+}
+
+/// Lets go of a long line but for its last byte. Whether that is a carriage return tells how the line ends.
+fn let_go(input: &mut Input, place: &mut Place)
+    requires { NoEnd input.old }
+    ensures few { length input.new ≤ longest_text + 1 }
+    ensures no_end { NoEnd input.new }
+    ensures advances { (filter : Filter) (now : Option (List ℕ)) (gathered : List ℕ)
+        → Advances (IsAllowed filter) now now gathered gathered input.old input.new place.old place.new }
+{
+    if input.len() > MOST_KEPT {
+        input.keep_last(1);
+        place.is_long = true;
+    }
+}
+
+/// Makes room for a reply: where there is none, what was gathered is written.
+fn make_room<W: Write>(gathered: &mut Gathered, writer: &mut W) -> Result<(), Fault>
+    ensures room { OnOk result (HasRoom longest_reply gathered.new) }
+    ensures ok { OnOk result ((written : List ℕ) × (gathered.old ≡ written ++ gathered.new)
+        × Appends (W.contents writer.old) (W.contents writer.new) written) }
+    ensures front { OnErr result (AppendsFront (W.contents writer.old) (W.contents writer.new) gathered.old) }
+    ensures err { IfErr result (λ fault. (fault ≡ Fault.Write) ⊎ (fault ≡ Fault.Closed)) }
+{
+    if !gathered.has_room_for_a_reply() {
+        flush(gathered, writer)?;
+    }
+    Ok(())
+}
+
+/// Writes what was gathered.
+fn flush<W: Write>(gathered: &mut Gathered, writer: &mut W) -> Result<(), Fault>
+    ensures ok { OnOk result (Appends (W.contents writer.old) (W.contents writer.new) gathered.old × (gathered.new ≡ [])) }
+    ensures front { OnErr result (AppendsFront (W.contents writer.old) (W.contents writer.new) gathered.old) }
+    ensures err { IfErr result (λ fault. (fault ≡ Fault.Write) ⊎ (fault ≡ Fault.Closed)) }
+{
+    write_all(writer, gathered.as_bytes())?;
+    gathered.clear();
+    Ok(())
+}

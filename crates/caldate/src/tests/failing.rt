@@ -1,0 +1,155 @@
+//! Runs over readers and writers that fail, and that give or take one byte a call.
+use crate::asked::asked_of;
+use crate::fault::Fault;
+use crate::request::{Asked, Filter};
+use crate::run::run;
+use std::alloc::{AllocError, Global};
+use std::io::{self, ErrorKind, Read, Write};
+use std::test::Fail;
+
+/// Gives one byte a call, and fails at this call and from it on.
+#[derive(Drop)]
+struct Dripping<'a> {
+    rest: &'a [u8],
+    calls: usize,
+    failing: usize,
+    kind: ErrorKind,
+}
+
+impl Read for Dripping<'_> {
+    fn read(&mut self, buffer: &mut [u8]) -> io::Result<usize> {
+        self.calls = self.calls.saturating_add(1);
+        if self.calls >= self.failing {
+            return Err(io::Error::from(self.kind));
+        }
+        match self.rest.split_first() {
+            Some((byte, after)) if !buffer.is_empty() => {
+                buffer[0] = *byte;
+                self.rest = after;
+                Ok(1)
+            }
+            _ => Ok(0),
+        }
+    }
+}
+
+/// Takes one byte a call, and at one call fails, or takes none where no kind of failure is named.
+#[derive(Drop)]
+struct Sipping {
+    taken: Vec<u8>,
+    calls: usize,
+    failing: usize,
+    kind: Option<ErrorKind>,
+}
+
+impl Write for Sipping {
+    fn write(&mut self, bytes: &[u8]) -> io::Result<usize> {
+        self.calls = self.calls.saturating_add(1);
+        if self.calls == self.failing {
+            return match self.kind {
+                Some(kind) => Err(io::Error::from(kind)),
+                None => Ok(0),
+            };
+        }
+        match bytes.first() {
+            Some(byte) => {
+                self.taken.push(*byte)?;
+                Ok(1)
+            }
+            None => Ok(0),
+        }
+    }
+
+    fn flush(&mut self) -> io::Result<()> {
+        Ok(())
+    }
+}
+
+const INPUT: &[u8] = b"2024-060\n2024-367\r\nx\n2024-W09-4";
+
+const ANSWERS: &[u8] = b"2024-02-29\nrefused ordinal conditional\r\nunreadable at 0\n2024-02-29\n";
+
+/// How many bytes of the answers belong to the lines that end within so many bytes of the input.
+fn answered(read: usize) -> usize {
+    if read < 9 {
+        0
+    } else if read < 19 {
+        11
+    } else if read < 21 {
+        40
+    } else {
+        56
+    }
+}
+
+fn filter() -> Result<Filter, Fail> {
+    match asked_of(b"to\0calendar") {
+        Some(Asked::Lines(filter)) => Ok(filter),
+        _ => Err(Fail::from("a filter")),
+    }
+}
+
+/// What comes of a run over a reader that fails from this call on, and what it wrote.
+fn drip(alloc: Global, failing: usize, kind: ErrorKind) -> Result<(Result<(), Fault>, Vec<u8>), Fail> {
+    let mut reader = Dripping {
+        rest: INPUT,
+        calls: 0,
+        failing,
+        kind,
+    };
+    let mut written = Vec::new(alloc);
+    let outcome = run(filter()?, &mut reader, &mut written);
+    Ok((outcome, written))
+}
+
+/// What comes of a run over a writer that fails at this call, and what it took.
+fn sip(alloc: Global, failing: usize, kind: Option<ErrorKind>) -> Result<(Result<(), Fault>, Vec<u8>), Fail> {
+    let mut reader = INPUT;
+    let mut writer = Sipping {
+        taken: Vec::new(alloc),
+        calls: 0,
+        failing,
+        kind,
+    };
+    let outcome = run(filter()?, &mut reader, &mut writer);
+    Ok((outcome, writer.taken))
+}
+
+// The answers to the lines that have ended are out before the read that fails.
+#[test]
+fn each_read_fails_in_turn(rt: HostRuntime) -> Result<(), Fail> {
+    for call in 1..=INPUT.len() + 2 {
+        for kind in [ErrorKind::Other, ErrorKind::Interrupted] {
+            let (outcome, written) = drip(rt.alloc(), call, kind)?;
+            if call <= INPUT.len() + 1 {
+                assert!(rt; outcome == Err(Fault::Read), "at call {call}");
+                assert!(rt; written.as_slice() == &ANSWERS[..answered(call - 1)], "at call {call}");
+            } else {
+                assert!(rt; outcome == Ok(()) && written.as_slice() == ANSWERS);
+            }
+        }
+    }
+    Ok(())
+}
+
+#[test]
+fn each_write_fails_in_turn(rt: HostRuntime) -> Result<(), Fail> {
+    for call in 1..=ANSWERS.len() + 1 {
+        for (kind, fault) in [
+            (Some(ErrorKind::Other), Some(Fault::Write)),
+            (None, Some(Fault::Write)),
+            (Some(ErrorKind::BrokenPipe), Some(Fault::Closed)),
+            (Some(ErrorKind::Interrupted), None),
+        ] {
+            let (outcome, taken) = sip(rt.alloc(), call, kind)?;
+            match fault {
+                Some(fault) if call <= ANSWERS.len() => {
+                    assert!(rt; outcome == Err(fault), "at call {call}");
+                    assert!(rt; taken.as_slice() == &ANSWERS[..call - 1], "at call {call}");
+                }
+                _ => assert!(rt; outcome == Ok(()) && taken.as_slice() == ANSWERS, "at call {call}"),
+            }
+        }
+    }
+    Ok(())
+}
