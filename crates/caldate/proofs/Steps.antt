@@ -45,8 +45,8 @@ first_of first more (x ∷ xs) after e n = (xs, ap (λ f. f ∷ xs) (sym (ap hea
 pub held_line : (b : Bool) (kept pending line after : List ℕ) → IsHeld b kept pending → pending ≡ line ++ 10 ∷ after → IsHeld b kept line
 held_line false kept pending line after h e = h
 held_line true kept pending line after h e =
-    let found = first_of h.2 h.3 line after (sym h.4 ∙ e) h.5 in
-    (h.0, h.1, (h.2, found.0, found.1, h.5))
+    let found = first_of h.2.0 h.2.1 line after (sym h.2.2 ∙ e) h.2.3 in
+    (h.0, h.1, (h.2.0, found.0, found.1, h.2.3))
 
 no_end_append : (xs ys : List ℕ) → NoEnd xs → NoEnd ys → NoEnd (xs ++ ys)
 no_end_append xs ys h e = All-append (λ byte. is_end byte ≡ false) xs ys h e
@@ -193,7 +193,7 @@ stopped filter input start now new gathered pending line after place number n e 
 -- ---- the end of the input
 kept_none : (b : Bool) (kept : List ℕ) → IsHeld b kept [] → kept ≡ []
 kept_none false kept h = h
-kept_none true kept h = absurd (omega (arith, ap length h.4))
+kept_none true kept h = absurd (omega (arith, ap length h.2.2))
 
 held_some : (b : Bool) (kept pending : List ℕ) → IsHeld b kept pending → 0 < length pending → 0 < length (kept ++ pending)
 held_some b kept pending h l = omega (arith, l, length-append kept pending)
@@ -287,7 +287,7 @@ begun Allowed start place short zero = record {
 
 held_more : (b : Bool) (kept pending given : List ℕ) → IsHeld b kept pending → IsHeld b kept (pending ++ given)
 held_more false kept pending given h = h
-held_more true kept pending given h = (h.0, h.1, (h.2, h.3 ++ given, ap (λ p. p ++ given) h.4, h.5))
+held_more true kept pending given h = (h.0, h.1, (h.2.0, h.2.1 ++ given, ap (λ p. p ++ given) h.2.2, h.2.3))
 
 pub read : (Allowed : List ℕ → List ℕ → Type 0) (input given : List ℕ) (start now : Option (List ℕ)) (gathered pending : List ℕ) (place : Place)
     → Stands Allowed input start now gathered pending place → Stands Allowed (input ++ given) start now gathered (pending ++ given) place

@@ -29,8 +29,8 @@ IsReading reading = (bytes : List ℕ) → MatchOption (reading bytes) ((found :
 -- a number: digits, perhaps after a sign, that is from -9223372036854775808 to 9223372036854775807
 abbrev pub is_number : List ℕ → Bool
 is_number word =
-    nat_lt 0 (length (without_leading_sign word)) && all_ascii_digits (without_leading_sign word)
-    && int_le (neg_ℤ (pos 9223372036854775808)) (signed_digits_value 10 word) && int_le (signed_digits_value 10 word) (pos 9223372036854775807)
+    nat_lt 0 (length (without_leading_sign word)) && (all_ascii_digits (without_leading_sign word)
+    && (int_le (neg_ℤ (pos 9223372036854775808)) (signed_digits_value 10 word) && int_le (signed_digits_value 10 word) (pos 9223372036854775807)))
 
 abbrev pub number_of : List ℕ → Option ℤ
 number_of word = if is_number word then Some (signed_digits_value 10 word) else None

@@ -1,12 +1,11 @@
 //! What the text of a line is answered.
-ghost use Rattle.std.specs.Prelude.{◌≡◌, ◌+◌, ◌≤◌, ◌++◌, ℕ, List, false, true, codes, length, pos, IsTrue, MatchOption, IfOk};
-ghost use Rattle.cal_time.specs.Date.{IsDate};
+ghost use Rattle.std.specs.Prelude.{◌≡◌, ◌+◌, ◌*◌, ◌<◌, ◌≤◌, ◌++◌, ℕ, List, Some, false, codes, length, unsigned_abs, IsTrue, MatchOption};
 ghost use Rattle.cal_time.specs.Refusal.{Refusal, refusal};
+ghost use Rattle.cal_time.specs.SignedDuration.{second};
 ghost use Rattle.cal_text.specs.Reading.{component_of};
-ghost use Rattle.caldate.specs.Answers.{HasAnswer, IsAlike, IsAnswerTo, IsInForm, IsLater, LacksAnswer, until_text, why_text, day_of, time_of, offset_of, is_date, unix_time_of};
+ghost use Rattle.caldate.specs.Answers.{HasAnswer, IsAlike, IsAnswerTo, IsDayLater, IsInForm, IsLater, LacksAnswer, refused_text, until_text, why_text, day_of, time_of, offset_of, is_date, unix_time_of};
 ghost use Rattle.caldate.specs.Room.{HasRoom, longest_answer};
 ghost use Rattle.caldate.specs.Runs.{AppendsThat};
-ghost use Rattle.caldate.specs.declared.request.Form.TheVariants.{Calendar, Ordinal, Week, JulianDay, Rfc3339, Unix};
 
 use crate::gathered::Gathered;
 use crate::request::{Form, Request};
@@ -21,10 +20,10 @@ use cal_time::{Date, SignedDuration, Time, UtcOffset, add_to_pair};
 const LONGEST_TEXT: usize = 4096;
 
 /// Gathers the answer to a text, or the words that say why it has none, and returns whether it has one.
-pub fn push_answer(gathered: &mut Gathered, request: Request, text: &[u8]) -> bool
+pub fn push_answer(gathered: &mut Gathered, request: &Request, text: &[u8]) -> bool
     requires { HasRoom longest_answer gathered.old }
-    ensures has { IsTrue result → AppendsThat (HasAnswer request text.now) gathered.old gathered.new }
-    ensures lacks { result ≡ false → AppendsThat (LacksAnswer request text.now) gathered.old gathered.new }
+    ensures has { IsTrue result → AppendsThat (HasAnswer request.now text.now) gathered.old gathered.new }
+    ensures lacks { result ≡ false → AppendsThat (LacksAnswer request.now text.now) gathered.old gathered.new }
     ensures short { length gathered.new ≤ length gathered.old + longest_answer }
 {
     if text.len() > LONGEST_TEXT {
@@ -32,7 +31,7 @@ pub fn push_answer(gathered: &mut Gathered, request: Request, text: &[u8]) -> bo
         return false;
     }
     match read_any(text) {
-        Ok(found) => push_answer_to(gathered, request, found),
+        Ok(found) => push_answer_to(gathered, request, &found),
         Err(error) => {
             push_why(gathered, error);
             false
@@ -71,24 +70,24 @@ fn push_refusal(gathered: &mut Gathered, error: ComponentRange)
 }
 
 /// Gathers what the request answers for this date or this moment, or `none`, and returns whether there is an answer.
-fn push_answer_to(gathered: &mut Gathered, request: Request, found: DateOrMoment) -> bool
+fn push_answer_to(gathered: &mut Gathered, request: &Request, found: &DateOrMoment) -> bool
     requires { HasRoom longest_answer gathered.old }
-    ensures has { IsTrue result → AppendsThat (IsAnswerTo request found) gathered.old gathered.new }
-    ensures none { result ≡ false → (gathered.new ≡ gathered.old ++ codes "none") × ((words : List ℕ) → ¬ IsAnswerTo request found words) }
+    ensures has { IsTrue result → AppendsThat (IsAnswerTo request.now found.now) gathered.old gathered.new }
+    ensures none { result ≡ false → (gathered.new ≡ gathered.old ++ codes "none") × ((words : List ℕ) → ¬ IsAnswerTo request.now found.now words) }
     ensures short { length gathered.new ≤ length gathered.old + longest_answer }
 {
     let (date, time, offset) = parts_of(found);
     match request {
-        Request::To(form) => push_in_form(gathered, form, date, time, offset),
-        Request::Add(duration) => match later(found, duration) {
+        Request::To(form) => push_in_form(gathered, *form, date, time, offset),
+        Request::Add(duration) => match later(found, *duration) {
             Some(pair) => push_alike(gathered, found, pair.0, pair.1),
             None => push_none(gathered),
         },
-        Request::Next(weekday, count) => match date.checked_nth_next_occurrence(weekday, count) {
+        Request::Next(weekday, count) => match date.checked_nth_next_occurrence(*weekday, *count) {
             Some(day) => push_alike(gathered, found, day, time),
             None => push_none(gathered),
         },
-        Request::Last(weekday, count) => match date.checked_nth_prev_occurrence(weekday, count) {
+        Request::Last(weekday, count) => match date.checked_nth_prev_occurrence(*weekday, *count) {
             Some(day) => push_alike(gathered, found, day, time),
             None => push_none(gathered),
         },
@@ -111,18 +110,18 @@ fn push_none(gathered: &mut Gathered) -> bool
 }
 
 /// The day, the time of day and the offset from UTC. A date is midnight at UTC.
-fn parts_of(found: DateOrMoment) -> (Date, Time, UtcOffset)
-    ensures day { result.0 ≡ day_of found }
-    ensures time { result.1 ≡ time_of found }
-    ensures offset { result.2 ≡ offset_of found }
+fn parts_of(found: &DateOrMoment) -> (Date, Time, UtcOffset)
+    ensures day { result.0 ≡ day_of found.now }
+    ensures time { result.1 ≡ time_of found.now }
+    ensures offset { result.2 ≡ offset_of found.now }
 {
     match found {
-        DateOrMoment::Calendar(date) => (date, Time::MIDNIGHT, UtcOffset::UTC),
-        DateOrMoment::Ordinal(date) => (date, Time::MIDNIGHT, UtcOffset::UTC),
-        DateOrMoment::Week(date) => (date, Time::MIDNIGHT, UtcOffset::UTC),
-        DateOrMoment::JulianDay(date) => (date, Time::MIDNIGHT, UtcOffset::UTC),
-        DateOrMoment::Rfc3339(date, time, offset) => (date, time, offset),
-        DateOrMoment::Unix(date, time) => (date, time, UtcOffset::UTC),
+        DateOrMoment::Calendar(date) => (*date, Time::MIDNIGHT, UtcOffset::UTC),
+        DateOrMoment::Ordinal(date) => (*date, Time::MIDNIGHT, UtcOffset::UTC),
+        DateOrMoment::Week(date) => (*date, Time::MIDNIGHT, UtcOffset::UTC),
+        DateOrMoment::JulianDay(date) => (*date, Time::MIDNIGHT, UtcOffset::UTC),
+        DateOrMoment::Rfc3339(date, time, offset) => (*date, *time, *offset),
+        DateOrMoment::Unix(date, time) => (*date, *time, UtcOffset::UTC),
     }
 }
 
@@ -149,10 +148,10 @@ fn push_in_form(gathered: &mut Gathered, form: Form, date: Date, time: Time, off
 }
 
 /// Gathers a day and a time of day in the form, and at the offset, of what was read, and returns whether it has a text of them.
-fn push_alike(gathered: &mut Gathered, found: DateOrMoment, date: Date, time: Time) -> bool
+fn push_alike(gathered: &mut Gathered, found: &DateOrMoment, date: Date, time: Time) -> bool
     requires { HasRoom longest_answer gathered.old }
-    ensures has { IsTrue result → AppendsThat (IsAlike found date time) gathered.old gathered.new }
-    ensures none { result ≡ false → (gathered.new ≡ gathered.old ++ codes "none") × ((words : List ℕ) → ¬ IsAlike found date time words) }
+    ensures has { IsTrue result → AppendsThat (IsAlike found.now date time) gathered.old gathered.new }
+    ensures none { result ≡ false → (gathered.new ≡ gathered.old ++ codes "none") × ((words : List ℕ) → ¬ IsAlike found.now date time words) }
     ensures short { length gathered.new ≤ length gathered.old + longest_answer }
 {
     match found {
@@ -160,22 +159,22 @@ fn push_alike(gathered: &mut Gathered, found: DateOrMoment, date: Date, time: Ti
         DateOrMoment::Ordinal(_) => push_in_form(gathered, Form::Ordinal, date, time, UtcOffset::UTC),
         DateOrMoment::Week(_) => push_in_form(gathered, Form::Week, date, time, UtcOffset::UTC),
         DateOrMoment::JulianDay(_) => push_in_form(gathered, Form::JulianDay, date, time, UtcOffset::UTC),
-        DateOrMoment::Rfc3339(_, _, offset) => push_in_form(gathered, Form::Rfc3339, date, time, offset),
+        DateOrMoment::Rfc3339(_, _, offset) => push_in_form(gathered, Form::Rfc3339, date, time, *offset),
         DateOrMoment::Unix(_, _) => push_in_form(gathered, Form::Unix, date, time, UtcOffset::UTC),
     }
 }
 
 /// The day and the time of day so much later, or `None` where they are past either end of the range.
-fn later(found: DateOrMoment, duration: SignedDuration) -> Option<(Date, Time)>
-    ensures { MatchOption result ((n t : ℕ) → ¬ IsLater found duration n t) (λ pair. IsLater found duration pair.0 pair.1) }
+fn later(found: &DateOrMoment, duration: SignedDuration) -> Option<(Date, Time)>
+    ensures { MatchOption result ((n t : ℕ) → ¬ IsLater found.now duration n t) (λ pair. IsLater found.now duration pair.0 pair.1) }
 {
     match found {
-        DateOrMoment::Calendar(date) => day_later(date, duration),
-        DateOrMoment::Ordinal(date) => day_later(date, duration),
-        DateOrMoment::Week(date) => day_later(date, duration),
-        DateOrMoment::JulianDay(date) => day_later(date, duration),
-        DateOrMoment::Rfc3339(date, time, _) => add_to_pair(date, time, duration),
-        DateOrMoment::Unix(date, time) => add_to_pair(date, time, duration),
+        DateOrMoment::Calendar(date) => day_later(*date, duration),
+        DateOrMoment::Ordinal(date) => day_later(*date, duration),
+        DateOrMoment::Week(date) => day_later(*date, duration),
+        DateOrMoment::JulianDay(date) => day_later(*date, duration),
+        DateOrMoment::Rfc3339(date, time, _) => add_to_pair(*date, *time, duration),
+        DateOrMoment::Unix(date, time) => add_to_pair(*date, *time, duration),
     }
 }
 
@@ -190,9 +189,9 @@ fn day_later(date: Date, duration: SignedDuration) -> Option<(Date, Time)>
 }
 
 /// Gathers the days between two dates, else the duration between two moments.
-fn push_until(gathered: &mut Gathered, from: DateOrMoment, to: DateOrMoment)
+fn push_until(gathered: &mut Gathered, from: &DateOrMoment, to: &DateOrMoment)
     requires { HasRoom longest_answer gathered.old }
-    ensures text { gathered.new ≡ gathered.old ++ until_text from to }
+    ensures text { gathered.new ≡ gathered.old ++ until_text from.now to.now }
     ensures short { length gathered.new ≤ length gathered.old + longest_answer }
 {
     if is_date(from) && is_date(to) {
@@ -204,8 +203,8 @@ fn push_until(gathered: &mut Gathered, from: DateOrMoment, to: DateOrMoment)
     }
 }
 
-fn is_date(found: DateOrMoment) -> bool
-    ensures { result ≡ is_date found }
+fn is_date(found: &DateOrMoment) -> bool
+    ensures { result ≡ is_date found.now }
 {
     match found {
         DateOrMoment::Rfc3339(_, _, _) => false,
@@ -215,8 +214,8 @@ fn is_date(found: DateOrMoment) -> bool
 }
 
 /// The Unix time, which is less than 40000000000000 seconds from its epoch.
-fn unix_time_of(found: DateOrMoment) -> SignedDuration
-    ensures value { result ≡ unix_time_of found }
+fn unix_time_of(found: &DateOrMoment) -> SignedDuration
+    ensures value { result ≡ unix_time_of found.now }
     ensures range { unsigned_abs result < 40000000000000 * second }
 {
     let (date, time, offset) = parts_of(found);

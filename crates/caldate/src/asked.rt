@@ -118,8 +118,10 @@ fn occurrence_of(words: &[u8]) -> Option<(Weekday, u8)>
 fn until_request(words: &[u8]) -> Option<Request>
     ensures { (reading : List ℕ → Option DateOrMoment) → IsReading reading → result ≡ until_request reading (arguments_of words.now) }
 {
-    let target = read_any(only_word(words)?).ok()?;
-    Some(Request::Until(target))
+    match read_any(only_word(words)?) {
+        Ok(target) => Some(Request::Until(target)),
+        Err(_) => None,
+    }
 }
 
 /// The number that a word spells, from -9223372036854775808 to 9223372036854775807.

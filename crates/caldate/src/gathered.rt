@@ -72,11 +72,11 @@ impl Gathered {
     }
 
     /// Keeps the first bytes alone.
-    pub fn truncate(&mut self, length: usize)
-        requires { length ≤ length self.old }
-        ensures { self.new ≡ take length self.old }
+    pub fn truncate(&mut self, count: usize)
+        requires { count ≤ length self.old }
+        ensures { self.new ≡ take count self.old }
     {
-        self.filled = length;
+        self.filled = count;
     }
 
     /// Drops the bytes.

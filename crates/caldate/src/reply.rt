@@ -13,12 +13,12 @@ use crate::request::Filter;
 
 /// Gathers the reply to a line, of which a front may have been let go as the line is too long. In a strict run it gathers nothing
 /// for a line that has no answer, and returns false.
-pub fn push_reply(gathered: &mut Gathered, filter: Filter, is_long: bool, line: &[u8]) -> bool
+pub fn push_reply(gathered: &mut Gathered, filter: &Filter, is_long: bool, line: &[u8]) -> bool
     requires { HasRoom longest_reply gathered.old }
     ensures replied { IsTrue result → ((kept : List ℕ) → IsHeld is_long kept line.now
-        → AppendsThat (IsReply (IsAllowed filter) (kept ++ line.now)) gathered.old gathered.new) }
-    ensures stopped { result ≡ false → (filter.is_strict ≡ true) × (gathered.new ≡ gathered.old)
-        × ((kept : List ℕ) → IsHeld is_long kept line.now → ((words : List ℕ) × LacksAnswer filter.request (text_of (kept ++ line.now)) words)) }
+        → AppendsThat (IsReply (IsAllowed filter.now) (kept ++ line.now)) gathered.old gathered.new) }
+    ensures stopped { result ≡ false → (filter.now.is_strict ≡ true) × (gathered.new ≡ gathered.old)
+        × ((kept : List ℕ) → IsHeld is_long kept line.now → ((words : List ℕ) × LacksAnswer filter.now.request (text_of (kept ++ line.now)) words)) }
 {
     let before = gathered.len();
     let (text, has_return) = text_of(line);
@@ -26,7 +26,7 @@ pub fn push_reply(gathered: &mut Gathered, filter: Filter, is_long: bool, line: 
         gathered.push(b"line too long");
         false
     } else {
-        push_answer(gathered, filter.request, text)
+        push_answer(gathered, &filter.request, text)
     };
     if filter.is_strict && !has_answer {
         gathered.truncate(before);

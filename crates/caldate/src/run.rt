@@ -1,9 +1,9 @@
 //! The run: the answers to the lines of an input of any length.
-ghost use Rattle.std.specs.Prelude.{◌≡◌, ◌⊎◌, ◌≤◌, ◌-◌, ◌++◌, ℕ, List, [], length, drop, Option, OnOk, OnErr, IfOk, IfErr, IsErrOf};
+ghost use Rattle.std.specs.Prelude.{◌≡◌, ◌⊎◌, ◌≤◌, ◌+◌, ◌-◌, ◌++◌, ℕ, List, [], length, drop, Option, OnOk, OnErr, IfOk, IfErr, IsErrOf};
 ghost use Rattle.std.specs.Io.KnownBytes.{Appends, Consumes, IsAtEnd, Keeps};
 ghost use Rattle.caldate.specs.Room.{HasRoom, longest_reply, longest_text};
-ghost use Rattle.caldate.specs.Runs.{AnswersAll, AnswersEnded, AnswersFront, AppendsFront, Gives, IsAllowed, StopsAt};
-ghost use Rattle.caldate.specs.Standing.{Advances, NoEnd, Stands};
+ghost use Rattle.caldate.specs.Runs.{AnswersAll, AnswersEnded, AnswersFront, AppendsFront, EndsFrom, FailsFrom, Gives, IsAllowed, StopsAt, StopsFrom};
+ghost use Rattle.caldate.specs.Standing.{Advances, NoEnd, Stands, counted};
 
 use crate::fault::Fault;
 use crate::gathered::Gathered;
@@ -40,9 +40,9 @@ pub fn run<R: Read, W: Write>(filter: Filter, reader: &mut R, writer: &mut W) ->
     let mut reads = u64::MAX;
     while reads > 0 {
         if input.read_more(reader)? == 0 {
-            return answer_last(filter, &mut place, &mut gathered, writer, input.as_bytes());
+            return answer_last(&filter, &mut place, &mut gathered, writer, input.as_bytes());
         }
-        let left = answer_lines(filter, &mut place, &mut gathered, writer, input.as_bytes())?;
+        let left = answer_lines(&filter, &mut place, &mut gathered, writer, input.as_bytes())?;
         input.keep_last(left);
         let_go(&mut input, &mut place);
         flush(&mut gathered, writer)?;
@@ -53,7 +53,7 @@ pub fn run<R: Read, W: Write>(filter: Filter, reader: &mut R, writer: &mut W) ->
 
 /// Answers the lines that end within the bytes, and returns how many bytes come after them.
 fn answer_lines<W: Write>(
-    filter: Filter,
+    filter: &Filter,
     place: &mut Place,
     gathered: &mut Gathered,
     writer: &mut W,
@@ -61,19 +61,19 @@ fn answer_lines<W: Write>(
 ) -> Result<usize, Fault>
     ensures within { IfOk result (λ left. left ≤ length bytes.now) }
     ensures no_end { IfOk result (λ left. NoEnd (drop (length bytes.now - left) bytes.now)) }
-    ensures ok { IfOk result (λ left. Advances (IsAllowed filter) (W.contents writer.old) (W.contents writer.new) gathered.old gathered.new
+    ensures ok { IfOk result (λ left. Advances (IsAllowed filter.now) (W.contents writer.old) (W.contents writer.new) gathered.old gathered.new
         bytes.now (drop (length bytes.now - left) bytes.now) place.old place.new) }
     ensures write { (IsErrOf result Fault.Write ⊎ IsErrOf result Fault.Closed)
-        → FailsFrom filter (W.contents writer.old) (W.contents writer.new) gathered.old bytes.now place.old }
+        → FailsFrom filter.now (W.contents writer.old) (W.contents writer.new) gathered.old bytes.now place.old }
     ensures unanswered { (number : ℕ) → IsErrOf result (Fault.Unanswered number)
-        → StopsFrom filter number (W.contents writer.old) (W.contents writer.new) gathered.old bytes.now place.old }
+        → StopsFrom filter.now number (W.contents writer.old) (W.contents writer.new) gathered.old bytes.now place.old }
     ensures no_read { IsErrOf result Fault.Read → ⊥ }
 {
     let mut rest = bytes;
     while let Some((line, after)) = first_line(rest) {
         make_room(gathered, writer)?;
         if !push_reply(gathered, filter, place.is_long, line) {
-            return stop(place, gathered, writer);
+            return Err(stop(place, gathered, writer));
         }
         place.number = place.number.saturating_add(1);
         place.is_long = false;
@@ -82,21 +82,23 @@ fn answer_lines<W: Write>(
     Ok(rest.len())
 }
 
-/// Ends a strict run at a line without an answer: what was answered before goes out.
-fn stop<W: Write>(
-    place: &Place,
-    gathered: &Gathered,
-    writer: &mut W,
-) -> Result<usize, Fault>
-    ensures err { OnErr result ⊤ }
+/// Lets what was answered before a line without an answer go out, and tells the number of this line.
+fn stop<W: Write>(place: &Place, gathered: &Gathered, writer: &mut W) -> Fault
+    ensures write { ((result ≡ Fault.Write) ⊎ (result ≡ Fault.Closed))
+        → AppendsFront (W.contents writer.old) (W.contents writer.new) gathered.now }
+    ensures unanswered { (number : ℕ) → result ≡ Fault.Unanswered number → (number ≡ counted (place.now.number + 1))
+        × Appends (W.contents writer.old) (W.contents writer.new) gathered.now }
+    ensures no_read { result ≡ Fault.Read → ⊥ }
 {
-    write_all(writer, gathered.as_bytes())?;
-    Err(Fault::Unanswered(place.number.saturating_add(1)))
+    match write_all(writer, gathered.as_bytes()) {
+        Ok(()) => Fault::Unanswered(place.number.saturating_add(1)),
+        Err(fault) => fault,
+    }
 }
 
 /// Answers the last line where it does not end, and lets the answers go out.
 fn answer_last<W: Write>(
-    filter: Filter,
+    filter: &Filter,
     place: &mut Place,
     gathered: &mut Gathered,
     writer: &mut W,
@@ -104,11 +106,11 @@ fn answer_last<W: Write>(
 ) -> Result<(), Fault>
     requires no_end { NoEnd line.now }
     requires none { gathered.old ≡ [] }
-    ensures ok { OnOk result (EndsFrom filter (W.contents writer.old) (W.contents writer.new) [] line.now place.old) }
+    ensures ok { OnOk result (EndsFrom filter.now (W.contents writer.old) (W.contents writer.new) [] line.now place.old) }
     ensures write { (IsErrOf result Fault.Write ⊎ IsErrOf result Fault.Closed)
-        → FailsFrom filter (W.contents writer.old) (W.contents writer.new) [] line.now place.old }
+        → FailsFrom filter.now (W.contents writer.old) (W.contents writer.new) [] line.now place.old }
     ensures unanswered { (number : ℕ) → IsErrOf result (Fault.Unanswered number)
-        → StopsFrom filter number (W.contents writer.old) (W.contents writer.new) [] line.now place.old }
+        → StopsFrom filter.now number (W.contents writer.old) (W.contents writer.new) [] line.now place.old }
     ensures no_read { IsErrOf result Fault.Read → ⊥ }
 {
     if line.is_empty() {
