@@ -1,5 +1,9 @@
 pub mod Parts
+pub mod Words
 pub mod Known
+pub mod Lacks
+pub mod Laters
 pub mod Texts
 pub mod Numbers
+pub mod Replied
 pub mod Steps

@@ -1,5 +1,5 @@
 -- What std's `parse` says, in the words of the definition of a number.
-use Rattle.std.proofs.Common.{◌≡◌, ℕ, suc, zero, ◌<◌, Bool, true, false, cond, eqb, List, [], ◌∷◌, ℤ, pos, negsuc, Option, Some, None, Result, Ok, Err, refl, sym, ap, ◌∙◌, arith, inl, inr, Decides, ◌&&◌}
+use Rattle.std.proofs.Common.{◌≡◌, ℕ, suc, zero, ◌<◌, Bool, true, false, cond, eqb, List, [], ◌∷◌, ℤ, pos, negsuc, Option, Some, None, Result, Ok, Err, refl, sym, ap, ◌∙◌, arith, inl, inr, Decides, ◌&&◌, subst}
 use Rattle.std.specs.Prelude.{int_le, nat_lt, length, FitsSigned, IsUtf8, IsAscii}
 use Rattle.std.specs.Int.{w64}
 use Rattle.std.specs.Result.{OkIff, result_ok}
@@ -8,6 +8,7 @@ use Rattle.std.specs.Str.Parse.{IsNumeral, ParsesSigned, digits_value, signed_di
 use Rattle.std.proofs.lemmas.Bool.{cases_Bool, false≢true, eqb-true}
 use Rattle.std.proofs.lemmas.Bool.Decides.{nat_tests}
 use Rattle.std.proofs.lemmas.Fmt.{IsAscii-from_digits}
+use Rattle.std.proofs.lemmas.Option.{cond_some}
 use Rattle.std.proofs.lemmas.Str.{IsUtf8-from_ascii, IsAscii-append}
 use Rattle.std.proofs.lemmas.Str.Parse.{IsNumeralModel, numerals_by_value, tells_all_ascii_digits}
 use Rattle.caldate.specs.Requests.{is_number, number_of}
@@ -22,7 +23,7 @@ none_where (Ok x) P v h n = absurd (n h.0)
 none_where (Err e) P v h n = refl
 
 -- a guarded value
-guard_yes : {A : Type 0} (b : Bool) (x : A) → b ≡ true → cond b (Some x) None ≡ Some x
+pub guard_yes : {A : Type 0} (b : Bool) (x : A) → b ≡ true → cond b (Some x) None ≡ Some x
 guard_yes true x e = refl
 guard_yes false x e = absurd (false≢true e)
 
@@ -42,7 +43,7 @@ digits : IsNumeralModel (λ ds. all_ascii_digits ds ≡ true) (digits_value 10)
 digits = numerals_by_value _ tells_all_ascii_digits
 
 -- ---- the test of a number
-fits : (z : ℤ) → Decides (int_le (negsuc 9223372036854775807) z && int_le z (pos 9223372036854775807)) (FitsSigned w64 z)
+pub fits : (z : ℤ) → Decides (int_le (negsuc 9223372036854775807) z && int_le z (pos 9223372036854775807)) (FitsSigned w64 z)
 fits (pos n) = (λ e. record { sfits = grind (arith, nat_tests) }, λ f. grind (arith, nat_tests))
 fits (negsuc n) = (λ e. record { sfits = grind (arith, nat_tests) }, λ f. grind (arith, nat_tests))
 
@@ -91,3 +92,7 @@ not_text bs t = elim (cases_Bool (is_number bs)) [
   | inl e ↦ absurd (t (numeral_is_text bs (number-yes bs e).0))
   | inr e ↦ sym (guard_no _ _ e)
 ]
+
+-- ---- and it fits 64 bits
+pub number_fits : (bs : List ℕ) (z : ℤ) → Some z ≡ number_of bs → FitsSigned w64 z
+number_fits bs z e = let s = cond_some _ _ _ (sym e) in subst (FitsSigned w64) s.1 (number-yes bs s.0).1

@@ -1,7 +1,67 @@
 -- Numbers and durations that are put in place piece by piece.
-use Rattle.std.proofs.Common.{◌≡◌, ℕ, ◌/◌, ◌%◌, ◌^◌, ◌+◌, ◌<◌, ◌≤◌, List, [], ◌∷◌, ◌++◌, length, decimal, sym, ap, ◌∙◌, arith, append_assoc, lit<}
+use Rattle.std.proofs.Common.{◌≡◌, ℕ, ◌/◌, ◌%◌, ◌^◌, ◌+◌, ◌*◌, ◌<◌, ◌≤◌, List, ◌∷◌, ◌++◌, codes, length, decimal, sym, ap, ◌∙◌, subst, inl, inr, arith, append_assoc, lit<, ℤ, pos, negsuc, ◌-ℤ◌, unsigned_abs, to_z, of_z, w32, FitsSigned}
+use Rattle.std.proofs.lemmas.Int.{ints, to_z-of_z}
+use Rattle.cal_time.specs.Date.{IsDate, julian_day_at}
 use Rattle.std.proofs.lemmas.Fmt.{length-decimal-le}
+use Rattle.cal_time.specs.Month.{month_out_of_range}
+use Rattle.cal_time.specs.Refusal.{Refusal}
+use Rattle.cal_time.specs.Refusals.{julian_day_out_of_range, year_out_of_range, day_out_of_range, ordinal_out_of_range, week_out_of_range, weekday_out_of_range}
+use Rattle.cal_time.specs.SignedDuration.{second, part, parts_text}
+use Rattle.cal_time.specs.Time.{hour_out_of_range, minute_out_of_range, second_out_of_range}
+use Rattle.cal_time.specs.UtcOffset.{offset_hour_out_of_range, offset_minute_out_of_range}
+use Rattle.cal_span.proofs.Text.{parts_text-fields}
+use Rattle.cal_text.specs.AnyForm.{IsFault}
+use Rattle.cal_text.specs.UnixText.{timestamp_out_of_range}
 
 -- no number of 64 bits has more than 20 digits
 pub few_digits : (n : ℕ) → n < 2 ^ 64 → length (decimal n) ≤ 20
 few_digits n small = length-decimal-le 20 n (lit< tt) (omega (arith, small)) small
+
+-- the parts of a duration up to the second, and those past it
+pub duration_parts : (a b c : List ℕ) (s n : ℕ) → n < second
+    → b ≡ a ++ part (s / 86400) (codes "d") ++ part (s % 86400 / 3600) (codes "h") ++ part (s % 86400 / 60 % 60) (codes "m") ++ part (s % 86400 % 60) (codes "s")
+    → c ≡ b ++ part (n / 1000000) (codes "ms") ++ part (n / 1000 % 1000) (0xc2 ∷ 0xb5 ∷ codes "s") ++ part (n % 1000) (codes "ns")
+    → c ≡ a ++ parts_text (s * second + n)
+duration_parts a b c s n below p q =
+    q ∙ ap (λ front. front ++ part (n / 1000000) (codes "ms") ++ part (n / 1000 % 1000) (0xc2 ∷ 0xb5 ∷ codes "s") ++ part (n % 1000) (codes "ns")) p
+    ∙ seven a (part (s / 86400) (codes "d")) (part (s % 86400 / 3600) (codes "h")) (part (s % 86400 / 60 % 60) (codes "m")) (part (s % 86400 % 60) (codes "s"))
+        (part (n / 1000000) (codes "ms")) (part (n / 1000 % 1000) (0xc2 ∷ 0xb5 ∷ codes "s")) (part (n % 1000) (codes "ns"))
+    ∙ ap (λ text. a ++ text) (parts_text-fields s n below)
+    where
+      seven : (a d h m s x y z : List ℕ) → a ++ d ++ h ++ m ++ s ++ x ++ y ++ z ≡ a ++ (d ++ (h ++ (m ++ (s ++ (x ++ (y ++ z))))))
+      seven a d h m s x y z = simp append_assoc
+
+-- the days between two days of the range, as 32 bits count them
+small : (z : ℤ) → unsigned_abs z < 2000000000 → FitsSigned w32 z
+small (pos n) h = record { sfits = grind (arith, ints) }
+small (negsuc n) h = record { sfits = grind (arith, ints) }
+
+pub days_between : (n m : ℕ) (a b : ℤ) → IsDate n → IsDate m → a ≡ julian_day_at n → b ≡ julian_day_at m
+    → to_z w32 (of_z w32 (to_z w32 (of_z w32 a) -ℤ to_z w32 (of_z w32 b))) ≡ julian_day_at n -ℤ julian_day_at m
+days_between n m a b d e p q =
+    let x : to_z w32 (of_z w32 a) ≡ julian_day_at n = ap (λ z. to_z w32 (of_z w32 z)) p ∙ to_z-of_z w32 (julian_day_at n) (small (julian_day_at n) (omega (arith, ints, d))) in
+    let y : to_z w32 (of_z w32 b) ≡ julian_day_at m = ap (λ z. to_z w32 (of_z w32 z)) q ∙ to_z-of_z w32 (julian_day_at m) (small (julian_day_at m) (omega (arith, ints, e))) in
+    ap (λ z. to_z w32 (of_z w32 (z -ℤ to_z w32 (of_z w32 b)))) x ∙ ap (λ z. to_z w32 (of_z w32 (julian_day_at n -ℤ z))) y
+    ∙ to_z-of_z w32 (julian_day_at n -ℤ julian_day_at m) (small (julian_day_at n -ℤ julian_day_at m) (omega (arith, ints, d, e)))
+
+-- ---- the names of refusals
+same : (why other : Refusal) → length other.name ≤ 16 → why ≡ other → length why.name ≤ 16
+same why other few e = subst (λ (w : Refusal). length w.name ≤ 16) (sym e) few
+
+-- none has more than 16 bytes
+pub short_name : (bytes : List ℕ) (why : Refusal) → IsFault bytes why → length why.name ≤ 16
+short_name bytes why (inl (inl h)) = same why month_out_of_range (omega arith) h.0
+short_name bytes why (inl (inr (inl h))) = same why year_out_of_range (omega arith) h.0
+short_name bytes why (inl (inr (inr (inl h)))) = same why day_out_of_range (omega arith) h.0
+short_name bytes why (inl (inr (inr (inr (inl h))))) = same why ordinal_out_of_range (omega arith) h.0
+short_name bytes why (inl (inr (inr (inr (inr (inl h)))))) = same why week_out_of_range (omega arith) h.0
+short_name bytes why (inl (inr (inr (inr (inr (inr h)))))) = same why weekday_out_of_range (omega arith) h.0
+short_name bytes why (inr (inl h)) = same why julian_day_out_of_range (omega arith) h.0
+short_name bytes why (inr (inr (inl (inl h)))) = same why month_out_of_range (omega arith) h.0
+short_name bytes why (inr (inr (inl (inr (inl h))))) = same why day_out_of_range (omega arith) h.0
+short_name bytes why (inr (inr (inl (inr (inr (inl h)))))) = same why hour_out_of_range (omega arith) h.0
+short_name bytes why (inr (inr (inl (inr (inr (inr (inl h))))))) = same why minute_out_of_range (omega arith) h.0
+short_name bytes why (inr (inr (inl (inr (inr (inr (inr (inl h)))))))) = same why second_out_of_range (omega arith) h.0
+short_name bytes why (inr (inr (inl (inr (inr (inr (inr (inr (inl h))))))))) = same why offset_hour_out_of_range (omega arith) h.0
+short_name bytes why (inr (inr (inl (inr (inr (inr (inr (inr (inr h))))))))) = same why offset_minute_out_of_range (omega arith) h.0
+short_name bytes why (inr (inr (inr h))) = same why timestamp_out_of_range (omega arith) h.0

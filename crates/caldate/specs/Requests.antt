@@ -65,19 +65,19 @@ weekday_of word =
     None
 
 -- so many seconds as a duration, where they are one
-abbrev pub seconds_in : ℤ → ℤ → Option ℤ
+abbrev pub seconds_in : ℕ → ℤ → Option ℤ
 seconds_in unit amount =
-    let seconds = amount *ℤ unit in
+    let seconds = amount *ℤ pos unit in
     if int_le (neg_ℤ (pos 9223372036854775808)) seconds && int_le seconds (pos 9223372036854775807) then Some (seconds *ℤ pos second) else None
 
 -- the seconds of a unit
-abbrev pub unit_of : List ℕ → Option ℤ
+abbrev pub unit_of : List ℕ → Option ℕ
 unit_of word =
-    if bytes_eq word (codes "days") then Some (pos 86400) else
-    if bytes_eq word (codes "weeks") then Some (pos 604800) else
-    if bytes_eq word (codes "hours") then Some (pos 3600) else
-    if bytes_eq word (codes "minutes") then Some (pos 60) else
-    if bytes_eq word (codes "seconds") then Some (pos 1) else
+    if bytes_eq word (codes "days") then Some 86400 else
+    if bytes_eq word (codes "weeks") then Some 604800 else
+    if bytes_eq word (codes "hours") then Some 3600 else
+    if bytes_eq word (codes "minutes") then Some 60 else
+    if bytes_eq word (codes "seconds") then Some 1 else
     None
 
 -- ---- requests
@@ -87,11 +87,11 @@ to_request (form ∷ []) = option_map To (form_of form)
 to_request words = None
 
 -- `add N`, in days, and `add N UNIT`
-abbrev pub amount_in : List ℕ → ℤ → Option Request
+abbrev pub amount_in : List ℕ → ℕ → Option Request
 amount_in number unit = option_map Add (option_and_then (seconds_in unit) (number_of number))
 
 abbrev pub add_request : List (List ℕ) → Option Request
-add_request (number ∷ []) = amount_in number (pos 86400)
+add_request (number ∷ []) = amount_in number 86400
 add_request (number ∷ unit ∷ []) = option_and_then (amount_in number) (unit_of unit)
 add_request words = None
 
@@ -111,14 +111,14 @@ until_request reading (text ∷ []) = option_map Until (reading text)
 until_request reading words = None
 
 abbrev pub request_of : (List ℕ → Option DateOrMoment) → List (List ℕ) → Option Request
-request_of reading (verb ∷ word ∷ words) =
-    if bytes_eq verb (codes "to") then to_request (word ∷ words) else
-    if bytes_eq verb (codes "add") then add_request (word ∷ words) else
-    if bytes_eq verb (codes "next") then occurrence_request Next (word ∷ words) else
-    if bytes_eq verb (codes "last") then occurrence_request Last (word ∷ words) else
-    if bytes_eq verb (codes "until") then until_request reading (word ∷ words) else
+request_of reading [] = None
+request_of reading (verb ∷ words) =
+    if bytes_eq verb (codes "to") then to_request words else
+    if bytes_eq verb (codes "add") then add_request words else
+    if bytes_eq verb (codes "next") then occurrence_request Next words else
+    if bytes_eq verb (codes "last") then occurrence_request Last words else
+    if bytes_eq verb (codes "until") then until_request reading words else
     None
-request_of reading words = None
 
 -- ---- the whole: `--help`, `--version`, or a request, perhaps after `--strict`
 abbrev pub filter_of : Bool → Option Request → Option Asked

@@ -1,5 +1,5 @@
 //! What the text of a line is answered.
-ghost use Rattle.std.specs.Prelude.{◌≡◌, ◌+◌, ◌*◌, ◌<◌, ◌≤◌, ◌++◌, ℕ, List, Some, false, codes, length, unsigned_abs, IsTrue, MatchOption};
+ghost use Rattle.std.specs.Prelude.{◌≡◌, ◌+◌, ◌*◌, ◌<◌, ◌≤◌, ◌++◌, ℕ, List, Some, false, true, codes, length, unsigned_abs, MatchOption};
 ghost use Rattle.cal_time.specs.Refusal.{Refusal, refusal};
 ghost use Rattle.cal_time.specs.SignedDuration.{second};
 ghost use Rattle.cal_text.specs.Reading.{component_of};
@@ -22,7 +22,7 @@ const LONGEST_TEXT: usize = 4096;
 /// Gathers the answer to a text, or the words that say why it has none, and returns whether it has one.
 pub fn push_answer(gathered: &mut Gathered, request: &Request, text: &[u8]) -> bool
     requires { HasRoom longest_answer gathered.old }
-    ensures has { IsTrue result → AppendsThat (HasAnswer request.now text.now) gathered.old gathered.new }
+    ensures has { result ≡ true → AppendsThat (HasAnswer request.now text.now) gathered.old gathered.new }
     ensures lacks { result ≡ false → AppendsThat (LacksAnswer request.now text.now) gathered.old gathered.new }
     ensures short { length gathered.new ≤ length gathered.old + longest_answer }
 {
@@ -72,7 +72,7 @@ fn push_refusal(gathered: &mut Gathered, error: ComponentRange)
 /// Gathers what the request answers for this date or this moment, or `none`, and returns whether there is an answer.
 fn push_answer_to(gathered: &mut Gathered, request: &Request, found: &DateOrMoment) -> bool
     requires { HasRoom longest_answer gathered.old }
-    ensures has { IsTrue result → AppendsThat (IsAnswerTo request.now found.now) gathered.old gathered.new }
+    ensures has { result ≡ true → AppendsThat (IsAnswerTo request.now found.now) gathered.old gathered.new }
     ensures none { result ≡ false → (gathered.new ≡ gathered.old ++ codes "none") × ((words : List ℕ) → ¬ IsAnswerTo request.now found.now words) }
     ensures short { length gathered.new ≤ length gathered.old + longest_answer }
 {
@@ -128,7 +128,7 @@ fn parts_of(found: &DateOrMoment) -> (Date, Time, UtcOffset)
 /// Gathers a day, a time of day and an offset in the form, and returns whether it has a text of them.
 fn push_in_form(gathered: &mut Gathered, form: Form, date: Date, time: Time, offset: UtcOffset) -> bool
     requires { HasRoom longest_answer gathered.old }
-    ensures has { IsTrue result → AppendsThat (IsInForm form date time offset) gathered.old gathered.new }
+    ensures has { result ≡ true → AppendsThat (IsInForm form date time offset) gathered.old gathered.new }
     ensures none { result ≡ false → (gathered.new ≡ gathered.old ++ codes "none") × ((words : List ℕ) → ¬ IsInForm form date time offset words) }
     ensures short { length gathered.new ≤ length gathered.old + longest_answer }
 {
@@ -150,7 +150,7 @@ fn push_in_form(gathered: &mut Gathered, form: Form, date: Date, time: Time, off
 /// Gathers a day and a time of day in the form, and at the offset, of what was read, and returns whether it has a text of them.
 fn push_alike(gathered: &mut Gathered, found: &DateOrMoment, date: Date, time: Time) -> bool
     requires { HasRoom longest_answer gathered.old }
-    ensures has { IsTrue result → AppendsThat (IsAlike found.now date time) gathered.old gathered.new }
+    ensures has { result ≡ true → AppendsThat (IsAlike found.now date time) gathered.old gathered.new }
     ensures none { result ≡ false → (gathered.new ≡ gathered.old ++ codes "none") × ((words : List ℕ) → ¬ IsAlike found.now date time words) }
     ensures short { length gathered.new ≤ length gathered.old + longest_answer }
 {

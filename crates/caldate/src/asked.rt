@@ -11,7 +11,7 @@ use cal_time::{SignedDuration, Weekday};
 use std::str;
 
 /// The seconds of the unit that is meant where none is named.
-const SECONDS_PER_DAY: i64 = 86_400;
+const SECONDS_PER_DAY: u32 = 86_400;
 
 /// What the arguments ask for, or `None` where they make no sense. Between them stands a zero byte.
 pub fn asked_of(arguments: &[u8]) -> Option<Asked>
@@ -49,6 +49,7 @@ fn filter_of(is_strict: bool, request: Option<Request>) -> Option<Asked>
 }
 
 /// The request of a verb and what comes after it.
+#[tactic(auto, using(crate::proofs::Words::one_word))]
 fn request_of(words: &[u8]) -> Option<Request>
     ensures { (reading : List ℕ → Option DateOrMoment) → IsReading reading → result ≡ request_of reading (arguments_of words.now) }
 {
@@ -84,10 +85,10 @@ fn add_request(words: &[u8]) -> Option<Request>
 }
 
 /// That many units later, each of so many seconds.
-fn amount_in(number: &[u8], unit: i64) -> Option<Request>
+fn amount_in(number: &[u8], unit: u32) -> Option<Request>
     ensures { result ≡ amount_in number.now unit }
 {
-    let seconds = number_of(number)?.checked_mul(unit)?;
+    let seconds = number_of(number)?.checked_mul(i64::from(unit))?;
     Some(Request::Add(SignedDuration::seconds(seconds)))
 }
 
@@ -191,7 +192,7 @@ fn weekday_of(word: &[u8]) -> Option<Weekday>
 }
 
 /// The seconds of a unit of time.
-fn unit_of(word: &[u8]) -> Option<i64>
+fn unit_of(word: &[u8]) -> Option<u32>
     ensures { result ≡ unit_of word.now }
 {
     if word == b"days".as_slice() {

@@ -75,7 +75,8 @@ impl Input {
         requires { count ≤ length self.old }
         ensures { self.new ≡ drop (length self.old - count) self.old }
     {
-        self.bytes.copy_within(self.filled - count..self.filled, 0);
+        let gone = self.filled - count;
+        self.bytes[..self.filled].rotate_left(gone);
         self.filled = count;
     }
 }

@@ -1,5 +1,5 @@
 //! The reply to a line.
-ghost use Rattle.std.specs.Prelude.{◌≡◌, ◌+◌, ◌≤◌, ◌++◌, ℕ, List, false, true, length, IsTrue};
+ghost use Rattle.std.specs.Prelude.{◌≡◌, ◌+◌, ◌≤◌, ◌++◌, ℕ, List, false, true, length};
 ghost use Rattle.caldate.specs.Answers.{LacksAnswer};
 ghost use Rattle.caldate.specs.Lines.{text_of, end_of};
 ghost use Rattle.caldate.specs.Room.{HasRoom, longest_reply};
@@ -8,20 +8,20 @@ ghost use Rattle.caldate.specs.Standing.{IsHeld, IsReply};
 
 use crate::answer::push_answer;
 use crate::gathered::Gathered;
-use crate::lines::text_of;
+use crate::lines::text_and_end;
 use crate::request::Filter;
 
 /// Gathers the reply to a line, of which a front may have been let go as the line is too long. In a strict run it gathers nothing
 /// for a line that has no answer, and returns false.
 pub fn push_reply(gathered: &mut Gathered, filter: &Filter, is_long: bool, line: &[u8]) -> bool
     requires { HasRoom longest_reply gathered.old }
-    ensures replied { IsTrue result → ((kept : List ℕ) → IsHeld is_long kept line.now
+    ensures replied { result ≡ true → ((kept : List ℕ) → IsHeld is_long kept line.now
         → AppendsThat (IsReply (IsAllowed filter.now) (kept ++ line.now)) gathered.old gathered.new) }
     ensures stopped { result ≡ false → (filter.now.is_strict ≡ true) × (gathered.new ≡ gathered.old)
         × ((kept : List ℕ) → IsHeld is_long kept line.now → ((words : List ℕ) × LacksAnswer filter.now.request (text_of (kept ++ line.now)) words)) }
 {
     let before = gathered.len();
-    let (text, has_return) = text_of(line);
+    let (text, end) = text_and_end(line);
     let has_answer = if is_long {
         gathered.push(b"line too long");
         false
@@ -32,6 +32,6 @@ pub fn push_reply(gathered: &mut Gathered, filter: &Filter, is_long: bool, line:
         gathered.truncate(before);
         return false;
     }
-    gathered.push(if has_return { b"\r\n".as_slice() } else { b"\n".as_slice() });
+    gathered.push(end);
     true
 }

@@ -1,0 +1,13 @@
+use Rattle.std.proofs.Common.{◌∙◌, ◌++◌, decimal, ap, sym, append_assoc, codes}
+use Rattle.cal_text.specs.Reading.{component_of}
+use Rattle.caldate.specs.Answers.{why_text}
+use Rattle.caldate.proofs.answer.push_why.Goals as goal
+
+pub push_refusal-requires-clause-short_name : goal.push_refusal-requires-clause-short_name
+push_refusal-requires-clause-short_name c = c.requires.named _ (ap component_of c.in-OutOfRange.is)
+
+pub returns-in-UnexpectedByte-clause-text : goal.returns-in-UnexpectedByte-clause-text
+returns-in-UnexpectedByte-clause-text c =
+    c.push_decimal.ensures.text ∙ ap (λ front. front ++ decimal c.in-UnexpectedByte.place) c.push.ensures.appended
+    ∙ append_assoc c.args.gathered.now (codes "unreadable at ") (decimal c.in-UnexpectedByte.place)
+    ∙ ap (λ error. c.args.gathered.now ++ why_text error) (sym c.in-UnexpectedByte.is)

@@ -1,0 +1,65 @@
+use Rattle.std.proofs.Common.{◌≡◌, ◌∙◌, ◌++◌, List, ℕ, Bool, true, false, sym, ap, subst, inl, inr}
+use Rattle.std.proofs.lemmas.Bool.{cases_Bool, false≢true}
+use Rattle.caldate.specs.Answers.{HasAnswer, LacksAnswer}
+use Rattle.caldate.specs.Lines.{text_of}
+use Rattle.caldate.specs.Runs.{AppendsThat, IsAllowed}
+use Rattle.caldate.specs.Standing.{IsHeld}
+use Rattle.caldate.proofs.Replied.{lacks_long, of_whole, has_allowed, lacks_allowed, replied, taken_back}
+use Rattle.caldate.proofs.reply.push_reply.Goals as goal
+use Rattle.caldate.proofs.reply.push_reply.Goals.{then-is_long, else-is_long, else-filter-via-then-filter+else-not-has_answer, else-filter-via-else-filter}
+
+pub returns-then-not-has_answer-clause-stopped : goal.returns-then-not-has_answer-clause-stopped
+returns-then-not-has_answer-clause-stopped c = λ no.
+    let q = c.args.filter.now.request in
+    let line = c.args.line.now in
+    let old = c.args.gathered.now in
+    let mid = c.if-is_long.gathered in
+    let lacks : (kept : List ℕ) → IsHeld c.args.is_long kept line → AppendsThat (LacksAnswer q (text_of (kept ++ line))) old mid = λ kept held.
+    elim c.if-is_long.branch as (λ _. AppendsThat (LacksAnswer q (text_of (kept ++ line))) old mid) [
+      | then-is_long w ↦
+          lacks_long q kept line old mid (subst (λ b. IsHeld b kept line) w.if-is_long.true held) (w.gathered-is ∙ w.push.ensures.appended)
+      | else-is_long w ↦
+          of_whole (LacksAnswer q) kept line _ old mid (subst (λ b. IsHeld b kept line) w.if-is_long.false held) c.text_and_end-text.ensures.text
+          (subst (AppendsThat (LacksAnswer q c.text_and_end-text.result.0.now) old) (sym w.gathered-is)
+          (w.push_answer-has_answer.ensures.lacks (sym w.has_answer-is ∙ c.if-not-has_answer.true)))
+    ] in
+    let back : c.truncate.new.self ≡ old = elim c.if-is_long.branch as (λ _. c.truncate.new.self ≡ old) [
+      | then-is_long w ↦ taken_back old mid _ _ _ c.len-before.ensures (w.gathered-is ∙ w.push.ensures.appended) c.truncate.ensures
+      | else-is_long w ↦
+          let words = w.push_answer-has_answer.ensures.lacks (sym w.has_answer-is ∙ c.if-not-has_answer.true) in
+          taken_back old mid _ words.0 _ c.len-before.ensures (w.gathered-is ∙ words.1) c.truncate.ensures
+    ] in
+    (c.if-filter.true, back, λ kept held. let words = lacks kept held in (words.0, words.2))
+
+pub returns-clause-replied : goal.returns-clause-replied
+returns-clause-replied c = λ yes kept held.
+    let filter = c.args.filter.now in
+    let q = filter.request in
+    let line = c.args.line.now in
+    let old = c.args.gathered.now in
+    let mid = c.if-is_long.gathered in
+    let said : AppendsThat (IsAllowed filter (text_of (kept ++ line))) old mid =
+    elim c.if-is_long.branch as (λ _. AppendsThat (IsAllowed filter (text_of (kept ++ line))) old mid) [
+      | then-is_long w ↦
+          let lacks = lacks_long q kept line old mid (subst (λ b. IsHeld b kept line) w.if-is_long.true held) (w.gathered-is ∙ w.push.ensures.appended) in
+          elim c.else-filter.branch as (λ _. AppendsThat (IsAllowed filter (text_of (kept ++ line))) old mid) [
+            | else-filter-via-then-filter+else-not-has_answer v ↦ absurd (false≢true (sym w.has_answer-is ∙ v.if-not-has_answer.false))
+            | else-filter-via-else-filter v ↦ lacks_allowed filter (text_of (kept ++ line)) old mid v.if-filter.false lacks
+          ]
+      | else-is_long w ↦
+          let short = subst (λ b. IsHeld b kept line) w.if-is_long.false held in
+          let text = c.text_and_end-text.result.0.now in
+          let same = c.text_and_end-text.ensures.text in
+          let has : w.push_answer-has_answer.result ≡ true → AppendsThat (IsAllowed filter (text_of (kept ++ line))) old mid = λ e.
+          of_whole (IsAllowed filter) kept line text old mid short same
+          (subst (AppendsThat (IsAllowed filter text) old) (sym w.gathered-is) (has_allowed filter text old _ (w.push_answer-has_answer.ensures.has e))) in
+          elim c.else-filter.branch as (λ _. AppendsThat (IsAllowed filter (text_of (kept ++ line))) old mid) [
+            | else-filter-via-then-filter+else-not-has_answer v ↦ has (sym w.has_answer-is ∙ v.if-not-has_answer.false)
+            | else-filter-via-else-filter v ↦ elim (cases_Bool w.push_answer-has_answer.result) [
+              | inl e ↦ has e
+              | inr e ↦ of_whole (IsAllowed filter) kept line text old mid short same
+                  (subst (AppendsThat (IsAllowed filter text) old) (sym w.gathered-is) (lacks_allowed filter text old _ v.if-filter.false (w.push_answer-has_answer.ensures.lacks e)))
+            ]
+          ]
+    ] in
+    replied filter c.args.is_long kept line old mid _ _ held said c.text_and_end-text.ensures.end c.push-2.ensures.appended
