@@ -19,8 +19,8 @@ returns-then-not-has_answer-clause-stopped c = λ no.
       | then-is_long w ↦
           lacks_long q kept line old mid (subst (λ b. IsHeld b kept line) w.if-is_long.true held) (w.gathered-is ∙ w.push.ensures.appended)
       | else-is_long w ↦
-          of_whole (LacksAnswer q) kept line _ old mid (subst (λ b. IsHeld b kept line) w.if-is_long.false held) c.text_and_end-text.ensures.text
-          (subst (AppendsThat (LacksAnswer q c.text_and_end-text.result.0.now) old) (sym w.gathered-is)
+          of_whole (LacksAnswer q) kept line _ old mid (subst (λ b. IsHeld b kept line) w.if-is_long.false held) c.text_and_end.ensures.text
+          (subst (AppendsThat (LacksAnswer q c.text_and_end.result.0.now) old) (sym w.gathered-is)
           (w.push_answer-has_answer.ensures.lacks (sym w.has_answer-is ∙ c.if-not-has_answer.true)))
     ] in
     let back : c.truncate.new.self ≡ old = elim c.if-is_long.branch as (λ _. c.truncate.new.self ≡ old) [
@@ -48,8 +48,8 @@ returns-clause-replied c = λ yes kept held.
           ]
       | else-is_long w ↦
           let short = subst (λ b. IsHeld b kept line) w.if-is_long.false held in
-          let text = c.text_and_end-text.result.0.now in
-          let same = c.text_and_end-text.ensures.text in
+          let text = c.text_and_end.result.0.now in
+          let same = c.text_and_end.ensures.text in
           let has : w.push_answer-has_answer.result ≡ true → AppendsThat (IsAllowed filter (text_of (kept ++ line))) old mid = λ e.
           of_whole (IsAllowed filter) kept line text old mid short same
           (subst (AppendsThat (IsAllowed filter text) old) (sym w.gathered-is) (has_allowed filter text old _ (w.push_answer-has_answer.ensures.has e))) in
@@ -62,4 +62,4 @@ returns-clause-replied c = λ yes kept held.
             ]
           ]
     ] in
-    replied filter c.args.is_long kept line old mid _ _ held said c.text_and_end-text.ensures.end c.push-2.ensures.appended
+    replied filter c.args.is_long kept line old mid _ _ held said c.text_and_end.ensures.end c.push-2.ensures.appended

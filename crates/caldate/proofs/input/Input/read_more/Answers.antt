@@ -1,4 +1,4 @@
-use Rattle.std.proofs.Common.{◌≡◌, ◌∙◌, ◌-◌, ◌≤◌, ◌++◌, length, rules, ap, sym}
+use Rattle.std.proofs.Common.{◌≡◌, ◌∙◌, ◌-◌, ◌≤◌, ◌++◌, length, rules, ap}
 use Rattle.caldate.specs.Runs.{HasRead}
 use Rattle.caldate.proofs.Known.{given_more}
 use Rattle.caldate.proofs.input.Input.read_more.Goals as goal
@@ -7,4 +7,4 @@ pub returns-clause-given : goal.returns-clause-given
 returns-clause-given g c =
     let within : c.self.inside.filled ≤ length c.self.inside.bytes = search rules in
     let read = given_more _ _ c.self.inside.filled (65536 - c.self.inside.filled) c.in_ok-count.count c.self.inside.bytes c.read_some.new.buffer within c.in_ok-count.ensures.bound.0 c.in_ok-count.ensures.bytes.0 in
-    (read.0, read.1, read.2 ∙ ap (λ old. old ++ read.0) (sym c.self.view_is))
+    (read.0, read.1, read.2 ∙ ap (λ old. old ++ read.0) c.self.view_is)

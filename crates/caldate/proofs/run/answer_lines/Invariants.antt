@@ -1,0 +1,13 @@
+use Rattle.std.proofs.Common.{◌≡◌, ◌++◌, ℕ, List, length}
+use Rattle.caldate.specs.Runs.{IsAllowed}
+use Rattle.caldate.specs.Standing.{Advances}
+use Rattle.caldate.proofs.run.answer_lines.Given as goal
+
+-- what is left is the end of the bytes, and the lines before it are answered
+abbrev pub invariant-loop-line : goal.invariant-loop-line
+invariant-loop-line g l =
+    ((front : List ℕ) × (l.bytes ≡ front ++ l.rest))
+    × Advances (IsAllowed l.filter) (g.W.Write.contents l.initial.writer) (g.W.Write.contents l.writer) l.initial.gathered l.gathered l.bytes l.rest l.initial.place l.place
+
+abbrev pub decreases-loop-line : goal.decreases-loop-line
+decreases-loop-line g l = length l.rest

@@ -1,0 +1,15 @@
+use Rattle.std.proofs.Common.{◌≡◌, ◌≤◌, ℕ, List, [], length}
+use Rattle.std.specs.Io.KnownBytes.{Consumes}
+use Rattle.caldate.specs.Runs.{IsAllowed}
+use Rattle.caldate.specs.Standing.{NoEnd, Stands}
+use Rattle.caldate.proofs.run.run.Given as goal
+
+-- what was read is answered, all of it went out, and no line ends in what is pending, which leaves room
+abbrev pub invariant-loop-reads : goal.invariant-loop-reads
+invariant-loop-reads g l =
+    ((input : List ℕ) × Consumes (g.R.Read.remaining l.initial.reader) (g.R.Read.remaining l.reader) input
+    × Stands (IsAllowed l.filter) input (g.W.Write.contents l.initial.writer) (g.W.Write.contents l.writer) [] l.input l.place)
+    × NoEnd l.input × (l.gathered ≡ []) × (length l.input ≤ 4097)
+
+abbrev pub decreases-loop-reads : goal.decreases-loop-reads
+decreases-loop-reads g l = l.reads
