@@ -1,5 +1,6 @@
 pub mod Parts
 pub mod Words
+pub mod Ends
 pub mod Known
 pub mod Lacks
 pub mod Laters
