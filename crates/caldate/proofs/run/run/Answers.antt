@@ -1,4 +1,5 @@
-use Rattle.std.proofs.Common.{◌≡◌, ◌++◌, ◌∙◌, ℕ, List, [], Option, length, ap, sym, subst, arith, rules, refl, ◌⊎◌, Err, false}
+use Rattle.std.proofs.Common.{◌≡◌, ◌++◌, ◌∙◌, ◌-◌, ℕ, List, [], Option, length, drop, ap, sym, subst, arith, rules, refl, Err, false, inl, inr}
+use Rattle.std.proofs.lemmas.List.{append-nil}
 use Rattle.std.specs.Prelude.{IsErrOf}
 use Rattle.std.specs.Io.KnownBytes.{Consumes, IsAtEnd}
 use Rattle.std.proofs.KnownBytes.{Consumes-nil, Consumes-trans, Consumes-kept}
@@ -7,7 +8,9 @@ use Rattle.caldate.specs.Runs.{AnswersAll, EndsFrom, Gives, HasRead, IsAllowed}
 use Rattle.caldate.specs.declared.request.Filter.{Filter}
 use Rattle.caldate.specs.Standing.{NoEnd, Stands}
 use Rattle.caldate.specs.declared.place.Place.{Place}
-use Rattle.caldate.proofs.Steps.{begun, read, failed, ended_answered}
+use Rattle.caldate.specs.declared.fault.Fault.TheVariants.{Unanswered}
+use Rattle.caldate.proofs.Ends.{same_fault, write_fault}
+use Rattle.caldate.proofs.Steps.{begun, read, gone, failed, ended_answered}
 use Rattle.caldate.proofs.run.run.Goals as goal
 
 pub loop-reads-init : goal.loop-reads-init
@@ -22,58 +25,77 @@ returns-in_err-read_more-clause-read g c = λ h.
     let inv = c.loop-reads.invariant in
     (inv.0.0, Consumes-kept _ _ _ _ inv.0.1 c.in_err-read_more.ensures.err.1, ended_answered c.args.filter inv.0.0 _ _ c.loop-reads.input c.loop-reads.place inv.1 inv.0.2)
 
+-- what stands once a read gave some bytes
+stands_read : (filter : Filter) (r0 r r' w0 w : Option (List ℕ)) (gathered pending bytes got : List ℕ) (place : Place) → gathered ≡ [] → bytes ≡ got
+    → ((input : List ℕ) × Consumes r0 r input × Stands (IsAllowed filter) input w0 w [] pending place)
+    → HasRead r r' pending got
+    → (input : List ℕ) × Consumes r0 r' input × Stands (IsAllowed filter) input w0 w gathered bytes place
+stands_read filter r0 r r' w0 w gathered pending bytes got place none same s given =
+    let all = read (IsAllowed filter) s.0 given.0 w0 w [] pending place s.2 in
+    let all = subst (λ (p : List ℕ). Stands (IsAllowed filter) (s.0 ++ given.0) w0 w [] p place) (sym (same ∙ given.2)) all in
+    (s.0 ++ given.0, Consumes-trans _ _ _ _ _ s.1 given.1,
+     subst (λ (l : List ℕ). Stands (IsAllowed filter) (s.0 ++ given.0) w0 w l bytes place) (sym none) all)
+
+-- what stands once its lines are answered and what is left of them is kept
+stands_kept : (filter : Filter) (input : List ℕ) (w0 w : Option (List ℕ)) (gathered bytes got kept : List ℕ) (left : ℕ) (place : Place) → bytes ≡ got
+    → kept ≡ drop (length got - left) got
+    → Stands (IsAllowed filter) input w0 w gathered (drop (length bytes - left) bytes) place → Stands (IsAllowed filter) input w0 w gathered kept place
+stands_kept filter input w0 w gathered bytes got kept left place same e s =
+    subst (λ (p : List ℕ). Stands (IsAllowed filter) input w0 w gathered p place) (ap (λ b. drop (length b - left) b) same ∙ sym e) s
+
 pub returns-then-branch-eq0-clause-ok : goal.returns-then-branch-eq0-clause-ok
 returns-then-branch-eq0-clause-ok g c =
-    let inv = c.loop-reads.invariant in
-    let got = c.in_ok-read_more.ensures.given in
-    let input = inv.0.0 ++ got.0 in
-    let consumed = Consumes-trans _ _ _ _ _ inv.0.1 got.1 in
-    let s = read (IsAllowed c.args.filter) inv.0.0 got.0 _ _ [] c.loop-reads.input c.loop-reads.place inv.0.2 in
-    let s = subst (λ (p : List ℕ). Stands (IsAllowed c.args.filter) input (g.W.Write.contents c.args.writer.now) (g.W.Write.contents c.loop-reads.writer) [] p c.loop-reads.place) (sym (c.as_bytes.ensures.bytes ∙ got.2)) s in
+    let s = stands_read c.args.filter _ _ _ _ _ [] c.loop-reads.input c.as_bytes.result.now c.read_more.new.self c.loop-reads.place
+    refl c.as_bytes.ensures.bytes c.loop-reads.invariant.0 c.in_ok-read_more.ensures.given in
     let end = c.in_ok-read_more.ensures.end c.if-branch-eq0.true in
     let all : EndsFrom c.args.filter (g.W.Write.contents c.loop-reads.writer) (g.W.Write.contents c.answer_last.new.writer) [] c.as_bytes.result.now c.loop-reads.place
         → IsAtEnd (g.R.Read.remaining c.read_more.new.reader) × Gives (g.R.Read.remaining c.args.reader.now) (g.R.Read.remaining c.read_more.new.reader) (λ input. AnswersAll c.args.filter input (g.W.Write.contents c.args.writer.now) (g.W.Write.contents c.answer_last.new.writer))
-    = λ ends. (end.0, (input, consumed, ends input _ s)) in
+    = λ ends. (end.0, (s.0, s.1, ends s.0 _ s.2)) in
     on_ok_weaker _ all c.answer_last.ensures.ok
 
 pub returns-then-branch-eq0-clause-write : goal.returns-then-branch-eq0-clause-write
 returns-then-branch-eq0-clause-write g c = λ h.
-    let inv = c.loop-reads.invariant in
-    let got = c.in_ok-read_more.ensures.given in
-    let input = inv.0.0 ++ got.0 in
-    let s = read (IsAllowed c.args.filter) inv.0.0 got.0 _ _ [] c.loop-reads.input c.loop-reads.place inv.0.2 in
-    let s = subst (λ (p : List ℕ). Stands (IsAllowed c.args.filter) input (g.W.Write.contents c.args.writer.now) (g.W.Write.contents c.loop-reads.writer) [] p c.loop-reads.place) (sym (c.as_bytes.ensures.bytes ∙ got.2)) s in
-    (input, Consumes-trans _ _ _ _ _ inv.0.1 got.1, c.answer_last.ensures.write h input _ s)
+    let s = stands_read c.args.filter _ _ _ _ _ [] c.loop-reads.input c.as_bytes.result.now c.read_more.new.self c.loop-reads.place
+    refl c.as_bytes.ensures.bytes c.loop-reads.invariant.0 c.in_ok-read_more.ensures.given in
+    (s.0, s.1, c.answer_last.ensures.write h s.0 _ s.2)
 
 pub returns-then-branch-eq0-clause-unanswered : goal.returns-then-branch-eq0-clause-unanswered
 returns-then-branch-eq0-clause-unanswered g c = λ number h.
-    let inv = c.loop-reads.invariant in
-    let got = c.in_ok-read_more.ensures.given in
-    let input = inv.0.0 ++ got.0 in
-    let s = read (IsAllowed c.args.filter) inv.0.0 got.0 _ _ [] c.loop-reads.input c.loop-reads.place inv.0.2 in
-    let s = subst (λ (p : List ℕ). Stands (IsAllowed c.args.filter) input (g.W.Write.contents c.args.writer.now) (g.W.Write.contents c.loop-reads.writer) [] p c.loop-reads.place) (sym (c.as_bytes.ensures.bytes ∙ got.2)) s in
-    (input, Consumes-trans _ _ _ _ _ inv.0.1 got.1, c.answer_last.ensures.unanswered number h input _ s)
-
--- what stands once a read gave some bytes
-stands_read : (filter : Filter) (r0 r r' w0 w : Option (List ℕ)) (pending bytes : List ℕ) (place : Place)
-    → ((input : List ℕ) × Consumes r0 r input × Stands (IsAllowed filter) input w0 w [] pending place)
-    → HasRead r r' pending bytes
-    → (input : List ℕ) × Consumes r0 r' input × Stands (IsAllowed filter) input w0 w [] bytes place
-stands_read filter r0 r r' w0 w pending bytes place s got =
-    (s.0 ++ got.0, Consumes-trans _ _ _ _ _ s.1 got.1,
-     subst (λ (p : List ℕ). Stands (IsAllowed filter) (s.0 ++ got.0) w0 w [] p place) (sym got.2) (read (IsAllowed filter) s.0 got.0 w0 w [] pending place s.2))
+    let s = stands_read c.args.filter _ _ _ _ _ [] c.loop-reads.input c.as_bytes.result.now c.read_more.new.self c.loop-reads.place
+    refl c.as_bytes.ensures.bytes c.loop-reads.invariant.0 c.in_ok-read_more.ensures.given in
+    (s.0, s.1, c.answer_last.ensures.unanswered number h s.0 _ s.2)
 
 pub returns-in-Err-clause-write : goal.returns-in-Err-clause-write
-returns-in-Err-clause-write g c = ?
+returns-in-Err-clause-write g c = λ h.
+    let s = stands_read c.args.filter _ _ _ _ _ c.loop-reads.gathered c.loop-reads.input c.as_bytes-in-loop-reads.result.now c.read_more.new.self c.loop-reads.place
+    c.loop-reads.invariant.2 c.as_bytes-in-loop-reads.ensures.bytes c.loop-reads.invariant.0 c.in_ok-read_more.ensures.given in
+    (s.0, s.1, c.in-Err.ensures.write (elim (write_fault c.in-Err.fault h) [ inl e ↦ inl (ap Err e) | inr e ↦ inr (ap Err e) ]) s.0 _ s.2)
 
 pub returns-in-Err-clause-unanswered : goal.returns-in-Err-clause-unanswered
-returns-in-Err-clause-unanswered g c = ?
+returns-in-Err-clause-unanswered g c = λ number h.
+    let s = stands_read c.args.filter _ _ _ _ _ c.loop-reads.gathered c.loop-reads.input c.as_bytes-in-loop-reads.result.now c.read_more.new.self c.loop-reads.place
+    c.loop-reads.invariant.2 c.as_bytes-in-loop-reads.ensures.bytes c.loop-reads.invariant.0 c.in_ok-read_more.ensures.given in
+    (s.0, s.1, c.in-Err.ensures.unanswered number (ap Err (same_fault c.in-Err.fault (Unanswered number) h)) s.0 _ s.2)
 
 pub returns-in_err-flush-clause-write : goal.returns-in_err-flush-clause-write
-returns-in_err-flush-clause-write g c = ?
+returns-in_err-flush-clause-write g c = λ h.
+    let s = stands_read c.args.filter _ _ _ _ _ c.loop-reads.gathered c.loop-reads.input c.as_bytes-in-loop-reads.result.now c.read_more.new.self c.loop-reads.place
+    c.loop-reads.invariant.2 c.as_bytes-in-loop-reads.ensures.bytes c.loop-reads.invariant.0 c.in_ok-read_more.ensures.given in
+    let kept = stands_kept c.args.filter s.0 _ _ c.answer_lines.new.gathered c.as_bytes-in-loop-reads.result.now c.read_more.new.self c.keep_last.new.self c.in-Ok.left c.answer_lines.new.place
+    c.as_bytes-in-loop-reads.ensures.bytes c.keep_last.ensures (c.in-Ok.ensures.ok s.0 _ s.2) in
+    let went = c.let_go.ensures.advances c.args.filter _ c.answer_lines.new.gathered s.0 _ kept in
+    (s.0, s.1, failed c.args.filter s.0 _ _ _ c.answer_lines.new.gathered c.let_go.new.input c.let_go.new.place c.in_err-flush.ensures.front went)
 
 pub loop-reads-preserved : goal.loop-reads-preserved
-loop-reads-preserved g c = ?
+loop-reads-preserved g c =
+    let s = stands_read c.args.filter _ _ _ _ _ c.loop-reads.gathered c.loop-reads.input c.as_bytes-in-loop-reads.result.now c.read_more.new.self c.loop-reads.place
+    c.loop-reads.invariant.2 c.as_bytes-in-loop-reads.ensures.bytes c.loop-reads.invariant.0 c.in_ok-read_more.ensures.given in
+    let kept = stands_kept c.args.filter s.0 _ _ c.answer_lines.new.gathered c.as_bytes-in-loop-reads.result.now c.read_more.new.self c.keep_last.new.self c.in-Ok.left c.answer_lines.new.place
+    c.as_bytes-in-loop-reads.ensures.bytes c.keep_last.ensures (c.in-Ok.ensures.ok s.0 _ s.2) in
+    let went = c.let_go.ensures.advances c.args.filter _ c.answer_lines.new.gathered s.0 _ kept in
+    let out = c.in_ok-flush.ensures.ok in
+    ((s.0, s.1, gone (IsAllowed c.args.filter) s.0 _ _ _ c.answer_lines.new.gathered [] c.answer_lines.new.gathered c.let_go.new.input c.let_go.new.place (sym (append-nil c.answer_lines.new.gathered)) out.0 went),
+     c.let_go.ensures.no_end, out.1, c.let_go.ensures.few)
 
 pub returns-clause-read : goal.returns-clause-read
 returns-clause-read g c = λ h.
