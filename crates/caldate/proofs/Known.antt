@@ -12,9 +12,12 @@ use Rattle.caldate.specs.Runs.{AppendsFront, HasRead}
 pub given_more : (old new : Option (List ℕ)) (a k n : ℕ) (xs ys : List ℕ) → a ≤ length xs → n ≤ length ys
     → Consumes old new (take n ys) → HasRead old new (take a xs) (take (a + n) (put_mid a k xs ys))
 given_more old new a k n xs ys h e p =
-    let front : length (take a xs) ≡ a = length-take a xs ∙ min-eq_left h in
-    (take n ys, p, subst (λ m. take (m + n) (put_mid a k xs ys) ≡ take a xs ++ take n (ys ++ post_of a k xs)) front (take-append-add (take a xs) (ys ++ post_of a k xs) n)
-    ∙ ap (λ l. take a xs ++ l) (take-append-le n ys (post_of a k xs) e))
+    let front : length (take a xs) ≡ a = length-take a xs ∙ min-eq_left h in (
+      take n ys,
+      p,
+      subst (λ m. take (m + n) (put_mid a k xs ys) ≡ take a xs ++ take n (ys ++ post_of a k xs)) front (take-append-add (take a xs) (ys ++ post_of a k xs) n)
+          ∙ ap (λ l. take a xs ++ l) (take-append-le n ys (post_of a k xs) e),
+    )
 
 -- the writer took all of the bytes but for the rest
 pub record HasTaken (old new : Option (List ℕ)) (bytes rest : List ℕ) : Type 0 where

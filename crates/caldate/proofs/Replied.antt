@@ -13,9 +13,9 @@ same_return : (kept line : List ℕ) → 0 < length line → has_return (kept ++
 same_return kept line some =
     let at : length (kept ++ line) - 1 ≡ length kept + (length line - 1) = omega (arith, length-append kept line) in
     ap (λ byte. tests byte) (ap (λ k. get_or (kept ++ line) k 0) at ∙ get_or-append-add kept line (length line - 1) 0)
-    where
-      tests : ℕ → Bool
-      tests byte = eqb byte 13
+  where
+    tests : ℕ → Bool
+    tests byte = eqb byte 13
 
 same_end : (b : Bool) (kept line : List ℕ) → IsHeld b kept line → end_of (kept ++ line) ≡ end_of line
 same_end false kept line h = ap (λ k. end_of (k ++ line)) h
@@ -57,10 +57,11 @@ lacks_allowed filter text old new e h = (h.0, h.1, allowed_lacks filter.is_stric
 pub replied : (filter : Filter) (b : Bool) (kept line old mid new end : List ℕ) → IsHeld b kept line
     → AppendsThat (IsAllowed filter (text_of (kept ++ line))) old mid → end ≡ end_of line → new ≡ mid ++ end
     → AppendsThat (IsReply (IsAllowed filter) (kept ++ line)) old new
-replied filter b kept line old mid new end h a e f =
-    (a.0 ++ end_of (kept ++ line),
-     f ∙ ap (λ l. l ++ end) a.1 ∙ append_assoc old a.0 end ∙ ap (λ l. old ++ (a.0 ++ l)) (e ∙ sym (same_end b kept line h)),
-     (a.0, a.2, refl))
+replied filter b kept line old mid new end h a e f = (
+  a.0 ++ end_of (kept ++ line),
+  f ∙ ap (λ l. l ++ end) a.1 ∙ append_assoc old a.0 end ∙ ap (λ l. old ++ (a.0 ++ l)) (e ∙ sym (same_end b kept line h)),
+  (a.0, a.2, refl),
+)
 
 -- ---- what was gathered before
 take_front : (xs ys : List ℕ) → take (length xs) (xs ++ ys) ≡ xs

@@ -32,15 +32,15 @@ kept_no_end true kept pending h = h.1
 first_of : (first : ℕ) (more line after : List ℕ) → first ∷ more ≡ line ++ 10 ∷ after → is_end first ≡ false
     → (rest : List ℕ) × (line ≡ first ∷ rest)
 first_of first more [] after e n = absurd (false≢true (sym n ∙ ap (λ l. is_end (head_or l)) e))
-    where
-      head_or : List ℕ → ℕ
-      head_or [] = 0
-      head_or (x ∷ xs) = x
+  where
+    head_or : List ℕ → ℕ
+    head_or [] = 0
+    head_or (x ∷ xs) = x
 first_of first more (x ∷ xs) after e n = (xs, ap (λ f. f ∷ xs) (sym (ap head_or e)))
-    where
-      head_or : List ℕ → ℕ
-      head_or [] = 0
-      head_or (y ∷ ys) = y
+  where
+    head_or : List ℕ → ℕ
+    head_or [] = 0
+    head_or (y ∷ ys) = y
 
 pub held_line : (b : Bool) (kept pending line after : List ℕ) → IsHeld b kept pending → pending ≡ line ++ 10 ∷ after → IsHeld b kept line
 held_line false kept pending line after h e = h
@@ -335,10 +335,11 @@ let_go Allowed input start now gathered pending place place_now n long is_long s
     let whole : (more : List ℕ) → s.kept ++ (pending ++ more) ≡ (s.kept ++ take k pending) ++ (drop k pending ++ more) = λ more.
     ap (λ p. s.kept ++ (p ++ more)) (sym (take-append-drop k pending)) ∙ ap (λ l. s.kept ++ l) (append_assoc (take k pending) (drop k pending) more)
     ∙ sym (append_assoc s.kept (take k pending) (drop k pending ++ more)) in
-    let held : IsHeld true (s.kept ++ take k pending) (drop k pending) =
-    (omega (arith, front, length-append s.kept (take k pending)),
-     no_end_append s.kept (take k pending) (kept_no_end place.is_long s.kept pending s.held) n_front,
-     one_byte (drop k pending) (omega (arith, last)) n_last) in
+    let held : IsHeld true (s.kept ++ take k pending) (drop k pending) = (
+      omega (arith, front, length-append s.kept (take k pending)),
+      no_end_append s.kept (take k pending) (kept_no_end place.is_long s.kept pending s.held) n_front,
+      one_byte (drop k pending) (omega (arith, last)) n_last,
+    ) in
     record {
       lines = s.lines;
       kept = s.kept ++ take k pending;

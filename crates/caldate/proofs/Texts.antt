@@ -25,11 +25,11 @@ pub duration_parts : (a b c : List ℕ) (s n : ℕ) → n < second
 duration_parts a b c s n below p q =
     q ∙ ap (λ front. front ++ part (n / 1000000) (codes "ms") ++ part (n / 1000 % 1000) (0xc2 ∷ 0xb5 ∷ codes "s") ++ part (n % 1000) (codes "ns")) p
     ∙ seven a (part (s / 86400) (codes "d")) (part (s % 86400 / 3600) (codes "h")) (part (s % 86400 / 60 % 60) (codes "m")) (part (s % 86400 % 60) (codes "s"))
-        (part (n / 1000000) (codes "ms")) (part (n / 1000 % 1000) (0xc2 ∷ 0xb5 ∷ codes "s")) (part (n % 1000) (codes "ns"))
+    (part (n / 1000000) (codes "ms")) (part (n / 1000 % 1000) (0xc2 ∷ 0xb5 ∷ codes "s")) (part (n % 1000) (codes "ns"))
     ∙ ap (λ text. a ++ text) (parts_text-fields s n below)
-    where
-      seven : (a d h m s x y z : List ℕ) → a ++ d ++ h ++ m ++ s ++ x ++ y ++ z ≡ a ++ (d ++ (h ++ (m ++ (s ++ (x ++ (y ++ z))))))
-      seven a d h m s x y z = simp append_assoc
+  where
+    seven : (a d h m s x y z : List ℕ) → a ++ d ++ h ++ m ++ s ++ x ++ y ++ z ≡ a ++ (d ++ (h ++ (m ++ (s ++ (x ++ (y ++ z))))))
+    seven a d h m s x y z = simp append_assoc
 
 -- the days between two days of the range, as 32 bits count them
 small : (z : ℤ) → unsigned_abs z < 2000000000 → FitsSigned w32 z

@@ -126,7 +126,13 @@ fn parts_of(found: &DateOrMoment) -> (Date, Time, UtcOffset)
 }
 
 /// Gathers a day, a time of day and an offset in the form, and returns whether it has a text of them.
-fn push_in_form(gathered: &mut Gathered, form: Form, date: Date, time: Time, offset: UtcOffset) -> bool
+fn push_in_form(
+    gathered: &mut Gathered,
+    form: Form,
+    date: Date,
+    time: Time,
+    offset: UtcOffset,
+) -> bool
     requires { HasRoom longest_answer gathered.old }
     ensures has { result ≡ true → AppendsThat (IsInForm form date time offset) gathered.old gathered.new }
     ensures none { result ≡ false → (gathered.new ≡ gathered.old ++ codes "none") × ((words : List ℕ) → ¬ IsInForm form date time offset words) }
@@ -155,11 +161,35 @@ fn push_alike(gathered: &mut Gathered, found: &DateOrMoment, date: Date, time: T
     ensures short { length gathered.new ≤ length gathered.old + longest_answer }
 {
     match found {
-        DateOrMoment::Calendar(_) => push_in_form(gathered, Form::Calendar, date, time, UtcOffset::UTC),
-        DateOrMoment::Ordinal(_) => push_in_form(gathered, Form::Ordinal, date, time, UtcOffset::UTC),
+        DateOrMoment::Calendar(_) => push_in_form(
+            gathered,
+            Form::Calendar,
+            date,
+            time,
+            UtcOffset::UTC,
+        ),
+        DateOrMoment::Ordinal(_) => push_in_form(
+            gathered,
+            Form::Ordinal,
+            date,
+            time,
+            UtcOffset::UTC,
+        ),
         DateOrMoment::Week(_) => push_in_form(gathered, Form::Week, date, time, UtcOffset::UTC),
-        DateOrMoment::JulianDay(_) => push_in_form(gathered, Form::JulianDay, date, time, UtcOffset::UTC),
-        DateOrMoment::Rfc3339(_, _, offset) => push_in_form(gathered, Form::Rfc3339, date, time, *offset),
+        DateOrMoment::JulianDay(_) => push_in_form(
+            gathered,
+            Form::JulianDay,
+            date,
+            time,
+            UtcOffset::UTC,
+        ),
+        DateOrMoment::Rfc3339(_, _, offset) => push_in_form(
+            gathered,
+            Form::Rfc3339,
+            date,
+            time,
+            *offset,
+        ),
         DateOrMoment::Unix(_, _) => push_in_form(gathered, Form::Unix, date, time, UtcOffset::UTC),
     }
 }

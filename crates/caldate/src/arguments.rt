@@ -14,7 +14,11 @@ pub fn join<E: Env>(env: &E, buffer: &mut [u8; MOST_BYTES]) -> Option<usize>
     let mut filled = 0;
     // Argument 0 is the name of the program.
     for i in 1..=MOST_BYTES {
-        let start = if i == 1 { 0 } else { MOST_BYTES.min(filled + 1) };
+        let start = if i == 1 {
+            0
+        } else {
+            MOST_BYTES.min(filled + 1)
+        };
         match env.arg(i, &mut buffer[start..]) {
             Ok(length) => {
                 if i > 1 {

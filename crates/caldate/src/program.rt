@@ -9,7 +9,12 @@ use crate::run::run;
 use std::io::{Read, Write};
 
 /// Does what is asked for, and returns the status. Where the arguments make no sense nothing is read, and the status is 2.
-pub fn perform<R: Read, W: Write, E: Write>(asked: Option<Asked>, reader: &mut R, writer: &mut W, errors: &mut E) -> u8
+pub fn perform<R: Read, W: Write, E: Write>(
+    asked: Option<Asked>,
+    reader: &mut R,
+    writer: &mut W,
+    errors: &mut E,
+) -> u8
     ensures senseless { asked ≡ None → (reader.new ≡ reader.old) × (writer.new ≡ writer.old) × (result ≡ 2) }
 {
     match asked {

@@ -42,7 +42,13 @@ pub fn run<R: Read, W: Write>(filter: Filter, reader: &mut R, writer: &mut W) ->
         if input.read_more(reader)? == 0 {
             return answer_last(&filter, &mut place, &mut gathered, writer, input.as_bytes());
         }
-        let left = match answer_lines(&filter, &mut place, &mut gathered, writer, input.as_bytes()) {
+        let left = match answer_lines(
+            &filter,
+            &mut place,
+            &mut gathered,
+            writer,
+            input.as_bytes(),
+        ) {
             Ok(left) => left,
             Err(fault) => return Err(fault),
         };

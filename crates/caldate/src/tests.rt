@@ -12,7 +12,11 @@ mod failing;
 mod long;
 
 /// What a run answers to the input, by arguments with zero bytes between them, and how it ends.
-fn answers(alloc: Global, arguments: &[u8], input: &[u8]) -> Result<(Result<(), Fault>, Vec<u8>), AllocError> {
+fn answers(
+    alloc: Global,
+    arguments: &[u8],
+    input: &[u8],
+) -> Result<(Result<(), Fault>, Vec<u8>), AllocError> {
     let mut reader = input;
     let mut written = Vec::new(alloc);
     let outcome = match asked_of(arguments) {
@@ -29,16 +33,32 @@ fn gives(alloc: Global, arguments: &[u8], input: &[u8], wanted: &[u8]) -> Result
 }
 
 /// One day in each form that is read: 29 February 2024.
-const DAY: &[u8] = b"2024-02-29\n2024-060\n2024-W09-4\nJ2460370\n2024-02-29T23:30:00.25+01:00\n@1709164800.5\n";
+const DAY: &[u8] =
+    b"2024-02-29\n2024-060\n2024-W09-4\nJ2460370\n2024-02-29T23:30:00.25+01:00\n@1709164800.5\n";
 
 #[test]
 fn to_each_form(rt: HostRuntime) -> Result<(), Fail> {
     let cases: [(&[u8], &[u8]); 7] = [
-        (b"to\0calendar", b"2024-02-29\n2024-02-29\n2024-02-29\n2024-02-29\n2024-02-29\n2024-02-29\n"),
-        (b"to\0ordinal", b"2024-060\n2024-060\n2024-060\n2024-060\n2024-060\n2024-060\n"),
-        (b"to\0week", b"2024-W09-4\n2024-W09-4\n2024-W09-4\n2024-W09-4\n2024-W09-4\n2024-W09-4\n"),
-        (b"to\0julian", b"J2460370\nJ2460370\nJ2460370\nJ2460370\nJ2460370\nJ2460370\n"),
-        (b"to\0weekday", b"Thursday\nThursday\nThursday\nThursday\nThursday\nThursday\n"),
+        (
+            b"to\0calendar",
+            b"2024-02-29\n2024-02-29\n2024-02-29\n2024-02-29\n2024-02-29\n2024-02-29\n",
+        ),
+        (
+            b"to\0ordinal",
+            b"2024-060\n2024-060\n2024-060\n2024-060\n2024-060\n2024-060\n",
+        ),
+        (
+            b"to\0week",
+            b"2024-W09-4\n2024-W09-4\n2024-W09-4\n2024-W09-4\n2024-W09-4\n2024-W09-4\n",
+        ),
+        (
+            b"to\0julian",
+            b"J2460370\nJ2460370\nJ2460370\nJ2460370\nJ2460370\nJ2460370\n",
+        ),
+        (
+            b"to\0weekday",
+            b"Thursday\nThursday\nThursday\nThursday\nThursday\nThursday\n",
+        ),
         (
             b"to\0rfc3339",
             b"2024-02-29T00:00:00Z\n2024-02-29T00:00:00Z\n2024-02-29T00:00:00Z\n2024-02-29T00:00:00Z\n2024-02-29T23:30:00.25+01:00\n2024-02-29T00:00:00.5Z\n",
@@ -57,25 +77,84 @@ fn to_each_form(rt: HostRuntime) -> Result<(), Fail> {
 #[test]
 fn moves(rt: HostRuntime) -> Result<(), Fail> {
     let cases: [(&[u8], &[u8], &[u8]); 15] = [
-        (b"add\01", DAY, b"2024-03-01\n2024-061\n2024-W09-5\nJ2460371\n2024-03-01T23:30:00.25+01:00\n@1709251200.5\n"),
-        (b"add\0-60\0days", b"2024-02-29\n2024-02-29T00:00:00Z\n", b"2023-12-31\n2023-12-31T00:00:00Z\n"),
+        (
+            b"add\01",
+            DAY,
+            b"2024-03-01\n2024-061\n2024-W09-5\nJ2460371\n2024-03-01T23:30:00.25+01:00\n@1709251200.5\n",
+        ),
+        (
+            b"add\0-60\0days",
+            b"2024-02-29\n2024-02-29T00:00:00Z\n",
+            b"2023-12-31\n2023-12-31T00:00:00Z\n",
+        ),
         (b"add\0+2\0weeks", b"2024-W09-4\n", b"2024-W11-4\n"),
         // A date moves by whole days alone, cut toward zero; a moment by all of it.
-        (b"add\047\0hours", b"2020-12-31\n2020-12-31T00:00:00Z\n", b"2021-01-01\n2021-01-01T23:00:00Z\n"),
-        (b"add\0-47\0hours", b"2020-12-31\n@0\n", b"2020-12-30\n@-169200\n"),
-        (b"add\045\0minutes", b"2024-02-29T23:30:00-05:00\n", b"2024-03-01T00:15:00-05:00\n"),
-        (b"add\01\0seconds", b"9999-12-31T23:59:59Z\n@-0.5\n1969-12-31T23:59:59.5Z\n", b"none\n@0.5\n1970-01-01T00:00:00.5Z\n"),
-        (b"add\01", b"+999999-12-31\n-999999-01-01\n9999-12-31\n", b"none\n-999999-01-02\n+10000-01-01\n"),
-        (b"next\0Friday", b"2024-02-29\n2024-03-01\n", b"2024-03-01\n2024-03-08\n"),
-        (b"next\0Monday\05", b"2023-06-25\n2023-06-25T12:00:00Z\n", b"2023-07-24\n2023-07-24T12:00:00Z\n"),
-        (b"last\0Monday\03", b"2023-06-27\n@1687867200\n", b"2023-06-12\n@1686571200\n"),
-        (b"last\0Monday", b"-999999-01-01\n-999999-01-08\n", b"none\n-999999-01-01\n"),
-        (b"until\02024-02-29", b"2000-01-01\n2024-03-01\nJ2460370\n", b"8825\n-1\n0\n"),
-        (b"until\02024-02-29T00:00:00Z", b"2024-02-28\n2024-02-29T01:00:00+01:00\n@1709164800.5\n", b"1d\n0s\n-500ms\n"),
-        (b"until\02024-060", b"2024-02-27T22:59:59.999999999Z\n@0\n", b"1d1h1ns\n19782d\n"),
+        (
+            b"add\047\0hours",
+            b"2020-12-31\n2020-12-31T00:00:00Z\n",
+            b"2021-01-01\n2021-01-01T23:00:00Z\n",
+        ),
+        (
+            b"add\0-47\0hours",
+            b"2020-12-31\n@0\n",
+            b"2020-12-30\n@-169200\n",
+        ),
+        (
+            b"add\045\0minutes",
+            b"2024-02-29T23:30:00-05:00\n",
+            b"2024-03-01T00:15:00-05:00\n",
+        ),
+        (
+            b"add\01\0seconds",
+            b"9999-12-31T23:59:59Z\n@-0.5\n1969-12-31T23:59:59.5Z\n",
+            b"none\n@0.5\n1970-01-01T00:00:00.5Z\n",
+        ),
+        (
+            b"add\01",
+            b"+999999-12-31\n-999999-01-01\n9999-12-31\n",
+            b"none\n-999999-01-02\n+10000-01-01\n",
+        ),
+        (
+            b"next\0Friday",
+            b"2024-02-29\n2024-03-01\n",
+            b"2024-03-01\n2024-03-08\n",
+        ),
+        (
+            b"next\0Monday\05",
+            b"2023-06-25\n2023-06-25T12:00:00Z\n",
+            b"2023-07-24\n2023-07-24T12:00:00Z\n",
+        ),
+        (
+            b"last\0Monday\03",
+            b"2023-06-27\n@1687867200\n",
+            b"2023-06-12\n@1686571200\n",
+        ),
+        (
+            b"last\0Monday",
+            b"-999999-01-01\n-999999-01-08\n",
+            b"none\n-999999-01-01\n",
+        ),
+        (
+            b"until\02024-02-29",
+            b"2000-01-01\n2024-03-01\nJ2460370\n",
+            b"8825\n-1\n0\n",
+        ),
+        (
+            b"until\02024-02-29T00:00:00Z",
+            b"2024-02-28\n2024-02-29T01:00:00+01:00\n@1709164800.5\n",
+            b"1d\n0s\n-500ms\n",
+        ),
+        (
+            b"until\02024-060",
+            b"2024-02-27T22:59:59.999999999Z\n@0\n",
+            b"1d1h1ns\n19782d\n",
+        ),
     ];
     for (arguments, input, wanted) in cases {
-        assert!(rt; gives(rt.alloc(), arguments, input, wanted)?, "{arguments:?}");
+        assert!(rt;
+            gives(rt.alloc(), arguments, input, wanted)?,
+            "{arguments:?}"
+        );
     }
     Ok(())
 }
@@ -99,7 +178,10 @@ fn lines_without_an_answer(rt: HostRuntime) -> Result<(), Fail> {
         (b"+10000-01-01\n", b"none\n"),
     ];
     for (input, wanted) in cases {
-        assert!(rt; gives(rt.alloc(), b"to\0rfc3339", input, wanted)?, "{input:?}");
+        assert!(rt;
+            gives(rt.alloc(), b"to\0rfc3339", input, wanted)?,
+            "{input:?}"
+        );
     }
     Ok(())
 }
@@ -114,10 +196,16 @@ fn line_ends(rt: HostRuntime) -> Result<(), Fail> {
         (b"\r\n", b"unreadable at 0\r\n"),
         (b"\r", b"unreadable at 0\r\n"),
         (b"2024-060\r\r\n", b"unreadable at 8\r\n"),
-        (b"\n\n2024-060\n\n", b"unreadable at 0\nunreadable at 0\n2024-02-29\nunreadable at 0\n"),
+        (
+            b"\n\n2024-060\n\n",
+            b"unreadable at 0\nunreadable at 0\n2024-02-29\nunreadable at 0\n",
+        ),
     ];
     for (input, wanted) in cases {
-        assert!(rt; gives(rt.alloc(), b"to\0calendar", input, wanted)?, "{input:?}");
+        assert!(rt;
+            gives(rt.alloc(), b"to\0calendar", input, wanted)?,
+            "{input:?}"
+        );
     }
     Ok(())
 }
@@ -126,14 +214,29 @@ fn line_ends(rt: HostRuntime) -> Result<(), Fail> {
 fn strict_runs(rt: HostRuntime) -> Result<(), Fail> {
     let cases: [(&[u8], &[u8], Result<(), Fault>); 5] = [
         (b"2024-060\n2024-061\n", b"2024-02-29\n2024-03-01\n", Ok(())),
-        (b"2024-060\n2024-367\n2024-061\n", b"2024-02-29\n", Err(Fault::Unanswered(2))),
+        (
+            b"2024-060\n2024-367\n2024-061\n",
+            b"2024-02-29\n",
+            Err(Fault::Unanswered(2)),
+        ),
         (b"x\n", b"", Err(Fault::Unanswered(1))),
-        (b"2024-060\n2024-061\n2024-0", b"2024-02-29\n2024-03-01\n", Err(Fault::Unanswered(3))),
-        (b"2024-060\n+999999-12-31", b"2024-02-29\n+999999-12-31\n", Ok(())),
+        (
+            b"2024-060\n2024-061\n2024-0",
+            b"2024-02-29\n2024-03-01\n",
+            Err(Fault::Unanswered(3)),
+        ),
+        (
+            b"2024-060\n+999999-12-31",
+            b"2024-02-29\n+999999-12-31\n",
+            Ok(()),
+        ),
     ];
     for (input, wanted, ending) in cases {
         let (outcome, written) = answers(rt.alloc(), b"--strict\0to\0calendar", input)?;
-        assert!(rt; outcome == ending && written.as_slice() == wanted, "{input:?}");
+        assert!(rt;
+            outcome == ending && written.as_slice() == wanted,
+            "{input:?}"
+        );
     }
     Ok(())
 }

@@ -8,15 +8,15 @@ use crate::tests::gives;
 use std::env::{Env, FillError};
 use std::test::Fail;
 
-/// Arguments in memory, the first of which is the name of the program.
+/// Arguments in memory with a bar between them, the first of which is the name of the program.
 #[derive(Clone, Copy)]
 struct Words<'a> {
-    all: &'a [&'a [u8]],
+    all: &'a [u8],
 }
 
 impl Env for Words<'_> {
     fn arg(&self, i: usize, buffer: &mut [u8]) -> Result<usize, FillError> {
-        let Some(word) = self.all.get(i) else {
+        let Some(word) = self.all.split(|byte| *byte == b'|').nth(i) else {
             return Err(FillError::NotPresent);
         };
         if word.len() > buffer.len() {
@@ -37,25 +37,43 @@ impl Env for Words<'_> {
 
 #[test]
 fn arguments_are_joined(rt: HostRuntime) {
-    let long = [b'x'; MOST_BYTES];
-    let cases: [(&[&[u8]], Option<&[u8]>); 7] = [
-        (&[b"caldate"], Some(b"")),
-        (&[b"caldate", b"to", b"week"], Some(b"to\0week")),
-        (&[b"caldate", b"", b"to", b"week"], Some(b"\0to\0week")),
-        (&[b"caldate", b"until", b"2024-02-29 00:00:00Z"], Some(b"until\02024-02-29 00:00:00Z")),
-        (&[b"caldate", &long], Some(&long)),
-        (&[b"caldate", &long, b""], None),
-        (&[b"caldate", b"x", &long], None),
+    let cases: [(&[u8], &[u8]); 4] = [
+        (b"caldate", b""),
+        (b"caldate|to|week", b"to\0week"),
+        (b"caldate||to|week", b"\0to\0week"),
+        (
+            b"caldate|until|2024-02-29 00:00:00Z",
+            b"until\02024-02-29 00:00:00Z",
+        ),
     ];
     for (all, wanted) in cases {
         let mut buffer = [0u8; MOST_BYTES];
-        let joined = join(&Words { all }, &mut buffer);
-        match (joined, wanted) {
-            (Some(length), Some(bytes)) => assert!(rt; &buffer[..length] == bytes),
-            (None, None) => {}
-            _ => assert!(rt; false, "{joined:?}"),
-        }
+        let length = join(&Words { all }, &mut buffer).unwrap_or(MOST_BYTES);
+        assert!(rt; &buffer[..length] == wanted);
     }
+}
+
+// Arguments have room as far as the buffer goes, with the zero bytes between them.
+#[test]
+fn arguments_without_room(rt: HostRuntime) -> Result<(), Fail> {
+    for (before, length, after, wanted) in [
+        (b"caldate|".as_slice(), MOST_BYTES, b"".as_slice(), Some(MOST_BYTES)),
+        (b"caldate|".as_slice(), MOST_BYTES + 1, b"".as_slice(), None),
+        (b"caldate|".as_slice(), MOST_BYTES, b"|".as_slice(), None),
+        (b"caldate|".as_slice(), MOST_BYTES - 1, b"|".as_slice(), Some(MOST_BYTES)),
+        (b"caldate|x|".as_slice(), MOST_BYTES - 2, b"".as_slice(), Some(MOST_BYTES)),
+        (b"caldate|x|".as_slice(), MOST_BYTES - 1, b"".as_slice(), None),
+    ] {
+        let mut all = Vec::new(rt.alloc());
+        all.extend_from_slice(before)?;
+        for _ in 0..length {
+            all.push(b'y')?;
+        }
+        all.extend_from_slice(after)?;
+        let mut buffer = [0u8; MOST_BYTES];
+        assert!(rt; join(&Words { all: &all }, &mut buffer) == wanted, "{length}");
+    }
+    Ok(())
 }
 
 #[test]
@@ -112,7 +130,10 @@ fn arguments_at_their_ends(rt: HostRuntime) -> Result<(), Fail> {
         (b"until\0+999999-12-31", b"364503189\n"),
     ];
     for (arguments, wanted) in cases {
-        assert!(rt; gives(rt.alloc(), arguments, b"2024-02-29\n", wanted)?, "{arguments:?}");
+        assert!(rt;
+            gives(rt.alloc(), arguments, b"2024-02-29\n", wanted)?,
+            "{arguments:?}"
+        );
     }
     Ok(())
 }
@@ -134,7 +155,10 @@ fn help_and_version(rt: HostRuntime) {
         let mut reader = b"2024-02-29\n".as_slice();
         let mut written = Vec::new(rt.alloc());
         let mut told = Vec::new(rt.alloc());
-        assert_eq!(rt; perform(Some(asked), &mut reader, &mut written, &mut told), 0);
+        assert_eq!(rt;
+            perform(Some(asked), &mut reader, &mut written, &mut told),
+            0
+        );
         assert!(rt; written.len() > least && told.is_empty());
         assert_eq!(rt; reader.len(), 11);
     }

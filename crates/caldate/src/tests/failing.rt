@@ -90,7 +90,11 @@ fn filter() -> Result<Filter, Fail> {
 }
 
 /// What comes of a run over a reader that fails from this call on, and what it wrote.
-fn drip(alloc: Global, failing: usize, kind: ErrorKind) -> Result<(Result<(), Fault>, Vec<u8>), Fail> {
+fn drip(
+    alloc: Global,
+    failing: usize,
+    kind: ErrorKind,
+) -> Result<(Result<(), Fault>, Vec<u8>), Fail> {
     let mut reader = Dripping {
         rest: INPUT,
         calls: 0,
@@ -103,7 +107,11 @@ fn drip(alloc: Global, failing: usize, kind: ErrorKind) -> Result<(Result<(), Fa
 }
 
 /// What comes of a run over a writer that fails at this call, and what it took.
-fn sip(alloc: Global, failing: usize, kind: Option<ErrorKind>) -> Result<(Result<(), Fault>, Vec<u8>), Fail> {
+fn sip(
+    alloc: Global,
+    failing: usize,
+    kind: Option<ErrorKind>,
+) -> Result<(Result<(), Fault>, Vec<u8>), Fail> {
     let mut reader = INPUT;
     let mut writer = Sipping {
         taken: Vec::new(alloc),
@@ -123,7 +131,10 @@ fn each_read_fails_in_turn(rt: HostRuntime) -> Result<(), Fail> {
             let (outcome, written) = drip(rt.alloc(), call, kind)?;
             if call <= INPUT.len() + 1 {
                 assert!(rt; outcome == Err(Fault::Read), "at call {call}");
-                assert!(rt; written.as_slice() == &ANSWERS[..answered(call - 1)], "at call {call}");
+                assert!(rt;
+                    written.as_slice() == &ANSWERS[..answered(call - 1)],
+                    "at call {call}"
+                );
             } else {
                 assert!(rt; outcome == Ok(()) && written.as_slice() == ANSWERS);
             }
@@ -147,7 +158,10 @@ fn each_write_fails_in_turn(rt: HostRuntime) -> Result<(), Fail> {
                     assert!(rt; outcome == Err(fault), "at call {call}");
                     assert!(rt; taken.as_slice() == &ANSWERS[..call - 1], "at call {call}");
                 }
-                _ => assert!(rt; outcome == Ok(()) && taken.as_slice() == ANSWERS, "at call {call}"),
+                _ => assert!(rt;
+                    outcome == Ok(()) && taken.as_slice() == ANSWERS,
+                    "at call {call}"
+                ),
             }
         }
     }

@@ -72,11 +72,23 @@ fn lines_up_to_4096_bytes_and_longer_ones(rt: HostRuntime) -> Result<(), Fail> {
             let plain = answers(rt.alloc(), &long_line(rt.alloc(), length, b"\n")?, most)?;
             let returned = answers(rt.alloc(), &long_line(rt.alloc(), length, b"\r\n")?, most)?;
             if length <= 4096 {
-                assert!(rt; plain.as_slice() == b"unreadable at 0\n2024-02-29\r\n".as_slice(), "{length} by {most}");
-                assert!(rt; returned.as_slice() == b"unreadable at 0\r\n2024-02-29\r\n".as_slice(), "{length} by {most}");
+                assert!(rt;
+                    plain.as_slice() == b"unreadable at 0\n2024-02-29\r\n".as_slice(),
+                    "{length} by {most}"
+                );
+                assert!(rt;
+                    returned.as_slice() == b"unreadable at 0\r\n2024-02-29\r\n".as_slice(),
+                    "{length} by {most}"
+                );
             } else {
-                assert!(rt; plain.as_slice() == b"line too long\n2024-02-29\r\n".as_slice(), "{length} by {most}");
-                assert!(rt; returned.as_slice() == b"line too long\r\n2024-02-29\r\n".as_slice(), "{length} by {most}");
+                assert!(rt;
+                    plain.as_slice() == b"line too long\n2024-02-29\r\n".as_slice(),
+                    "{length} by {most}"
+                );
+                assert!(rt;
+                    returned.as_slice() == b"line too long\r\n2024-02-29\r\n".as_slice(),
+                    "{length} by {most}"
+                );
             }
         }
     }
@@ -86,14 +98,20 @@ fn lines_up_to_4096_bytes_and_longer_ones(rt: HostRuntime) -> Result<(), Fail> {
 // A fraction of a second may have any number of digits, so a text of 4096 bytes can be a moment.
 #[test]
 fn a_moment_of_4096_bytes(rt: HostRuntime) -> Result<(), Fail> {
-    for (digits, wanted) in [(4075, b"2024-02-29\n".as_slice()), (4076, b"line too long\n".as_slice())] {
+    for (digits, wanted) in [
+        (4075, b"2024-02-29\n".as_slice()),
+        (4076, b"line too long\n".as_slice()),
+    ] {
         let mut input = Vec::new(rt.alloc());
         input.extend_from_slice(b"2024-02-29T00:00:00.")?;
         for _ in 0..digits {
             input.push(b'7')?;
         }
         input.extend_from_slice(b"Z\n")?;
-        assert!(rt; answers(rt.alloc(), &input, 65_536)?.as_slice() == wanted, "{digits} digits");
+        assert!(rt;
+            answers(rt.alloc(), &input, 65_536)?.as_slice() == wanted,
+            "{digits} digits"
+        );
     }
     Ok(())
 }
@@ -110,7 +128,10 @@ fn lines_across_the_end_of_the_buffer(rt: HostRuntime) -> Result<(), Fail> {
             input.extend_from_slice(b"2024-W09-4\n")?;
             wanted.extend_from_slice(b"2024-02-29\n")?;
         }
-        assert!(rt; answers(rt.alloc(), &input, usize::MAX)?.as_slice() == wanted.as_slice(), "after {first}");
+        assert!(rt;
+            answers(rt.alloc(), &input, usize::MAX)?.as_slice() == wanted.as_slice(),
+            "after {first}"
+        );
     }
     Ok(())
 }
@@ -119,7 +140,11 @@ fn lines_across_the_end_of_the_buffer(rt: HostRuntime) -> Result<(), Fail> {
 fn reads_of_each_length(rt: HostRuntime) -> Result<(), Fail> {
     for most in 1..40usize {
         let written = answers(rt.alloc(), b"2024-060\r\n\n2024-W09-4\nJ2460370", most)?;
-        assert!(rt; written.as_slice() == b"2024-02-29\r\nunreadable at 0\n2024-02-29\n2024-02-29\n".as_slice(), "by {most}");
+        assert!(rt;
+            written.as_slice()
+                == b"2024-02-29\r\nunreadable at 0\n2024-02-29\n2024-02-29\n".as_slice(),
+            "by {most}"
+        );
     }
     Ok(())
 }

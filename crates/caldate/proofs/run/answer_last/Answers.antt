@@ -25,7 +25,7 @@ returns-clause-ok g c =
     let some : 0 < length c.args.line.now = search rules in
     let reply = c.push_reply.ensures.replied c.if-not-push_reply.false in
     let ends : Appends (g.W.Write.contents c.args.writer.now) (g.W.Write.contents c.write_all.new.writer) c.as_bytes.result.now
-        → EndsFrom c.args.filter.now (g.W.Write.contents c.args.writer.now) (g.W.Write.contents c.write_all.new.writer) [] c.args.line.now c.args.place.now = λ gone input start s.
+    → EndsFrom c.args.filter.now (g.W.Write.contents c.args.writer.now) (g.W.Write.contents c.write_all.new.writer) [] c.args.line.now c.args.place.now = λ gone input start s.
     last_answered c.args.filter.now input start _ _ c.push_reply.new.gathered c.args.line.now c.args.place.now c.requires.no_end some
     (λ kept held. subst (λ old. AppendsThat (IsReply (IsAllowed c.args.filter.now) (kept ++ c.args.line.now)) old c.push_reply.new.gathered) c.requires.none (reply kept held))
     (subst (Appends (g.W.Write.contents c.args.writer.now) (g.W.Write.contents c.write_all.new.writer)) c.as_bytes.ensures gone) s in

@@ -35,9 +35,10 @@ loop-line-preserved g c =
     let after = c.in-Some.after.now in
     let parts = c.in-Some.ensures.parts in
     let room = c.in_ok-make_room.ensures.ok in
-    let reply = c.push_reply.ensures.replied c.if-not-push_reply.false in
-    ((front ++ (line ++ 10 ∷ []), c.loop-line.invariant.0.1 ∙ ap (λ rest. front ++ rest) (parts.1 ∙ sym (append_assoc line (10 ∷ []) after)) ∙ sym (append_assoc front (line ++ 10 ∷ []) after)),
-     λ input start s.
-     answered (IsAllowed c.args.filter.now) input start _ c.make_room.new.gathered c.push_reply.new.gathered c.loop-line.rest.now line after c.loop-line.place _ parts.0 parts.1 reply refl
-     (omega (arith, c.saturating_add-place.ensures))
-     (gone (IsAllowed c.args.filter.now) input start _ _ c.loop-line.gathered c.make_room.new.gathered room.0 c.loop-line.rest.now c.loop-line.place room.1 room.2 (c.loop-line.invariant.1 input start s)))
+    let reply = c.push_reply.ensures.replied c.if-not-push_reply.false in (
+      (front ++ (line ++ 10 ∷ []), c.loop-line.invariant.0.1 ∙ ap (λ rest. front ++ rest) (parts.1 ∙ sym (append_assoc line (10 ∷ []) after)) ∙ sym (append_assoc front (line ++ 10 ∷ []) after)),
+      λ input start s.
+          answered (IsAllowed c.args.filter.now) input start _ c.make_room.new.gathered c.push_reply.new.gathered c.loop-line.rest.now line after c.loop-line.place _ parts.0 parts.1 reply refl
+          (omega (arith, c.saturating_add-place.ensures))
+          (gone (IsAllowed c.args.filter.now) input start _ _ c.loop-line.gathered c.make_room.new.gathered room.0 c.loop-line.rest.now c.loop-line.place room.1 room.2 (c.loop-line.invariant.1 input start s)),
+    )

@@ -16,9 +16,12 @@ use Rattle.caldate.proofs.run.run.Goals as goal
 pub loop-reads-init : goal.loop-reads-init
 loop-reads-init g c =
     let place : Place = record { number = 0; is_long = false } in
-    let start = g.W.Write.contents c.args.writer.now in
-    (([], Consumes-nil _, subst (λ (p : List ℕ). Stands (IsAllowed c.args.filter) [] start start [] p place) (sym c.new-input.ensures) (begun (IsAllowed c.args.filter) start place refl refl)),
-     subst NoEnd (sym c.new-input.ensures) (λ k d l. absurd (omega arith)), c.new-gathered.ensures, omega (arith, ap length c.new-input.ensures))
+    let start = g.W.Write.contents c.args.writer.now in (
+      ([], Consumes-nil _, subst (λ (p : List ℕ). Stands (IsAllowed c.args.filter) [] start start [] p place) (sym c.new-input.ensures) (begun (IsAllowed c.args.filter) start place refl refl)),
+      subst NoEnd (sym c.new-input.ensures) (λ k d l. absurd (omega arith)),
+      c.new-gathered.ensures,
+      omega (arith, ap length c.new-input.ensures),
+    )
 
 pub returns-in_err-read_more-clause-read : goal.returns-in_err-read_more-clause-read
 returns-in_err-read_more-clause-read g c = λ h.
@@ -32,9 +35,11 @@ stands_read : (filter : Filter) (r0 r r' w0 w : Option (List ℕ)) (gathered pen
     → (input : List ℕ) × Consumes r0 r' input × Stands (IsAllowed filter) input w0 w gathered bytes place
 stands_read filter r0 r r' w0 w gathered pending bytes got place none same s given =
     let all = read (IsAllowed filter) s.0 given.0 w0 w [] pending place s.2 in
-    let all = subst (λ (p : List ℕ). Stands (IsAllowed filter) (s.0 ++ given.0) w0 w [] p place) (sym (same ∙ given.2)) all in
-    (s.0 ++ given.0, Consumes-trans _ _ _ _ _ s.1 given.1,
-     subst (λ (l : List ℕ). Stands (IsAllowed filter) (s.0 ++ given.0) w0 w l bytes place) (sym none) all)
+    let all = subst (λ (p : List ℕ). Stands (IsAllowed filter) (s.0 ++ given.0) w0 w [] p place) (sym (same ∙ given.2)) all in (
+      s.0 ++ given.0,
+      Consumes-trans _ _ _ _ _ s.1 given.1,
+      subst (λ (l : List ℕ). Stands (IsAllowed filter) (s.0 ++ given.0) w0 w l bytes place) (sym none) all,
+    )
 
 -- what stands once its lines are answered and what is left of them is kept
 stands_kept : (filter : Filter) (input : List ℕ) (w0 w : Option (List ℕ)) (gathered bytes got kept : List ℕ) (left : ℕ) (place : Place) → bytes ≡ got
@@ -49,7 +54,7 @@ returns-then-branch-eq0-clause-ok g c =
     refl c.as_bytes.ensures.bytes c.loop-reads.invariant.0 c.in_ok-read_more.ensures.given in
     let end = c.in_ok-read_more.ensures.end c.if-branch-eq0.true in
     let all : EndsFrom c.args.filter (g.W.Write.contents c.loop-reads.writer) (g.W.Write.contents c.answer_last.new.writer) [] c.as_bytes.result.now c.loop-reads.place
-        → IsAtEnd (g.R.Read.remaining c.read_more.new.reader) × Gives (g.R.Read.remaining c.args.reader.now) (g.R.Read.remaining c.read_more.new.reader) (λ input. AnswersAll c.args.filter input (g.W.Write.contents c.args.writer.now) (g.W.Write.contents c.answer_last.new.writer))
+    → IsAtEnd (g.R.Read.remaining c.read_more.new.reader) × Gives (g.R.Read.remaining c.args.reader.now) (g.R.Read.remaining c.read_more.new.reader) (λ input. AnswersAll c.args.filter input (g.W.Write.contents c.args.writer.now) (g.W.Write.contents c.answer_last.new.writer))
     = λ ends. (end.0, (s.0, s.1, ends s.0 _ s.2)) in
     on_ok_weaker _ all c.answer_last.ensures.ok
 
@@ -93,9 +98,12 @@ loop-reads-preserved g c =
     let kept = stands_kept c.args.filter s.0 _ _ c.answer_lines.new.gathered c.as_bytes-in-loop-reads.result.now c.read_more.new.self c.keep_last.new.self c.in-Ok.left c.answer_lines.new.place
     c.as_bytes-in-loop-reads.ensures.bytes c.keep_last.ensures (c.in-Ok.ensures.ok s.0 _ s.2) in
     let went = c.let_go.ensures.advances c.args.filter _ c.answer_lines.new.gathered s.0 _ kept in
-    let out = c.in_ok-flush.ensures.ok in
-    ((s.0, s.1, gone (IsAllowed c.args.filter) s.0 _ _ _ c.answer_lines.new.gathered [] c.answer_lines.new.gathered c.let_go.new.input c.let_go.new.place (sym (append-nil c.answer_lines.new.gathered)) out.0 went),
-     c.let_go.ensures.no_end, out.1, c.let_go.ensures.few)
+    let out = c.in_ok-flush.ensures.ok in (
+      (s.0, s.1, gone (IsAllowed c.args.filter) s.0 _ _ _ c.answer_lines.new.gathered [] c.answer_lines.new.gathered c.let_go.new.input c.let_go.new.place (sym (append-nil c.answer_lines.new.gathered)) out.0 went),
+      c.let_go.ensures.no_end,
+      out.1,
+      c.let_go.ensures.few,
+    )
 
 pub returns-clause-read : goal.returns-clause-read
 returns-clause-read g c = λ h.
