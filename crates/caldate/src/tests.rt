@@ -4,32 +4,37 @@ use crate::ending::end;
 use crate::fault::Fault;
 use crate::request::Asked;
 use crate::run::run;
-use std::alloc::{AllocError, Global};
-use std::test::Fail;
+use std::alloc::Global;
+use std::io::{Read, Write};
 
 mod arguments;
 mod failing;
 mod long;
 
-/// What a run answers to the input, by arguments with zero bytes between them, and how it ends.
-fn answers(
-    alloc: Global,
+/// A run by arguments with zero bytes between them.
+fn run_by<R: Read, W: Write>(
     arguments: &[u8],
-    input: &[u8],
-) -> Result<(Result<(), Fault>, Vec<u8>), AllocError> {
+    reader: &mut R,
+    writer: &mut W,
+) -> Result<(), Fault> {
+    match asked_of(arguments) {
+        Some(Asked::Lines(filter)) => run(filter, reader, writer),
+        _ => Err(Fault::Unanswered(0)),
+    }
+}
+
+/// What a run answers to the input, and how it ends.
+fn answers(alloc: Global, arguments: &[u8], input: &[u8]) -> (Result<(), Fault>, Vec<u8>) {
     let mut reader = input;
     let mut written = Vec::new(alloc);
-    let outcome = match asked_of(arguments) {
-        Some(Asked::Lines(filter)) => run(filter, &mut reader, &mut written),
-        _ => Err(Fault::Unanswered(0)),
-    };
-    Ok((outcome, written))
+    let outcome = run_by(arguments, &mut reader, &mut written);
+    (outcome, written)
 }
 
 /// Whether the run ends with all answered, and these are the answers.
-fn gives(alloc: Global, arguments: &[u8], input: &[u8], wanted: &[u8]) -> Result<bool, AllocError> {
-    let (outcome, written) = answers(alloc, arguments, input)?;
-    Ok(outcome == Ok(()) && written.as_slice() == wanted)
+fn gives(alloc: Global, arguments: &[u8], input: &[u8], wanted: &[u8]) -> bool {
+    let (outcome, written) = answers(alloc, arguments, input);
+    outcome == Ok(()) && written.as_slice() == wanted
 }
 
 /// One day in each form that is read: 29 February 2024.
@@ -37,7 +42,7 @@ const DAY: &[u8] =
     b"2024-02-29\n2024-060\n2024-W09-4\nJ2460370\n2024-02-29T23:30:00.25+01:00\n@1709164800.5\n";
 
 #[test]
-fn to_each_form(rt: HostRuntime) -> Result<(), Fail> {
+fn to_each_form(rt: HostRuntime) {
     let cases: [(&[u8], &[u8]); 7] = [
         (
             b"to\0calendar",
@@ -69,13 +74,12 @@ fn to_each_form(rt: HostRuntime) -> Result<(), Fail> {
         ),
     ];
     for (arguments, wanted) in cases {
-        assert!(rt; gives(rt.alloc(), arguments, DAY, wanted)?, "{arguments:?}");
+        assert!(rt; gives(rt.alloc(), arguments, DAY, wanted), "{arguments:?}");
     }
-    Ok(())
 }
 
 #[test]
-fn moves(rt: HostRuntime) -> Result<(), Fail> {
+fn moves(rt: HostRuntime) {
     let cases: [(&[u8], &[u8], &[u8]); 15] = [
         (
             b"add\01",
@@ -152,15 +156,14 @@ fn moves(rt: HostRuntime) -> Result<(), Fail> {
     ];
     for (arguments, input, wanted) in cases {
         assert!(rt;
-            gives(rt.alloc(), arguments, input, wanted)?,
+            gives(rt.alloc(), arguments, input, wanted),
             "{arguments:?}"
         );
     }
-    Ok(())
 }
 
 #[test]
-fn lines_without_an_answer(rt: HostRuntime) -> Result<(), Fail> {
+fn lines_without_an_answer(rt: HostRuntime) {
     let cases: [(&[u8], &[u8]); 14] = [
         (b"2023-02-29\n", b"refused day conditional\n"),
         (b"2024-13-01\n", b"refused month\n"),
@@ -179,15 +182,14 @@ fn lines_without_an_answer(rt: HostRuntime) -> Result<(), Fail> {
     ];
     for (input, wanted) in cases {
         assert!(rt;
-            gives(rt.alloc(), b"to\0rfc3339", input, wanted)?,
+            gives(rt.alloc(), b"to\0rfc3339", input, wanted),
             "{input:?}"
         );
     }
-    Ok(())
 }
 
 #[test]
-fn line_ends(rt: HostRuntime) -> Result<(), Fail> {
+fn line_ends(rt: HostRuntime) {
     let cases: [(&[u8], &[u8]); 8] = [
         (b"", b""),
         (b"2024-060", b"2024-02-29\n"),
@@ -203,15 +205,14 @@ fn line_ends(rt: HostRuntime) -> Result<(), Fail> {
     ];
     for (input, wanted) in cases {
         assert!(rt;
-            gives(rt.alloc(), b"to\0calendar", input, wanted)?,
+            gives(rt.alloc(), b"to\0calendar", input, wanted),
             "{input:?}"
         );
     }
-    Ok(())
 }
 
 #[test]
-fn strict_runs(rt: HostRuntime) -> Result<(), Fail> {
+fn strict_runs(rt: HostRuntime) {
     let cases: [(&[u8], &[u8], Result<(), Fault>); 5] = [
         (b"2024-060\n2024-061\n", b"2024-02-29\n2024-03-01\n", Ok(())),
         (
@@ -232,17 +233,16 @@ fn strict_runs(rt: HostRuntime) -> Result<(), Fail> {
         ),
     ];
     for (input, wanted, ending) in cases {
-        let (outcome, written) = answers(rt.alloc(), b"--strict\0to\0calendar", input)?;
+        let (outcome, written) = answers(rt.alloc(), b"--strict\0to\0calendar", input);
         assert!(rt;
             outcome == ending && written.as_slice() == wanted,
             "{input:?}"
         );
     }
-    Ok(())
 }
 
 #[test]
-fn words_at_the_end(rt: HostRuntime) -> Result<(), Fail> {
+fn words_at_the_end(rt: HostRuntime) {
     let cases: [(Result<(), Fault>, u8, &[u8]); 5] = [
         (Ok(()), 0, b""),
         (Err(Fault::Closed), 0, b""),
@@ -255,5 +255,4 @@ fn words_at_the_end(rt: HostRuntime) -> Result<(), Fail> {
         assert_eq!(rt; end(outcome, &mut told), status, "{outcome:?}");
         assert!(rt; told.as_slice() == words, "{outcome:?}");
     }
-    Ok(())
 }

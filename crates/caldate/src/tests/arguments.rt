@@ -57,12 +57,32 @@ fn arguments_are_joined(rt: HostRuntime) {
 #[test]
 fn arguments_without_room(rt: HostRuntime) -> Result<(), Fail> {
     for (before, length, after, wanted) in [
-        (b"caldate|".as_slice(), MOST_BYTES, b"".as_slice(), Some(MOST_BYTES)),
+        (
+            b"caldate|".as_slice(),
+            MOST_BYTES,
+            b"".as_slice(),
+            Some(MOST_BYTES),
+        ),
         (b"caldate|".as_slice(), MOST_BYTES + 1, b"".as_slice(), None),
         (b"caldate|".as_slice(), MOST_BYTES, b"|".as_slice(), None),
-        (b"caldate|".as_slice(), MOST_BYTES - 1, b"|".as_slice(), Some(MOST_BYTES)),
-        (b"caldate|x|".as_slice(), MOST_BYTES - 2, b"".as_slice(), Some(MOST_BYTES)),
-        (b"caldate|x|".as_slice(), MOST_BYTES - 1, b"".as_slice(), None),
+        (
+            b"caldate|".as_slice(),
+            MOST_BYTES - 1,
+            b"|".as_slice(),
+            Some(MOST_BYTES),
+        ),
+        (
+            b"caldate|x|".as_slice(),
+            MOST_BYTES - 2,
+            b"".as_slice(),
+            Some(MOST_BYTES),
+        ),
+        (
+            b"caldate|x|".as_slice(),
+            MOST_BYTES - 1,
+            b"".as_slice(),
+            None,
+        ),
     ] {
         let mut all = Vec::new(rt.alloc());
         all.extend_from_slice(before)?;
@@ -71,7 +91,10 @@ fn arguments_without_room(rt: HostRuntime) -> Result<(), Fail> {
         }
         all.extend_from_slice(after)?;
         let mut buffer = [0u8; MOST_BYTES];
-        assert!(rt; join(&Words { all: &all }, &mut buffer) == wanted, "{length}");
+        assert!(rt;
+            join(&Words { all: &all }, &mut buffer) == wanted,
+            "{length}"
+        );
     }
     Ok(())
 }
@@ -118,7 +141,7 @@ fn arguments_that_make_no_sense(rt: HostRuntime) {
 }
 
 #[test]
-fn arguments_at_their_ends(rt: HostRuntime) -> Result<(), Fail> {
+fn arguments_at_their_ends(rt: HostRuntime) {
     let cases: [(&[u8], &[u8]); 8] = [
         (b"add\09223372036854775807\0seconds", b"none\n"),
         (b"add\0-9223372036854775808\0seconds", b"none\n"),
@@ -131,11 +154,10 @@ fn arguments_at_their_ends(rt: HostRuntime) -> Result<(), Fail> {
     ];
     for (arguments, wanted) in cases {
         assert!(rt;
-            gives(rt.alloc(), arguments, b"2024-02-29\n", wanted)?,
+            gives(rt.alloc(), arguments, b"2024-02-29\n", wanted),
             "{arguments:?}"
         );
     }
-    Ok(())
 }
 
 #[test]

@@ -1,11 +1,8 @@
 //! Runs over readers and writers that fail, and that give or take one byte a call.
-use crate::asked::asked_of;
 use crate::fault::Fault;
-use crate::request::{Asked, Filter};
-use crate::run::run;
-use std::alloc::{AllocError, Global};
+use crate::tests::run_by;
+use std::alloc::Global;
 use std::io::{self, ErrorKind, Read, Write};
-use std::test::Fail;
 
 /// Gives one byte a call, and fails at this call and from it on.
 #[derive(Drop)]
@@ -69,32 +66,21 @@ const INPUT: &[u8] = b"2024-060\n2024-367\r\nx\n2024-W09-4";
 
 const ANSWERS: &[u8] = b"2024-02-29\nrefused ordinal conditional\r\nunreadable at 0\n2024-02-29\n";
 
-/// How many bytes of the answers belong to the lines that end within so many bytes of the input.
-fn answered(read: usize) -> usize {
+/// The answers to the lines that end within so many bytes of the input.
+fn answered(read: usize) -> &'static [u8] {
     if read < 9 {
-        0
+        b"".as_slice()
     } else if read < 19 {
-        11
+        b"2024-02-29\n".as_slice()
     } else if read < 21 {
-        40
+        b"2024-02-29\nrefused ordinal conditional\r\n".as_slice()
     } else {
-        56
-    }
-}
-
-fn filter() -> Result<Filter, Fail> {
-    match asked_of(b"to\0calendar") {
-        Some(Asked::Lines(filter)) => Ok(filter),
-        _ => Err(Fail::from("a filter")),
+        b"2024-02-29\nrefused ordinal conditional\r\nunreadable at 0\n".as_slice()
     }
 }
 
 /// What comes of a run over a reader that fails from this call on, and what it wrote.
-fn drip(
-    alloc: Global,
-    failing: usize,
-    kind: ErrorKind,
-) -> Result<(Result<(), Fault>, Vec<u8>), Fail> {
+fn drip(alloc: Global, failing: usize, kind: ErrorKind) -> (Result<(), Fault>, Vec<u8>) {
     let mut reader = Dripping {
         rest: INPUT,
         calls: 0,
@@ -102,16 +88,12 @@ fn drip(
         kind,
     };
     let mut written = Vec::new(alloc);
-    let outcome = run(filter()?, &mut reader, &mut written);
-    Ok((outcome, written))
+    let outcome = run_by(b"to\0calendar", &mut reader, &mut written);
+    (outcome, written)
 }
 
 /// What comes of a run over a writer that fails at this call, and what it took.
-fn sip(
-    alloc: Global,
-    failing: usize,
-    kind: Option<ErrorKind>,
-) -> Result<(Result<(), Fault>, Vec<u8>), Fail> {
+fn sip(alloc: Global, failing: usize, kind: Option<ErrorKind>) -> (Result<(), Fault>, Vec<u8>) {
     let mut reader = INPUT;
     let mut writer = Sipping {
         taken: Vec::new(alloc),
@@ -119,32 +101,28 @@ fn sip(
         failing,
         kind,
     };
-    let outcome = run(filter()?, &mut reader, &mut writer);
-    Ok((outcome, writer.taken))
+    let outcome = run_by(b"to\0calendar", &mut reader, &mut writer);
+    (outcome, writer.taken)
 }
 
 // The answers to the lines that have ended are out before the read that fails.
 #[test]
-fn each_read_fails_in_turn(rt: HostRuntime) -> Result<(), Fail> {
+fn each_read_fails_in_turn(rt: HostRuntime) {
     for call in 1..=INPUT.len() + 2 {
         for kind in [ErrorKind::Other, ErrorKind::Interrupted] {
-            let (outcome, written) = drip(rt.alloc(), call, kind)?;
+            let (outcome, written) = drip(rt.alloc(), call, kind);
             if call <= INPUT.len() + 1 {
                 assert!(rt; outcome == Err(Fault::Read), "at call {call}");
-                assert!(rt;
-                    written.as_slice() == &ANSWERS[..answered(call - 1)],
-                    "at call {call}"
-                );
+                assert!(rt; written.as_slice() == answered(call - 1), "at call {call}");
             } else {
                 assert!(rt; outcome == Ok(()) && written.as_slice() == ANSWERS);
             }
         }
     }
-    Ok(())
 }
 
 #[test]
-fn each_write_fails_in_turn(rt: HostRuntime) -> Result<(), Fail> {
+fn each_write_fails_in_turn(rt: HostRuntime) {
     for call in 1..=ANSWERS.len() + 1 {
         for (kind, fault) in [
             (Some(ErrorKind::Other), Some(Fault::Write)),
@@ -152,7 +130,7 @@ fn each_write_fails_in_turn(rt: HostRuntime) -> Result<(), Fail> {
             (Some(ErrorKind::BrokenPipe), Some(Fault::Closed)),
             (Some(ErrorKind::Interrupted), None),
         ] {
-            let (outcome, taken) = sip(rt.alloc(), call, kind)?;
+            let (outcome, taken) = sip(rt.alloc(), call, kind);
             match fault {
                 Some(fault) if call <= ANSWERS.len() => {
                     assert!(rt; outcome == Err(fault), "at call {call}");
@@ -165,5 +143,4 @@ fn each_write_fails_in_turn(rt: HostRuntime) -> Result<(), Fail> {
             }
         }
     }
-    Ok(())
 }

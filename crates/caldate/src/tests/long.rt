@@ -1,8 +1,6 @@
 //! Lines of every length, in reads of every length.
-use crate::asked::asked_of;
 use crate::fault::Fault;
-use crate::request::{Asked, Filter};
-use crate::run::run;
+use crate::tests::run_by;
 use std::alloc::{AllocError, Global};
 use std::io::{self, ErrorKind, Read};
 use std::test::Fail;
@@ -40,18 +38,11 @@ impl Read for Endless {
     }
 }
 
-fn filter() -> Result<Filter, Fail> {
-    match asked_of(b"to\0calendar") {
-        Some(Asked::Lines(filter)) => Ok(filter),
-        _ => Err(Fail::from("a filter")),
-    }
-}
-
 /// The answers to an input that comes by so many bytes at most.
 fn answers(alloc: Global, input: &[u8], most: usize) -> Result<Vec<u8>, Fail> {
     let mut reader = Chunks { rest: input, most };
     let mut written = Vec::new(alloc);
-    match run(filter()?, &mut reader, &mut written) {
+    match run_by(b"to\0calendar", &mut reader, &mut written) {
         Ok(()) => Ok(written),
         Err(_) => Err(Fail::from("a run")),
     }
@@ -150,10 +141,9 @@ fn reads_of_each_length(rt: HostRuntime) -> Result<(), Fail> {
 }
 
 #[test]
-fn an_endless_line_is_read_in_place(rt: HostRuntime) -> Result<(), Fail> {
+fn an_endless_line_is_read_in_place(rt: HostRuntime) {
     let mut written = Vec::new(rt.alloc());
-    let outcome = run(filter()?, &mut Endless { calls: 20 }, &mut written);
+    let outcome = run_by(b"to\0calendar", &mut Endless { calls: 20 }, &mut written);
     assert!(rt; outcome == Err(Fault::Read));
     assert!(rt; written.is_empty());
-    Ok(())
 }
