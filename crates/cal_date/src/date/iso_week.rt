@@ -2,7 +2,7 @@
 ghost use Rattle.std.specs.Prelude.{◌≡◌, ℕ, ◌+◌, ◌-◌, ◌%◌, ◌<◌, ◌≤◌, pos, ◌↔◌, ◌⊎◌, IfOk, IfErr, IsErr, IsTrue, Ok, [], ◌∷◌};
 ghost use Rattle.cal_units.specs.Refusal.{refusal, IsRefused};
 ghost use Rattle.cal_units.specs.Weekday.{place};
-ghost use Rattle.cal_units.specs.Weeks.{first_weekday};
+ghost use Rattle.cal_units.specs.Weeks.{first_weekday, weeks_in_year};
 ghost use Rattle.cal_date.specs.ClosedForms.{iso_year_of, iso_week_of, year_of_week, ordinal_of_week, IsWeekByForm, IsDayByForm};
 ghost use Rattle.cal_date.specs.Date.{year_at, ordinal_at, weekday_at, IsDate, IsYear, IsOrdinal, NoDate};
 ghost use Rattle.cal_date.specs.IsoWeekDate.{weekdays_upto, iso_year_at, iso_week_at, IsWeek, HasIsoWeekDate};
@@ -119,6 +119,14 @@ fn has_week(year: i32, week: u8) -> bool
     }
 }
 
+/// The weeks of the year, for the few days that ask for them: their count stays out of the code that each day runs through.
+#[cold]
+fn weeks_of_year(year: i32) -> u8
+    ensures { result ≡ weeks_in_year year }
+{
+    weeks_in_year(year)
+}
+
 /// The place of the weekday of this day of a year of the range, from Monday, 0.
 fn weekday_place(year: i32, ordinal: u16) -> u8
     requires year { IsYear year }
@@ -128,7 +136,8 @@ fn weekday_place(year: i32, ordinal: u16) -> u8
     // The first year of the range begins on a Monday. A year of 365 days moves the weekday by one, and a leap day by
     // one more.
     let years = (year - MIN_YEAR) as u32;
-    let moved = years + years / 4 - years / 100 + years / 400;
+    let centuries = years / 100;
+    let moved = years + years / 4 - centuries + centuries / 4;
     ((moved + u32::from(ordinal) - 1) % 7) as u8
 }
 
@@ -141,9 +150,9 @@ fn iso_year_and_week(year: i32, ordinal: u16, weekday: Weekday) -> (i32, u8)
 {
     let week = ((ordinal + 10 - u16::from(weekday.number_from_monday())) / 7) as u8;
     if week == 0 {
-        return (year - 1, weeks_in_year(year - 1));
+        return (year - 1, weeks_of_year(year - 1));
     }
-    if week == 53 && weeks_in_year(year) == 52 {
+    if week == 53 && weeks_of_year(year) == 52 {
         return (year + 1, 1);
     }
     (year, week)
