@@ -1,5 +1,5 @@
 -- What holds of each of the twelve months holds of every month.
-use Rattle.std.proofs.Common.{◌≡◌, ℕ, zero, suc, ◌+◌, ◌<◌, ◌≤◌, [], ◌∷◌, slice_index_or, arith, add-one, refl, lit≤, ℤ, Bool, true, false, sym, subst, inl, inr}
+use Rattle.std.proofs.Common.{◌≡◌, ℕ, List, pos, zero, suc, ◌+◌, ◌<◌, ◌≤◌, [], ◌∷◌, slice_index_or, arith, add-one, refl, lit≤, ℤ, Bool, true, false, sym, subst, inl, inr}
 use Rattle.std.proofs.lemmas.Bool.{cases_lt}
 use Rattle.std.proofs.lemmas.Bool.Decides.{nat_tests}
 use mir.Val.{bool_byte}
@@ -22,55 +22,51 @@ each_month P _ _ _ _ _ _ _ _ _ _ p10 _ (suc (suc (suc (suc (suc (suc (suc (suc (
 each_month P _ _ _ _ _ _ _ _ _ _ _ p11 (suc (suc (suc (suc (suc (suc (suc (suc (suc (suc (suc zero))))))))))) low = p11
 each_month P _ _ _ _ _ _ _ _ _ _ _ _ (suc (suc (suc (suc (suc (suc (suc (suc (suc (suc (suc (suc i)))))))))))) low = absurd (omega arith)
 
--- the days before each month of a common year and of a leap year, and at 12 those of the year
-pub record IsStart (y : ℤ) (i : ℕ) : Type 0 where
-  pub common : is_leap_year y ≡ false → slice_index_or (0 ∷ 31 ∷ 59 ∷ 90 ∷ 120 ∷ 151 ∷ 181 ∷ 212 ∷ 243 ∷ 273 ∷ 304 ∷ 334 ∷ 365 ∷ []) i 0 ≡ days_of_months y i
-  pub leap : is_leap_year y ≡ true → slice_index_or (0 ∷ 31 ∷ 60 ∷ 91 ∷ 121 ∷ 152 ∷ 182 ∷ 213 ∷ 244 ∷ 274 ∷ 305 ∷ 335 ∷ 366 ∷ []) i 0 ≡ days_of_months y i
+-- the days before each month in a common year and in a leap year, and at 12 those of the year
+abbrev pub before_months : List (List ℕ)
+before_months = ((0 ∷ 0 ∷ []) ∷ (31 ∷ 31 ∷ []) ∷ (59 ∷ 60 ∷ []) ∷ (90 ∷ 91 ∷ []) ∷ (120 ∷ 121 ∷ []) ∷ (151 ∷ 152 ∷ []) ∷ (181 ∷ 182 ∷ []) ∷ (212 ∷ 213 ∷ []) ∷ (243 ∷ 244 ∷ []) ∷ (273 ∷ 274 ∷ []) ∷ (304 ∷ 305 ∷ []) ∷ (334 ∷ 335 ∷ []) ∷ (365 ∷ 366 ∷ []) ∷ [])
+
+abbrev pub before_month : ℕ → Bool → ℕ
+before_month i leap = slice_index_or (slice_index_or before_months i []) (bool_byte leap) 0
+
+record IsStart (y : ℤ) (i : ℕ) : Type 0 where
+  common : is_leap_year y ≡ false → before_month i false ≡ days_of_months y i
+  leap : is_leap_year y ≡ true → before_month i true ≡ days_of_months y i
+  most : (before_month i false ≤ 366) × (before_month i true ≤ 366)
 
 at_twelve : (y : ℤ) → IsStart y 12
 unfolding days_of_months days_in_month
-at_twelve y = record { common = λ h. grind (arith, nat_tests); leap = λ h. grind (arith, nat_tests) }
+at_twelve y = record { common = λ h. grind (arith, nat_tests); leap = λ h. grind (arith, nat_tests); most = (lit≤ tt, lit≤ tt) }
 
-pub start : (y : ℤ) (i : ℕ) → i ≤ 12 → IsStart y i
+start : (y : ℤ) (i : ℕ) → i ≤ 12 → IsStart y i
 unfolding days_of_months days_in_month
 start y i low =
     elim (cases_lt i 12) [
       | inl below ↦
           each_month (λ m. IsStart y m)
-          (record { common = λ h. grind (arith, nat_tests); leap = λ h. grind (arith, nat_tests) })
-          (record { common = λ h. grind (arith, nat_tests); leap = λ h. grind (arith, nat_tests) })
-          (record { common = λ h. grind (arith, nat_tests); leap = λ h. grind (arith, nat_tests) })
-          (record { common = λ h. grind (arith, nat_tests); leap = λ h. grind (arith, nat_tests) })
-          (record { common = λ h. grind (arith, nat_tests); leap = λ h. grind (arith, nat_tests) })
-          (record { common = λ h. grind (arith, nat_tests); leap = λ h. grind (arith, nat_tests) })
-          (record { common = λ h. grind (arith, nat_tests); leap = λ h. grind (arith, nat_tests) })
-          (record { common = λ h. grind (arith, nat_tests); leap = λ h. grind (arith, nat_tests) })
-          (record { common = λ h. grind (arith, nat_tests); leap = λ h. grind (arith, nat_tests) })
-          (record { common = λ h. grind (arith, nat_tests); leap = λ h. grind (arith, nat_tests) })
-          (record { common = λ h. grind (arith, nat_tests); leap = λ h. grind (arith, nat_tests) })
-          (record { common = λ h. grind (arith, nat_tests); leap = λ h. grind (arith, nat_tests) })
+          (record { common = λ h. grind (arith, nat_tests); leap = λ h. grind (arith, nat_tests); most = (lit≤ tt, lit≤ tt) })
+          (record { common = λ h. grind (arith, nat_tests); leap = λ h. grind (arith, nat_tests); most = (lit≤ tt, lit≤ tt) })
+          (record { common = λ h. grind (arith, nat_tests); leap = λ h. grind (arith, nat_tests); most = (lit≤ tt, lit≤ tt) })
+          (record { common = λ h. grind (arith, nat_tests); leap = λ h. grind (arith, nat_tests); most = (lit≤ tt, lit≤ tt) })
+          (record { common = λ h. grind (arith, nat_tests); leap = λ h. grind (arith, nat_tests); most = (lit≤ tt, lit≤ tt) })
+          (record { common = λ h. grind (arith, nat_tests); leap = λ h. grind (arith, nat_tests); most = (lit≤ tt, lit≤ tt) })
+          (record { common = λ h. grind (arith, nat_tests); leap = λ h. grind (arith, nat_tests); most = (lit≤ tt, lit≤ tt) })
+          (record { common = λ h. grind (arith, nat_tests); leap = λ h. grind (arith, nat_tests); most = (lit≤ tt, lit≤ tt) })
+          (record { common = λ h. grind (arith, nat_tests); leap = λ h. grind (arith, nat_tests); most = (lit≤ tt, lit≤ tt) })
+          (record { common = λ h. grind (arith, nat_tests); leap = λ h. grind (arith, nat_tests); most = (lit≤ tt, lit≤ tt) })
+          (record { common = λ h. grind (arith, nat_tests); leap = λ h. grind (arith, nat_tests); most = (lit≤ tt, lit≤ tt) })
+          (record { common = λ h. grind (arith, nat_tests); leap = λ h. grind (arith, nat_tests); most = (lit≤ tt, lit≤ tt) })
           i below
       | inr last ↦ let is : 12 ≡ i = omega arith in subst (IsStart y) is (at_twelve y)
     ]
 
--- the table's row for a kind of year
-pub row : (y : ℤ) (leap : Bool) (i : ℕ) → leap ≡ is_leap_year y → i ≤ 12
-    → slice_index_or (slice_index_or ((0 ∷ 31 ∷ 59 ∷ 90 ∷ 120 ∷ 151 ∷ 181 ∷ 212 ∷ 243 ∷ 273 ∷ 304 ∷ 334 ∷ 365 ∷ []) ∷ (0 ∷ 31 ∷ 60 ∷ 91 ∷ 121 ∷ 152 ∷ 182 ∷ 213 ∷ 244 ∷ 274 ∷ 305 ∷ 335 ∷ 366 ∷ []) ∷ []) (bool_byte leap) []) i 0 ≡ days_of_months y i
-row y true i same low = (start y i low).leap (sym same)
-row y false i same low = (start y i low).common (sym same)
+pub before_month-is : (y : ℤ) (i : ℕ) (leap : Bool) → leap ≡ is_leap_year y → i ≤ 12 → before_month i leap ≡ days_of_months y i
+before_month-is y i true same low = (start y i low).leap (sym same)
+before_month-is y i false same low = (start y i low).common (sym same)
 
--- none of them is more than the days of a leap year
-pub row-most : (leap : Bool) (i : ℕ) → i ≤ 12 → slice_index_or (slice_index_or ((0 ∷ 31 ∷ 59 ∷ 90 ∷ 120 ∷ 151 ∷ 181 ∷ 212 ∷ 243 ∷ 273 ∷ 304 ∷ 334 ∷ 365 ∷ []) ∷ (0 ∷ 31 ∷ 60 ∷ 91 ∷ 121 ∷ 152 ∷ 182 ∷ 213 ∷ 244 ∷ 274 ∷ 305 ∷ 335 ∷ 366 ∷ []) ∷ []) (bool_byte leap) []) i 0 ≤ 366
-row-most true i low =
-    elim (cases_lt i 12) [
-      | inl below ↦ each_month (λ m. slice_index_or (0 ∷ 31 ∷ 60 ∷ 91 ∷ 121 ∷ 152 ∷ 182 ∷ 213 ∷ 244 ∷ 274 ∷ 305 ∷ 335 ∷ 366 ∷ []) m 0 ≤ 366) (lit≤ tt) (lit≤ tt) (lit≤ tt) (lit≤ tt) (lit≤ tt) (lit≤ tt) (lit≤ tt) (lit≤ tt) (lit≤ tt) (lit≤ tt) (lit≤ tt) (lit≤ tt) i below
-      | inr last ↦ let is : 12 ≡ i = omega arith in subst (λ m. slice_index_or (0 ∷ 31 ∷ 60 ∷ 91 ∷ 121 ∷ 152 ∷ 182 ∷ 213 ∷ 244 ∷ 274 ∷ 305 ∷ 335 ∷ 366 ∷ []) m 0 ≤ 366) is (lit≤ tt)
-    ]
-row-most false i low =
-    elim (cases_lt i 12) [
-      | inl below ↦ each_month (λ m. slice_index_or (0 ∷ 31 ∷ 59 ∷ 90 ∷ 120 ∷ 151 ∷ 181 ∷ 212 ∷ 243 ∷ 273 ∷ 304 ∷ 334 ∷ 365 ∷ []) m 0 ≤ 366) (lit≤ tt) (lit≤ tt) (lit≤ tt) (lit≤ tt) (lit≤ tt) (lit≤ tt) (lit≤ tt) (lit≤ tt) (lit≤ tt) (lit≤ tt) (lit≤ tt) (lit≤ tt) i below
-      | inr last ↦ let is : 12 ≡ i = omega arith in subst (λ m. slice_index_or (0 ∷ 31 ∷ 59 ∷ 90 ∷ 120 ∷ 151 ∷ 181 ∷ 212 ∷ 243 ∷ 273 ∷ 304 ∷ 334 ∷ 365 ∷ []) m 0 ≤ 366) is (lit≤ tt)
-    ]
+pub before_month-most : (i : ℕ) (leap : Bool) → i ≤ 12 → before_month i leap ≤ 366
+before_month-most i true low = (start (pos 0) i low).most.1
+before_month-most i false low = (start (pos 0) i low).most.0
 
 -- the days before the next month
 pub days_of_months-next : (y : ℤ) (i : ℕ) → days_of_months y (i + 1) ≡ days_of_months y i + days_in_month y (i + 1)

@@ -14,10 +14,21 @@ use crate::error::ComponentRange;
 use cal_units::util::is_leap_year;
 use cal_units::{Cycle, Month};
 
-/// The days that come before each month and before the next year, of a common year and of a leap year.
-const DAYS_BEFORE_MONTH: [[u16; 13]; 2] = [
-    [0, 31, 59, 90, 120, 151, 181, 212, 243, 273, 304, 334, 365],
-    [0, 31, 60, 91, 121, 152, 182, 213, 244, 274, 305, 335, 366],
+/// The days that come before each month, and at the end those of the year: in a common year, and in a leap year.
+const DAYS_BEFORE_MONTH: [[u16; 2]; 13] = [
+    [0, 0],
+    [31, 31],
+    [59, 60],
+    [90, 91],
+    [120, 121],
+    [151, 152],
+    [181, 182],
+    [212, 213],
+    [243, 244],
+    [273, 274],
+    [304, 305],
+    [334, 335],
+    [365, 366],
 ];
 
 impl Date {
@@ -139,5 +150,5 @@ fn days_before_month(place: u8, leap: bool) -> u16
     ensures value { (year : ℤ) → leap ≡ is_leap_year year → result ≡ days_of_months year place }
     ensures most { result ≤ 366 }
 {
-    DAYS_BEFORE_MONTH[usize::from(leap)][usize::from(place)]
+    DAYS_BEFORE_MONTH[usize::from(place)][usize::from(leap)]
 }

@@ -1,5 +1,5 @@
 //! Weekdays, ISO week dates, and the weeks of a year from Sunday or Monday on.
-ghost use Rattle.std.specs.Prelude.{◌≡◌, ℕ, ◌+◌, ◌-◌, ◌%◌, ◌<◌, ◌≤◌, pos, ◌↔◌, ◌⊎◌, IfOk, IfErr, IsErr, IsTrue, Ok, [], ◌∷◌};
+ghost use Rattle.std.specs.Prelude.{◌≡◌, ℕ, ◌+◌, ◌-◌, ◌*◌, ◌/◌, ◌%◌, ◌<◌, ◌≤◌, pos, ◌↔◌, ◌⊎◌, IfOk, IfErr, IsErr, IsTrue, Ok, [], ◌∷◌};
 ghost use Rattle.cal_units.specs.Refusal.{refusal, IsRefused};
 ghost use Rattle.cal_units.specs.Weekday.{place};
 ghost use Rattle.cal_units.specs.Weeks.{first_weekday, weeks_in_year};
@@ -141,6 +141,15 @@ fn weekday_place(year: i32, ordinal: u16) -> u8
     ((moved + u32::from(ordinal) - 1) % 7) as u8
 }
 
+/// The whole weeks of so many days: 613566757 is 2^32 / 7, rounded up. A division needs more where the compiler loses sight of how few
+/// the days are.
+fn whole_weeks(days: u16) -> u8
+    requires { days < 7 * 256 }
+    ensures { result ≡ days / 7 }
+{
+    (u64::from(days) * 613_566_757 >> 32) as u8
+}
+
 /// The ISO year and the week of the day of a year of the range that has this ordinal and this weekday.
 fn iso_year_and_week(year: i32, ordinal: u16, weekday: Weekday) -> (i32, u8)
     requires year { IsYear year }
@@ -148,7 +157,7 @@ fn iso_year_and_week(year: i32, ordinal: u16, weekday: Weekday) -> (i32, u8)
     ensures year { result.0 ≡ iso_year_of year ordinal (place weekday + 1) }
     ensures week { result.1 ≡ iso_week_of year ordinal (place weekday + 1) }
 {
-    let week = ((ordinal + 10 - u16::from(weekday.number_from_monday())) / 7) as u8;
+    let week = whole_weeks(ordinal + 10 - u16::from(weekday.number_from_monday()));
     if week == 0 {
         return (year - 1, weeks_of_year(year - 1));
     }
