@@ -1,5 +1,5 @@
 //! Weekdays, ISO week dates, and the weeks of a year from Sunday or Monday on.
-ghost use Rattle.std.specs.Prelude.{◌≡◌, ℕ, ◌+◌, ◌-◌, ◌*◌, ◌/◌, ◌%◌, ◌<◌, ◌≤◌, pos, ◌↔◌, ◌⊎◌, IfOk, IfErr, IsErr, IsTrue, Ok, [], ◌∷◌};
+ghost use Rattle.std.specs.Prelude.{◌≡◌, ℕ, ◌+◌, ◌-◌, ◌*◌, ◌/◌, ◌%◌, ◌^◌, ◌<◌, ◌≤◌, pos, ◌↔◌, ◌⊎◌, IfOk, IfErr, IsErr, IsTrue, Ok, [], ◌∷◌};
 ghost use Rattle.cal_units.specs.Refusal.{refusal, IsRefused};
 ghost use Rattle.cal_units.specs.Weekday.{place};
 ghost use Rattle.cal_units.specs.Weeks.{first_weekday, weeks_in_year};
@@ -13,6 +13,9 @@ use crate::date::{Date, MAX_YEAR, MIN_YEAR, is_year};
 use crate::error::ComponentRange;
 use cal_units::util::{days_in_year, weeks_in_year};
 use cal_units::{Cycle, Weekday};
+
+/// 2^32 / 7, rounded up: a day times this is its weeks, in parts of 2^32.
+const SEVENTH: u32 = 613_566_757;
 
 impl Date {
     /// The day that has this weekday, in this week of this ISO year.
@@ -138,16 +141,23 @@ fn weekday_place(year: i32, ordinal: u16) -> u8
     let years = (year - MIN_YEAR) as u32;
     let centuries = years / 100;
     let moved = years + years / 4 - centuries + centuries / 4;
-    ((moved + u32::from(ordinal) - 1) % 7) as u8
+    past_whole_weeks(moved + u32::from(ordinal) - 1)
 }
 
-/// The whole weeks of so many days: 613566757 is 2^32 / 7, rounded up. A division needs more where the compiler loses sight of how few
-/// the days are.
+/// The whole weeks of so many days.
 fn whole_weeks(days: u16) -> u8
     requires { days < 7 * 256 }
     ensures { result ≡ days / 7 }
 {
-    (u64::from(days) * 613_566_757 >> 32) as u8
+    (u64::from(days) * u64::from(SEVENTH) >> 32) as u8
+}
+
+/// The days past the whole weeks of so many days: the part of a week that is left, in parts of 2^32, times 7.
+fn past_whole_weeks(days: u32) -> u8
+    requires { days < 2 ^ 30 }
+    ensures { result ≡ days % 7 }
+{
+    (u64::from(days.wrapping_mul(SEVENTH)) * 7 >> 32) as u8
 }
 
 /// The ISO year and the week of the day of a year of the range that has this ordinal and this weekday.
