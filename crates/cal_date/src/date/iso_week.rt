@@ -118,7 +118,7 @@ fn has_week(year: i32, week: u8) -> bool
     match week {
         0 => false,
         1..=52 => true,
-        _ => week <= weeks_in_year(year),
+        _ => week <= weeks_of_year(year),
     }
 }
 
