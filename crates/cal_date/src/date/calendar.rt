@@ -1,6 +1,6 @@
 //! Dates by year, month and day of the month.
 ghost use Rattle.std.specs.Prelude.{◌≡◌, ℕ, ◌<◌, ◌≤◌, pos, ◌↔◌, ◌⊎◌, IfOk, IfErr, IsErr, IsTrue, Ok, [], ◌∷◌, ℤ};
-ghost use Rattle.cal_units.specs.Month.{place, number};
+ghost use Rattle.cal_units.specs.Month.{number};
 ghost use Rattle.cal_units.specs.Refusal.{refusal, IsRefused};
 ghost use Rattle.cal_units.specs.Lengths.{is_leap_year};
 ghost use Rattle.cal_date.specs.ClosedForms.{days_in_part, months_before_part, month_of_ordinal, day_of_ordinal};
@@ -133,7 +133,7 @@ impl Date {
     }
 }
 
-/// Whether the month has that day, in a leap year or in a common one.
+/// Whether the month has that day, in a leap year or in a common one: one of the days before the next month.
 fn has_day(month: Month, leap: bool, day: u8) -> bool
     ensures { (year : ℤ) → leap ≡ is_leap_year year → IsTrue result ↔ IsDayOfMonth year (number month) day }
 {
