@@ -1,4 +1,3 @@
-use Rattle.std.proofs.Common.{◌≤◌}
 use Rattle.cal_date.proofs.Months.{before_month-is, before_month-most}
 use Rattle.cal_date.proofs.date.calendar.days_before_month.Goals as goal
 
