@@ -139,8 +139,7 @@ fn weekday_place(year: i32, ordinal: u16) -> u8
     // The first year of the range begins on a Monday. A year of 365 days moves the weekday by one, and a leap day by
     // one more.
     let years = (year - MIN_YEAR) as u32;
-    let centuries = years / 100;
-    let moved = years + years / 4 - centuries + centuries / 4;
+    let moved = years + years / 4 - years / 100 + years / 400;
     past_whole_weeks(moved + u32::from(ordinal) - 1)
 }
 
