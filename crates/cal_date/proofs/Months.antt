@@ -1,5 +1,6 @@
 -- What holds of each of the twelve months holds of every month.
-use Rattle.std.proofs.Common.{◌≡◌, ℕ, zero, suc, ◌+◌, ◌<◌, ◌≤◌, [], ◌∷◌, slice_index_or, arith, ℤ}
+use Rattle.std.proofs.Common.{◌≡◌, ℕ, List, pos, zero, suc, ◌+◌, ◌<◌, ◌≤◌, [], ◌∷◌, slice_index_or, arith, add-one, refl, lit≤, ℤ, Bool, true, false, sym, subst, inl, inr}
+use Rattle.std.proofs.lemmas.Bool.{cases_lt}
 use Rattle.std.proofs.lemmas.Bool.Decides.{nat_tests}
 use mir.Val.{bool_byte}
 use Rattle.cal_units.specs.Lengths.{is_leap_year, days_in_month}
@@ -21,30 +22,53 @@ each_month P _ _ _ _ _ _ _ _ _ _ p10 _ (suc (suc (suc (suc (suc (suc (suc (suc (
 each_month P _ _ _ _ _ _ _ _ _ _ _ p11 (suc (suc (suc (suc (suc (suc (suc (suc (suc (suc (suc zero))))))))))) low = p11
 each_month P _ _ _ _ _ _ _ _ _ _ _ _ (suc (suc (suc (suc (suc (suc (suc (suc (suc (suc (suc (suc i)))))))))))) low = absurd (omega arith)
 
--- the days before each month: those of a common year, and from March on the leap day
-pub record IsStart (y : ℤ) (i : ℕ) : Type 0 where
-  pub early : i < 2 → slice_index_or (0 ∷ 31 ∷ 59 ∷ 90 ∷ 120 ∷ 151 ∷ 181 ∷ 212 ∷ 243 ∷ 273 ∷ 304 ∷ 334 ∷ []) i 0 ≡ days_of_months y i
-  pub late : 2 ≤ i → slice_index_or (0 ∷ 31 ∷ 59 ∷ 90 ∷ 120 ∷ 151 ∷ 181 ∷ 212 ∷ 243 ∷ 273 ∷ 304 ∷ 334 ∷ []) i 0 + bool_byte (is_leap_year y) ≡ days_of_months y i
+-- the days before each month in a common year and in a leap year, and at 12 those of the year
+abbrev pub before_months : List (List ℕ)
+before_months = ((0 ∷ 0 ∷ []) ∷ (31 ∷ 31 ∷ []) ∷ (59 ∷ 60 ∷ []) ∷ (90 ∷ 91 ∷ []) ∷ (120 ∷ 121 ∷ []) ∷ (151 ∷ 152 ∷ []) ∷ (181 ∷ 182 ∷ []) ∷ (212 ∷ 213 ∷ []) ∷ (243 ∷ 244 ∷ []) ∷ (273 ∷ 274 ∷ []) ∷ (304 ∷ 305 ∷ []) ∷ (334 ∷ 335 ∷ []) ∷ (365 ∷ 366 ∷ []) ∷ [])
 
-pub start : (y : ℤ) (i : ℕ) → i < 12 → IsStart y i
+abbrev pub before_month : ℕ → Bool → ℕ
+before_month i leap = slice_index_or (slice_index_or before_months i []) (bool_byte leap) 0
+
+record IsStart (y : ℤ) (i : ℕ) : Type 0 where
+  common : is_leap_year y ≡ false → before_month i false ≡ days_of_months y i
+  leap : is_leap_year y ≡ true → before_month i true ≡ days_of_months y i
+  most : (before_month i false ≤ 366) × (before_month i true ≤ 366)
+
+at_twelve : (y : ℤ) → IsStart y 12
+unfolding days_of_months days_in_month
+at_twelve y = record { common = λ h. grind (arith, nat_tests); leap = λ h. grind (arith, nat_tests); most = (lit≤ tt, lit≤ tt) }
+
+start : (y : ℤ) (i : ℕ) → i ≤ 12 → IsStart y i
 unfolding days_of_months days_in_month
 start y i low =
-    each_month (λ m. IsStart y m)
-    (record { early = λ h. grind (arith, nat_tests); late = λ h. grind (arith, nat_tests) })
-    (record { early = λ h. grind (arith, nat_tests); late = λ h. grind (arith, nat_tests) })
-    (record { early = λ h. grind (arith, nat_tests); late = λ h. grind (arith, nat_tests) })
-    (record { early = λ h. grind (arith, nat_tests); late = λ h. grind (arith, nat_tests) })
-    (record { early = λ h. grind (arith, nat_tests); late = λ h. grind (arith, nat_tests) })
-    (record { early = λ h. grind (arith, nat_tests); late = λ h. grind (arith, nat_tests) })
-    (record { early = λ h. grind (arith, nat_tests); late = λ h. grind (arith, nat_tests) })
-    (record { early = λ h. grind (arith, nat_tests); late = λ h. grind (arith, nat_tests) })
-    (record { early = λ h. grind (arith, nat_tests); late = λ h. grind (arith, nat_tests) })
-    (record { early = λ h. grind (arith, nat_tests); late = λ h. grind (arith, nat_tests) })
-    (record { early = λ h. grind (arith, nat_tests); late = λ h. grind (arith, nat_tests) })
-    (record { early = λ h. grind (arith, nat_tests); late = λ h. grind (arith, nat_tests) })
-    i low
+    elim (cases_lt i 12) [
+      | inl below ↦
+          each_month (λ m. IsStart y m)
+          (record { common = λ h. grind (arith, nat_tests); leap = λ h. grind (arith, nat_tests); most = (lit≤ tt, lit≤ tt) })
+          (record { common = λ h. grind (arith, nat_tests); leap = λ h. grind (arith, nat_tests); most = (lit≤ tt, lit≤ tt) })
+          (record { common = λ h. grind (arith, nat_tests); leap = λ h. grind (arith, nat_tests); most = (lit≤ tt, lit≤ tt) })
+          (record { common = λ h. grind (arith, nat_tests); leap = λ h. grind (arith, nat_tests); most = (lit≤ tt, lit≤ tt) })
+          (record { common = λ h. grind (arith, nat_tests); leap = λ h. grind (arith, nat_tests); most = (lit≤ tt, lit≤ tt) })
+          (record { common = λ h. grind (arith, nat_tests); leap = λ h. grind (arith, nat_tests); most = (lit≤ tt, lit≤ tt) })
+          (record { common = λ h. grind (arith, nat_tests); leap = λ h. grind (arith, nat_tests); most = (lit≤ tt, lit≤ tt) })
+          (record { common = λ h. grind (arith, nat_tests); leap = λ h. grind (arith, nat_tests); most = (lit≤ tt, lit≤ tt) })
+          (record { common = λ h. grind (arith, nat_tests); leap = λ h. grind (arith, nat_tests); most = (lit≤ tt, lit≤ tt) })
+          (record { common = λ h. grind (arith, nat_tests); leap = λ h. grind (arith, nat_tests); most = (lit≤ tt, lit≤ tt) })
+          (record { common = λ h. grind (arith, nat_tests); leap = λ h. grind (arith, nat_tests); most = (lit≤ tt, lit≤ tt) })
+          (record { common = λ h. grind (arith, nat_tests); leap = λ h. grind (arith, nat_tests); most = (lit≤ tt, lit≤ tt) })
+          i below
+      | inr last ↦ let is : 12 ≡ i = omega arith in subst (IsStart y) is (at_twelve y)
+    ]
 
--- no month is shorter than 28 days
-pub month-least : (y : ℤ) (m : ℕ) → 28 ≤ days_in_month y m
-unfolding days_in_month
-month-least y m = grind (arith, nat_tests)
+pub before_month-is : (y : ℤ) (i : ℕ) (leap : Bool) → leap ≡ is_leap_year y → i ≤ 12 → before_month i leap ≡ days_of_months y i
+before_month-is y i true same low = (start y i low).leap (sym same)
+before_month-is y i false same low = (start y i low).common (sym same)
+
+pub before_month-most : (i : ℕ) (leap : Bool) → i ≤ 12 → before_month i leap ≤ 366
+before_month-most i true low = (start (pos 0) i low).most.1
+before_month-most i false low = (start (pos 0) i low).most.0
+
+-- the days before the next month
+pub days_of_months-next : (y : ℤ) (i : ℕ) → days_of_months y (i + 1) ≡ days_of_months y i + days_in_month y (i + 1)
+unfolding days_of_months
+days_of_months-next y i = rw add-one refl

@@ -1,6 +1,6 @@
 //! Dates by year, month and day of the month.
 ghost use Rattle.std.specs.Prelude.{◌≡◌, ℕ, ◌<◌, ◌≤◌, pos, ◌↔◌, ◌⊎◌, IfOk, IfErr, IsErr, IsTrue, Ok, [], ◌∷◌, ℤ};
-ghost use Rattle.cal_units.specs.Month.{place, number};
+ghost use Rattle.cal_units.specs.Month.{number};
 ghost use Rattle.cal_units.specs.Refusal.{refusal, IsRefused};
 ghost use Rattle.cal_units.specs.Lengths.{is_leap_year};
 ghost use Rattle.cal_date.specs.ClosedForms.{days_in_part, months_before_part, month_of_ordinal, day_of_ordinal};
@@ -14,8 +14,22 @@ use crate::error::ComponentRange;
 use cal_units::util::is_leap_year;
 use cal_units::{Cycle, Month};
 
-/// The days of a common year that come before each month.
-const DAYS_BEFORE_MONTH: [u16; 12] = [0, 31, 59, 90, 120, 151, 181, 212, 243, 273, 304, 334];
+/// The days that come before each month, and at the end those of the year: in a common year, and in a leap year.
+const DAYS_BEFORE_MONTH: [[u16; 2]; 13] = [
+    [0, 0],
+    [31, 31],
+    [59, 60],
+    [90, 91],
+    [120, 121],
+    [151, 152],
+    [181, 182],
+    [212, 213],
+    [243, 244],
+    [273, 274],
+    [304, 305],
+    [334, 335],
+    [365, 366],
+];
 
 impl Date {
     /// The day of the year that has this month and day of the month.
@@ -40,11 +54,11 @@ impl Date {
         if !is_year(year) {
             return Err(ComponentRange::unconditional("year"));
         }
-        if !has_day(year, month, day) {
+        let leap = is_leap_year(year);
+        if !has_day(month, leap, day) {
             return Err(ComponentRange::conditional("day"));
         }
-        let leap = is_leap_year(year);
-        let ordinal = days_before_month(month, leap) + u16::from(day);
+        let ordinal = days_before_month(month.place(), leap) + u16::from(day);
         Ok(Date::from_parts(year, leap, ordinal))
     }
 
@@ -119,21 +133,22 @@ impl Date {
     }
 }
 
-/// Whether the month has that day in the year. Up to 28 neither is asked.
-fn has_day(year: i32, month: Month, day: u8) -> bool
-    ensures { IsTrue result ↔ IsDayOfMonth year (number month) day }
+/// Whether the month has that day, in a leap year or in a common one: one of the days before the next month.
+fn has_day(month: Month, leap: bool, day: u8) -> bool
+    ensures { (year : ℤ) → leap ≡ is_leap_year year → IsTrue result ↔ IsDayOfMonth year (number month) day }
 {
-    match day {
-        0 => false,
-        1..=28 => true,
-        _ => day <= month.length(year),
-    }
+    let place = month.place();
+    let ordinal = days_before_month(place, leap) + u16::from(day);
+    day > 0 && ordinal <= days_before_month(place + 1, leap)
 }
 
 /// The days that come before the month, in a leap year or in a common one.
-fn days_before_month(month: Month, leap: bool) -> u16
-    ensures { (year : ℤ) → leap ≡ is_leap_year year → result ≡ days_of_months year (place month) }
+///
+/// The month is given by its place. At 12 they are all the days of the year.
+fn days_before_month(place: u8, leap: bool) -> u16
+    requires { place ≤ 12 }
+    ensures value { (year : ℤ) → leap ≡ is_leap_year year → result ≡ days_of_months year place }
+    ensures most { result ≤ 366 }
 {
-    let place = usize::from(month.place());
-    DAYS_BEFORE_MONTH[place] + u16::from(place >= 2 && leap)
+    DAYS_BEFORE_MONTH[usize::from(place)][usize::from(leap)]
 }

@@ -1,8 +1,8 @@
 //! Weekdays, ISO week dates, and the weeks of a year from Sunday or Monday on.
-ghost use Rattle.std.specs.Prelude.{◌≡◌, ℕ, ◌+◌, ◌-◌, ◌%◌, ◌<◌, ◌≤◌, pos, ◌↔◌, ◌⊎◌, IfOk, IfErr, IsErr, IsTrue, Ok, [], ◌∷◌};
+ghost use Rattle.std.specs.Prelude.{◌≡◌, ℕ, ◌+◌, ◌-◌, ◌*◌, ◌/◌, ◌%◌, ◌^◌, ◌<◌, ◌≤◌, pos, ◌↔◌, ◌⊎◌, IfOk, IfErr, IsErr, IsTrue, Ok, [], ◌∷◌};
 ghost use Rattle.cal_units.specs.Refusal.{refusal, IsRefused};
 ghost use Rattle.cal_units.specs.Weekday.{place};
-ghost use Rattle.cal_units.specs.Weeks.{first_weekday};
+ghost use Rattle.cal_units.specs.Weeks.{first_weekday, weeks_in_year};
 ghost use Rattle.cal_date.specs.ClosedForms.{iso_year_of, iso_week_of, year_of_week, ordinal_of_week, IsWeekByForm, IsDayByForm};
 ghost use Rattle.cal_date.specs.Date.{year_at, ordinal_at, weekday_at, IsDate, IsYear, IsOrdinal, NoDate};
 ghost use Rattle.cal_date.specs.IsoWeekDate.{weekdays_upto, iso_year_at, iso_week_at, IsWeek, HasIsoWeekDate};
@@ -13,6 +13,9 @@ use crate::date::{Date, MAX_YEAR, MIN_YEAR, is_year};
 use crate::error::ComponentRange;
 use cal_units::util::{days_in_year, weeks_in_year};
 use cal_units::{Cycle, Weekday};
+
+/// 2^32 / 7, rounded up: a day times this is its weeks, in parts of 2^32.
+const SEVENTH: u32 = 613_566_757;
 
 impl Date {
     /// The day that has this weekday, in this week of this ISO year.
@@ -115,8 +118,16 @@ fn has_week(year: i32, week: u8) -> bool
     match week {
         0 => false,
         1..=52 => true,
-        _ => week <= weeks_in_year(year),
+        _ => week <= weeks_of_year(year),
     }
+}
+
+/// The weeks of the year, for the few days that ask for them: their count stays out of the code that each day runs through.
+#[cold]
+fn weeks_of_year(year: i32) -> u8
+    ensures { result ≡ weeks_in_year year }
+{
+    weeks_in_year(year)
 }
 
 /// The place of the weekday of this day of a year of the range, from Monday, 0.
@@ -129,7 +140,23 @@ fn weekday_place(year: i32, ordinal: u16) -> u8
     // one more.
     let years = (year - MIN_YEAR) as u32;
     let moved = years + years / 4 - years / 100 + years / 400;
-    ((moved + u32::from(ordinal) - 1) % 7) as u8
+    past_whole_weeks(moved + u32::from(ordinal) - 1)
+}
+
+/// The whole weeks of so many days.
+fn whole_weeks(days: u16) -> u8
+    requires { days < 7 * 256 }
+    ensures { result ≡ days / 7 }
+{
+    (u64::from(days) * u64::from(SEVENTH) >> 32) as u8
+}
+
+/// The days past the whole weeks of so many days: the part of a week that is left, in parts of 2^32, times 7.
+fn past_whole_weeks(days: u32) -> u8
+    requires { days < 2 ^ 30 }
+    ensures { result ≡ days % 7 }
+{
+    (u64::from(days.wrapping_mul(SEVENTH)) * 7 >> 32) as u8
 }
 
 /// The ISO year and the week of the day of a year of the range that has this ordinal and this weekday.
@@ -139,11 +166,11 @@ fn iso_year_and_week(year: i32, ordinal: u16, weekday: Weekday) -> (i32, u8)
     ensures year { result.0 ≡ iso_year_of year ordinal (place weekday + 1) }
     ensures week { result.1 ≡ iso_week_of year ordinal (place weekday + 1) }
 {
-    let week = ((ordinal + 10 - u16::from(weekday.number_from_monday())) / 7) as u8;
+    let week = whole_weeks(ordinal + 10 - u16::from(weekday.number_from_monday()));
     if week == 0 {
-        return (year - 1, weeks_in_year(year - 1));
+        return (year - 1, weeks_of_year(year - 1));
     }
-    if week == 53 && weeks_in_year(year) == 52 {
+    if week == 53 && weeks_of_year(year) == 52 {
         return (year + 1, 1);
     }
     (year, week)

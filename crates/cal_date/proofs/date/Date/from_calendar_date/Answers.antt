@@ -23,7 +23,8 @@ returns-then-not-is_year-clause-refused c = (λ e. NoDate-calendar_date _ (place
 
 no_day : (c : goal.After-conditional) → ¬ IsDayOfMonth c.args.year (number c.args.month) c.args.day
 no_day c day =
-    let is = rw (to_z-of_z w32 _ c.ranges.year) at c.has_day.ensures in
+    let leap = rw (to_z-of_z w32 _ c.ranges.year) at c.is_leap_year-leap.ensures in
+    let is = c.has_day.ensures c.args.year leap in
     false≢true (sym c.if-not-has_day.true ∙ is.1 day)
 
 pub returns-then-not-has_day-clause-every : goal.returns-then-not-has_day-clause-every
@@ -45,9 +46,9 @@ fits : (c : After-from) → Fits c
 fits c =
     let same : to_z w32 (of_z w32 c.args.year) ≡ c.args.year = to_z-of_z w32 _ c.ranges.year in
     let leap = rw same at c.is_leap_year-leap.ensures in
-    let before = c.days_before_month.ensures c.args.year leap in
+    let before = rw c.place.ensures at (c.days_before_month.ensures.value c.args.year leap) in
     let year = rw same at (c.is_year.ensures.0 c.if-not-is_year.false) in
-    let is = rw same at c.has_day.ensures in
+    let is = c.has_day.ensures c.args.year leap in
     let day = is.0 c.if-not-has_day.false in
     record {
       same = same;
