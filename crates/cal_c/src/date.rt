@@ -1,0 +1,7 @@
+//! Dates, each as its Julian day.
+
+mod making;
+mod moves;
+mod occurrences;
+mod parts;
+mod replacement;
