@@ -63,8 +63,7 @@ enum fots_status {
     FOTS_BAD_OFFSET = 4,
     FOTS_BAD_DURATION = 5,
     FOTS_BAD_WEEKDAY = 6,
-    FOTS_BAD_COUNT = 7,   /* a count above 255 */
-    FOTS_BAD_LENGTHS = 8, /* arrays of one call that are not as long as each other */
+    FOTS_BAD_COUNT = 7, /* a count above 255 */
     FOTS_YEAR = 16,
     FOTS_MONTH = 17,
     FOTS_JULIAN_DAY = 18,
@@ -97,7 +96,6 @@ static inline const char *fots_status_name(int32_t status)
     case FOTS_BAD_DURATION: return "bad duration";
     case FOTS_BAD_WEEKDAY: return "bad weekday";
     case FOTS_BAD_COUNT: return "bad count";
-    case FOTS_BAD_LENGTHS: return "bad lengths";
     case FOTS_YEAR: return "year";
     case FOTS_MONTH: return "month";
     case FOTS_JULIAN_DAY: return "julian_day";
@@ -454,6 +452,33 @@ uint32_t fots_weeks_in_year(int32_t year);
  * Two hours after 2451604 and 23:00 it is 2451605 and 1:00. */
 fots_pair_result fots_add_to_pair(fots_date date, fots_time time, fots_duration duration);
 fots_pair_result fots_sub_from_pair(fots_date date, fots_time time, fots_duration duration);
+
+/* ---- whole columns
+ *
+ * Each call answers row by row what its single call does: the answer of row k is results[k], whose status says whether there is one.
+ * It returns how many rows have no answer. Each array is followed by its length; where these are not the same, nothing is
+ * written and the answer is FOTS_UNLIKE. Each array must be there, also one of no rows, and no other array may share the memory of
+ * the results. */
+#define FOTS_UNLIKE SIZE_MAX
+
+size_t fots_dates_from_julian_days(const int64_t *julian_days, size_t julian_days_length, fots_date_result *results, size_t length);
+
+size_t fots_dates_from_calendar_dates(const int32_t *years, size_t years_length, const uint32_t *months, size_t months_length,
+    const uint32_t *days, size_t days_length, fots_date_result *results, size_t length);
+
+size_t fots_dates_from_ordinal_dates(const int32_t *years, size_t years_length, const uint32_t *ordinals, size_t ordinals_length,
+    fots_date_result *results, size_t length);
+
+size_t fots_dates_from_iso_week_dates(const int32_t *years, size_t years_length, const uint32_t *weeks, size_t weeks_length,
+    const uint32_t *weekdays, size_t weekdays_length, fots_date_result *results, size_t length);
+
+size_t fots_dates_to_calendar_dates(const fots_date *dates, size_t dates_length, fots_calendar_date_result *results, size_t length);
+size_t fots_dates_to_ordinal_dates(const fots_date *dates, size_t dates_length, fots_ordinal_date_result *results, size_t length);
+size_t fots_dates_to_iso_week_dates(const fots_date *dates, size_t dates_length, fots_iso_week_date_result *results, size_t length);
+size_t fots_dates_weekdays(const fots_date *dates, size_t dates_length, fots_number_result *results, size_t length);
+
+size_t fots_dates_add_days(const fots_date *dates, size_t dates_length, const int64_t *days, size_t days_length,
+    fots_date_result *results, size_t length);
 
 #ifdef __cplusplus
 }

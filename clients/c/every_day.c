@@ -119,19 +119,30 @@ static int refuses_beside(struct day it)
     return 1;
 }
 
-int main(void)
+static void check_day(struct day it, int in_parts)
 {
+    check(has_all(it), "what a day has", it.julian_day, it.year);
+    check(is_made(it), "what a day is made of", it.julian_day, it.year);
+    check(refuses_beside(it), "what no day has", it.julian_day, it.year);
+    if (in_parts) {
+        check(has_parts(it), "the parts of a day", it.julian_day, it.year);
+        check(has_neighbours(it), "the days beside a day", it.julian_day, it.year);
+    }
+}
+
+/* With 'low' the days before this one are checked, and with 'high' the others: the count goes over all of them. */
+#define HALF 1721243
+
+int main(int count, char **arguments)
+{
+    int low = count < 2 || arguments[1][0] == 'l', high = count < 2 || arguments[1][0] == 'h';
     /* -999999-01-01 is a Monday, of week 1. */
     struct day it = {FOTS_MIN_DATE, FOTS_MIN_YEAR, FOTS_MIN_YEAR, 1, 1, 1, 1, 1, 0, 1};
     uint32_t drawn = 1;
     for (;;) {
         drawn = drawn * 1664525 + 1013904223;
-        check(has_all(it), "what a day has", it.julian_day, it.year);
-        check(is_made(it), "what a day is made of", it.julian_day, it.year);
-        check(refuses_beside(it), "what no day has", it.julian_day, it.year);
-        if (drawn >> 28 == 0 || it.year < FOTS_MIN_YEAR + 2 || it.year > FOTS_MAX_YEAR - 2) {
-            check(has_parts(it), "the parts of a day", it.julian_day, it.year);
-            check(has_neighbours(it), "the days beside a day", it.julian_day, it.year);
+        if (it.julian_day < HALF ? low : high) {
+            check_day(it, drawn >> 28 == 0 || it.year < FOTS_MIN_YEAR + 2 || it.year > FOTS_MAX_YEAR - 2);
         }
         if (it.julian_day == FOTS_MAX_DATE) {
             break;

@@ -1,2 +1,3 @@
 pub mod Days
 pub mod Durations
+pub mod Rows

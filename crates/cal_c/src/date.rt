@@ -1,7 +1,7 @@
 //! Dates, each as its Julian day.
 
-mod making;
-mod moves;
+pub(crate) mod making;
+pub(crate) mod moves;
 mod occurrences;
-mod parts;
+pub(crate) mod parts;
 mod replacement;

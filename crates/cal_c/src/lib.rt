@@ -5,6 +5,7 @@
 //! pointer, allocates, or has a state.
 #![tactic(auto)]
 
+mod batch;
 mod cycle;
 mod date;
 mod duration;
