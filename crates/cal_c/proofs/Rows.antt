@@ -1,5 +1,5 @@
 -- One more row of a column that is written from the front.
-use Rattle.std.proofs.Common.{◌≡◌, ◌≢◌, ℕ, ◌+◌, ◌<◌, Bool, true, false, List, length, get_or, take, arith, sym, ap, ◌∙◌, subst, below_more, get_or-set_other, get_or-set_same, count_by, if◌then◌else◌, refl}
+use Rattle.std.proofs.Common.{◌≡◌, ◌≢◌, ℕ, ◌+◌, ◌<◌, Bool, List, length, get_or, take, arith, below_more, get_or-set_other, get_or-set_same, count_by, if◌then◌else◌}
 use Rattle.std.proofs.Math.ListN.{set}
 use Rattle.std.proofs.lemmas.List.{take_more_set}
 use Rattle.std.proofs.lemmas.Grind.{common_steps}

@@ -1,4 +1,4 @@
-use Rattle.std.proofs.Common.{◌≡◌, ◌+◌, ap, ◌∙◌, get_or, pos, arith, rules, FitsSigned, w32}
+use Rattle.std.proofs.Common.{◌+◌, ap, ◌∙◌, get_or, pos, arith, rules, FitsSigned, w32}
 use Rattle.std.proofs.lemmas.Int.{to_z-of_z}
 use Rattle.cal_c.specs.Columns.{IsOrdinalDateOf, is_refused}
 use Rattle.cal_c.specs.Results.{ordinal_date_refused}

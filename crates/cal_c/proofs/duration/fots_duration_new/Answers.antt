@@ -1,10 +1,7 @@
-use Rattle.std.proofs.Common.{◌≡◌, ℤ, pos, neg_ℤ, ◌+ℤ◌, ◌-ℤ◌, ◌*ℤ◌, SomeIff, ap, ◌∙◌, sym, subst, rules, arith, FitsSigned, w8, w64}
+use Rattle.std.proofs.Common.{◌≡◌, ℤ, pos, ◌+ℤ◌, ◌*ℤ◌, SomeIff, ◌∙◌, subst, arith}
 use Rattle.std.proofs.lemmas.Int.{to_z-of_z}
 use Rattle.std.proofs.lemmas.Int.{ints}
-use Rattle.std.specs.Int.{w128}
-use Rattle.cal_time.specs.SignedDuration.{second, millisecond, microsecond, cut, IsDuration, HasQuotient}
-use Rattle.cal_c.specs.Results.{duration_done, long_done}
-use Rattle.cal_c.specs.Values.{nanoseconds_in}
+use Rattle.cal_time.specs.SignedDuration.{second, IsDuration}
 use Rattle.cal_c.proofs.Durations.{duration-none, duration-some}
 use Rattle.cal_c.proofs.duration.fots_duration_new.Goals as goal
 

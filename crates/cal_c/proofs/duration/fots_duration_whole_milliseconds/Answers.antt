@@ -1,11 +1,8 @@
-use Rattle.std.proofs.Common.{◌≡◌, ℤ, pos, neg_ℤ, ◌+ℤ◌, ◌-ℤ◌, ◌*ℤ◌, SomeIff, ap, ◌∙◌, sym, subst, rules, arith, FitsSigned, w8, w64}
+use Rattle.std.proofs.Common.{pos, ap, ◌∙◌, sym, subst, rules, FitsSigned, w64}
 use Rattle.std.proofs.lemmas.Int.{to_z-of_z}
-use Rattle.std.proofs.lemmas.Int.{ints}
 use Rattle.std.specs.Int.{w128}
-use Rattle.cal_time.specs.SignedDuration.{second, millisecond, microsecond, cut, IsDuration, HasQuotient}
-use Rattle.cal_c.specs.Results.{duration_done, long_done}
-use Rattle.cal_c.specs.Values.{nanoseconds_in}
-use Rattle.cal_c.proofs.Durations.{duration-none, duration-some}
+use Rattle.cal_time.specs.SignedDuration.{millisecond, cut}
+use Rattle.cal_c.specs.Results.{long_done}
 use Rattle.cal_c.proofs.duration.fots_duration_whole_milliseconds.Goals as goal
 
 pub returns-in-Some-clause-past_range : goal.returns-in-Some-clause-past_range

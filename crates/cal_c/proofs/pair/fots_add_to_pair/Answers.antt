@@ -1,7 +1,7 @@
-use Rattle.std.proofs.Common.{◌+ℤ◌, ◌-ℤ◌, subst}
+use Rattle.std.proofs.Common.{◌+ℤ◌, subst}
 use Rattle.std.proofs.lemmas.Int.{to_z-of_z}
 use Rattle.cal_time.specs.Pair.{moment, PairAt}
-use Rattle.cal_c.specs.Values.{day_of, nanoseconds_in}
+use Rattle.cal_c.specs.Values.{day_of}
 use Rattle.cal_c.proofs.pair.fots_add_to_pair.Goals as goal
 
 pub returns-in-Some-duration_of-clause-bad_date : goal.returns-in-Some-duration_of-clause-bad_date

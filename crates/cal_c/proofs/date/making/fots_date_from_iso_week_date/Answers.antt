@@ -1,4 +1,4 @@
-use Rattle.std.proofs.Common.{◌≡◌, ◌-◌, ap, ◌∙◌, sym, arith, Ok, Some}
+use Rattle.std.proofs.Common.{◌≡◌, ◌-◌, ap, ◌∙◌, sym, arith}
 use Rattle.std.proofs.lemmas.Int.{to_z-of_z}
 use Rattle.cal_time.specs.Weekday.{place}
 use Rattle.cal_time.specs.Date.{julian_day_at}

@@ -1,11 +1,11 @@
-use Rattle.std.proofs.Common.{◌≡◌, ℕ, ℤ, pos, ◌+ℤ◌, ◌-ℤ◌, SomeIff, ap, ◌∙◌, subst}
+use Rattle.std.proofs.Common.{pos, ◌+ℤ◌, ap, ◌∙◌}
 use Rattle.std.proofs.lemmas.Int.{to_z-of_z}
 use Rattle.cal_time.specs.Date.{julian_day_at}
-use Rattle.cal_time.specs.Move.{IsDateNumber, date_nearest}
+use Rattle.cal_time.specs.Move.{date_nearest}
 use Rattle.cal_time.specs.SignedDuration.{whole_days}
 use Rattle.cal_c.specs.Results.{date_done}
 use Rattle.cal_c.specs.Values.{day_of, nanoseconds_in}
-use Rattle.cal_c.proofs.Days.{moved-past, moved-done, moved-held}
+use Rattle.cal_c.proofs.Days.{moved-held}
 use Rattle.cal_c.proofs.date.moves.fots_date_saturating_add.Goals as goal
 
 pub returns-in-Some-duration_of-clause-bad_date : goal.returns-in-Some-duration_of-clause-bad_date

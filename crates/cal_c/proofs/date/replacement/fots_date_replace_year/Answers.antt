@@ -1,8 +1,6 @@
-use Rattle.std.proofs.Common.{◌≡◌, ap, ◌∙◌, sym, subst}
+use Rattle.std.proofs.Common.{sym, subst}
 use Rattle.std.proofs.lemmas.Int.{to_z-of_z}
-use Rattle.cal_time.specs.CalendarDay.{calendar_day}
-use Rattle.cal_time.specs.Date.{year_at, month_at, day_of_month_at, IsDayOfMonth, IsOrdinal, HasCalendarDate, HasOrdinalDate}
-use Rattle.cal_time.specs.Month.{number}
+use Rattle.cal_time.specs.Date.{month_at, day_of_month_at, IsDayOfMonth, HasCalendarDate}
 use Rattle.cal_c.specs.Results.{IsDayWith}
 use Rattle.cal_c.specs.Values.{day_of}
 use Rattle.cal_c.proofs.Days.{IsDayWith-at, either}

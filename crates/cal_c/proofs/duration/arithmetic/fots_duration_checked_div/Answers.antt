@@ -1,9 +1,6 @@
-use Rattle.std.proofs.Common.{◌≡◌, ℤ, pos, neg_ℤ, ◌+ℤ◌, ◌-ℤ◌, ◌*ℤ◌, SomeIff, ap, ◌∙◌, sym, subst, rules, arith, FitsSigned, w8, w64}
+use Rattle.std.proofs.Common.{ℤ, SomeIff, ◌∙◌, subst}
 use Rattle.std.proofs.lemmas.Int.{to_z-of_z}
-use Rattle.std.proofs.lemmas.Int.{ints}
-use Rattle.std.specs.Int.{w128}
-use Rattle.cal_time.specs.SignedDuration.{second, millisecond, microsecond, cut, IsDuration, HasQuotient}
-use Rattle.cal_c.specs.Results.{duration_done, long_done}
+use Rattle.cal_time.specs.SignedDuration.{cut, HasQuotient}
 use Rattle.cal_c.specs.Values.{nanoseconds_in}
 use Rattle.cal_c.proofs.Durations.{duration-none, duration-some}
 use Rattle.cal_c.proofs.duration.arithmetic.fots_duration_checked_div.Goals as goal

@@ -1,4 +1,4 @@
-use Rattle.std.proofs.Common.{◌≡◌, refl, sym, subst}
+use Rattle.std.proofs.Common.{refl, sym, subst}
 use Rattle.cal_time.specs.Time.{carry}
 use Rattle.cal_c.specs.Values.{nanoseconds_in}
 use Rattle.cal_c.specs.Results.{adjusted_time_done, IsAddAdjusted}
