@@ -14,8 +14,8 @@
  * The calendar is the proleptic Gregorian one of ISO 8601, with a year 0 before the year 1, from the year -999999 to 999999.
  *
  * Each call but those of years returns a struct that has a status first, and then its answer. Where the status is not FOTS_DONE,
- * each number of the answer is one that no value has: FOTS_NOTHING where it is signed, FOTS_NO_TIME for a time, and else 0 or
- * 4294967295, as its struct says. So what is not looked at is refused by the next call that it is passed to.
+ * each number of the answer is the one that its struct says, as FOTS_NOTHING for a date and FOTS_NO_TIME for a time. No date, time,
+ * offset, duration or component is that, so what is not looked at is refused by the next call that it is passed to.
  *
  * An argument that is no value of its type comes first, in the order of the parameters, as FOTS_BAD_DATE and the like, or
  * FOTS_MONTH; then what the call itself refuses, in the order of the parameters.
@@ -139,7 +139,7 @@ typedef struct fots_number_result {
 
 typedef struct fots_long_result {
     int32_t status;
-    int64_t number; /* or INT64_MIN */
+    int64_t number; /* or INT64_MIN, which is also the whole seconds of the least durations: see the status */
 } fots_long_result;
 
 typedef struct fots_calendar_date_result {
