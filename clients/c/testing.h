@@ -1,0 +1,27 @@
+/* Counts what holds and what does not. */
+#ifndef TESTING_H
+#define TESTING_H
+
+#include <stdio.h>
+
+static unsigned long long passed, failed;
+
+/* Counts a fact, and says where it does not hold. */
+static int check(int holds, const char *what, long long first, long long second)
+{
+    if (holds) {
+        passed++;
+    } else if (++failed <= 20) {
+        printf("failed: %s at %lld %lld\n", what, first, second);
+    }
+    return holds;
+}
+
+/* Says how many facts held, and whether all did. */
+static int ended(const char *name)
+{
+    printf("%s: %llu facts, %llu failed\n", name, passed + failed, failed);
+    return failed != 0;
+}
+
+#endif

@@ -1,0 +1,362 @@
+/* Arguments that are no values, with all their bits: each call gives them a status and no answer, and gives a value no such status. */
+#include "fotsevindre.h"
+#include "testing.h"
+
+#define COUNT(values) ((int)(sizeof(values) / sizeof(values)[0]))
+#define DRAWN 400
+
+static uint64_t drawn(void)
+{
+    static uint64_t state = 88172645463325252ULL;
+    state ^= state << 13;
+    state ^= state >> 7;
+    state ^= state << 17;
+    return state;
+}
+
+static int is_date(fots_date date)
+{
+    return date >= FOTS_MIN_DATE && date <= FOTS_MAX_DATE;
+}
+
+static int is_time(fots_time time)
+{
+    return time <= FOTS_MAX_TIME;
+}
+
+static int is_offset(fots_offset offset)
+{
+    return offset >= -FOTS_MAX_OFFSET && offset <= FOTS_MAX_OFFSET;
+}
+
+static int is_duration(fots_duration duration)
+{
+    return duration.nanoseconds > -1000000000 && duration.nanoseconds < 1000000000
+        && !(duration.seconds > 0 && duration.nanoseconds < 0) && !(duration.seconds < 0 && duration.nanoseconds > 0);
+}
+
+static int is_weekday(uint32_t weekday)
+{
+    return weekday >= 1 && weekday <= 7;
+}
+
+static int is_month(uint32_t month)
+{
+    return month >= 1 && month <= 12;
+}
+
+/* The status that the first argument that is no value has, or FOTS_DONE where all are values. */
+static int32_t of_date(fots_date date)
+{
+    return is_date(date) ? FOTS_DONE : FOTS_BAD_DATE;
+}
+
+static int32_t of_duration(fots_duration duration)
+{
+    return is_duration(duration) ? FOTS_DONE : FOTS_BAD_DURATION;
+}
+
+static int32_t of_time(fots_time time)
+{
+    return is_time(time) ? FOTS_DONE : FOTS_BAD_TIME;
+}
+
+static int32_t first_of(int32_t one, int32_t other)
+{
+    return one != FOTS_DONE ? one : other;
+}
+
+/* The status is the wanted one, or where all arguments are values one that no wrong value has. A refused answer has no value. */
+static void status_is(int32_t wanted, int32_t status, int has_value, const char *what, long long first, long long second)
+{
+    int fits = wanted != FOTS_DONE ? status == wanted
+        : status == FOTS_DONE || status == FOTS_PAST_RANGE || status == FOTS_BAD_COUNT || (status >= FOTS_YEAR && status <= FOTS_WEEKDAY);
+    check(fits, what, first, second);
+    check((status == FOTS_DONE) == has_value, what, first, second);
+}
+
+#define DATE(wanted, call) \
+    do { \
+        fots_date_result result = call; \
+        status_is(wanted, result.status, is_date(result.date), #call, date, result.status); \
+        check(result.status == FOTS_DONE || result.date == FOTS_NOTHING, #call, date, result.date); \
+    } while (0)
+#define NUMBER(wanted, call, first) \
+    do { \
+        fots_number_result result = call; \
+        status_is(wanted, result.status, result.number != FOTS_NOTHING, #call, (long long)(first), result.status); \
+    } while (0)
+#define LONG(wanted, call) \
+    do { \
+        fots_long_result result = call; \
+        int fits = wanted != FOTS_DONE ? result.status == wanted : result.status == FOTS_DONE || result.status == FOTS_PAST_RANGE; \
+        check(fits, #call, duration.seconds, result.status); \
+        check(result.status == FOTS_DONE || result.number == INT64_MIN, #call, duration.seconds, result.status); \
+    } while (0)
+#define TIME(wanted, call) \
+    do { \
+        fots_time_result result = call; \
+        status_is(wanted, result.status, is_time(result.time), #call, (long long)time, result.status); \
+        check(result.status == FOTS_DONE || result.time == FOTS_NO_TIME, #call, (long long)time, result.status); \
+    } while (0)
+#define DURATION(wanted, call, first) \
+    do { \
+        fots_duration_result result = call; \
+        status_is(wanted, result.status, is_duration(result.duration), #call, (long long)(first), result.status); \
+    } while (0)
+
+/* Every 32 bits as a date: a status of its own exactly outside the range, and years in order within it. */
+static void every_date(int32_t from, int32_t to)
+{
+    int32_t year = INT32_MIN;
+    for (int64_t bits = from; bits <= to; bits++) {
+        fots_date date = (fots_date)bits;
+        fots_number_result result = fots_date_year(date);
+        if (is_date(date)) {
+            int in_order = result.status == FOTS_DONE && result.number >= FOTS_MIN_YEAR && result.number <= FOTS_MAX_YEAR
+                && (year == INT32_MIN || result.number == year || result.number == year + 1);
+            check(in_order, "the year of a date", date, result.number);
+            year = result.number;
+        } else {
+            check(result.status == FOTS_BAD_DATE && result.number == FOTS_NOTHING, "the year of no date", date, result.number);
+        }
+    }
+}
+
+/* Every 32 bits as an offset. */
+static void every_offset(int32_t from, int32_t to)
+{
+    for (int64_t bits = from; bits <= to; bits++) {
+        fots_offset offset = (fots_offset)bits;
+        fots_number_result result = fots_offset_whole_minutes(offset);
+        if (is_offset(offset)) {
+            check(result.status == FOTS_DONE && result.number == offset / 60, "the minutes of an offset", offset, result.number);
+        } else {
+            check(result.status == FOTS_BAD_OFFSET && result.number == FOTS_NOTHING, "the minutes of no offset", offset, result.number);
+        }
+    }
+}
+
+static void dates(fots_date date, uint32_t number, fots_duration duration)
+{
+    int32_t wrong = of_date(date), with_duration = first_of(wrong, of_duration(duration));
+    int32_t with_weekday = first_of(wrong, is_weekday(number) ? FOTS_DONE : FOTS_BAD_WEEKDAY);
+    fots_date other = (fots_date)number;
+    fots_calendar_date_result calendar = fots_date_to_calendar_date(date);
+    fots_ordinal_date_result ordinal = fots_date_to_ordinal_date(date);
+    fots_iso_week_date_result week = fots_date_to_iso_week_date(date);
+    status_is(wrong, calendar.status, calendar.month != 0, "to_calendar_date", date, calendar.year);
+    status_is(wrong, ordinal.status, ordinal.ordinal != 0, "to_ordinal_date", date, ordinal.year);
+    status_is(wrong, week.status, week.week != 0, "to_iso_week_date", date, week.year);
+    NUMBER(wrong, fots_date_year(date), date);
+    NUMBER(wrong, fots_date_month(date), date);
+    NUMBER(wrong, fots_date_day(date), date);
+    NUMBER(wrong, fots_date_ordinal(date), date);
+    NUMBER(wrong, fots_date_iso_week(date), date);
+    NUMBER(wrong, fots_date_weekday(date), date);
+    NUMBER(wrong, fots_date_sunday_based_week(date), date);
+    NUMBER(wrong, fots_date_monday_based_week(date), date);
+    DATE(wrong, fots_date_next_day(date));
+    DATE(wrong, fots_date_previous_day(date));
+    DATE(wrong, fots_date_add_days(date, duration.seconds));
+    DATE(with_duration, fots_date_checked_add(date, duration));
+    DATE(with_duration, fots_date_checked_sub(date, duration));
+    DATE(with_duration, fots_date_saturating_add(date, duration));
+    DATE(with_duration, fots_date_saturating_sub(date, duration));
+    DURATION(first_of(wrong, of_date(other)), fots_date_duration_since(date, other), date);
+    DATE(with_weekday, fots_date_next_occurrence(date, number));
+    DATE(with_weekday, fots_date_prev_occurrence(date, number));
+    DATE(with_weekday, fots_date_nth_next_occurrence(date, number, (uint32_t)duration.nanoseconds));
+    DATE(with_weekday, fots_date_nth_prev_occurrence(date, number, (uint32_t)duration.nanoseconds));
+    DATE(wrong, fots_date_replace_year(date, (int32_t)number));
+    DATE(first_of(wrong, is_month(number) ? FOTS_DONE : FOTS_MONTH), fots_date_replace_month(date, number));
+    DATE(wrong, fots_date_replace_day(date, number));
+    DATE(wrong, fots_date_replace_ordinal(date, number));
+    DATE(FOTS_DONE, fots_date_from_julian_day(duration.seconds));
+    DATE(is_month(number) ? FOTS_DONE : FOTS_MONTH, fots_date_from_calendar_date(date, number, (uint32_t)duration.nanoseconds));
+    DATE(FOTS_DONE, fots_date_from_ordinal_date(date, number));
+    DATE(is_weekday(number) ? FOTS_DONE : FOTS_BAD_WEEKDAY, fots_date_from_iso_week_date(date, (uint32_t)duration.nanoseconds, number));
+}
+
+static void times(fots_time time, uint32_t number, fots_duration duration)
+{
+    int32_t wrong = of_time(time), with_duration = first_of(wrong, of_duration(duration));
+    fots_time other = (fots_time)duration.seconds;
+    int32_t with_other = first_of(wrong, of_time(other));
+    fots_date date = (fots_date)number;
+    int32_t of_pair = first_of(of_date(date), with_duration);
+    fots_clock_result clock = fots_time_as_hms_nano(time);
+    fots_adjusted_time_result later = fots_time_adjusting_add(time, duration), earlier = fots_time_adjusting_sub(time, duration);
+    fots_pair_result after = fots_add_to_pair(date, time, duration), before = fots_sub_from_pair(date, time, duration);
+    status_is(wrong, clock.status, clock.hour < 24 && clock.minute < 60 && clock.second < 60 && clock.nanosecond < 1000000000,
+        "as_hms_nano", (long long)time, clock.hour);
+    status_is(with_duration, later.status, is_time(later.time), "adjusting_add", (long long)time, later.carry);
+    status_is(with_duration, earlier.status, is_time(earlier.time), "adjusting_sub", (long long)time, earlier.carry);
+    status_is(of_pair, after.status, is_date(after.date) && is_time(after.time), "add_to_pair", (long long)time, after.date);
+    status_is(of_pair, before.status, is_date(before.date) && is_time(before.time), "sub_from_pair", (long long)time, before.date);
+    NUMBER(wrong, fots_time_hour(time), time);
+    NUMBER(wrong, fots_time_minute(time), time);
+    NUMBER(wrong, fots_time_second(time), time);
+    NUMBER(wrong, fots_time_millisecond(time), time);
+    NUMBER(wrong, fots_time_microsecond(time), time);
+    NUMBER(wrong, fots_time_nanosecond(time), time);
+    TIME(wrong, fots_time_replace_hour(time, number));
+    TIME(wrong, fots_time_replace_minute(time, number));
+    TIME(wrong, fots_time_replace_second(time, number));
+    TIME(wrong, fots_time_replace_millisecond(time, number));
+    TIME(wrong, fots_time_replace_microsecond(time, number));
+    TIME(wrong, fots_time_replace_nanosecond(time, number));
+    TIME(with_duration, fots_time_add(time, duration));
+    TIME(with_duration, fots_time_sub(time, duration));
+    DURATION(with_other, fots_time_duration_until(time, other), time);
+    DURATION(with_other, fots_time_duration_since(time, other), time);
+    TIME(FOTS_DONE, fots_time_from_hms(number, (uint32_t)time, (uint32_t)duration.seconds));
+    TIME(FOTS_DONE, fots_time_from_hms_milli(number, (uint32_t)time, (uint32_t)duration.seconds, (uint32_t)duration.nanoseconds));
+    TIME(FOTS_DONE, fots_time_from_hms_micro(number, (uint32_t)time, (uint32_t)duration.seconds, (uint32_t)duration.nanoseconds));
+    TIME(FOTS_DONE, fots_time_from_hms_nano(number, (uint32_t)time, (uint32_t)duration.seconds, (uint32_t)duration.nanoseconds));
+}
+
+static void offsets(fots_offset offset, int32_t number)
+{
+    int32_t wrong = is_offset(offset) ? FOTS_DONE : FOTS_BAD_OFFSET;
+    fots_offset_parts_result parts = fots_offset_as_hms(offset);
+    fots_offset_result negated = fots_offset_negated(offset);
+    fots_offset_result made = fots_offset_from_hms(offset, number, (int32_t)((uint32_t)offset ^ (uint32_t)number));
+    fots_offset_result whole = fots_offset_from_whole_seconds((int64_t)offset * number);
+    status_is(wrong, parts.status, parts.hours != FOTS_NOTHING, "as_hms", offset, parts.hours);
+    status_is(wrong, negated.status, is_offset(negated.offset), "negated", offset, negated.offset);
+    status_is(FOTS_DONE, made.status, is_offset(made.offset), "from_hms", offset, made.offset);
+    status_is(FOTS_DONE, whole.status, is_offset(whole.offset), "from_whole_seconds", offset, whole.offset);
+    NUMBER(wrong, fots_offset_whole_hours(offset), offset);
+    NUMBER(wrong, fots_offset_whole_minutes(offset), offset);
+    NUMBER(wrong, fots_offset_minutes_past_hour(offset), offset);
+    NUMBER(wrong, fots_offset_seconds_past_minute(offset), offset);
+}
+
+static void durations(fots_duration duration, fots_duration other, int32_t number)
+{
+    int32_t wrong = of_duration(duration), with_other = first_of(wrong, of_duration(other));
+    LONG(wrong, fots_duration_whole_weeks(duration));
+    LONG(wrong, fots_duration_whole_days(duration));
+    LONG(wrong, fots_duration_whole_hours(duration));
+    LONG(wrong, fots_duration_whole_minutes(duration));
+    LONG(wrong, fots_duration_whole_seconds(duration));
+    LONG(wrong, fots_duration_whole_milliseconds(duration));
+    LONG(wrong, fots_duration_whole_microseconds(duration));
+    LONG(wrong, fots_duration_whole_nanoseconds(duration));
+    NUMBER(wrong, fots_duration_subsec_milliseconds(duration), duration.seconds);
+    NUMBER(wrong, fots_duration_subsec_microseconds(duration), duration.seconds);
+    NUMBER(with_other, fots_duration_compare(duration, other), duration.seconds);
+    DURATION(wrong, fots_duration_abs(duration), duration.seconds);
+    DURATION(wrong, fots_duration_checked_neg(duration), duration.seconds);
+    DURATION(wrong, fots_duration_checked_mul(duration, number), duration.seconds);
+    DURATION(wrong, fots_duration_checked_div(duration, number), duration.seconds);
+    DURATION(wrong, fots_duration_saturating_mul(duration, number), duration.seconds);
+    DURATION(with_other, fots_duration_checked_add(duration, other), duration.seconds);
+    DURATION(with_other, fots_duration_checked_sub(duration, other), duration.seconds);
+    DURATION(with_other, fots_duration_saturating_add(duration, other), duration.seconds);
+    DURATION(with_other, fots_duration_saturating_sub(duration, other), duration.seconds);
+    DURATION(FOTS_DONE, fots_duration_new(duration.seconds, duration.nanoseconds), duration.seconds);
+    DURATION(FOTS_DONE, fots_duration_weeks(duration.seconds), duration.seconds);
+    DURATION(FOTS_DONE, fots_duration_days(duration.seconds), duration.seconds);
+    DURATION(FOTS_DONE, fots_duration_hours(duration.seconds), duration.seconds);
+    DURATION(FOTS_DONE, fots_duration_minutes(duration.seconds), duration.seconds);
+    DURATION(FOTS_DONE, fots_duration_seconds(duration.seconds), duration.seconds);
+    DURATION(FOTS_DONE, fots_duration_milliseconds(duration.seconds), duration.seconds);
+    DURATION(FOTS_DONE, fots_duration_microseconds(duration.seconds), duration.seconds);
+    DURATION(FOTS_DONE, fots_duration_nanoseconds(duration.seconds), duration.seconds);
+}
+
+static void cycles(uint32_t number, uint32_t count)
+{
+    int32_t no_month = is_month(number) ? FOTS_DONE : FOTS_MONTH, no_weekday = is_weekday(number) ? FOTS_DONE : FOTS_BAD_WEEKDAY;
+    int32_t year = (int32_t)count;
+    NUMBER(no_month, fots_month_length(number, year), number);
+    NUMBER(no_month, fots_month_nth_next(number, count), number);
+    NUMBER(no_month, fots_month_nth_prev(number, count), number);
+    NUMBER(no_weekday, fots_weekday_nth_next(number, count), number);
+    NUMBER(no_weekday, fots_weekday_nth_prev(number, count), number);
+    NUMBER(no_weekday, fots_weekday_number_from_sunday(number), number);
+    check(fots_is_leap_year(year) == (year % 4 == 0 && (year % 100 != 0 || year % 400 == 0)), "is_leap_year", year, 0);
+    check(fots_days_in_year(year) == 365 + fots_is_leap_year(year), "days_in_year", year, 0);
+    check(fots_weeks_in_year(year) == 52 || fots_weeks_in_year(year) == 53, "weeks_in_year", year, 0);
+}
+
+static const int32_t border_dates[] = {INT32_MIN, INT32_MIN + 1, FOTS_MIN_DATE - 1, FOTS_MIN_DATE, FOTS_MIN_DATE + 1, -93600, -93599,
+    -1, 0, 1, 93599, 93600, 2451545, FOTS_MAX_DATE - 1, FOTS_MAX_DATE, FOTS_MAX_DATE + 1, INT32_MAX - 1, INT32_MAX};
+static const uint32_t border_numbers[] = {0, 1, 2, 7, 8, 12, 13, 23, 24, 28, 29, 30, 31, 32, 52, 53, 54, 59, 60, 128, 255, 256, 257, 258,
+    263, 268, 365, 366, 367, 999, 1000, 65535, 65536, 65537, 999999, 1000000, 999999999, 1000000000, 2147483647, 2147483648,
+    4294967295};
+static const uint64_t border_times[] = {0, 1, 86399999999998, 86399999999999, 86400000000000, 4294967296, 9223372036854775807ULL,
+    9223372036854775808ULL, UINT64_MAX - 1, UINT64_MAX};
+static const int64_t border_seconds[] = {INT64_MIN, INT64_MIN + 1, -106751991167301, -86400, -1, 0, 1, 86399, 86400, 363521074,
+    366963559, 4294967296, 106751991167301, INT64_MAX - 1, INT64_MAX};
+static const int32_t border_nanoseconds[] = {INT32_MIN, -1000000000, -999999999, -1, 0, 1, 255, 256, 999999999, 1000000000, INT32_MAX};
+
+static fots_duration drawn_duration(int k)
+{
+    fots_duration duration = {0, 0};
+    if (k < COUNT(border_seconds) * COUNT(border_nanoseconds)) {
+        duration.seconds = border_seconds[k / COUNT(border_nanoseconds)];
+        duration.nanoseconds = border_nanoseconds[k % COUNT(border_nanoseconds)];
+        return duration;
+    }
+    duration.seconds = (int64_t)drawn() >> (drawn() & 63);
+    duration.nanoseconds = (int32_t)(uint32_t)drawn() >> (drawn() & 31);
+    return duration;
+}
+
+static int32_t drawn_date(int k)
+{
+    return k < COUNT(border_dates) ? border_dates[k] : (int32_t)(uint32_t)drawn() >> (drawn() & 31);
+}
+
+static uint32_t drawn_number(int k)
+{
+    return k < COUNT(border_numbers) ? border_numbers[k] : (uint32_t)drawn() >> (drawn() & 31);
+}
+
+static fots_time drawn_time(int k)
+{
+    return k < COUNT(border_times) ? border_times[k] : drawn() >> (drawn() & 63);
+}
+
+/* Each border against each other one, and drawn ones beside them. */
+static void everything(void)
+{
+    for (int k = 0; k < DRAWN; k++) {
+        fots_duration duration = drawn_duration(k);
+        for (int date = 0; date < 40; date++) {
+            for (int number = 0; number < 60; number++) {
+                dates(drawn_date(date), drawn_number(number), duration);
+            }
+        }
+        for (int time = 0; time < 20; time++) {
+            for (int number = 0; number < 60; number++) {
+                times(drawn_time(time), drawn_number(number), duration);
+            }
+        }
+        for (int other = 0; other < DRAWN; other++) {
+            durations(duration, drawn_duration(other), (int32_t)drawn_number(other % 80));
+        }
+    }
+    for (int number = 0; number < 2000; number++) {
+        for (int other = 0; other < 80; other++) {
+            cycles(drawn_number(number), drawn_number(other));
+            offsets(drawn_date(number), (int32_t)drawn_number(other));
+        }
+    }
+}
+
+/* With no argument everything but the walks over all 32 bits, which 'low' and 'high' make, of the numbers below 0 and the others. */
+int main(int count, char **arguments)
+{
+    if (count > 1) {
+        int low = arguments[1][0] == 'l';
+        every_date(low ? INT32_MIN : 0, low ? -1 : INT32_MAX);
+        every_offset(low ? INT32_MIN : 0, low ? -1 : INT32_MAX);
+    } else {
+        everything();
+    }
+    return ended(count > 1 ? "all 32 bits" : "wrong values");
+}

@@ -1,0 +1,3 @@
+pub mod Days
+pub mod Durations
+pub mod Rows

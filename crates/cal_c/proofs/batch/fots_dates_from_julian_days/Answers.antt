@@ -1,0 +1,21 @@
+use Rattle.std.proofs.Common.{◌+◌, ap, ◌∙◌, get_or, pos, arith, rules, FitsSigned, w32, w64}
+use Rattle.std.proofs.lemmas.Int.{to_z-of_z}
+use Rattle.cal_c.specs.Columns.{IsDateOfJulianDay, is_refused}
+use Rattle.cal_c.specs.Results.{date_refused}
+use Rattle.cal_c.specs.Statuses.{done}
+use Rattle.cal_c.proofs.Rows.{rows-more, count-more}
+use Rattle.cal_c.proofs.batch.fots_dates_from_julian_days.Goals as goal
+
+pub loop-row-preserved : goal.loop-row-preserved
+loop-row-preserved c =
+    let y = c.fots_date_from_julian_day-result.result in
+    let f-julian_day : FitsSigned w64 (get_or c.args.julian_days.now c.loop-row.row (pos 0)) = search rules in
+    let fits : FitsSigned w32 y.status = search rules in
+    let its-julian_day = simp to_z-of_z at c.fots_date_from_julian_day-result.ensures.julian_day in
+    let its-date = simp to_z-of_z at c.fots_date_from_julian_day-result.ensures.date in
+    let one = simp to_z-of_z at c.one_if_refused-refused.ensures in
+    record {
+      rows = rows-more (λ k r. IsDateOfJulianDay (get_or c.args.julian_days.now k (pos 0)) r) c.loop-row.results c.loop-row.row y (date_refused done) (omega arith) c.loop-row.invariant.rows
+          (record { no_julian_day = its-julian_day; date = its-date });
+      count = ap (λ n. c.loop-row.refused + n) one ∙ count-more (λ r. is_refused r.status) c.loop-row.results c.loop-row.row y c.loop-row.refused (omega arith) c.loop-row.invariant.count;
+    }

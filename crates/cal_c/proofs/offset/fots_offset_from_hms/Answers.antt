@@ -1,0 +1,95 @@
+use Rattle.std.proofs.Common.{◌≤◌, ap, ◌∙◌, sym, subst, rules, arith, lit<, FitsSigned, w8, w32}
+use Rattle.std.specs.Prelude.{unsigned_abs}
+use Rattle.std.proofs.lemmas.Int.{to_z-of_z}
+use Rattle.cal_c.specs.Results.{offset_refused}
+use Rattle.cal_c.proofs.offset.fots_offset_from_hms.Goals as goal
+
+pub returns-in-Ok-clause-hour : goal.returns-in-Ok-clause-hour
+returns-in-Ok-clause-hour c = λ x.
+    let f = c.ranges.hours in
+    let g = c.ranges.minutes in
+    let k = c.ranges.seconds in
+    let h = simp to_z-of_z at c.signed_byte_of.ensures in
+    let m = simp to_z-of_z at c.signed_byte_of-2.ensures in
+    let s = simp to_z-of_z at c.signed_byte_of-3.ensures in
+    let fh : FitsSigned w8 c.signed_byte_of.result = search rules in
+    let fm : FitsSigned w8 c.signed_byte_of-2.result = search rules in
+    let fs : FitsSigned w8 c.signed_byte_of-3.result = search rules in
+    let hour = simp to_z-of_z at c.in-Ok.ensures.hour in
+    absurd (hour.1 (h.above 25 (lit< tt) x))
+
+pub returns-in-Ok-clause-minute : goal.returns-in-Ok-clause-minute
+returns-in-Ok-clause-minute c = λ y x.
+    let f = c.ranges.hours in
+    let g = c.ranges.minutes in
+    let k = c.ranges.seconds in
+    let h = simp to_z-of_z at c.signed_byte_of.ensures in
+    let m = simp to_z-of_z at c.signed_byte_of-2.ensures in
+    let s = simp to_z-of_z at c.signed_byte_of-3.ensures in
+    let fh : FitsSigned w8 c.signed_byte_of.result = search rules in
+    let fm : FitsSigned w8 c.signed_byte_of-2.result = search rules in
+    let fs : FitsSigned w8 c.signed_byte_of-3.result = search rules in
+    let minute = simp to_z-of_z at c.in-Ok.ensures.minute in
+    absurd (minute.1 (subst (λ z. unsigned_abs z ≤ 25) (sym (h.same (omega arith))) y, m.above 59 (lit< tt) x))
+
+pub returns-in-Ok-clause-second : goal.returns-in-Ok-clause-second
+returns-in-Ok-clause-second c = λ z y x.
+    let f = c.ranges.hours in
+    let g = c.ranges.minutes in
+    let k = c.ranges.seconds in
+    let h = simp to_z-of_z at c.signed_byte_of.ensures in
+    let m = simp to_z-of_z at c.signed_byte_of-2.ensures in
+    let s = simp to_z-of_z at c.signed_byte_of-3.ensures in
+    let fh : FitsSigned w8 c.signed_byte_of.result = search rules in
+    let fm : FitsSigned w8 c.signed_byte_of-2.result = search rules in
+    let fs : FitsSigned w8 c.signed_byte_of-3.result = search rules in
+    let second = simp to_z-of_z at c.in-Ok.ensures.second in
+    absurd (second.1 (subst (λ w. unsigned_abs w ≤ 25) (sym (h.same (omega arith))) z, subst (λ w. unsigned_abs w ≤ 59) (sym (m.same (omega arith))) y, s.above 59 (lit< tt) x))
+
+pub returns-in-Err-clause-hour : goal.returns-in-Err-clause-hour
+returns-in-Err-clause-hour c = λ x.
+    let f = c.ranges.hours in
+    let g = c.ranges.minutes in
+    let k = c.ranges.seconds in
+    let h = simp to_z-of_z at c.signed_byte_of.ensures in
+    let m = simp to_z-of_z at c.signed_byte_of-2.ensures in
+    let s = simp to_z-of_z at c.signed_byte_of-3.ensures in
+    let fh : FitsSigned w8 c.signed_byte_of.result = search rules in
+    let fm : FitsSigned w8 c.signed_byte_of-2.result = search rules in
+    let fs : FitsSigned w8 c.signed_byte_of-3.result = search rules in
+    let hour = simp to_z-of_z at c.in-Err.ensures.hour in
+    let fr : FitsSigned w32 c.offset_status.result = search rules in
+    let refused = simp to_z-of_z at c.refused.ensures in
+    refused ∙ ap offset_refused (c.offset_status.ensures.hour (hour.1 (h.above 25 (lit< tt) x)))
+
+pub returns-in-Err-clause-minute : goal.returns-in-Err-clause-minute
+returns-in-Err-clause-minute c = λ y x.
+    let f = c.ranges.hours in
+    let g = c.ranges.minutes in
+    let k = c.ranges.seconds in
+    let h = simp to_z-of_z at c.signed_byte_of.ensures in
+    let m = simp to_z-of_z at c.signed_byte_of-2.ensures in
+    let s = simp to_z-of_z at c.signed_byte_of-3.ensures in
+    let fh : FitsSigned w8 c.signed_byte_of.result = search rules in
+    let fm : FitsSigned w8 c.signed_byte_of-2.result = search rules in
+    let fs : FitsSigned w8 c.signed_byte_of-3.result = search rules in
+    let minute = simp to_z-of_z at c.in-Err.ensures.minute in
+    let fr : FitsSigned w32 c.offset_status.result = search rules in
+    let refused = simp to_z-of_z at c.refused.ensures in
+    refused ∙ ap offset_refused (c.offset_status.ensures.minute (minute.1 (subst (λ z. unsigned_abs z ≤ 25) (sym (h.same (omega arith))) y, m.above 59 (lit< tt) x)))
+
+pub returns-in-Err-clause-second : goal.returns-in-Err-clause-second
+returns-in-Err-clause-second c = λ z y x.
+    let f = c.ranges.hours in
+    let g = c.ranges.minutes in
+    let k = c.ranges.seconds in
+    let h = simp to_z-of_z at c.signed_byte_of.ensures in
+    let m = simp to_z-of_z at c.signed_byte_of-2.ensures in
+    let s = simp to_z-of_z at c.signed_byte_of-3.ensures in
+    let fh : FitsSigned w8 c.signed_byte_of.result = search rules in
+    let fm : FitsSigned w8 c.signed_byte_of-2.result = search rules in
+    let fs : FitsSigned w8 c.signed_byte_of-3.result = search rules in
+    let second = simp to_z-of_z at c.in-Err.ensures.second in
+    let fr : FitsSigned w32 c.offset_status.result = search rules in
+    let refused = simp to_z-of_z at c.refused.ensures in
+    refused ∙ ap offset_refused (c.offset_status.ensures.second (second.1 (subst (λ w. unsigned_abs w ≤ 25) (sym (h.same (omega arith))) z, subst (λ w. unsigned_abs w ≤ 59) (sym (m.same (omega arith))) y, s.above 59 (lit< tt) x)))

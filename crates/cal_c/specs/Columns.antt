@@ -1,0 +1,69 @@
+-- What a row of a column is answered: as by the single call.
+use Rattle.std.specs.Prelude.{◌≡◌, ℕ, ℤ, pos, ◌+◌, ◌-◌, ◌+ℤ◌, Bool, not}
+use Rattle.std.specs.Ordering.{int_eq}
+use Rattle.cal_time.specs.Date.{julian_day_at, weekday_at, IsDate, IsYear, IsDayOfMonth, IsOrdinal, HasCalendarDate, HasOrdinalDate, NoDate}
+use Rattle.cal_time.specs.IsoWeekDate.{IsWeek, HasIsoWeekDate}
+use Rattle.cal_c.specs.Results.{date_done, date_refused, IsDayWith, number_done, number_refused, calendar_date_done, calendar_date_refused, ordinal_date_done, ordinal_date_refused, iso_week_date_done, iso_week_date_refused}
+use Rattle.cal_c.specs.Statuses.{done, past_range, bad_date, bad_weekday, year_refused, month_refused, julian_day_refused, day_refused, ordinal_refused, week_refused, weekday_refused}
+use Rattle.cal_c.specs.Values.{IsJulianDay, IsMonth, IsWeekday, day_of}
+use Rattle.cal_c.specs.declared.results.DateResult.{DateResult}
+use Rattle.cal_c.specs.declared.results.NumberResult.{NumberResult}
+use Rattle.cal_c.specs.declared.results.CalendarDateResult.{CalendarDateResult}
+use Rattle.cal_c.specs.declared.results.OrdinalDateResult.{OrdinalDateResult}
+use Rattle.cal_c.specs.declared.results.IsoWeekDateResult.{IsoWeekDateResult}
+
+-- there is no answer
+abbrev pub is_refused : ℤ → Bool
+is_refused status = not (int_eq status done)
+
+-- as `fots_date_from_julian_day`
+pub record IsDateOfJulianDay (julian_day : ℤ) (r : DateResult) : Type 0 where
+  pub no_julian_day : (IsJulianDay julian_day → ⊥) → r ≡ date_refused julian_day_refused
+  pub date : IsJulianDay julian_day → r ≡ date_done julian_day
+
+-- as `fots_date_from_calendar_date`
+pub record IsDateOfCalendarDate (year : ℤ) (month : ℕ) (day : ℕ) (r : DateResult) : Type 0 where
+  pub no_month : (IsMonth month → ⊥) → r ≡ date_refused month_refused
+  pub no_year : IsMonth month → (IsYear year → ⊥) → r ≡ date_refused year_refused
+  pub no_day : IsMonth month → IsYear year → (IsDayOfMonth year month day → ⊥) → r ≡ date_refused day_refused
+  pub date : IsMonth month → IsYear year → IsDayOfMonth year month day → IsDayWith (HasCalendarDate year month day) r
+
+-- as `fots_date_from_ordinal_date`
+pub record IsDateOfOrdinalDate (year : ℤ) (ordinal : ℕ) (r : DateResult) : Type 0 where
+  pub no_year : (IsYear year → ⊥) → r ≡ date_refused year_refused
+  pub no_ordinal : IsYear year → (IsOrdinal year ordinal → ⊥) → r ≡ date_refused ordinal_refused
+  pub date : IsYear year → IsOrdinal year ordinal → IsDayWith (HasOrdinalDate year ordinal) r
+
+-- as `fots_date_from_iso_week_date`
+pub record IsDateOfIsoWeekDate (year : ℤ) (week : ℕ) (weekday : ℕ) (r : DateResult) : Type 0 where
+  pub bad_weekday : (IsWeekday weekday → ⊥) → r ≡ date_refused bad_weekday
+  pub no_year : IsWeekday weekday → (IsYear year → ⊥) → r ≡ date_refused year_refused
+  pub no_week : IsWeekday weekday → IsYear year → (IsWeek year week → ⊥) → r ≡ date_refused week_refused
+  pub no_weekday : IsWeekday weekday → IsYear year → IsWeek year week → NoDate (HasIsoWeekDate year week (weekday - 1)) → r ≡ date_refused weekday_refused
+  pub date : IsWeekday weekday → (n : ℕ) → IsDate n → HasIsoWeekDate year week (weekday - 1) n → IsWeek year week → r ≡ date_done (julian_day_at n)
+
+-- as `fots_date_to_calendar_date`
+pub record IsCalendarDateOf (date : ℤ) (r : CalendarDateResult) : Type 0 where
+  pub bad_date : (IsJulianDay date → ⊥) → r ≡ calendar_date_refused bad_date
+  pub value : IsJulianDay date → r ≡ calendar_date_done (day_of date)
+
+-- as `fots_date_to_ordinal_date`
+pub record IsOrdinalDateOf (date : ℤ) (r : OrdinalDateResult) : Type 0 where
+  pub bad_date : (IsJulianDay date → ⊥) → r ≡ ordinal_date_refused bad_date
+  pub value : IsJulianDay date → r ≡ ordinal_date_done (day_of date)
+
+-- as `fots_date_to_iso_week_date`
+pub record IsIsoWeekDateOf (date : ℤ) (r : IsoWeekDateResult) : Type 0 where
+  pub bad_date : (IsJulianDay date → ⊥) → r ≡ iso_week_date_refused bad_date
+  pub value : IsJulianDay date → r ≡ iso_week_date_done (day_of date)
+
+-- as `fots_date_weekday`
+pub record IsWeekdayOf (date : ℤ) (r : NumberResult) : Type 0 where
+  pub bad_date : (IsJulianDay date → ⊥) → r ≡ number_refused bad_date
+  pub value : IsJulianDay date → r ≡ number_done (pos (weekday_at (day_of date) + 1))
+
+-- as `fots_date_add_days`
+pub record IsDateMoved (date : ℤ) (days : ℤ) (r : DateResult) : Type 0 where
+  pub bad_date : (IsJulianDay date → ⊥) → r ≡ date_refused bad_date
+  pub past_range : IsJulianDay date → (IsJulianDay (date +ℤ days) → ⊥) → r ≡ date_refused past_range
+  pub day : IsJulianDay date → IsJulianDay (date +ℤ days) → r ≡ date_done (date +ℤ days)

@@ -1,0 +1,4 @@
+pub mod Results
+pub mod Statuses
+pub mod Values
+pub mod Columns

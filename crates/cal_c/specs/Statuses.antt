@@ -1,0 +1,82 @@
+-- The status of a call, as a number.
+use Rattle.std.specs.Prelude.{ℤ, pos}
+
+-- there is an answer
+abbrev pub done : ℤ
+done = pos 0
+
+-- the exact result is no value of its type
+abbrev pub past_range : ℤ
+past_range = pos 1
+
+-- an argument is no value of its type
+abbrev pub bad_date : ℤ
+bad_date = pos 2
+
+abbrev pub bad_time : ℤ
+bad_time = pos 3
+
+abbrev pub bad_offset : ℤ
+bad_offset = pos 4
+
+abbrev pub bad_duration : ℤ
+bad_duration = pos 5
+
+abbrev pub bad_weekday : ℤ
+bad_weekday = pos 6
+
+abbrev pub bad_count : ℤ
+bad_count = pos 7
+
+-- the refusals whose range depends on nothing, by their names
+abbrev pub year_refused : ℤ
+year_refused = pos 16
+
+abbrev pub month_refused : ℤ
+month_refused = pos 17
+
+abbrev pub julian_day_refused : ℤ
+julian_day_refused = pos 18
+
+abbrev pub hour_refused : ℤ
+hour_refused = pos 19
+
+abbrev pub minute_refused : ℤ
+minute_refused = pos 20
+
+abbrev pub second_refused : ℤ
+second_refused = pos 21
+
+abbrev pub millisecond_refused : ℤ
+millisecond_refused = pos 22
+
+abbrev pub microsecond_refused : ℤ
+microsecond_refused = pos 23
+
+abbrev pub nanosecond_refused : ℤ
+nanosecond_refused = pos 24
+
+abbrev pub offset_hour_refused : ℤ
+offset_hour_refused = pos 25
+
+abbrev pub offset_minute_refused : ℤ
+offset_minute_refused = pos 26
+
+abbrev pub offset_second_refused : ℤ
+offset_second_refused = pos 27
+
+abbrev pub seconds_refused : ℤ
+seconds_refused = pos 28
+
+-- those whose range depends on the arguments before
+abbrev pub day_refused : ℤ
+day_refused = pos 64
+
+abbrev pub ordinal_refused : ℤ
+ordinal_refused = pos 65
+
+abbrev pub week_refused : ℤ
+week_refused = pos 66
+
+abbrev pub weekday_refused : ℤ
+weekday_refused = pos 67

@@ -1,0 +1,112 @@
+//! Months and weekdays, by their numbers, and the lengths of years.
+ghost use Rattle.std.specs.Prelude.{◌≡◌, ◌+◌, ◌-◌, ◌%◌, pos, if◌then◌else◌};
+ghost use Rattle.cal_time.specs.Lengths.{is_leap_year, days_in_year, days_in_month};
+ghost use Rattle.cal_time.specs.Weeks.{weeks_in_year};
+ghost use Rattle.cal_c.specs.Results.{number_done, number_refused};
+ghost use Rattle.cal_c.specs.Statuses.{bad_weekday, month_refused};
+ghost use Rattle.cal_c.specs.Values.{IsMonth, IsWeekday};
+
+use crate::results::NumberResult;
+use crate::status::{BAD_WEEKDAY, MONTH};
+use crate::values::{month_of, weekday_of};
+use cal_time::util::{days_in_year, is_leap_year, weeks_in_year};
+
+/// The days of the month in the year. Those of 2 and 2000 are 29.
+#[unsafe(no_mangle)]
+pub extern "C" fn fots_month_length(month: u32, year: i32) -> NumberResult
+    ensures month { ¬ IsMonth month → result ≡ number_refused month_refused }
+    ensures value { IsMonth month → result ≡ number_done (pos (days_in_month year month)) }
+{
+    match month_of(month) {
+        Some(month) => NumberResult::of(i32::from(month.length(year))),
+        None => NumberResult::refused(MONTH),
+    }
+}
+
+/// The month `n` after, round the year as often as it takes. Nine months after 7 is 4.
+#[unsafe(no_mangle)]
+pub extern "C" fn fots_month_nth_next(month: u32, n: u32) -> NumberResult
+    ensures month { ¬ IsMonth month → result ≡ number_refused month_refused }
+    ensures value { IsMonth month → result ≡ number_done (pos ((month - 1 + n) % 12 + 1)) }
+{
+    match month_of(month) {
+        Some(month) => NumberResult::of(i32::from(month.nth_next((n % 12) as u8) as u8)),
+        None => NumberResult::refused(MONTH),
+    }
+}
+
+/// The month `n` before, round the year as often as it takes. Nine months before 4 is 7.
+#[unsafe(no_mangle)]
+pub extern "C" fn fots_month_nth_prev(month: u32, n: u32) -> NumberResult
+    ensures month { ¬ IsMonth month → result ≡ number_refused month_refused }
+    ensures value { IsMonth month → result ≡ number_done (pos ((month + 11 - n % 12) % 12 + 1)) }
+{
+    match month_of(month) {
+        Some(month) => NumberResult::of(i32::from(month.nth_prev((n % 12) as u8) as u8)),
+        None => NumberResult::refused(MONTH),
+    }
+}
+
+/// The weekday `n` days after. Ten days after 7 is 3.
+#[unsafe(no_mangle)]
+pub extern "C" fn fots_weekday_nth_next(weekday: u32, n: u32) -> NumberResult
+    ensures bad_weekday { ¬ IsWeekday weekday → result ≡ number_refused bad_weekday }
+    ensures value { IsWeekday weekday → result ≡ number_done (pos ((weekday - 1 + n) % 7 + 1)) }
+{
+    match weekday_of(weekday) {
+        Some(weekday) => {
+            NumberResult::of(i32::from(weekday.nth_next((n % 7) as u8).number_from_monday()))
+        }
+        None => NumberResult::refused(BAD_WEEKDAY),
+    }
+}
+
+/// The weekday `n` days before. Ten days before 3 is 7.
+#[unsafe(no_mangle)]
+pub extern "C" fn fots_weekday_nth_prev(weekday: u32, n: u32) -> NumberResult
+    ensures bad_weekday { ¬ IsWeekday weekday → result ≡ number_refused bad_weekday }
+    ensures value { IsWeekday weekday → result ≡ number_done (pos ((weekday + 6 - n % 7) % 7 + 1)) }
+{
+    match weekday_of(weekday) {
+        Some(weekday) => {
+            NumberResult::of(i32::from(weekday.nth_prev((n % 7) as u8).number_from_monday()))
+        }
+        None => NumberResult::refused(BAD_WEEKDAY),
+    }
+}
+
+/// The number of the weekday from Sunday, 1, to Saturday, 7. That of Friday, 5, is 6.
+#[unsafe(no_mangle)]
+pub extern "C" fn fots_weekday_number_from_sunday(weekday: u32) -> NumberResult
+    ensures bad_weekday { ¬ IsWeekday weekday → result ≡ number_refused bad_weekday }
+    ensures value { IsWeekday weekday → result ≡ number_done (pos (weekday % 7 + 1)) }
+{
+    match weekday_of(weekday) {
+        Some(weekday) => NumberResult::of(i32::from(weekday.number_from_sunday())),
+        None => NumberResult::refused(BAD_WEEKDAY),
+    }
+}
+
+/// 1 where the year is a leap year, else 0. It is 1 for 2000 and 0 for 1900.
+#[unsafe(no_mangle)]
+pub extern "C" fn fots_is_leap_year(year: i32) -> u32
+    ensures { result ≡ (if is_leap_year year then 1 else 0) }
+{
+    u32::from(is_leap_year(year))
+}
+
+/// The days of the year, 365 or 366. Those of 2000 are 366.
+#[unsafe(no_mangle)]
+pub extern "C" fn fots_days_in_year(year: i32) -> u32
+    ensures { result ≡ days_in_year year }
+{
+    u32::from(days_in_year(year))
+}
+
+/// The ISO weeks of the year, 52 or 53. Those of 2020 are 53.
+#[unsafe(no_mangle)]
+pub extern "C" fn fots_weeks_in_year(year: i32) -> u32
+    ensures { result ≡ weeks_in_year year }
+{
+    u32::from(weeks_in_year(year))
+}

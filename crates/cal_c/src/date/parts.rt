@@ -1,0 +1,160 @@
+//! What dates have.
+ghost use Rattle.std.specs.Prelude.{◌≡◌, ◌+◌, pos};
+ghost use Rattle.cal_time.specs.Date.{year_at, month_at, day_of_month_at, ordinal_at, weekday_at};
+ghost use Rattle.cal_time.specs.IsoWeekDate.{iso_week_at, weekdays_upto};
+ghost use Rattle.cal_c.specs.Results.{number_done, number_refused, calendar_date_done, calendar_date_refused, ordinal_date_done, ordinal_date_refused, iso_week_date_done, iso_week_date_refused};
+ghost use Rattle.cal_c.specs.Statuses.{bad_date};
+ghost use Rattle.cal_c.specs.Values.{IsJulianDay, day_of};
+
+use crate::results::{CalendarDateResult, IsoWeekDateResult, NumberResult, OrdinalDateResult};
+use crate::status::{BAD_DATE, DONE};
+use crate::values::date_of;
+
+/// The year, the month and the day of the month of a date. Those of 2451604 are 2000, 2 and 29.
+#[unsafe(no_mangle)]
+pub extern "C" fn fots_date_to_calendar_date(date: i32) -> CalendarDateResult
+    ensures bad_date { ¬ IsJulianDay date → result ≡ calendar_date_refused bad_date }
+    ensures value { IsJulianDay date → result ≡ calendar_date_done (day_of date) }
+{
+    let Some(date) = date_of(date) else {
+        return CalendarDateResult::refused(BAD_DATE);
+    };
+    let (year, month, day) = date.to_calendar_date();
+    CalendarDateResult {
+        status: DONE,
+        year,
+        month: u32::from(month as u8),
+        day: u32::from(day),
+    }
+}
+
+/// The year and the ordinal of a date. Those of 2451604 are 2000 and 60.
+#[unsafe(no_mangle)]
+pub extern "C" fn fots_date_to_ordinal_date(date: i32) -> OrdinalDateResult
+    ensures bad_date { ¬ IsJulianDay date → result ≡ ordinal_date_refused bad_date }
+    ensures value { IsJulianDay date → result ≡ ordinal_date_done (day_of date) }
+{
+    let Some(date) = date_of(date) else {
+        return OrdinalDateResult::refused(BAD_DATE);
+    };
+    let (year, ordinal) = date.to_ordinal_date();
+    OrdinalDateResult {
+        status: DONE,
+        year,
+        ordinal: u32::from(ordinal),
+    }
+}
+
+/// The ISO year, the week and the weekday of a date. Those of 2451604 are 2000, 9 and 2.
+#[unsafe(no_mangle)]
+pub extern "C" fn fots_date_to_iso_week_date(date: i32) -> IsoWeekDateResult
+    ensures bad_date { ¬ IsJulianDay date → result ≡ iso_week_date_refused bad_date }
+    ensures value { IsJulianDay date → result ≡ iso_week_date_done (day_of date) }
+{
+    let Some(date) = date_of(date) else {
+        return IsoWeekDateResult::refused(BAD_DATE);
+    };
+    let (year, week, weekday) = date.to_iso_week_date();
+    IsoWeekDateResult {
+        status: DONE,
+        year,
+        week: u32::from(week),
+        weekday: u32::from(weekday.number_from_monday()),
+    }
+}
+
+/// The year of a date, from -999999 to 999999. That of 2451604 is 2000.
+#[unsafe(no_mangle)]
+pub extern "C" fn fots_date_year(date: i32) -> NumberResult
+    ensures bad_date { ¬ IsJulianDay date → result ≡ number_refused bad_date }
+    ensures value { IsJulianDay date → result ≡ number_done (year_at (day_of date)) }
+{
+    match date_of(date) {
+        Some(date) => NumberResult::of(date.year()),
+        None => NumberResult::refused(BAD_DATE),
+    }
+}
+
+/// The month of a date, from 1 to 12. That of 2451604 is 2.
+#[unsafe(no_mangle)]
+pub extern "C" fn fots_date_month(date: i32) -> NumberResult
+    ensures bad_date { ¬ IsJulianDay date → result ≡ number_refused bad_date }
+    ensures value { IsJulianDay date → result ≡ number_done (pos (month_at (day_of date))) }
+{
+    match date_of(date) {
+        Some(date) => NumberResult::of(i32::from(date.month() as u8)),
+        None => NumberResult::refused(BAD_DATE),
+    }
+}
+
+/// The day of the month of a date, from 1 to 31. That of 2451604 is 29.
+#[unsafe(no_mangle)]
+pub extern "C" fn fots_date_day(date: i32) -> NumberResult
+    ensures bad_date { ¬ IsJulianDay date → result ≡ number_refused bad_date }
+    ensures value { IsJulianDay date → result ≡ number_done (pos (day_of_month_at (day_of date))) }
+{
+    match date_of(date) {
+        Some(date) => NumberResult::of(i32::from(date.day())),
+        None => NumberResult::refused(BAD_DATE),
+    }
+}
+
+/// The ordinal of a date, from 1 to 366. That of 2451604 is 60.
+#[unsafe(no_mangle)]
+pub extern "C" fn fots_date_ordinal(date: i32) -> NumberResult
+    ensures bad_date { ¬ IsJulianDay date → result ≡ number_refused bad_date }
+    ensures value { IsJulianDay date → result ≡ number_done (pos (ordinal_at (day_of date))) }
+{
+    match date_of(date) {
+        Some(date) => NumberResult::of(i32::from(date.ordinal())),
+        None => NumberResult::refused(BAD_DATE),
+    }
+}
+
+/// The ISO week of a date, from 1 to 53. That of 2451604 is 9.
+#[unsafe(no_mangle)]
+pub extern "C" fn fots_date_iso_week(date: i32) -> NumberResult
+    ensures bad_date { ¬ IsJulianDay date → result ≡ number_refused bad_date }
+    ensures value { IsJulianDay date → result ≡ number_done (pos (iso_week_at (day_of date))) }
+{
+    match date_of(date) {
+        Some(date) => NumberResult::of(i32::from(date.iso_week())),
+        None => NumberResult::refused(BAD_DATE),
+    }
+}
+
+/// The Sundays of the year up to a date, from 0 to 53. Those of 2451604 are 9.
+#[unsafe(no_mangle)]
+pub extern "C" fn fots_date_sunday_based_week(date: i32) -> NumberResult
+    ensures bad_date { ¬ IsJulianDay date → result ≡ number_refused bad_date }
+    ensures value { IsJulianDay date → result ≡ number_done (pos (weekdays_upto 6 (day_of date))) }
+{
+    match date_of(date) {
+        Some(date) => NumberResult::of(i32::from(date.sunday_based_week())),
+        None => NumberResult::refused(BAD_DATE),
+    }
+}
+
+/// The Mondays of the year up to a date, from 0 to 53. Those of 2451604 are 9.
+#[unsafe(no_mangle)]
+pub extern "C" fn fots_date_monday_based_week(date: i32) -> NumberResult
+    ensures bad_date { ¬ IsJulianDay date → result ≡ number_refused bad_date }
+    ensures value { IsJulianDay date → result ≡ number_done (pos (weekdays_upto 0 (day_of date))) }
+{
+    match date_of(date) {
+        Some(date) => NumberResult::of(i32::from(date.monday_based_week())),
+        None => NumberResult::refused(BAD_DATE),
+    }
+}
+
+/// The weekday of a date, from Monday, 1, to Sunday, 7. That of 2451604 is 2.
+#[unsafe(no_mangle)]
+pub extern "C" fn fots_date_weekday(date: i32) -> NumberResult
+    ensures bad_date { ¬ IsJulianDay date → result ≡ number_refused bad_date }
+    ensures value { IsJulianDay date → result ≡ number_done (pos (weekday_at (day_of date) + 1)) }
+{
+    match date_of(date) {
+        Some(date) => NumberResult::of(i32::from(date.weekday().number_from_monday())),
+        None => NumberResult::refused(BAD_DATE),
+    }
+}

@@ -1,0 +1,89 @@
+//! Dates with one component replaced.
+ghost use Rattle.std.specs.Prelude.{◌≡◌};
+ghost use Rattle.cal_time.specs.Date.{year_at, month_at, day_of_month_at, IsYear, IsDayOfMonth, IsOrdinal, HasCalendarDate, HasOrdinalDate};
+ghost use Rattle.cal_c.specs.Results.{date_refused, IsDayWith};
+ghost use Rattle.cal_c.specs.Statuses.{bad_date, year_refused, month_refused, day_refused, ordinal_refused};
+ghost use Rattle.cal_c.specs.Values.{IsJulianDay, IsMonth, day_of};
+
+use crate::results::DateResult;
+use crate::status::{BAD_DATE, MONTH, date_status};
+use crate::values::{date_of, day_of_month_of, month_of, ordinal_of};
+
+/// The day of that year that has the same month and day of the month. Refused as `year`, then as `day`, on 29 February for a common
+/// year. 2451604 and 2004 lead to 2453065.
+#[unsafe(no_mangle)]
+pub extern "C" fn fots_date_replace_year(date: i32, year: i32) -> DateResult
+    ensures bad_date { ¬ IsJulianDay date → result ≡ date_refused bad_date }
+    ensures year { IsJulianDay date → ¬ IsYear year → result ≡ date_refused year_refused }
+    ensures day { let n = day_of date in IsJulianDay date → IsYear year → ¬ IsDayOfMonth year (month_at n) (day_of_month_at n)
+        → result ≡ date_refused day_refused }
+    ensures date { let n = day_of date in IsJulianDay date → IsYear year → IsDayOfMonth year (month_at n) (day_of_month_at n)
+        → IsDayWith (HasCalendarDate year (month_at n) (day_of_month_at n)) result }
+{
+    let Some(date) = date_of(date) else {
+        return DateResult::refused(BAD_DATE);
+    };
+    match date.replace_year(year) {
+        Ok(date) => DateResult::of(date),
+        Err(error) => DateResult::refused(date_status(error)),
+    }
+}
+
+/// The day of that month of the same year that has the same day of the month. Refused as `month`, then as `day`. 2451604 and 3 lead
+/// to 2451633.
+#[unsafe(no_mangle)]
+pub extern "C" fn fots_date_replace_month(date: i32, month: u32) -> DateResult
+    ensures bad_date { ¬ IsJulianDay date → result ≡ date_refused bad_date }
+    ensures month { IsJulianDay date → ¬ IsMonth month → result ≡ date_refused month_refused }
+    ensures day { let n = day_of date in IsJulianDay date → IsMonth month → ¬ IsDayOfMonth (year_at n) month (day_of_month_at n)
+        → result ≡ date_refused day_refused }
+    ensures date { let n = day_of date in IsJulianDay date → IsMonth month → IsDayOfMonth (year_at n) month (day_of_month_at n)
+        → IsDayWith (HasCalendarDate (year_at n) month (day_of_month_at n)) result }
+{
+    let Some(date) = date_of(date) else {
+        return DateResult::refused(BAD_DATE);
+    };
+    let Some(month) = month_of(month) else {
+        return DateResult::refused(MONTH);
+    };
+    match date.replace_month(month) {
+        Ok(date) => DateResult::of(date),
+        Err(error) => DateResult::refused(date_status(error)),
+    }
+}
+
+/// The day of the same month of the same year that has this day of the month. Refused as `day`. 2451604 and 1 lead to 2451576.
+#[unsafe(no_mangle)]
+pub extern "C" fn fots_date_replace_day(date: i32, day: u32) -> DateResult
+    ensures bad_date { ¬ IsJulianDay date → result ≡ date_refused bad_date }
+    ensures day { let n = day_of date in IsJulianDay date → ¬ IsDayOfMonth (year_at n) (month_at n) day
+        → result ≡ date_refused day_refused }
+    ensures date { let n = day_of date in IsJulianDay date → IsDayOfMonth (year_at n) (month_at n) day
+        → IsDayWith (HasCalendarDate (year_at n) (month_at n) day) result }
+{
+    let Some(date) = date_of(date) else {
+        return DateResult::refused(BAD_DATE);
+    };
+    match date.replace_day(day_of_month_of(day)) {
+        Ok(date) => DateResult::of(date),
+        Err(error) => DateResult::refused(date_status(error)),
+    }
+}
+
+/// The day of the same year that has this ordinal. Refused as `ordinal`. 2451604 and 1 lead to 2451545.
+#[unsafe(no_mangle)]
+pub extern "C" fn fots_date_replace_ordinal(date: i32, ordinal: u32) -> DateResult
+    ensures bad_date { ¬ IsJulianDay date → result ≡ date_refused bad_date }
+    ensures ordinal { let n = day_of date in IsJulianDay date → ¬ IsOrdinal (year_at n) ordinal
+        → result ≡ date_refused ordinal_refused }
+    ensures date { let n = day_of date in IsJulianDay date → IsOrdinal (year_at n) ordinal
+        → IsDayWith (HasOrdinalDate (year_at n) ordinal) result }
+{
+    let Some(date) = date_of(date) else {
+        return DateResult::refused(BAD_DATE);
+    };
+    match date.replace_ordinal(ordinal_of(ordinal)) {
+        Ok(date) => DateResult::of(date),
+        Err(error) => DateResult::refused(date_status(error)),
+    }
+}

@@ -1,0 +1,54 @@
+//! Dates and times of day together.
+ghost use Rattle.std.specs.Prelude.{◌≡◌, ◌+ℤ◌, ◌-ℤ◌};
+ghost use Rattle.cal_time.specs.Pair.{moment};
+ghost use Rattle.cal_time.specs.Time.{IsTime};
+ghost use Rattle.cal_c.specs.Results.{pair_refused, IsPairAt};
+ghost use Rattle.cal_c.specs.Statuses.{bad_date, bad_time, bad_duration};
+ghost use Rattle.cal_c.specs.Values.{IsJulianDay, IsDurationPair, day_of, nanoseconds_in};
+
+use crate::results::{Duration, PairResult};
+use crate::status::{BAD_DATE, BAD_DURATION, BAD_TIME};
+use crate::values::{date_of, duration_of, time_of};
+use cal_time::{add_to_pair, sub_from_pair};
+
+/// The date and the time that come so much later, to the nanosecond, or none where that date is past the range.
+#[unsafe(no_mangle)]
+pub extern "C" fn fots_add_to_pair(date: i32, time: u64, duration: Duration) -> PairResult
+    ensures bad_date { ¬ IsJulianDay date → result ≡ pair_refused bad_date }
+    ensures bad_time { IsJulianDay date → ¬ IsTime time → result ≡ pair_refused bad_time }
+    ensures bad_duration { IsJulianDay date → IsTime time → ¬ IsDurationPair duration → result ≡ pair_refused bad_duration }
+    ensures pair { IsJulianDay date → IsTime time → IsDurationPair duration
+        → IsPairAt (moment (day_of date) time +ℤ nanoseconds_in duration) result }
+{
+    let Some(date) = date_of(date) else {
+        return PairResult::refused(BAD_DATE);
+    };
+    let Some(time) = time_of(time) else {
+        return PairResult::refused(BAD_TIME);
+    };
+    match duration_of(duration) {
+        Some(duration) => PairResult::of_option(add_to_pair(date, time, duration)),
+        None => PairResult::refused(BAD_DURATION),
+    }
+}
+
+/// The date and the time that come so much earlier, to the nanosecond, or none where that date is past the range.
+#[unsafe(no_mangle)]
+pub extern "C" fn fots_sub_from_pair(date: i32, time: u64, duration: Duration) -> PairResult
+    ensures bad_date { ¬ IsJulianDay date → result ≡ pair_refused bad_date }
+    ensures bad_time { IsJulianDay date → ¬ IsTime time → result ≡ pair_refused bad_time }
+    ensures bad_duration { IsJulianDay date → IsTime time → ¬ IsDurationPair duration → result ≡ pair_refused bad_duration }
+    ensures pair { IsJulianDay date → IsTime time → IsDurationPair duration
+        → IsPairAt (moment (day_of date) time -ℤ nanoseconds_in duration) result }
+{
+    let Some(date) = date_of(date) else {
+        return PairResult::refused(BAD_DATE);
+    };
+    let Some(time) = time_of(time) else {
+        return PairResult::refused(BAD_TIME);
+    };
+    match duration_of(duration) {
+        Some(duration) => PairResult::of_option(sub_from_pair(date, time, duration)),
+        None => PairResult::refused(BAD_DURATION),
+    }
+}

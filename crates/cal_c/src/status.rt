@@ -1,0 +1,109 @@
+//! The status of a call, as a number: the header has them as an enum.
+ghost use Rattle.std.specs.Prelude.{◌≡◌};
+ghost use Rattle.cal_time.specs.Refusal.{refusal};
+ghost use Rattle.cal_time.specs.Refusals.{year_out_of_range, day_out_of_range, ordinal_out_of_range, week_out_of_range, weekday_out_of_range};
+ghost use Rattle.cal_time.specs.Time.{hour_out_of_range, minute_out_of_range, second_out_of_range, millisecond_out_of_range, microsecond_out_of_range, nanosecond_out_of_range};
+ghost use Rattle.cal_time.specs.UtcOffset.{offset_hour_out_of_range, offset_minute_out_of_range, offset_second_out_of_range};
+ghost use Rattle.cal_c.specs.Statuses.{hour_refused, minute_refused, second_refused, millisecond_refused, microsecond_refused, nanosecond_refused, offset_hour_refused, offset_minute_refused, offset_second_refused, year_refused, day_refused, ordinal_refused, week_refused, weekday_refused};
+
+use cal_time::error::ComponentRange;
+
+pub const DONE: i32 = 0;
+
+/// The exact result is no value of its type.
+pub const PAST_RANGE: i32 = 1;
+
+pub const BAD_DATE: i32 = 2;
+
+pub const BAD_TIME: i32 = 3;
+
+pub const BAD_OFFSET: i32 = 4;
+
+pub const BAD_DURATION: i32 = 5;
+
+pub const BAD_WEEKDAY: i32 = 6;
+
+pub const BAD_COUNT: i32 = 7;
+
+pub const YEAR: i32 = 16;
+
+pub const MONTH: i32 = 17;
+
+pub const JULIAN_DAY: i32 = 18;
+
+pub const HOUR: i32 = 19;
+
+pub const MINUTE: i32 = 20;
+
+pub const SECOND: i32 = 21;
+
+pub const MILLISECOND: i32 = 22;
+
+pub const MICROSECOND: i32 = 23;
+
+pub const NANOSECOND: i32 = 24;
+
+pub const OFFSET_HOUR: i32 = 25;
+
+pub const OFFSET_MINUTE: i32 = 26;
+
+pub const OFFSET_SECOND: i32 = 27;
+
+pub const SECONDS: i32 = 28;
+
+pub const DAY: i32 = 64;
+
+pub const ORDINAL: i32 = 65;
+
+pub const WEEK: i32 = 66;
+
+pub const WEEKDAY: i32 = 67;
+
+/// The status of a refusal by a constructor or a replacement of a date.
+pub fn date_status(error: ComponentRange) -> i32
+    ensures year { refusal error ≡ year_out_of_range → result ≡ year_refused }
+    ensures day { refusal error ≡ day_out_of_range → result ≡ day_refused }
+    ensures ordinal { refusal error ≡ ordinal_out_of_range → result ≡ ordinal_refused }
+    ensures week { refusal error ≡ week_out_of_range → result ≡ week_refused }
+    ensures weekday { refusal error ≡ weekday_out_of_range → result ≡ weekday_refused }
+{
+    match error.name() {
+        "year" => YEAR,
+        "day" => DAY,
+        "ordinal" => ORDINAL,
+        "week" => WEEK,
+        _ => WEEKDAY,
+    }
+}
+
+/// The status of a refusal by a constructor or a replacement of a time.
+pub fn time_status(error: ComponentRange) -> i32
+    ensures hour { refusal error ≡ hour_out_of_range → result ≡ hour_refused }
+    ensures minute { refusal error ≡ minute_out_of_range → result ≡ minute_refused }
+    ensures second { refusal error ≡ second_out_of_range → result ≡ second_refused }
+    ensures millisecond { refusal error ≡ millisecond_out_of_range → result ≡ millisecond_refused }
+    ensures microsecond { refusal error ≡ microsecond_out_of_range → result ≡ microsecond_refused }
+    ensures nanosecond { refusal error ≡ nanosecond_out_of_range → result ≡ nanosecond_refused }
+{
+    match error.name() {
+        "hour" => HOUR,
+        "minute" => MINUTE,
+        "second" => SECOND,
+        "millisecond" => MILLISECOND,
+        "microsecond" => MICROSECOND,
+        _ => NANOSECOND,
+    }
+}
+
+/// The status of a refusal of the parts of an offset.
+pub fn offset_status(error: ComponentRange) -> i32
+    ensures hour { refusal error ≡ offset_hour_out_of_range → result ≡ offset_hour_refused }
+    ensures minute { refusal error ≡ offset_minute_out_of_range → result ≡ offset_minute_refused }
+    ensures second { refusal error ≡ offset_second_out_of_range → result ≡ offset_second_refused }
+{
+    match error.name() {
+        "offset hour" => OFFSET_HOUR,
+        "offset minute" => OFFSET_MINUTE,
+        _ => OFFSET_SECOND,
+    }
+}

@@ -1,0 +1,6 @@
+//! Times of day, each as its nanoseconds since midnight.
+
+mod making;
+mod moves;
+mod parts;
+mod replacement;

@@ -1,0 +1,97 @@
+//! Times made.
+ghost use Rattle.std.specs.Prelude.{◌≡◌, ◌*◌, ◌<◌, ◌≤◌};
+ghost use Rattle.cal_time.specs.Time.{time_of};
+ghost use Rattle.cal_c.specs.Results.{time_done, time_refused};
+ghost use Rattle.cal_c.specs.Statuses.{hour_refused, minute_refused, second_refused, millisecond_refused, microsecond_refused, nanosecond_refused};
+
+use crate::results::TimeResult;
+use crate::status::time_status;
+use crate::values::{byte_of, short_of};
+use cal_time::Time;
+
+/// The time of an hour, a minute and a second.
+///
+/// Refused as `hour`, `minute` or `second`. That of 1, 2 and 3 is 3723000000000.
+#[unsafe(no_mangle)]
+pub extern "C" fn fots_time_from_hms(hour: u32, minute: u32, second: u32) -> TimeResult
+    ensures hour { 23 < hour → result ≡ time_refused hour_refused }
+    ensures minute { hour ≤ 23 → 59 < minute → result ≡ time_refused minute_refused }
+    ensures second { hour ≤ 23 → minute ≤ 59 → 59 < second → result ≡ time_refused second_refused }
+    ensures time { hour ≤ 23 → minute ≤ 59 → second ≤ 59 → result ≡ time_done (time_of hour minute second 0) }
+{
+    match Time::from_hms(byte_of(hour), byte_of(minute), byte_of(second)) {
+        Ok(time) => TimeResult::of(time),
+        Err(error) => TimeResult::refused(time_status(error)),
+    }
+}
+
+/// The time of an hour, a minute, a second and the milliseconds past it.
+///
+/// Refused as `hour`, `minute`, `second` or `millisecond`. That of 1, 2, 3 and 4 is 3723004000000.
+#[unsafe(no_mangle)]
+pub extern "C" fn fots_time_from_hms_milli(
+    hour: u32,
+    minute: u32,
+    second: u32,
+    millisecond: u32,
+) -> TimeResult
+    ensures hour { 23 < hour → result ≡ time_refused hour_refused }
+    ensures minute { hour ≤ 23 → 59 < minute → result ≡ time_refused minute_refused }
+    ensures second { hour ≤ 23 → minute ≤ 59 → 59 < second → result ≡ time_refused second_refused }
+    ensures millisecond { hour ≤ 23 → minute ≤ 59 → second ≤ 59 → 999 < millisecond → result ≡ time_refused millisecond_refused }
+    ensures time { hour ≤ 23 → minute ≤ 59 → second ≤ 59 → millisecond ≤ 999 → result ≡ time_done (time_of hour minute second (millisecond * 1_000_000)) }
+{
+    match Time::from_hms_milli(
+        byte_of(hour),
+        byte_of(minute),
+        byte_of(second),
+        short_of(millisecond),
+    ) {
+        Ok(time) => TimeResult::of(time),
+        Err(error) => TimeResult::refused(time_status(error)),
+    }
+}
+
+/// The time of an hour, a minute, a second and the microseconds past it.
+///
+/// Refused as `hour`, `minute`, `second` or `microsecond`. That of 1, 2, 3 and 4005 is 3723004005000.
+#[unsafe(no_mangle)]
+pub extern "C" fn fots_time_from_hms_micro(
+    hour: u32,
+    minute: u32,
+    second: u32,
+    microsecond: u32,
+) -> TimeResult
+    ensures hour { 23 < hour → result ≡ time_refused hour_refused }
+    ensures minute { hour ≤ 23 → 59 < minute → result ≡ time_refused minute_refused }
+    ensures second { hour ≤ 23 → minute ≤ 59 → 59 < second → result ≡ time_refused second_refused }
+    ensures microsecond { hour ≤ 23 → minute ≤ 59 → second ≤ 59 → 999_999 < microsecond → result ≡ time_refused microsecond_refused }
+    ensures time { hour ≤ 23 → minute ≤ 59 → second ≤ 59 → microsecond ≤ 999_999 → result ≡ time_done (time_of hour minute second (microsecond * 1_000)) }
+{
+    match Time::from_hms_micro(byte_of(hour), byte_of(minute), byte_of(second), microsecond) {
+        Ok(time) => TimeResult::of(time),
+        Err(error) => TimeResult::refused(time_status(error)),
+    }
+}
+
+/// The time of an hour, a minute, a second and the nanoseconds past it.
+///
+/// Refused as `hour`, `minute`, `second` or `nanosecond`. That of 1, 2, 3 and 4005006 is 3723004005006.
+#[unsafe(no_mangle)]
+pub extern "C" fn fots_time_from_hms_nano(
+    hour: u32,
+    minute: u32,
+    second: u32,
+    nanosecond: u32,
+) -> TimeResult
+    ensures hour { 23 < hour → result ≡ time_refused hour_refused }
+    ensures minute { hour ≤ 23 → 59 < minute → result ≡ time_refused minute_refused }
+    ensures second { hour ≤ 23 → minute ≤ 59 → 59 < second → result ≡ time_refused second_refused }
+    ensures nanosecond { hour ≤ 23 → minute ≤ 59 → second ≤ 59 → 999_999_999 < nanosecond → result ≡ time_refused nanosecond_refused }
+    ensures time { hour ≤ 23 → minute ≤ 59 → second ≤ 59 → nanosecond ≤ 999_999_999 → result ≡ time_done (time_of hour minute second nanosecond) }
+{
+    match Time::from_hms_nano(byte_of(hour), byte_of(minute), byte_of(second), nanosecond) {
+        Ok(time) => TimeResult::of(time),
+        Err(error) => TimeResult::refused(time_status(error)),
+    }
+}

@@ -1,0 +1,106 @@
+//! Times moved on and back, and the durations between times.
+ghost use Rattle.std.specs.Prelude.{◌≡◌, pos, ◌+ℤ◌, ◌-ℤ◌};
+ghost use Rattle.cal_time.specs.Time.{IsTime, modulo_day};
+ghost use Rattle.cal_c.specs.Results.{time_done, time_refused, duration_done, duration_refused, adjusted_time_refused, IsAddAdjusted, IsSubAdjusted};
+ghost use Rattle.cal_c.specs.Statuses.{bad_time, bad_duration};
+ghost use Rattle.cal_c.specs.Values.{IsDurationPair, nanoseconds_in};
+
+use crate::results::{AdjustedTimeResult, Duration, DurationResult, TimeResult};
+use crate::status::{BAD_DURATION, BAD_TIME};
+use crate::values::{duration_of, time_of};
+
+/// The time that much later, round the clock as often as it takes.
+#[unsafe(no_mangle)]
+pub extern "C" fn fots_time_add(time: u64, duration: Duration) -> TimeResult
+    ensures bad_time { ¬ IsTime time → result ≡ time_refused bad_time }
+    ensures bad_duration { IsTime time → ¬ IsDurationPair duration → result ≡ time_refused bad_duration }
+    ensures time { IsTime time → IsDurationPair duration → result ≡ time_done (modulo_day (pos time +ℤ nanoseconds_in duration)) }
+{
+    let Some(time) = time_of(time) else {
+        return TimeResult::refused(BAD_TIME);
+    };
+    match duration_of(duration) {
+        Some(duration) => TimeResult::of(time + duration),
+        None => TimeResult::refused(BAD_DURATION),
+    }
+}
+
+/// The time that much later, and the carry in days beyond the whole days of the duration.
+#[unsafe(no_mangle)]
+pub extern "C" fn fots_time_adjusting_add(time: u64, duration: Duration) -> AdjustedTimeResult
+    ensures bad_time { ¬ IsTime time → result ≡ adjusted_time_refused bad_time }
+    ensures bad_duration { IsTime time → ¬ IsDurationPair duration → result ≡ adjusted_time_refused bad_duration }
+    ensures time { IsTime time → IsDurationPair duration → IsAddAdjusted time (nanoseconds_in duration) result }
+{
+    let Some(time) = time_of(time) else {
+        return AdjustedTimeResult::refused(BAD_TIME);
+    };
+    let Some(duration) = duration_of(duration) else {
+        return AdjustedTimeResult::refused(BAD_DURATION);
+    };
+    let (adjustment, time) = time.adjusting_add(duration);
+    AdjustedTimeResult::of(adjustment, time)
+}
+
+/// The time that much earlier, round the clock as often as it takes.
+#[unsafe(no_mangle)]
+pub extern "C" fn fots_time_sub(time: u64, duration: Duration) -> TimeResult
+    ensures bad_time { ¬ IsTime time → result ≡ time_refused bad_time }
+    ensures bad_duration { IsTime time → ¬ IsDurationPair duration → result ≡ time_refused bad_duration }
+    ensures time { IsTime time → IsDurationPair duration → result ≡ time_done (modulo_day (pos time -ℤ nanoseconds_in duration)) }
+{
+    let Some(time) = time_of(time) else {
+        return TimeResult::refused(BAD_TIME);
+    };
+    match duration_of(duration) {
+        Some(duration) => TimeResult::of(time - duration),
+        None => TimeResult::refused(BAD_DURATION),
+    }
+}
+
+/// The time that much earlier, and the carry in days beyond the whole days of the duration.
+#[unsafe(no_mangle)]
+pub extern "C" fn fots_time_adjusting_sub(time: u64, duration: Duration) -> AdjustedTimeResult
+    ensures bad_time { ¬ IsTime time → result ≡ adjusted_time_refused bad_time }
+    ensures bad_duration { IsTime time → ¬ IsDurationPair duration → result ≡ adjusted_time_refused bad_duration }
+    ensures time { IsTime time → IsDurationPair duration → IsSubAdjusted time (nanoseconds_in duration) result }
+{
+    let Some(time) = time_of(time) else {
+        return AdjustedTimeResult::refused(BAD_TIME);
+    };
+    let Some(duration) = duration_of(duration) else {
+        return AdjustedTimeResult::refused(BAD_DURATION);
+    };
+    let (adjustment, time) = time.adjusting_sub(duration);
+    AdjustedTimeResult::of(adjustment, time)
+}
+
+/// The way forward to the other time, from zero to below a day.
+#[unsafe(no_mangle)]
+pub extern "C" fn fots_time_duration_until(time: u64, other: u64) -> DurationResult
+    ensures bad_time { ¬ (IsTime time × IsTime other) → result ≡ duration_refused bad_time }
+    ensures value { IsTime time → IsTime other → result ≡ duration_done (pos (modulo_day (pos other -ℤ pos time))) }
+{
+    let Some(time) = time_of(time) else {
+        return DurationResult::refused(BAD_TIME);
+    };
+    match time_of(other) {
+        Some(other) => DurationResult::of(time.duration_until(other)),
+        None => DurationResult::refused(BAD_TIME),
+    }
+}
+
+/// The way forward from the other time, from zero to below a day.
+#[unsafe(no_mangle)]
+pub extern "C" fn fots_time_duration_since(time: u64, other: u64) -> DurationResult
+    ensures bad_time { ¬ (IsTime time × IsTime other) → result ≡ duration_refused bad_time }
+    ensures value { IsTime time → IsTime other → result ≡ duration_done (pos (modulo_day (pos time -ℤ pos other))) }
+{
+    let Some(time) = time_of(time) else {
+        return DurationResult::refused(BAD_TIME);
+    };
+    match time_of(other) {
+        Some(other) => DurationResult::of(time.duration_since(other)),
+        None => DurationResult::refused(BAD_TIME),
+    }
+}

@@ -1,0 +1,105 @@
+//! Times with one component replaced.
+ghost use Rattle.std.specs.Prelude.{◌≡◌, ◌*◌, ◌<◌, ◌≤◌};
+ghost use Rattle.cal_time.specs.Time.{IsTime, time_of, hour_of, minute_of, second_of, nanosecond_of};
+ghost use Rattle.cal_c.specs.Results.{time_done, time_refused};
+ghost use Rattle.cal_c.specs.Statuses.{bad_time, hour_refused, minute_refused, second_refused, millisecond_refused, microsecond_refused, nanosecond_refused};
+
+use crate::results::TimeResult;
+use crate::status::{BAD_TIME, time_status};
+use crate::values::{byte_of, short_of, time_of};
+
+/// The time with another hour, from 0 to 23, and everything else the same. Refused as `hour`.
+#[unsafe(no_mangle)]
+pub extern "C" fn fots_time_replace_hour(time: u64, hour: u32) -> TimeResult
+    ensures bad_time { ¬ IsTime time → result ≡ time_refused bad_time }
+    ensures hour { IsTime time → 23 < hour → result ≡ time_refused hour_refused }
+    ensures time { IsTime time → hour ≤ 23 → result ≡ time_done (time_of hour (minute_of time) (second_of time) (nanosecond_of time)) }
+{
+    let Some(time) = time_of(time) else {
+        return TimeResult::refused(BAD_TIME);
+    };
+    match time.replace_hour(byte_of(hour)) {
+        Ok(time) => TimeResult::of(time),
+        Err(error) => TimeResult::refused(time_status(error)),
+    }
+}
+
+/// The time with another minute, from 0 to 59, and everything else the same. Refused as `minute`.
+#[unsafe(no_mangle)]
+pub extern "C" fn fots_time_replace_minute(time: u64, minute: u32) -> TimeResult
+    ensures bad_time { ¬ IsTime time → result ≡ time_refused bad_time }
+    ensures minute { IsTime time → 59 < minute → result ≡ time_refused minute_refused }
+    ensures time { IsTime time → minute ≤ 59 → result ≡ time_done (time_of (hour_of time) minute (second_of time) (nanosecond_of time)) }
+{
+    let Some(time) = time_of(time) else {
+        return TimeResult::refused(BAD_TIME);
+    };
+    match time.replace_minute(byte_of(minute)) {
+        Ok(time) => TimeResult::of(time),
+        Err(error) => TimeResult::refused(time_status(error)),
+    }
+}
+
+/// The time with another second, from 0 to 59, and everything else the same. Refused as `second`.
+#[unsafe(no_mangle)]
+pub extern "C" fn fots_time_replace_second(time: u64, second: u32) -> TimeResult
+    ensures bad_time { ¬ IsTime time → result ≡ time_refused bad_time }
+    ensures second { IsTime time → 59 < second → result ≡ time_refused second_refused }
+    ensures time { IsTime time → second ≤ 59 → result ≡ time_done (time_of (hour_of time) (minute_of time) second (nanosecond_of time)) }
+{
+    let Some(time) = time_of(time) else {
+        return TimeResult::refused(BAD_TIME);
+    };
+    match time.replace_second(byte_of(second)) {
+        Ok(time) => TimeResult::of(time),
+        Err(error) => TimeResult::refused(time_status(error)),
+    }
+}
+
+/// The time with so many milliseconds, from 0 to 999, in place of all below its second. Refused as `millisecond`.
+#[unsafe(no_mangle)]
+pub extern "C" fn fots_time_replace_millisecond(time: u64, millisecond: u32) -> TimeResult
+    ensures bad_time { ¬ IsTime time → result ≡ time_refused bad_time }
+    ensures millisecond { IsTime time → 999 < millisecond → result ≡ time_refused millisecond_refused }
+    ensures time { IsTime time → millisecond ≤ 999 → result ≡ time_done (time_of (hour_of time) (minute_of time) (second_of time) (millisecond * 1_000_000)) }
+{
+    let Some(time) = time_of(time) else {
+        return TimeResult::refused(BAD_TIME);
+    };
+    match time.replace_millisecond(short_of(millisecond)) {
+        Ok(time) => TimeResult::of(time),
+        Err(error) => TimeResult::refused(time_status(error)),
+    }
+}
+
+/// The time with so many microseconds, from 0 to 999999, in place of all below its second. Refused as `microsecond`.
+#[unsafe(no_mangle)]
+pub extern "C" fn fots_time_replace_microsecond(time: u64, microsecond: u32) -> TimeResult
+    ensures bad_time { ¬ IsTime time → result ≡ time_refused bad_time }
+    ensures microsecond { IsTime time → 999_999 < microsecond → result ≡ time_refused microsecond_refused }
+    ensures time { IsTime time → microsecond ≤ 999_999 → result ≡ time_done (time_of (hour_of time) (minute_of time) (second_of time) (microsecond * 1_000)) }
+{
+    let Some(time) = time_of(time) else {
+        return TimeResult::refused(BAD_TIME);
+    };
+    match time.replace_microsecond(microsecond) {
+        Ok(time) => TimeResult::of(time),
+        Err(error) => TimeResult::refused(time_status(error)),
+    }
+}
+
+/// The time with so many nanoseconds, from 0 to 999999999, in place of all below its second. Refused as `nanosecond`.
+#[unsafe(no_mangle)]
+pub extern "C" fn fots_time_replace_nanosecond(time: u64, nanosecond: u32) -> TimeResult
+    ensures bad_time { ¬ IsTime time → result ≡ time_refused bad_time }
+    ensures nanosecond { IsTime time → 999_999_999 < nanosecond → result ≡ time_refused nanosecond_refused }
+    ensures time { IsTime time → nanosecond ≤ 999_999_999 → result ≡ time_done (time_of (hour_of time) (minute_of time) (second_of time) nanosecond) }
+{
+    let Some(time) = time_of(time) else {
+        return TimeResult::refused(BAD_TIME);
+    };
+    match time.replace_nanosecond(nanosecond) {
+        Ok(time) => TimeResult::of(time),
+        Err(error) => TimeResult::refused(time_status(error)),
+    }
+}

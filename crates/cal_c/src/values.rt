@@ -1,0 +1,173 @@
+//! Values from the numbers that C passes, each checked.
+ghost use Rattle.std.specs.Prelude.{◌≡◌, ℕ, ℤ, ◌+◌, ◌<◌, ◌≤◌, SomeIff, MatchOption, min, unsigned_abs};
+ghost use Rattle.cal_time.specs.Date.{IsDayOfMonth, IsOrdinal};
+ghost use Rattle.cal_time.specs.IsoWeekDate.{IsWeek};
+ghost use Rattle.cal_time.specs.Month.{number};
+ghost use Rattle.cal_time.specs.Time.{IsTime};
+ghost use Rattle.cal_time.specs.UtcOffset.{IsOffset};
+ghost use Rattle.cal_time.specs.Weekday.{place};
+ghost use Rattle.cal_c.specs.Values.{IsJulianDay, IsMonth, IsWeekday, IsDurationPair, day_of, nanoseconds_in};
+
+use crate::results::Duration;
+use cal_time::util::weeks_in_year;
+use cal_time::{Date, Month, SignedDuration, Time, UtcOffset, Weekday};
+
+const NANOSECONDS_PER_SECOND: u32 = 1_000_000_000;
+
+const NANOSECONDS_PER_MINUTE: u64 = 60_000_000_000;
+
+const NANOSECONDS_PER_HOUR: u64 = 3_600_000_000_000;
+
+const NANOSECONDS_PER_DAY: u64 = 86_400_000_000_000;
+
+/// The date that has the Julian day.
+pub fn date_of(julian_day: i32) -> Option<Date>
+    ensures { SomeIff result (IsJulianDay julian_day) (day_of julian_day) }
+{
+    match Date::from_julian_day(julian_day) {
+        Ok(date) => Some(date),
+        Err(_) => None,
+    }
+}
+
+/// The month that has the number, from January, 1.
+pub fn month_of(month: u32) -> Option<Month>
+    ensures { MatchOption result (¬ IsMonth month) (λ found. IsMonth month × (number found ≡ month)) }
+{
+    match Month::try_from(byte_of(month)) {
+        Ok(month) => Some(month),
+        Err(_) => None,
+    }
+}
+
+/// The weekday that has the number, from Monday, 1.
+pub fn weekday_of(weekday: u32) -> Option<Weekday>
+    ensures { MatchOption result (¬ IsWeekday weekday) (λ found. IsWeekday weekday × (place found + 1 ≡ weekday)) }
+{
+    match weekday {
+        1 => Some(Weekday::Monday),
+        2 => Some(Weekday::Tuesday),
+        3 => Some(Weekday::Wednesday),
+        4 => Some(Weekday::Thursday),
+        5 => Some(Weekday::Friday),
+        6 => Some(Weekday::Saturday),
+        7 => Some(Weekday::Sunday),
+        _ => None,
+    }
+}
+
+/// The day of a month, or a number that no month has where it is none.
+#[tactic(auto, using(crate::proofs::Days::days_in_month_most))]
+pub fn day_of_month_of(day: u32) -> u8
+    ensures has { (y : ℤ) (m : ℕ) → IsDayOfMonth y m day → result ≡ day }
+    ensures none { (y : ℤ) (m : ℕ) → ¬ IsDayOfMonth y m day → ¬ IsDayOfMonth y m result }
+{
+    byte_of(day)
+}
+
+/// The ordinal, or a number that no year has where it is none.
+pub fn ordinal_of(ordinal: u32) -> u16
+    ensures has { (y : ℤ) → IsOrdinal y ordinal → result ≡ ordinal }
+    ensures none { (y : ℤ) → ¬ IsOrdinal y ordinal → ¬ IsOrdinal y result }
+{
+    short_of(ordinal)
+}
+
+/// The number, or the greatest `u8`, which no component has, where it is more.
+pub fn byte_of(number: u32) -> u8
+    ensures { result ≡ min number 255 }
+{
+    number.min(255) as u8
+}
+
+/// The number, or the greatest `u16` where it is more.
+pub fn short_of(number: u32) -> u16
+    ensures { result ≡ min number 65535 }
+{
+    number.min(65535) as u16
+}
+
+/// The week, or 0 where the year has no such week.
+pub fn week_of(year: i32, week: u32) -> u8
+    ensures has { IsWeek year week → result ≡ week }
+    ensures none { ¬ IsWeek year week → ¬ IsWeek year result }
+{
+    if week <= 52 || week <= u32::from(weeks_in_year(year)) {
+        week as u8
+    } else {
+        0
+    }
+}
+
+/// The date that has the Julian day.
+pub fn date_at(julian_day: i64) -> Option<Date>
+    ensures { SomeIff result (IsJulianDay julian_day) (day_of julian_day) }
+{
+    match i32::try_from(julian_day) {
+        Ok(julian_day) => date_of(julian_day),
+        Err(_) => None,
+    }
+}
+
+/// The duration of seconds and nanoseconds.
+pub fn duration_of(duration: Duration) -> Option<SignedDuration>
+    ensures { SomeIff result (IsDurationPair duration) (nanoseconds_in duration) }
+{
+    let Duration {
+        seconds,
+        nanoseconds,
+    } = duration;
+    if nanoseconds.unsigned_abs() >= NANOSECONDS_PER_SECOND {
+        return None;
+    }
+    if seconds > 0 && nanoseconds < 0 {
+        return None;
+    }
+    if seconds < 0 && nanoseconds > 0 {
+        return None;
+    }
+    Some(SignedDuration::new(seconds, nanoseconds))
+}
+
+/// The time of nanoseconds since midnight.
+pub fn time_of(nanoseconds: u64) -> Option<Time>
+    ensures { SomeIff result (IsTime nanoseconds) nanoseconds }
+{
+    if nanoseconds >= NANOSECONDS_PER_DAY {
+        return None;
+    }
+    let since_midnight = SignedDuration::nanoseconds(nanoseconds as i64);
+    let (_, time) = Time::MIDNIGHT.adjusting_add(since_midnight);
+    Some(time)
+}
+
+/// The nanoseconds of a time since midnight.
+pub fn nanoseconds_of(time: Time) -> u64
+    ensures { result ≡ time }
+{
+    u64::from(time.hour()) * NANOSECONDS_PER_HOUR
+        + u64::from(time.minute()) * NANOSECONDS_PER_MINUTE
+        + u64::from(time.second()) * u64::from(NANOSECONDS_PER_SECOND)
+        + u64::from(time.nanosecond())
+}
+
+/// The offset of seconds.
+pub fn offset_of(seconds: i32) -> Option<UtcOffset>
+    ensures { SomeIff result (IsOffset seconds) seconds }
+{
+    match UtcOffset::from_whole_seconds(seconds) {
+        Ok(offset) => Some(offset),
+        Err(_) => None,
+    }
+}
+
+/// The number, or the nearest `i8`, which no component of an offset is, where it is past those.
+pub fn signed_byte_of(number: i32) -> i8
+    ensures same { unsigned_abs number ≤ 127 → result ≡ number }
+    ensures above { (n : ℕ) → n < 127 → n < unsigned_abs number → n < unsigned_abs result }
+{
+    match i8::try_from(number) {
+        Ok(number) => number,
+        Err(_) => i8::MAX,
+    }
+}

@@ -1,0 +1,487 @@
+/* The calendar of Fotsevindre, for C and C++: dates, times of day, offsets from UTC, durations, months and weekdays.
+ *
+ * Values are plain numbers, and each is checked by each call that it is passed to:
+ *
+ *   fots_date       a day, as its Julian day: from -363521074, -999999-01-01, to 366963559, 999999-12-31. 2451545 is 2000-01-01.
+ *                   Days compare as numbers, and the days between two of them are their difference.
+ *   fots_time       a time of day, as nanoseconds since midnight: from 0 to 86399999999999.
+ *   fots_offset     an offset from UTC, as seconds, above 0 to the east: from -93599 to 93599.
+ *   fots_duration   a signed length of time, as whole seconds and the nanoseconds past them: from -999999999 to 999999999, and
+ *                   never against the sign of the seconds. {-1, -500000000} are -1.5 seconds.
+ *   month           from January, 1, to December, 12.
+ *   weekday         from Monday, 1, to Sunday, 7.
+ *
+ * The calendar is the proleptic Gregorian one of ISO 8601, with a year 0 before the year 1, from the year -999999 to 999999.
+ *
+ * Each call but those of years returns a struct that has a status first, and then its answer. Where the status is not FOTS_DONE,
+ * each number of the answer is the one that its struct says, as FOTS_NOTHING for a date and FOTS_NO_TIME for a time. No date, time,
+ * offset, duration or component is that, so what is not looked at is refused by the next call that it is passed to.
+ *
+ * An argument that is no value of its type comes first, in the order of the parameters, as FOTS_BAD_DATE and the like, or
+ * FOTS_MONTH; then what the call itself refuses, in the order of the parameters.
+ *
+ * No call keeps a pointer, allocates, reads or writes anything but its arguments, or has a state: any thread may make any call at
+ * any time. The single calls take no pointer, and answer for each argument whatever its bits.
+ */
+#ifndef FOTSEVINDRE_H
+#define FOTSEVINDRE_H
+
+#include <stddef.h>
+#include <stdint.h>
+
+#ifdef __cplusplus
+extern "C" {
+#endif
+
+typedef int32_t fots_date;
+typedef uint64_t fots_time;
+typedef int32_t fots_offset;
+
+typedef struct fots_duration {
+    int64_t seconds;
+    int32_t nanoseconds;
+} fots_duration;
+
+#define FOTS_MIN_DATE ((fots_date)-363521074)
+#define FOTS_MAX_DATE ((fots_date)366963559)
+#define FOTS_MIN_YEAR (-999999)
+#define FOTS_MAX_YEAR 999999
+#define FOTS_MAX_TIME ((fots_time)86399999999999)
+#define FOTS_MAX_OFFSET ((fots_offset)93599)
+
+/* What stands in an answer that there is none of: no date, offset, year or other part, and no time. */
+#define FOTS_NOTHING INT32_MIN
+#define FOTS_NO_TIME UINT64_MAX
+
+/* The status of a call. From 16 on it is a refusal, by the name of the component that is out of range; from 64 on the range of that
+ * component depends on others: that of a day on the month and the year. */
+enum fots_status {
+    FOTS_DONE = 0,
+    FOTS_PAST_RANGE = 1, /* the exact result is no value of its type */
+    FOTS_BAD_DATE = 2,
+    FOTS_BAD_TIME = 3,
+    FOTS_BAD_OFFSET = 4,
+    FOTS_BAD_DURATION = 5,
+    FOTS_BAD_WEEKDAY = 6,
+    FOTS_BAD_COUNT = 7, /* a count above 255 */
+    FOTS_YEAR = 16,
+    FOTS_MONTH = 17,
+    FOTS_JULIAN_DAY = 18,
+    FOTS_HOUR = 19,
+    FOTS_MINUTE = 20,
+    FOTS_SECOND = 21,
+    FOTS_MILLISECOND = 22,
+    FOTS_MICROSECOND = 23,
+    FOTS_NANOSECOND = 24,
+    FOTS_OFFSET_HOUR = 25,
+    FOTS_OFFSET_MINUTE = 26,
+    FOTS_OFFSET_SECOND = 27,
+    FOTS_SECONDS = 28,
+    FOTS_DAY = 64,
+    FOTS_ORDINAL = 65,
+    FOTS_WEEK = 66,
+    FOTS_WEEKDAY = 67
+};
+
+/* The name of a status: for a refusal that of the component, as "day", and for the others a few words, as "past the range". For
+ * another number "unknown". */
+static inline const char *fots_status_name(int32_t status)
+{
+    switch (status) {
+    case FOTS_DONE: return "done";
+    case FOTS_PAST_RANGE: return "past the range";
+    case FOTS_BAD_DATE: return "bad date";
+    case FOTS_BAD_TIME: return "bad time";
+    case FOTS_BAD_OFFSET: return "bad offset";
+    case FOTS_BAD_DURATION: return "bad duration";
+    case FOTS_BAD_WEEKDAY: return "bad weekday";
+    case FOTS_BAD_COUNT: return "bad count";
+    case FOTS_YEAR: return "year";
+    case FOTS_MONTH: return "month";
+    case FOTS_JULIAN_DAY: return "julian_day";
+    case FOTS_HOUR: return "hour";
+    case FOTS_MINUTE: return "minute";
+    case FOTS_SECOND: return "second";
+    case FOTS_MILLISECOND: return "millisecond";
+    case FOTS_MICROSECOND: return "microsecond";
+    case FOTS_NANOSECOND: return "nanosecond";
+    case FOTS_OFFSET_HOUR: return "offset hour";
+    case FOTS_OFFSET_MINUTE: return "offset minute";
+    case FOTS_OFFSET_SECOND: return "offset second";
+    case FOTS_SECONDS: return "seconds";
+    case FOTS_DAY: return "day";
+    case FOTS_ORDINAL: return "ordinal";
+    case FOTS_WEEK: return "week";
+    case FOTS_WEEKDAY: return "weekday";
+    default: return "unknown";
+    }
+}
+
+/* Whether the range of the component that a refusal names depends on other components: 1 or 0. It is 1 for FOTS_DAY, and 0 for
+ * FOTS_HOUR. */
+static inline int fots_status_is_conditional(int32_t status)
+{
+    return status >= FOTS_DAY && status <= FOTS_WEEKDAY;
+}
+
+/* ---- what the calls return */
+
+typedef struct fots_date_result {
+    int32_t status;
+    fots_date date; /* or FOTS_NOTHING */
+} fots_date_result;
+
+/* A part of a value. */
+typedef struct fots_number_result {
+    int32_t status;
+    int32_t number; /* or FOTS_NOTHING */
+} fots_number_result;
+
+typedef struct fots_long_result {
+    int32_t status;
+    int64_t number; /* or INT64_MIN, which is also the whole seconds of the least durations: see the status */
+} fots_long_result;
+
+typedef struct fots_calendar_date_result {
+    int32_t status;
+    int32_t year; /* or FOTS_NOTHING */
+    uint32_t month; /* or 0 */
+    uint32_t day; /* or 0 */
+} fots_calendar_date_result;
+
+typedef struct fots_ordinal_date_result {
+    int32_t status;
+    int32_t year; /* or FOTS_NOTHING */
+    uint32_t ordinal; /* or 0 */
+} fots_ordinal_date_result;
+
+typedef struct fots_iso_week_date_result {
+    int32_t status;
+    int32_t year; /* or FOTS_NOTHING */
+    uint32_t week; /* or 0 */
+    uint32_t weekday; /* or 0 */
+} fots_iso_week_date_result;
+
+typedef struct fots_time_result {
+    int32_t status;
+    fots_time time; /* or FOTS_NO_TIME */
+} fots_time_result;
+
+/* A time, and the carry into the day: -1, 0 or 1 days beyond the whole days of the duration. */
+typedef struct fots_adjusted_time_result {
+    int32_t status;
+    int32_t carry; /* or FOTS_NOTHING */
+    fots_time time; /* or FOTS_NO_TIME */
+} fots_adjusted_time_result;
+
+/* The parts of a time. */
+typedef struct fots_clock_result {
+    int32_t status;
+    uint32_t hour; /* or UINT32_MAX, as the next ones */
+    uint32_t minute;
+    uint32_t second;
+    uint32_t nanosecond;
+} fots_clock_result;
+
+typedef struct fots_offset_result {
+    int32_t status;
+    fots_offset offset; /* or FOTS_NOTHING */
+} fots_offset_result;
+
+/* The parts of an offset, all of one sign. */
+typedef struct fots_offset_parts_result {
+    int32_t status;
+    int32_t hours; /* or FOTS_NOTHING, as the next ones */
+    int32_t minutes;
+    int32_t seconds;
+} fots_offset_parts_result;
+
+typedef struct fots_duration_result {
+    int32_t status;
+    fots_duration duration; /* or {INT64_MIN, FOTS_NOTHING} */
+} fots_duration_result;
+
+typedef struct fots_pair_result {
+    int32_t status;
+    fots_date date; /* or FOTS_NOTHING */
+    fots_time time; /* or FOTS_NO_TIME */
+} fots_pair_result;
+
+/* ---- dates made */
+
+/* The date that has the Julian day, which it is itself. Refused as FOTS_JULIAN_DAY where no day of the range has it. */
+fots_date_result fots_date_from_julian_day(int64_t julian_day);
+
+/* The date of a year, from -999999 to 999999, a month, and a day, from 1 to the length of the month in that year. Refused as
+ * FOTS_MONTH, FOTS_YEAR or FOTS_DAY. That of 2000, 2 and 29 is 2451604; 1900, 2 and 29 are refused as FOTS_DAY. */
+fots_date_result fots_date_from_calendar_date(int32_t year, uint32_t month, uint32_t day);
+
+/* The date of a year, from -999999 to 999999, and an ordinal, from 1 to 365, or 366 in a leap year. Refused as FOTS_YEAR or
+ * FOTS_ORDINAL. That of 2000 and 60 is 2451604. */
+fots_date_result fots_date_from_ordinal_date(int32_t year, uint32_t ordinal);
+
+/* The date of an ISO year, from -999999 to 999999, a week, from 1 to 52, or 53 in a long year, and a weekday. Refused as
+ * FOTS_BAD_WEEKDAY, FOTS_YEAR, FOTS_WEEK, or as FOTS_WEEKDAY where the day would come after the last one: on Saturday and Sunday of
+ * week 52 of 999999 alone. That of 2000, 9 and 2 is 2451604. */
+fots_date_result fots_date_from_iso_week_date(int32_t year, uint32_t week, uint32_t weekday);
+
+/* ---- what dates have: each refuses as FOTS_BAD_DATE alone */
+
+/* The year, the month and the day of the month: those of 2451604 are 2000, 2 and 29. */
+fots_calendar_date_result fots_date_to_calendar_date(fots_date date);
+
+/* The year and the ordinal: those of 2451604 are 2000 and 60. */
+fots_ordinal_date_result fots_date_to_ordinal_date(fots_date date);
+
+/* The ISO year, from -999999 to 999999, the week, from 1 to 53, and the weekday: those of 2451604 are 2000, 9 and 2. */
+fots_iso_week_date_result fots_date_to_iso_week_date(fots_date date);
+
+/* The year, from -999999 to 999999; the month; the day, from 1 to 31; the ordinal, from 1 to 366; the ISO week, from 1 to 53; the
+ * weekday. Those of 2451604 are 2000, 2, 29, 60, 9 and 2. */
+fots_number_result fots_date_year(fots_date date);
+fots_number_result fots_date_month(fots_date date);
+fots_number_result fots_date_day(fots_date date);
+fots_number_result fots_date_ordinal(fots_date date);
+fots_number_result fots_date_iso_week(fots_date date);
+fots_number_result fots_date_weekday(fots_date date);
+
+/* The Sundays, or the Mondays, of the year up to the date: from 0 to 53. Those of 2451604 are 9 and 9. */
+fots_number_result fots_date_sunday_based_week(fots_date date);
+fots_number_result fots_date_monday_based_week(fots_date date);
+
+/* ---- dates moved: each refuses as FOTS_BAD_DATE or FOTS_BAD_DURATION */
+
+/* The day after and the day before; FOTS_PAST_RANGE at the end of the range alone. Those of 2451604 are 2451605 and 2451603. */
+fots_date_result fots_date_next_day(fots_date date);
+fots_date_result fots_date_previous_day(fots_date date);
+
+/* The day so many days later, or earlier where they are below 0; FOTS_PAST_RANGE where it is past an end of the range. That 366 days
+ * after 2451604 is 2451970. */
+fots_date_result fots_date_add_days(fots_date date, int64_t days);
+
+/* The day so many whole days of a duration later, or earlier, cut toward zero; FOTS_PAST_RANGE where it is past an end of the range.
+ * 47 hours, {169200, 0}, after 2451604 it is 2451605. */
+fots_date_result fots_date_checked_add(fots_date date, fots_duration duration);
+fots_date_result fots_date_checked_sub(fots_date date, fots_duration duration);
+
+/* The same, or the end of the range that is nearest: the day after FOTS_MAX_DATE is FOTS_MAX_DATE. */
+fots_date_result fots_date_saturating_add(fots_date date, fots_duration duration);
+fots_date_result fots_date_saturating_sub(fots_date date, fots_duration duration);
+
+/* The duration since the other day, in whole days, below zero where that is later: since 2451545 at 2451604 it is {5097600, 0}. */
+fots_duration_result fots_date_duration_since(fots_date date, fots_date other);
+
+/* The first day after the date that has the weekday, and the last one before it; FOTS_BAD_WEEKDAY where it is none, and
+ * FOTS_PAST_RANGE where the day is past an end of the range. The Monday after 2460124 is 2460129. */
+fots_date_result fots_date_next_occurrence(fots_date date, uint32_t weekday);
+fots_date_result fots_date_prev_occurrence(fots_date date, uint32_t weekday);
+
+/* The n-th of these, counted from 1 at the nearest, and FOTS_PAST_RANGE for 0; n is at most 255, else FOTS_BAD_COUNT. The fifth
+ * Monday after 2460121 is 2460150. */
+fots_date_result fots_date_nth_next_occurrence(fots_date date, uint32_t weekday, uint32_t n);
+fots_date_result fots_date_nth_prev_occurrence(fots_date date, uint32_t weekday, uint32_t n);
+
+/* ---- dates with one component replaced, and the others the same: FOTS_BAD_DATE, then as where dates are made */
+
+/* 2451604 and 2004 lead to 2453065; FOTS_YEAR, or FOTS_DAY on 29 February for a common year. */
+fots_date_result fots_date_replace_year(fots_date date, int32_t year);
+
+/* 2451604 and 3 lead to 2451633; FOTS_MONTH or FOTS_DAY. */
+fots_date_result fots_date_replace_month(fots_date date, uint32_t month);
+
+/* 2451604 and 1 lead to 2451576; FOTS_DAY. */
+fots_date_result fots_date_replace_day(fots_date date, uint32_t day);
+
+/* 2451604 and 1 lead to 2451545; FOTS_ORDINAL. */
+fots_date_result fots_date_replace_ordinal(fots_date date, uint32_t ordinal);
+
+/* ---- times made */
+
+/* The time of an hour, from 0 to 23, a minute and a second, from 0 to 59, and milliseconds to 999, microseconds to 999999 or
+ * nanoseconds to 999999999. Refused as FOTS_HOUR, FOTS_MINUTE, FOTS_SECOND, or FOTS_MILLISECOND, FOTS_MICROSECOND, FOTS_NANOSECOND.
+ * That of 1, 2, 3 and 4 milliseconds is 3723004000000. */
+fots_time_result fots_time_from_hms(uint32_t hour, uint32_t minute, uint32_t second);
+fots_time_result fots_time_from_hms_milli(uint32_t hour, uint32_t minute, uint32_t second, uint32_t millisecond);
+fots_time_result fots_time_from_hms_micro(uint32_t hour, uint32_t minute, uint32_t second, uint32_t microsecond);
+fots_time_result fots_time_from_hms_nano(uint32_t hour, uint32_t minute, uint32_t second, uint32_t nanosecond);
+
+/* ---- what times have: each refuses as FOTS_BAD_TIME alone */
+
+/* The hour, the minute, the second and the nanosecond: those of 3723004005006 are 1, 2, 3 and 4005006. */
+fots_clock_result fots_time_as_hms_nano(fots_time time);
+
+/* The hour, the minute, the second, and what lies below the second, in whole milliseconds, microseconds or nanoseconds. Those of
+ * 3723004005006 are 1, 2, 3, 4, 4005 and 4005006. */
+fots_number_result fots_time_hour(fots_time time);
+fots_number_result fots_time_minute(fots_time time);
+fots_number_result fots_time_second(fots_time time);
+fots_number_result fots_time_millisecond(fots_time time);
+fots_number_result fots_time_microsecond(fots_time time);
+fots_number_result fots_time_nanosecond(fots_time time);
+
+/* ---- times with one component replaced, and the others the same: FOTS_BAD_TIME, then the name of the component. The last three
+ * replace all that lies below the second. */
+fots_time_result fots_time_replace_hour(fots_time time, uint32_t hour);
+fots_time_result fots_time_replace_minute(fots_time time, uint32_t minute);
+fots_time_result fots_time_replace_second(fots_time time, uint32_t second);
+fots_time_result fots_time_replace_millisecond(fots_time time, uint32_t millisecond);
+fots_time_result fots_time_replace_microsecond(fots_time time, uint32_t microsecond);
+fots_time_result fots_time_replace_nanosecond(fots_time time, uint32_t nanosecond);
+
+/* ---- times moved: each refuses as FOTS_BAD_TIME or FOTS_BAD_DURATION */
+
+/* The time so much later, or earlier, round the clock: two hours after 82800000000000, 23:00, it is 3600000000000, 1:00. */
+fots_time_result fots_time_add(fots_time time, fots_duration duration);
+fots_time_result fots_time_sub(fots_time time, fots_duration duration);
+
+/* The same, and the carry into the day beyond the whole days of the duration: 26 hours after 23:00 it is 1:00, with a carry of 1,
+ * two days on. The carry never goes against the move. */
+fots_adjusted_time_result fots_time_adjusting_add(fots_time time, fots_duration duration);
+fots_adjusted_time_result fots_time_adjusting_sub(fots_time time, fots_duration duration);
+
+/* The way forward to the other time, or from it, from zero to below a day: from 23:00 until 1:00 it is {7200, 0}. */
+fots_duration_result fots_time_duration_until(fots_time time, fots_time other);
+fots_duration_result fots_time_duration_since(fots_time time, fots_time other);
+
+/* ---- offsets */
+
+/* The offset of hours, from -25 to 25, minutes and seconds, from -59 to 59. The first that is not zero gives the sign of all. Refused
+ * as FOTS_OFFSET_HOUR, FOTS_OFFSET_MINUTE or FOTS_OFFSET_SECOND. That of -1, 30 and 0 is -5400. */
+fots_offset_result fots_offset_from_hms(int32_t hours, int32_t minutes, int32_t seconds);
+
+/* The offset of so many seconds, which it is itself. Refused as FOTS_SECONDS. */
+fots_offset_result fots_offset_from_whole_seconds(int64_t seconds);
+
+/* The hours, the minutes past them and the seconds past these, cut toward zero, with the sign of the offset: those of -5400 are -1,
+ * -30 and 0. Refused as FOTS_BAD_OFFSET alone, as are the next ones. */
+fots_offset_parts_result fots_offset_as_hms(fots_offset offset);
+
+/* The whole hours, the whole minutes, the minutes past the hours, and the seconds past the minutes. Those of -5400 are -1, -90, -30
+ * and 0. */
+fots_number_result fots_offset_whole_hours(fots_offset offset);
+fots_number_result fots_offset_whole_minutes(fots_offset offset);
+fots_number_result fots_offset_minutes_past_hour(fots_offset offset);
+fots_number_result fots_offset_seconds_past_minute(fots_offset offset);
+
+/* The offset as far on the other side of UTC: that of -5400 is 5400. */
+fots_offset_result fots_offset_negated(fots_offset offset);
+
+/* ---- durations made */
+
+/* The duration of seconds and nanoseconds, which may be more than a second, and against the seconds; FOTS_PAST_RANGE where it is no
+ * duration. That of -1 and 1 is {0, -999999999}. */
+fots_duration_result fots_duration_new(int64_t seconds, int32_t nanoseconds);
+
+/* The duration of so many weeks of 7 days, days of 24 hours, hours or minutes; FOTS_PAST_RANGE where it is no duration. That of -3
+ * days is {-259200, 0}. */
+fots_duration_result fots_duration_weeks(int64_t weeks);
+fots_duration_result fots_duration_days(int64_t days);
+fots_duration_result fots_duration_hours(int64_t hours);
+fots_duration_result fots_duration_minutes(int64_t minutes);
+
+/* That of so many seconds, milliseconds, microseconds or nanoseconds: each number has one. That of -1500 milliseconds is
+ * {-1, -500000000}. */
+fots_duration_result fots_duration_seconds(int64_t seconds);
+fots_duration_result fots_duration_milliseconds(int64_t milliseconds);
+fots_duration_result fots_duration_microseconds(int64_t microseconds);
+fots_duration_result fots_duration_nanoseconds(int64_t nanoseconds);
+
+/* ---- what durations have, cut toward zero: each refuses as FOTS_BAD_DURATION */
+
+/* The whole weeks, days, hours, minutes and seconds: those of {-169200, 0}, 47 hours back, are 0, -1, -47, -2820 and -169200. */
+fots_long_result fots_duration_whole_weeks(fots_duration duration);
+fots_long_result fots_duration_whole_days(fots_duration duration);
+fots_long_result fots_duration_whole_hours(fots_duration duration);
+fots_long_result fots_duration_whole_minutes(fots_duration duration);
+fots_long_result fots_duration_whole_seconds(fots_duration duration);
+
+/* The whole milliseconds, microseconds and nanoseconds; FOTS_PAST_RANGE where they are no int64_t. Those of {-1, -500000000} are
+ * -1500, -1500000 and -1500000000. */
+fots_long_result fots_duration_whole_milliseconds(fots_duration duration);
+fots_long_result fots_duration_whole_microseconds(fots_duration duration);
+fots_long_result fots_duration_whole_nanoseconds(fots_duration duration);
+
+/* What lies below the second, in whole milliseconds or microseconds: those of {-1, -500000000} are -500 and -500000. */
+fots_number_result fots_duration_subsec_milliseconds(fots_duration duration);
+fots_number_result fots_duration_subsec_microseconds(fots_duration duration);
+
+/* The magnitude, or the greatest duration where it is past that. */
+fots_duration_result fots_duration_abs(fots_duration duration);
+
+/* -1, 0 or 1, as the one duration is less than the other, the same, or greater. */
+fots_number_result fots_duration_compare(fots_duration duration, fots_duration other);
+
+/* ---- durations reckoned with: each refuses as FOTS_BAD_DURATION */
+
+/* The sum, the difference, the product, the quotient cut toward zero, and the duration of the other sign; FOTS_PAST_RANGE where that
+ * is no duration, and where the divisor is 0. Half of {-3, 0} is {-1, -500000000}. */
+fots_duration_result fots_duration_checked_add(fots_duration duration, fots_duration other);
+fots_duration_result fots_duration_checked_sub(fots_duration duration, fots_duration other);
+fots_duration_result fots_duration_checked_mul(fots_duration duration, int32_t factor);
+fots_duration_result fots_duration_checked_div(fots_duration duration, int32_t divisor);
+fots_duration_result fots_duration_checked_neg(fots_duration duration);
+
+/* The sum, the difference and the product, or the least or greatest duration where that is nearest. */
+fots_duration_result fots_duration_saturating_add(fots_duration duration, fots_duration other);
+fots_duration_result fots_duration_saturating_sub(fots_duration duration, fots_duration other);
+fots_duration_result fots_duration_saturating_mul(fots_duration duration, int32_t factor);
+
+/* ---- months, weekdays and years */
+
+/* The days of the month in the year, from 28 to 31; FOTS_MONTH. That of 2 and 2000 is 29. */
+fots_number_result fots_month_length(uint32_t month, int32_t year);
+
+/* The month, or the weekday, n after, or before, round the year or the week; FOTS_MONTH or FOTS_BAD_WEEKDAY. Nine months after 7 is
+ * 4, and 10 weekdays after 7 is 3. */
+fots_number_result fots_month_nth_next(uint32_t month, uint32_t n);
+fots_number_result fots_month_nth_prev(uint32_t month, uint32_t n);
+fots_number_result fots_weekday_nth_next(uint32_t weekday, uint32_t n);
+fots_number_result fots_weekday_nth_prev(uint32_t weekday, uint32_t n);
+
+/* The number of the weekday from Sunday, 1, to Saturday, 7; FOTS_BAD_WEEKDAY. That of Friday, 5, is 6. */
+fots_number_result fots_weekday_number_from_sunday(uint32_t weekday);
+
+/* Whether a year is a leap year, 1 or 0; its days, 365 or 366; its ISO weeks, 52 or 53. Every year has these. */
+uint32_t fots_is_leap_year(int32_t year);
+uint32_t fots_days_in_year(int32_t year);
+uint32_t fots_weeks_in_year(int32_t year);
+
+/* ---- a date and a time together */
+
+/* The date and the time so much later, or earlier, to the nanosecond; FOTS_PAST_RANGE where that date is past an end of the range.
+ * Two hours after 2451604 and 23:00 it is 2451605 and 1:00. */
+fots_pair_result fots_add_to_pair(fots_date date, fots_time time, fots_duration duration);
+fots_pair_result fots_sub_from_pair(fots_date date, fots_time time, fots_duration duration);
+
+/* ---- whole columns
+ *
+ * Each call answers row by row what its single call does: the answer of row k is results[k], whose status says whether there is one.
+ * It returns how many rows have no answer. Each array is followed by its length; where these are not the same, nothing is
+ * written and the answer is FOTS_UNLIKE. Each array must be there, also one of no rows, and no other array may share the memory of
+ * the results. */
+#define FOTS_UNLIKE SIZE_MAX
+
+size_t fots_dates_from_julian_days(const int64_t *julian_days, size_t julian_days_length, fots_date_result *results, size_t length);
+
+size_t fots_dates_from_calendar_dates(const int32_t *years, size_t years_length, const uint32_t *months, size_t months_length,
+    const uint32_t *days, size_t days_length, fots_date_result *results, size_t length);
+
+size_t fots_dates_from_ordinal_dates(const int32_t *years, size_t years_length, const uint32_t *ordinals, size_t ordinals_length,
+    fots_date_result *results, size_t length);
+
+size_t fots_dates_from_iso_week_dates(const int32_t *years, size_t years_length, const uint32_t *weeks, size_t weeks_length,
+    const uint32_t *weekdays, size_t weekdays_length, fots_date_result *results, size_t length);
+
+size_t fots_dates_to_calendar_dates(const fots_date *dates, size_t dates_length, fots_calendar_date_result *results, size_t length);
+size_t fots_dates_to_ordinal_dates(const fots_date *dates, size_t dates_length, fots_ordinal_date_result *results, size_t length);
+size_t fots_dates_to_iso_week_dates(const fots_date *dates, size_t dates_length, fots_iso_week_date_result *results, size_t length);
+size_t fots_dates_weekdays(const fots_date *dates, size_t dates_length, fots_number_result *results, size_t length);
+
+size_t fots_dates_add_days(const fots_date *dates, size_t dates_length, const int64_t *days, size_t days_length,
+    fots_date_result *results, size_t length);
+
+#ifdef __cplusplus
+}
+#endif
+
+#endif
