@@ -1,5 +1,6 @@
 //! What calls refuse.
 
+use crate::ffi::unexpected;
 use core::fmt;
 
 /// A component, such as a month or an hour, was outside its range.
@@ -24,8 +25,9 @@ pub struct ComponentRange {
 const FIRST_CONDITIONAL: i32 = 64;
 
 impl ComponentRange {
-    /// The refusal that a status stands for, or `None` where it is none.
-    pub(crate) fn of_status(status: i32) -> Option<Self> {
+    /// The refusal that a status stands for.
+    #[cold]
+    pub(crate) fn of_status(status: i32) -> Self {
         let name = match status {
             16 => "year",
             17 => "month",
@@ -44,10 +46,10 @@ impl ComponentRange {
             65 => "ordinal",
             66 => "week",
             67 => "weekday",
-            _ => return None,
+            _ => unexpected(status),
         };
         let is_conditional = status >= FIRST_CONDITIONAL;
-        Some(Self { name, is_conditional })
+        Self { name, is_conditional }
     }
 
     /// The refusal of a number that is none of a month.

@@ -21,12 +21,15 @@ pub(crate) struct CDuration {
 /// What a call returned: its answer, or a status that is not [`DONE`].
 pub(crate) type Answer<T> = Result<T, i32>;
 
+/// Ends a call whose status none of its values can have.
+#[cold]
+pub(crate) fn unexpected(status: i32) -> ! {
+    unreachable!("status {status} for values of the library's own")
+}
+
 /// The answer of a call that has one for each value of its types.
 pub(crate) fn certain<T>(answer: Answer<T>) -> T {
-    match answer {
-        Ok(value) => value,
-        Err(status) => unreachable!("status {status} for values of the library's own"),
-    }
+    answer.unwrap_or_else(|status| unexpected(status))
 }
 
 /// The answer of a call, or `None` where it is past the range.
@@ -39,11 +42,7 @@ pub(crate) fn or_none<T>(answer: Answer<T>) -> Option<T> {
 
 /// The answer of a call, or the component that it refuses.
 pub(crate) fn or_refused<T>(answer: Answer<T>) -> Result<T, ComponentRange> {
-    match answer.map_err(|status| (ComponentRange::of_status(status), status)) {
-        Ok(value) => Ok(value),
-        Err((Some(error), _)) => Err(error),
-        Err((None, status)) => Ok(certain(Err(status))),
-    }
+    answer.map_err(ComponentRange::of_status)
 }
 
 /// Structs that begin with a status, and the value that each has where that is [`DONE`].

@@ -1,14 +1,13 @@
 //! Every day of the range against a count of one day at a time.
 
 use fotsevindre::{Date, Month, Weekday};
+use std::thread;
 
 const FIRST_JULIAN_DAY: i32 = -363_521_074;
-/// The Julian day of 0000-01-01.
-const YEAR_ZERO: i32 = 1_721_060;
 const LAST_JULIAN_DAY: i32 = 366_963_559;
+const DAYS: i64 = 730_484_634;
 
 /// A day of the count, by all that it has.
-#[derive(Debug, PartialEq)]
 struct Counted {
     julian_day: i32,
     year: i32,
@@ -35,11 +34,6 @@ impl Counted {
             weekday: 0,
             month_length: 31,
         }
-    }
-
-    /// 0000-01-01, a Saturday, which lies in the last week of the year -1.
-    fn year_zero() -> Self {
-        Self { julian_day: YEAR_ZERO, year: 0, iso_year: -1, week: 52, weekday: 5, ..Self::first() }
     }
 
     fn length_of_month(&self) -> u8 {
@@ -100,44 +94,45 @@ const MONTHS: [Month; 13] = [
 const WEEKDAYS: [Weekday; 7] =
     [Weekday::Monday, Weekday::Tuesday, Weekday::Wednesday, Weekday::Thursday, Weekday::Friday, Weekday::Saturday, Weekday::Sunday];
 
-/// Compares each day up to the one that has the Julian day, and returns the day after that of the count.
-fn compare_days(mut counted: Counted, last: i32) -> Counted {
-    let mut date = Date::from_julian_day(counted.julian_day).unwrap();
-    while counted.julian_day <= last {
+/// Counts from the first day of the range on, and compares each day from the one Julian day to before the other. It returns the day of
+/// the count that comes next.
+fn compare_days(from: i32, to: i32) -> Counted {
+    let mut counted = Counted::first();
+    while counted.julian_day < from {
+        counted.step();
+    }
+    while counted.julian_day < to {
         let (month, weekday) = (MONTHS[usize::from(counted.month)], WEEKDAYS[usize::from(counted.weekday)]);
+        let date = Date::from_julian_day(counted.julian_day).unwrap();
         let right = date.to_julian_day() == counted.julian_day
             && date.to_calendar_date() == (counted.year, month, counted.day)
             && date.to_ordinal_date() == (counted.year, counted.ordinal)
             && date.to_iso_week_date() == (counted.iso_year, counted.week, weekday)
-            && Date::from_julian_day(counted.julian_day) == Ok(date)
             && Date::from_calendar_date(counted.year, month, counted.day) == Ok(date)
             && Date::from_ordinal_date(counted.year, counted.ordinal) == Ok(date)
             && Date::from_iso_week_date(counted.iso_year, counted.week, weekday) == Ok(date);
         assert!(right, "{date}: Julian day {}, {} {} {}", counted.julian_day, counted.year, month, counted.day);
-        match date.next_day() {
-            Some(next) => date = next,
-            None => assert_eq!(date, Date::MAX, "a day has none after it"),
-        }
         counted.step();
     }
     counted
 }
 
+/// Each day of the range, by as many threads as the machine runs at a time.
 #[test]
-fn every_day_before_the_year_zero_is_that_of_the_count() {
-    assert_eq!(Date::from_julian_day(FIRST_JULIAN_DAY), Ok(Date::MIN));
-    let after = compare_days(Counted::first(), YEAR_ZERO - 1);
-    assert_eq!(after, Counted::year_zero(), "the other half goes on where this one ends");
-}
-
-#[test]
-fn every_day_from_the_year_zero_on_is_that_of_the_count() {
-    let after = compare_days(Counted::year_zero(), LAST_JULIAN_DAY);
+fn every_day_is_that_of_the_count() {
+    let threads = thread::available_parallelism().map_or(1, |threads| threads.get() as i64);
+    let start_of = |part: i64| (i64::from(FIRST_JULIAN_DAY) + DAYS * part / threads) as i32;
+    thread::scope(|scope| {
+        for part in 0..threads {
+            scope.spawn(move || compare_days(start_of(part), start_of(part + 1)));
+        }
+    });
+    assert_eq!(start_of(threads), LAST_JULIAN_DAY + 1);
+    let after = compare_days(LAST_JULIAN_DAY, LAST_JULIAN_DAY + 1);
     assert_eq!((after.year, after.month, after.day), (1_000_000, 1, 1));
-    assert_eq!(Date::from_julian_day(LAST_JULIAN_DAY), Ok(Date::MAX));
 }
 
-/// The parts one by one, of each day of 400 years at each end of the range and about the year 0.
+/// The parts one by one, and the days before and after, of each day of 400 years at each end of the range and before the year 0.
 #[test]
 fn parts_are_those_of_the_whole() {
     for first in [FIRST_JULIAN_DAY, 1_648_000, LAST_JULIAN_DAY - 146_097] {
@@ -147,6 +142,8 @@ fn parts_are_those_of_the_whole() {
             assert_eq!((date.year(), date.ordinal()), date.to_ordinal_date());
             assert_eq!((date.iso_week(), date.weekday()), (date.to_iso_week_date().1, date.to_iso_week_date().2));
             assert_eq!(date.weekday(), WEEKDAYS[julian_day.rem_euclid(7) as usize]);
+            assert_eq!(date.next_day(), Date::from_julian_day(julian_day + 1).ok());
+            assert_eq!(date.previous_day(), Date::from_julian_day(julian_day - 1).ok());
         }
     }
 }
