@@ -520,7 +520,8 @@ class Cycles(Cases):
         self.assertEqual(Month.January.nth_prev(4), Month.September)
         self.assertEqual((Month.December.next(), Month.January.previous()), (Month.January, Month.December))
         self.assertEqual((Month.February.length(2000), Month.February.length(1900), Month.April.length(-1)), (29, 28, 30))
-        self.assertEqual([str(month) for month in list(Month)[:3]], ["January", "February", "March"])
+        names = "January February March April May June July August September October November December"
+        self.assertEqual(" ".join(str(Month(number)) for number in range(1, 13)), names)
         self.assertEqual((repr(Month.May), f"{Month.May:>5}", Month["March"]), ("May", "  May", Month.March))
         self.assertLess(Month.January, Month.February)
         for number in (0, 13, -1, 257, 2**32 + 1):
@@ -546,6 +547,8 @@ class Cycles(Cases):
         self.assertEqual((friday.number_from_monday(), friday.number_from_sunday()), (5, 6))
         self.assertEqual((friday.number_days_from_monday(), friday.number_days_from_sunday()), (4, 5))
         self.assertEqual(Weekday.Sunday.number_from_sunday(), 1)
+        names = "Monday Tuesday Wednesday Thursday Friday Saturday Sunday"
+        self.assertEqual(" ".join(str(Weekday(number)) for number in range(1, 8)), names)
         self.assertEqual((str(friday), repr(friday), f"{friday:<8}"), ("Friday", "Friday", "Friday  "))
         for weekday in Weekday:
             for n in (0, 1, 6, 7, 8, 255):

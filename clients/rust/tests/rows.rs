@@ -404,6 +404,14 @@ fn conversions_of_durations() {
 }
 
 #[test]
+fn names() {
+    let months = "January February March April May June July August September October November December";
+    assert_eq!(Month::iter_from(Month::January).take(12).map(|month| month.to_string()).collect::<Vec<_>>().join(" "), months);
+    let weekdays = "Monday Tuesday Wednesday Thursday Friday Saturday Sunday";
+    assert_eq!(Weekday::iter_from(Monday).take(7).map(|weekday| weekday.to_string()).collect::<Vec<_>>().join(" "), weekdays);
+}
+
+#[test]
 fn months_and_weekdays() {
     assert_eq!((Month::July.nth_next(9), Month::January.nth_next(255)), (Month::April, Month::April));
     assert_eq!((Month::July.nth_prev(9), Month::January.nth_prev(4)), (Month::October, Month::September));
