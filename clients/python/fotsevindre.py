@@ -24,10 +24,13 @@ import datetime
 import enum
 import operator
 import os
+import sys
 
 __all__ = [
-    "ComponentRange", "Date", "Month", "SignedDuration", "Time", "UtcOffset", "Weekday", "add_to_pair", "days_in_month",
-    "days_in_year", "days_in_year_month", "is_leap_year", "sub_from_pair", "weeks_in_year",
+    "ComponentRange", "Date", "Month", "SignedDuration", "Time", "UtcOffset", "Weekday", "add_to_pair", "dates_add_days",
+    "dates_from_calendar_dates", "dates_from_iso_week_dates", "dates_from_julian_days", "dates_from_ordinal_dates",
+    "dates_to_calendar_dates", "dates_to_iso_week_dates", "dates_to_ordinal_dates", "dates_weekdays", "days_in_month", "days_in_year",
+    "days_in_year_month", "is_leap_year", "status_error", "sub_from_pair", "weeks_in_year",
 ]
 
 # ---- the library
@@ -124,6 +127,25 @@ for _returned, _taken, _names in _FORMS:
         _call.restype = _returned
         _call.argtypes = _taken
         _calls[_name] = _call
+
+# The calls over columns: what each row of the answer is, and the numbers of each column that goes in.
+_COLUMNS = {
+    "dates_from_julian_days": (_DATE, [_I64]),
+    "dates_from_calendar_dates": (_DATE, [_I32, _U32, _U32]),
+    "dates_from_ordinal_dates": (_DATE, [_I32, _U32]),
+    "dates_from_iso_week_dates": (_DATE, [_I32, _U32, _U32]),
+    "dates_to_calendar_dates": (_CALENDAR_DATE, [_I32]),
+    "dates_to_ordinal_dates": (_ORDINAL_DATE, [_I32]),
+    "dates_to_iso_week_dates": (_ISO_WEEK_DATE, [_I32]),
+    "dates_weekdays": (_NUMBER, [_I32]),
+    "dates_add_days": (_DATE, [_I32, _I64]),
+}
+for _name, (_returned, _taken) in _COLUMNS.items():
+    _call = getattr(_library, "fots_" + _name)
+    _call.restype = ctypes.c_size_t
+    # Each array is a pointer and a length, and the rows of the answer are the last one.
+    _call.argtypes = [_part for _kind in [*_taken, _returned] for _part in (ctypes.POINTER(_kind), ctypes.c_size_t)]
+    _calls[_name] = _call
 
 # ---- statuses
 
@@ -1154,3 +1176,98 @@ def add_to_pair(date, time, duration):
 def sub_from_pair(date, time, duration):
     """The date and the time that come so much earlier, to the nanosecond, or `None` where that date is past the range."""
     return _pair(_done_or_none("sub_from_pair", _is(date, Date)._key, _is(time, Time)._key, _is(duration, SignedDuration)._c()))
+
+
+# ---- columns
+
+
+def status_error(status):
+    """What a call of one value would raise for the status of a row, or `None` where the row has an answer.
+
+    >>> status_error(0), status_error(64)
+    (None, ComponentRange('day', True))
+    """
+    return _error(status) if status else None
+
+
+def _column(values, kind):
+    """The numbers of a buffer, as C has them: the buffer itself, or a copy where that is empty, or not aligned, or can't be shared."""
+    view = memoryview(values)
+    signs = "bhilq" if kind in (_I32, _I64) else "BHILQ"
+    order = "@=" + ("<" if sys.byteorder == "little" else ">")
+    code = view.format[1:] if view.format[:1] in order else view.format
+    if view.ndim != 1 or not view.c_contiguous or code not in signs or view.itemsize != ctypes.sizeof(kind):
+        sign = "a" if kind in (_I32, _I64) else "no"
+        raise TypeError(f"a column of whole numbers of {8 * ctypes.sizeof(kind)} bits with {sign} sign expected, not '{view.format}'")
+    array = kind * len(view)
+    if len(view) and not view.readonly:
+        shared = array.from_buffer(view)
+        if ctypes.addressof(shared) % ctypes.alignment(kind) == 0:
+            return shared
+    return array.from_buffer_copy(view)
+
+
+def _over_columns(name, *columns):
+    """The rows of the answer, and how many have none."""
+    row, kinds = _COLUMNS[name]
+    columns = [_column(values, kind) for values, kind in zip(columns, kinds)]
+    length = len(columns[0])
+    if any(len(column) != length for column in columns):
+        raise ValueError("columns of one length expected")
+    rows = (row * length)()
+    refused = _calls[name](*(part for column in [*columns, rows] for part in (column, length)))
+    return rows, refused
+
+
+def dates_from_julian_days(julian_days):
+    """The dates of a column of Julian days, and how many rows have none.
+
+    A column is a buffer of whole numbers, as an `array.array`: here of 64 bits with a sign. Each row of the answer has a `status`, which
+    is 0 or what `status_error` explains, and a `date`, a Julian day in 32 bits with a sign. These rows are a buffer too.
+
+    >>> import array
+    >>> rows, refused = dates_from_julian_days(array.array("q", [2451545, 366963560]))
+    >>> refused, [(row.status, row.date) for row in rows]
+    (1, [(0, 2451545), (18, -2147483648)])
+    """
+    return _over_columns("dates_from_julian_days", julian_days)
+
+
+def dates_from_calendar_dates(years, months, days):
+    """The dates of columns of years, in 32 bits with a sign, and months and days, without one: rows with `status` and `date`."""
+    return _over_columns("dates_from_calendar_dates", years, months, days)
+
+
+def dates_from_ordinal_dates(years, ordinals):
+    """The dates of columns of years, in 32 bits with a sign, and ordinals, without one: rows with `status` and `date`."""
+    return _over_columns("dates_from_ordinal_dates", years, ordinals)
+
+
+def dates_from_iso_week_dates(years, weeks, weekdays):
+    """The dates of columns of ISO years, in 32 bits with a sign, weeks and weekdays, from 1: rows with `status` and `date`."""
+    return _over_columns("dates_from_iso_week_dates", years, weeks, weekdays)
+
+
+def dates_to_calendar_dates(dates):
+    """What a column of dates has, each a Julian day in 32 bits with a sign: rows with `status`, `year`, `month` and `day`."""
+    return _over_columns("dates_to_calendar_dates", dates)
+
+
+def dates_to_ordinal_dates(dates):
+    """What a column of dates has, each a Julian day in 32 bits with a sign: rows with `status`, `year` and `ordinal`."""
+    return _over_columns("dates_to_ordinal_dates", dates)
+
+
+def dates_to_iso_week_dates(dates):
+    """What a column of dates has, each a Julian day in 32 bits with a sign: rows with `status`, `year`, `week` and `weekday`."""
+    return _over_columns("dates_to_iso_week_dates", dates)
+
+
+def dates_weekdays(dates):
+    """The weekdays of a column of dates, each a Julian day in 32 bits with a sign: rows with `status` and `number`, from Monday, 1."""
+    return _over_columns("dates_weekdays", dates)
+
+
+def dates_add_days(dates, days):
+    """A column of dates, in 32 bits with a sign, each moved by days, in 64 bits with a sign: rows with `status` and `date`."""
+    return _over_columns("dates_add_days", dates, days)

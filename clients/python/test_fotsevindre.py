@@ -1,7 +1,9 @@
 """Tests of the Python client, over the library itself. Expected values come from the calendar of the standard library of Python, from
 counts one by one, and from worked rows."""
 
+import array
 import copy
+import ctypes
 import datetime
 import doctest
 import itertools
@@ -572,6 +574,109 @@ class Cycles(Cases):
             for call in (is_leap_year, days_in_year, weeks_in_year):
                 self.past(call, year)
             self.past(days_in_month, 2, year)
+
+
+class Columns(Cases):
+    JULIAN_DAYS = array.array("q", [
+        2451545, -363521074, 366963559, -363521075, 366963560, 0, 2**63 - 1, -2**63, 2**32 + 2451545, *range(2451000, 2453000),
+    ])
+    DATES = array.array("i", [
+        2451545, -363521074, 366963559, -363521075, 366963560, 0, 2**31 - 1, -2**31, *range(2451000, 2453000),
+    ])
+    CALENDAR = [
+        array.array("i", [2000, 1900, 2000, 2000, 1000000, 2000, -999999, 2**31 - 1]),
+        array.array("I", [2, 2, 13, 0, 1, 2**32 - 1, 1, 1]),
+        array.array("I", [29, 29, 1, 1, 1, 1, 1, 1]),
+    ]
+
+    def row_by_row(self, found, expected):
+        """Compares the rows of a call over columns with what the call of one value answers for each."""
+        rows, refused = found
+        self.assertEqual(len(rows), len(expected))
+        self.assertEqual(refused, sum(row.status != 0 for row in rows))
+        for row, (call, fields) in zip(rows, expected):
+            error = fotsevindre.status_error(row.status)
+            try:
+                answer = call()
+            except (ValueError, OverflowError) as raised:
+                self.assertEqual((type(error), str(error)), (type(raised), str(raised)))
+            else:
+                self.assertIsNone(error)
+                self.assertEqual(tuple(getattr(row, name) for name, _ in type(row)._fields_[1:]), fields(answer))
+
+    def test_dates_made(self):
+        def made(answer):
+            return (answer.to_julian_day(),)
+
+        self.row_by_row(fotsevindre.dates_from_julian_days(self.JULIAN_DAYS),
+            [(lambda n=n: Date.from_julian_day(n), made) for n in self.JULIAN_DAYS])
+        self.row_by_row(fotsevindre.dates_from_calendar_dates(*self.CALENDAR),
+            [(lambda row=row: Date.from_calendar_date(*row), made) for row in zip(*self.CALENDAR)])
+        years = array.array("i", [2000, 1900, 2000, 10**6, -2**31])
+        ordinals = array.array("I", [366, 366, 0, 1, 1])
+        self.row_by_row(fotsevindre.dates_from_ordinal_dates(years, ordinals),
+            [(lambda row=row: Date.from_ordinal_date(*row), made) for row in zip(years, ordinals)])
+        years = array.array("i", [2020, 2019, 999999, 10**6, 999999])
+        weeks = array.array("I", [53, 53, 52, 0, 52])
+        weekdays = array.array("I", [5, 1, 6, 1, 5])
+        self.row_by_row(fotsevindre.dates_from_iso_week_dates(years, weeks, weekdays),
+            [(lambda row=row: Date.from_iso_week_date(*row[:2], Weekday(row[2])), made) for row in zip(years, weeks, weekdays)])
+        rows, refused = fotsevindre.dates_from_iso_week_dates(years, weeks, array.array("I", [0, 8, 2**32 - 1, 9, 10]))
+        self.assertEqual((refused, {type(fotsevindre.status_error(row.status)) for row in rows}), (5, {ValueError}))
+
+    def test_what_dates_have(self):
+        calls = [
+            (fotsevindre.dates_to_calendar_dates, Date.to_calendar_date, tuple),
+            (fotsevindre.dates_to_ordinal_dates, Date.to_ordinal_date, tuple),
+            (fotsevindre.dates_to_iso_week_dates, Date.to_iso_week_date, lambda found: (*found[:2], found[2].value)),
+            (fotsevindre.dates_weekdays, Date.weekday, lambda found: (found.value,)),
+        ]
+        for over_columns, of_one, fields in calls:
+            self.row_by_row(over_columns(self.DATES), [(lambda n=n: of_one(Date._of(n)), fields) for n in self.DATES])
+
+    def test_dates_moved(self):
+        days = array.array("q", [0, -1, 1, 1, 1, 2**63 - 1, 1, -2**63, *range(-1000, 1000)])
+        rows, refused = fotsevindre.dates_add_days(self.DATES, days)
+        for row, date, move in zip(rows, self.DATES, days):
+            if not -363521074 <= date <= 366963559:
+                self.assertIsInstance(fotsevindre.status_error(row.status), ValueError)
+            elif not -363521074 <= date + move <= 366963559:
+                self.assertIsInstance(fotsevindre.status_error(row.status), OverflowError)
+            else:
+                self.assertEqual((row.status, row.date), (0, date + move))
+        self.assertEqual(refused, sum(row.status != 0 for row in rows))
+
+    def test_buffers(self):
+        whole = array.array("q", range(2451545, 2451550))
+        unaligned = memoryview(bytearray(b"-" + bytes(whole)))[1:].cast("q")
+        for values in (whole, memoryview(whole), memoryview(whole)[1:3], memoryview(whole).toreadonly(), (ctypes.c_int64 * 2)(0, 1),
+                array.array("q"), memoryview(b"").cast("q"), unaligned):
+            rows, refused = fotsevindre.dates_from_julian_days(values)
+            self.assertEqual((refused, [row.date for row in rows]), (0, list(values)))
+        self.assertEqual(list(whole), list(range(2451545, 2451550)))
+        rows = fotsevindre.dates_from_julian_days(whole)[0]
+        self.assertEqual(len(bytes(rows)), 8 * len(whole))
+        self.assertIn(":date:", memoryview(rows).format)
+        for values in (array.array("q"), unaligned):
+            address = ctypes.addressof(fotsevindre._column(values, ctypes.c_int64))
+            self.assertTrue(address and address % 8 == 0)
+        self.assertEqual(ctypes.addressof(fotsevindre._column(whole, ctypes.c_int64)), whole.buffer_info()[0])
+
+    def test_wrong_buffers(self):
+        wrong = [
+            [2451545], 2451545, None, "2451545", b"12345678", array.array("i", [1]), array.array("Q", [1]), array.array("d", [1.0]),
+            memoryview(array.array("q", [1, 2, 3, 4]))[::2], memoryview(bytes(32)).cast("q", (2, 2)),
+        ]
+        for values in wrong:
+            with self.assertRaises(TypeError, msg=values):
+                fotsevindre.dates_from_julian_days(values)
+        for values in (array.array("q", [1]), array.array("i", [1])):
+            with self.assertRaises(TypeError):
+                fotsevindre.dates_from_calendar_dates(array.array("i", [2000]), values, array.array("I", [1]))
+        years, months, days = (column[:3] for column in self.CALENDAR)
+        for columns in [(years[:2], months, days), (years, months[:2], days), (years, months, days[:2]), (years[:0], months, days)]:
+            with self.assertRaises(ValueError):
+                fotsevindre.dates_from_calendar_dates(*columns)
 
 
 class Documentation(Cases):
