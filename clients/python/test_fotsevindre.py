@@ -634,6 +634,20 @@ class Columns(Cases):
         for over_columns, of_one, fields in calls:
             self.row_by_row(over_columns(self.DATES), [(lambda n=n: of_one(Date._of(n)), fields) for n in self.DATES])
 
+    def test_names_of_the_parts(self):
+        calls = [
+            (fotsevindre.dates_to_calendar_dates, ["status", "year", "month", "day"]),
+            (fotsevindre.dates_to_ordinal_dates, ["status", "year", "ordinal"]),
+            (fotsevindre.dates_to_iso_week_dates, ["status", "year", "week", "weekday"]),
+            (fotsevindre.dates_weekdays, ["status", "number"]),
+        ]
+        for call, names in calls:
+            self.assertEqual([name for name, _ in call(self.DATES)[0]._type_._fields_], names)
+
+    def test_many_refusals_are_counted(self):
+        refused = fotsevindre.dates_from_julian_days(array.array("q", [2**40] * 100_000))[1]
+        self.assertEqual(refused, 100_000)
+
     def test_dates_moved(self):
         days = array.array("q", [0, -1, 1, 1, 1, 2**63 - 1, 1, -2**63, *range(-1000, 1000)])
         rows, refused = fotsevindre.dates_add_days(self.DATES, days)
