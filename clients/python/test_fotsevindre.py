@@ -7,8 +7,10 @@ import ctypes
 import datetime
 import doctest
 import itertools
+import pathlib
 import pickle
 import random
+import re
 import unittest
 
 import fotsevindre
@@ -691,6 +693,51 @@ class Columns(Cases):
         for columns in [(years[:2], months, days), (years, months[:2], days), (years, months, days[:2]), (years[:0], months, days)]:
             with self.assertRaises(ValueError):
                 fotsevindre.dates_from_calendar_dates(*columns)
+
+
+class Header(Cases):
+    """The declarations of the client against those of the header."""
+
+    TEXT = (pathlib.Path(__file__).resolve().parents[2] / "include" / "fotsevindre.h").read_text(encoding="utf-8")
+    NUMBERS = {
+        "int32_t": ctypes.c_int32, "uint32_t": ctypes.c_uint32, "int64_t": ctypes.c_int64, "uint64_t": ctypes.c_uint64,
+        "size_t": ctypes.c_size_t, "fots_date": ctypes.c_int32, "fots_offset": ctypes.c_int32, "fots_time": ctypes.c_uint64,
+    }
+
+    def setUp(self):
+        plain = " ".join(re.sub(r"/\*.*?\*/", "", self.TEXT, flags=re.DOTALL).split())
+        self.structs = dict(re.findall(r"typedef struct (\w+) \{ ([^}]*) \} \1;", plain))
+        self.functions = {name: (returned, taken) for returned, name, taken in re.findall(r"(\w+) (fots_\w+)\(([^()]*)\);", plain)}
+        self.statuses = {name: int(number) for name, number in re.findall(r"(FOTS_\w+) = (\d+)", plain)}
+        self.names = dict(re.findall(r'case (FOTS_\w+): return "([^"]*)";', plain))
+
+    def is_of(self, declared, name):
+        """Whether the type that the client declares is that of the header with this name."""
+        if name in self.NUMBERS:
+            return declared is self.NUMBERS[name]
+        fields = [field.strip().rsplit(" ", 1) for field in self.structs[name].split(";") if field.strip()]
+        return len(fields) == len(declared._fields_) and all(
+            field == own and self.is_of(kind, type_name) for (type_name, field), (own, kind) in zip(fields, declared._fields_))
+
+    def test_calls(self):
+        self.assertGreater(len(fotsevindre._calls), 100)
+        for name, call in fotsevindre._calls.items():
+            returned, taken = self.functions["fots_" + name]
+            self.assertTrue(self.is_of(call.restype, returned), name)
+            parts = [part.strip() for part in taken.split(",")]
+            self.assertEqual(len(parts), len(call.argtypes), name)
+            for part, declared in zip(parts, call.argtypes):
+                type_name = re.sub(r"^const ", "", re.match(r"(.*[ *])\w+$", part)[1]).strip()
+                if type_name.endswith("*"):
+                    declared, type_name = declared._type_, type_name[:-1].strip()
+                self.assertTrue(self.is_of(declared, type_name), (name, part))
+
+    def test_statuses(self):
+        refusals = {number: self.names[name] for name, number in self.statuses.items() if number >= 16}
+        self.assertEqual(fotsevindre._REFUSALS, refusals)
+        self.assertEqual(fotsevindre._FIRST_CONDITIONAL, self.statuses["FOTS_DAY"])
+        self.assertEqual(fotsevindre._PAST_RANGE, self.statuses["FOTS_PAST_RANGE"])
+        self.assertEqual(fotsevindre._BAD_COUNT, self.statuses["FOTS_BAD_COUNT"])
 
 
 class Documentation(Cases):
