@@ -1222,8 +1222,8 @@ def _over_columns(name, *columns):
 def dates_from_julian_days(julian_days):
     """The dates of a column of Julian days, and how many rows have none.
 
-    A column is a buffer of whole numbers, as an `array.array`: here of 64 bits with a sign. Each row of the answer has a `status`, which
-    is 0 or what `status_error` explains, and a `date`, a Julian day in 32 bits with a sign. These rows are a buffer too.
+    A column is a buffer of whole numbers, as an `array.array`: here of 64 bits with a sign. Each row of the answer has a `status`,
+    which is 0 or what `status_error` explains, and a `date`, a Julian day in 32 bits with a sign. These rows are a buffer too.
 
     >>> import array
     >>> rows, refused = dates_from_julian_days(array.array("q", [2451545, 366963560]))

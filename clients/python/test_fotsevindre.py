@@ -404,7 +404,8 @@ class Durations(Cases):
             (nanoseconds(-1).checked_div(2), zero), (seconds(1).checked_div(0), None), (seconds(-2**63).checked_div(-1), None),
             (LEAST.checked_neg(), None), (seconds(1).checked_neg(), span(-1)), (LEAST.abs(), GREATEST), (abs(LEAST), GREATEST),
             (SignedDuration.days(-3), span(-259200)), (SignedDuration.weeks(2), span(1209600)),
-            (SignedDuration.hours(36), span(129600)), (SignedDuration.minutes(90), span(5400)), (SignedDuration.milliseconds(-1500), span(-1, -500000000)),
+            (SignedDuration.hours(36), span(129600)), (SignedDuration.minutes(90), span(5400)),
+            (SignedDuration.milliseconds(-1500), span(-1, -500000000)),
             (SignedDuration.microseconds(1500000), span(1, 500000000)), (SignedDuration.nanoseconds_i128(1000000001), span(1, 1)),
             (SignedDuration.try_sum([GREATEST, nanoseconds(1), nanoseconds(-1)]), None),
             (SignedDuration.try_sum([GREATEST, nanoseconds(-1), nanoseconds(1)]), GREATEST), (SignedDuration.try_sum([]), zero),
@@ -838,7 +839,8 @@ class Values(Cases):
                 call(wrong)
         value_calls = [
             (date.checked_add, duration), (date.checked_sub, duration), (date.saturating_add, duration),
-            (date.saturating_sub, duration), (date.iter_to, date), (time.adjusting_add, duration), (time.adjusting_sub, duration), (time.duration_until, time),
+            (date.saturating_sub, duration), (date.iter_to, date), (time.adjusting_add, duration), (time.adjusting_sub, duration),
+            (time.duration_until, time),
             (time.duration_since, time), (duration.checked_add, duration), (duration.checked_sub, duration),
             (duration.saturating_add, duration), (duration.saturating_sub, duration),
             (lambda wrong: add_to_pair(wrong, time, duration), date), (lambda wrong: add_to_pair(date, wrong, duration), time),

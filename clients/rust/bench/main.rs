@@ -1,5 +1,5 @@
-//! Times each call of the client, and that of each crate beside it, in turn, over the same drawn dates of the years 1 to 9999. It prints
-//! the median of the rounds, in nanoseconds a call.
+//! Times each call of the client, and that of each crate beside it, in turn, over the same drawn dates of the years 1 to 9999. It
+//! prints the median of the rounds, in nanoseconds a call.
 #![allow(unexpected_cfgs)]
 
 use std::hint::black_box;

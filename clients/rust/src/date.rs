@@ -8,9 +8,9 @@ use core::ops::{Add, AddAssign, Sub, SubAssign};
 
 /// A day of the proleptic Gregorian calendar, from -999999-01-01 to 999999-12-31.
 ///
-/// Years are astronomical, as in ISO 8601: the year 0 stands before the year 1, and -1 before that. A date prints as `2000-02-29`, with
-/// a sign before a negative year and before one of more than four digits. Under a width the whole text is padded. `Debug` prints
-/// the same.
+/// Years are astronomical, as in ISO 8601: the year 0 stands before the year 1, and -1 before that. A date prints as `2000-02-29`,
+/// with a sign before a negative year and before one of more than four digits. Under a width the whole text is padded. `Debug`
+/// prints the same.
 #[derive(Clone, Copy, PartialEq, Eq, PartialOrd, Ord, Hash)]
 pub struct Date {
     julian_day: i32,
