@@ -1,0 +1,898 @@
+"""Tests of the Python client, over the library itself. Expected values come from the calendar of the standard library of Python, from
+counts one by one, and from worked rows."""
+
+import array
+import copy
+import ctypes
+import datetime
+import doctest
+import itertools
+import pathlib
+import pickle
+import random
+import re
+import unittest
+
+import fotsevindre
+from fotsevindre import (
+    ComponentRange, Date, Month, SignedDuration, Time, UtcOffset, Weekday, add_to_pair, days_in_month, days_in_year,
+    days_in_year_month, is_leap_year, sub_from_pair, weeks_in_year,
+)
+
+DAY = 86400
+LEAST = SignedDuration.MIN
+GREATEST = SignedDuration.MAX
+# The greatest and the least numbers of the types of C, and what lies past them.
+WIDE = [2**7, 2**8, 2**15, 2**16, 2**31 - 1, 2**31, 2**32 - 1, 2**32, 2**63 - 1, 2**63, 2**64 - 1, 2**64, 10**30]
+WIDE += [-number for number in WIDE]
+NO_NUMBERS = [None, 1.0, "1", b"1", [], object()]
+
+
+def day(year, month, day_of_month):
+    return Date.from_calendar_date(year, month, day_of_month)
+
+
+def span(seconds, nanoseconds=0):
+    return SignedDuration.new(seconds, nanoseconds)
+
+
+class Cases(unittest.TestCase):
+    def refused(self, name, is_conditional, call, *arguments):
+        with self.assertRaises(ComponentRange, msg=arguments) as caught:
+            call(*arguments)
+        self.assertEqual((caught.exception.name, caught.exception.is_conditional), (name, is_conditional), arguments)
+        self.assertEqual(str(caught.exception), f"{name} was not in range")
+
+    def past(self, call, *arguments):
+        with self.assertRaises(OverflowError, msg=arguments):
+            call(*arguments)
+
+
+class Days(Cases):
+    # Julian day, calendar date, ordinal, ISO week date, text.
+    ROWS = [
+        (0, (-4713, 11, 24), 328, (-4713, 48, 1), "-4713-11-24"),
+        (-363521074, (-999999, 1, 1), 1, (-999999, 1, 1), "-999999-01-01"),
+        (366963559, (999999, 12, 31), 365, (999999, 52, 5), "+999999-12-31"),
+        (-1930999, (-9999, 1, 1), 1, (-9999, 1, 1), "-9999-01-01"),
+        (5373484, (9999, 12, 31), 365, (9999, 52, 5), "9999-12-31"),
+        (5373485, (10000, 1, 1), 1, (9999, 52, 6), "+10000-01-01"),
+        (1721060, (0, 1, 1), 1, (-1, 52, 6), "0000-01-01"),
+        (1720695, (-1, 1, 1), 1, (-2, 53, 5), "-0001-01-01"),
+        (2451545, (2000, 1, 1), 1, (1999, 52, 6), "2000-01-01"),
+        (2451546, (2000, 1, 2), 2, (1999, 52, 7), "2000-01-02"),
+        (2451604, (2000, 2, 29), 60, (2000, 9, 2), "2000-02-29"),
+        (2415080, (1900, 3, 1), 60, (1900, 9, 4), "1900-03-01"),
+        (2459215, (2020, 12, 31), 366, (2020, 53, 4), "2020-12-31"),
+        (2459216, (2021, 1, 1), 1, (2020, 53, 5), "2021-01-01"),
+        (2458848, (2019, 12, 30), 364, (2020, 1, 1), "2019-12-30"),
+        (2458485, (2019, 1, 1), 1, (2019, 1, 2), "2019-01-01"),
+        (2458849, (2019, 12, 31), 365, (2020, 1, 2), "2019-12-31"),
+        (2460370, (2024, 2, 29), 60, (2024, 9, 4), "2024-02-29"),
+    ]
+
+    def test_rows(self):
+        for julian_day, calendar, ordinal, (iso_year, week, weekday), text in self.ROWS:
+            with self.subTest(text):
+                date = Date.from_julian_day(julian_day)
+                self.assertEqual(date, Date.from_calendar_date(*calendar))
+                self.assertEqual(date, Date.from_calendar_date(calendar[0], Month(calendar[1]), calendar[2]))
+                self.assertEqual(date, Date.from_ordinal_date(calendar[0], ordinal))
+                self.assertEqual(date, Date.from_iso_week_date(iso_year, week, Weekday(weekday)))
+                self.assertEqual(date.to_julian_day(), julian_day)
+                self.assertEqual(date.to_calendar_date(), (calendar[0], Month(calendar[1]), calendar[2]))
+                self.assertEqual((date.year(), date.month(), date.day()), calendar)
+                self.assertEqual(date.to_ordinal_date(), (calendar[0], ordinal))
+                self.assertEqual(date.ordinal(), ordinal)
+                self.assertEqual(date.to_iso_week_date(), (iso_year, week, Weekday(weekday)))
+                self.assertEqual((date.iso_week(), date.weekday()), (week, Weekday(weekday)))
+                self.assertEqual((str(date), repr(date), f"{date}"), (text, text, text))
+
+    def test_text_under_a_width(self):
+        self.assertEqual(f"{day(2019, 1, 2):>12}", "  2019-01-02")
+
+    def test_week_counts(self):
+        for date, count in [(day(2019, 1, 1), 0), (day(2020, 12, 31), 52)]:
+            self.assertEqual((date.sunday_based_week(), date.monday_based_week()), (count, count))
+
+    def test_refusals(self):
+        make = Date.from_julian_day
+        for julian_day in (-363521075, 366963560, 2**32 + 2451545, *(n for n in WIDE if abs(n) > 2**31)):
+            self.refused("julian_day", False, make, julian_day)
+        make = Date.from_calendar_date
+        for row in [(1900, 2, 29), (2000, 2, 0), (2000, 1, 32), (2000, 1, -1), (2000, 1, 257), (2000, 1, 2**32 + 1), (2000, 4, 31)]:
+            self.refused("day", True, make, *row)
+        for row in [(1000000, 13, 1), (2000, 0, 1), (2000, -1, 1), (2000, 258, 1), (2**32 + 2000, 13, 40), (2000, 2**32 + 1, 1)]:
+            self.refused("month", False, make, *row)
+        for row in [(1000000, 1, 32), (-1000000, 1, 1), (2**32 + 2000, 1, 1), (-10**30, 12, 31)]:
+            self.refused("year", False, make, *row)
+        make = Date.from_ordinal_date
+        for row in [(1900, 366), (2000, 367), (2000, 0), (2000, -1), (2000, 65537), (2000, 2**32 + 1)]:
+            self.refused("ordinal", True, make, *row)
+        for row in [(10000000, 1), (-1000000, 0), (2**32, 1)]:
+            self.refused("year", False, make, *row)
+        make = Date.from_iso_week_date
+        for weekday in (Weekday.Saturday, Weekday.Sunday):
+            self.refused("weekday", True, make, 999999, 52, weekday)
+        self.assertEqual(make(999999, 52, Weekday.Friday), Date.MAX)
+        for row in [(999999, 53), (2019, 53), (2020, 54), (2020, 0), (2020, -1), (2020, 257), (2020, 2**32 + 1)]:
+            self.refused("week", True, make, *row, Weekday.Monday)
+        for row in [(1000000, 53), (-1000000, 1), (2**32 + 2000, 9)]:
+            self.refused("year", False, make, *row, Weekday.Monday)
+
+    def test_replacement(self):
+        self.refused("day", True, day(2024, 2, 29).replace_year, 2023)
+        for year in (1000000, -1000000, 2**32 + 2024):
+            self.refused("year", False, day(2024, 2, 29).replace_year, year)
+        self.refused("day", True, day(2022, 1, 30).replace_month, Month.February)
+        for month in (0, 13, -1, 2**32 + 3):
+            self.refused("month", False, day(2022, 1, 30).replace_month, month)
+        for number in (0, 29, 30, -1, 257, 2**32 + 1):
+            self.refused("day", True, day(2022, 2, 18).replace_day, number)
+        for number in (0, 366, -1, 65537, 2**32 + 1):
+            self.refused("ordinal", True, day(2022, 2, 18).replace_ordinal, number)
+        self.assertEqual(day(2024, 2, 29).replace_year(10000), day(10000, 2, 29))
+        self.assertEqual(day(2024, 3, 1).replace_year(2023), Date.from_ordinal_date(2023, 60))
+        self.assertEqual(day(2023, 3, 1).replace_year(2024), Date.from_ordinal_date(2024, 61))
+        self.assertEqual(day(2022, 2, 18).replace_year(2019), day(2019, 2, 18))
+        self.assertEqual(day(2022, 2, 18).replace_month(Month.March), day(2022, 3, 18))
+        self.assertEqual(day(2022, 2, 18).replace_day(1), day(2022, 2, 1))
+        self.assertEqual(day(2022, 2, 18).replace_ordinal(1), day(2022, 1, 1))
+
+    def test_moves(self):
+        hours = SignedDuration.hours
+        new_years_eve = day(2020, 12, 31)
+        rows = [
+            (Date.MIN, hours(-23), Date.MIN), (Date.MIN, hours(-24), None), (Date.MAX, hours(23), Date.MAX),
+            (Date.MAX, hours(24), None), (new_years_eve, hours(47), day(2021, 1, 1)), (new_years_eve, hours(-47), day(2020, 12, 30)),
+            (Date.MIN, SignedDuration.days(730484633), Date.MAX), (Date.MIN, LEAST, None), (Date.MAX, GREATEST, None),
+        ]
+        for date, duration, moved in rows:
+            self.assertEqual(date.checked_add(duration), moved)
+            if duration != LEAST:
+                self.assertEqual(date.checked_sub(-duration), moved)
+            if moved is None:
+                self.past(lambda date=date, duration=duration: date + duration)
+            else:
+                self.assertEqual(date + duration, moved)
+                self.assertEqual(date - (-duration), moved)
+        self.past(lambda: Date.MIN - SignedDuration.DAY)
+        self.assertEqual(Date.MAX.saturating_add(SignedDuration.DAY), Date.MAX)
+        self.assertEqual(Date.MIN.saturating_sub(SignedDuration.DAY), Date.MIN)
+        self.assertEqual(Date.MIN.saturating_sub(LEAST), Date.MAX)
+        self.assertEqual(Date.MAX.saturating_add(LEAST), Date.MIN)
+        self.assertEqual(day(2019, 12, 31).next_day(), day(2020, 1, 1))
+        self.assertEqual(day(2020, 1, 1).previous_day(), day(2019, 12, 31))
+        self.assertIsNone(Date.MAX.next_day())
+        self.assertIsNone(Date.MIN.previous_day())
+        self.assertEqual(day(2020, 1, 1) - day(2019, 12, 31), SignedDuration.DAY)
+        self.assertEqual(Date.MIN - Date.MAX, SignedDuration.days(-730484633))
+
+    def test_occurrences(self):
+        monday = Weekday.Monday
+        self.assertEqual(day(2023, 6, 28).next_occurrence(monday), day(2023, 7, 3))
+        self.assertEqual(day(2023, 6, 19).prev_occurrence(monday), day(2023, 6, 12))
+        rows = [(day(2023, 6, 25), 5, day(2023, 7, 24)), (day(2023, 6, 26), 5, day(2023, 7, 31))]
+        for date, n, found in rows:
+            self.assertEqual(date.nth_next_occurrence(monday, n), found)
+            self.assertEqual(date.checked_nth_next_occurrence(monday, n), found)
+        rows = [(day(2023, 6, 27), 3, day(2023, 6, 12)), (day(2023, 6, 26), 3, day(2023, 6, 5))]
+        for date, n, found in rows:
+            self.assertEqual(date.nth_prev_occurrence(monday, n), found)
+            self.assertEqual(date.checked_nth_prev_occurrence(monday, n), found)
+        for weekday in Weekday:
+            self.assertIsNone(Date.MAX.checked_next_occurrence(weekday))
+            self.assertIsNone(Date.MIN.checked_prev_occurrence(weekday))
+            self.past(Date.MAX.next_occurrence, weekday)
+            self.past(Date.MIN.prev_occurrence, weekday)
+            self.assertIsNone(day(2023, 6, 26).checked_nth_next_occurrence(weekday, 0))
+            self.assertIsNone(day(2023, 6, 26).checked_nth_prev_occurrence(weekday, 0))
+            self.past(day(2023, 6, 26).nth_next_occurrence, weekday, 0)
+            self.past(day(2023, 6, 26).nth_prev_occurrence, weekday, 0)
+            for n in (-1, 256, 257, 2**32 + 1, 10**30):
+                for call in ("nth_next_occurrence", "nth_prev_occurrence"):
+                    self.past(getattr(day(2023, 6, 26), call), weekday, n)
+                    self.past(getattr(day(2023, 6, 26), "checked_" + call), weekday, n)
+
+    def test_occurrences_one_day_at_a_time(self):
+        for weekday in Weekday:
+            for first in range(2460000, 2460007):
+                ahead = [n for n in range(first + 1, first + 50) if n % 7 + 1 == weekday.value]
+                back = [n for n in range(first - 1, first - 50, -1) if n % 7 + 1 == weekday.value]
+                date = Date.from_julian_day(first)
+                self.assertEqual(date.checked_next_occurrence(weekday), Date.from_julian_day(ahead[0]))
+                self.assertEqual(date.checked_prev_occurrence(weekday), Date.from_julian_day(back[0]))
+                for n in range(1, 8):
+                    self.assertEqual(date.nth_next_occurrence(weekday, n), Date.from_julian_day(ahead[n - 1]))
+                    self.assertEqual(date.nth_prev_occurrence(weekday, n), Date.from_julian_day(back[n - 1]))
+
+    def test_walks(self):
+        walk = list(day(2019, 12, 30).iter_to(day(2020, 1, 2)))
+        self.assertEqual(walk, [day(2019, 12, 30), day(2019, 12, 31), day(2020, 1, 1), day(2020, 1, 2)])
+        self.assertEqual(list(Date.MAX.iter_to(Date.MIN)), [])
+        self.assertEqual(list(Date.MAX.iter_to(Date.MAX)), [Date.MAX])
+
+
+class StandardLibrary(Cases):
+    def agrees(self, other):
+        date = Date.from_date(other)
+        self.assertEqual(date.to_date(), other)
+        self.assertEqual(date.to_julian_day(), other.toordinal() + 1721425)
+        self.assertEqual(date.to_calendar_date(), (other.year, other.month, other.day))
+        iso_year, week, weekday = other.isocalendar()
+        self.assertEqual(date.to_iso_week_date(), (iso_year, week, Weekday(weekday)))
+        ordinal = other.timetuple().tm_yday
+        self.assertEqual(date.to_ordinal_date(), (other.year, ordinal))
+        self.assertEqual(date, Date.from_ordinal_date(other.year, ordinal))
+        self.assertEqual(date, Date.from_iso_week_date(iso_year, week, date.weekday()))
+        self.assertEqual(date, Date.from_julian_day(date.to_julian_day()))
+        self.assertEqual(str(date), other.isoformat())
+
+    def test_every_day_of_some_years(self):
+        for year in (1, 4, 100, 400, 1582, 1600, 1900, 1999, 2000, 2004, 2019, 2020, 2021, 2024, 2026, 2400, 9998, 9999):
+            first = datetime.date(year, 1, 1).toordinal()
+            for number in range(first, first + (366 if year % 4 == 0 and (year % 100 or year % 400 == 0) else 365)):
+                self.agrees(datetime.date.fromordinal(number))
+
+    def test_days_over_all_years(self):
+        for number in range(1, datetime.date.max.toordinal() + 1, 97):
+            self.agrees(datetime.date.fromordinal(number))
+        self.agrees(datetime.date.max)
+
+    def test_week_counts(self):
+        for number in range(1, datetime.date.max.toordinal() + 1, 997):
+            other = datetime.date.fromordinal(number)
+            date = Date.from_date(other)
+            self.assertEqual(date.sunday_based_week(), int(other.strftime("%U")))
+            self.assertEqual(date.monday_based_week(), int(other.strftime("%W")))
+
+    def test_only_years_that_it_has(self):
+        for date in (day(0, 12, 31), day(10000, 1, 1), Date.MIN, Date.MAX):
+            self.past(date.to_date)
+        for value in (datetime.datetime(2000, 1, 1), "2000-01-01", 2451545, None):
+            with self.assertRaises(TypeError):
+                Date.from_date(value)
+
+
+class Times(Cases):
+    def test_rows(self):
+        one = Time.from_hms_nano(1, 2, 3, 4005006)
+        self.assertEqual(one.as_hms(), (1, 2, 3))
+        self.assertEqual(one.as_hms_milli(), (1, 2, 3, 4))
+        self.assertEqual(one.as_hms_micro(), (1, 2, 3, 4005))
+        self.assertEqual(one.as_hms_nano(), (1, 2, 3, 4005006))
+        self.assertEqual((one.hour(), one.minute(), one.second()), (1, 2, 3))
+        self.assertEqual((one.millisecond(), one.microsecond(), one.nanosecond()), (4, 4005, 4005006))
+        self.assertEqual(one.replace_microsecond(7008), Time.from_hms_micro(1, 2, 3, 7008))
+        self.assertEqual(one.replace_hour(7), Time.from_hms_nano(7, 2, 3, 4005006))
+        self.assertEqual(one.replace_minute(7), Time.from_hms_nano(1, 7, 3, 4005006))
+        self.assertEqual(one.replace_second(7), Time.from_hms_nano(1, 2, 7, 4005006))
+        self.assertEqual(one.replace_millisecond(7), Time.from_hms_milli(1, 2, 3, 7))
+        self.assertEqual(one.replace_nanosecond(7), Time.from_hms_nano(1, 2, 3, 7))
+        self.assertEqual(one.truncate_to_hour(), Time.from_hms(1, 0, 0))
+        self.assertEqual(one.truncate_to_minute(), Time.from_hms(1, 2, 0))
+        self.assertEqual(one.truncate_to_second(), Time.from_hms(1, 2, 3))
+        self.assertEqual(one.truncate_to_millisecond(), Time.from_hms_milli(1, 2, 3, 4))
+        self.assertEqual(one.truncate_to_microsecond(), Time.from_hms_micro(1, 2, 3, 4005))
+
+    def test_cut_to_each_unit(self):
+        for number in [*range(0, DAY * 10**9, 86399999977), DAY * 10**9 - 1]:
+            time = Time.MIDNIGHT + SignedDuration.nanoseconds(number)
+            units = [("hour", 3600 * 10**9), ("minute", 60 * 10**9), ("second", 10**9), ("millisecond", 10**6), ("microsecond", 10**3)]
+            for name, unit in units:
+                cut = getattr(time, "truncate_to_" + name)()
+                self.assertEqual((cut - Time.MIDNIGHT).whole_nanoseconds(), number // unit * unit)
+            seconds, nanosecond = divmod(number, 10**9)
+            self.assertEqual(time.as_hms_nano(), (seconds // 3600, seconds // 60 % 60, seconds % 60, nanosecond))
+
+    def test_texts(self):
+        rows = [
+            (Time.MIDNIGHT, "0:00:00.0"), (Time.from_hms_milli(9, 5, 0, 120), "9:05:00.12"), (Time.MAX, "23:59:59.999999999"),
+            (Time.from_hms_nano(1, 2, 3, 1), "1:02:03.000000001"),
+        ]
+        for time, text in rows:
+            self.assertEqual((str(time), repr(time), f"{time:>20}"), (text, text, text.rjust(20)))
+
+    def test_refusals(self):
+        past = (-1, 2**8, 2**32, 2**32 + 1, 10**30, -10**30)
+        for hour in (24, *past):
+            self.refused("hour", False, Time.from_hms, hour, 60, 60)
+            self.refused("hour", False, Time.MIDNIGHT.replace_hour, hour)
+        for sixty in (60, *past):
+            self.refused("minute", False, Time.from_hms, 23, sixty, 60)
+            self.refused("minute", False, Time.MIDNIGHT.replace_minute, sixty)
+            self.refused("second", False, Time.from_hms, 23, 59, sixty)
+            self.refused("second", False, Time.from_hms_nano, 23, 59, sixty, 10**9)
+            self.refused("second", False, Time.MIDNIGHT.replace_second, sixty)
+        for unit, limit in (("millisecond", 1000), ("microsecond", 10**6), ("nanosecond", 10**9)):
+            make = {"millisecond": Time.from_hms_milli, "microsecond": Time.from_hms_micro, "nanosecond": Time.from_hms_nano}[unit]
+            for number in (limit, 2**32 - 1, -1, 2**32, 2**32 + 1, 10**30):
+                self.refused(unit, False, make, 0, 0, 0, number)
+                self.refused(unit, False, getattr(Time.MIDNIGHT, "replace_" + unit), number)
+            self.assertEqual(getattr(make(0, 0, 0, limit - 1), unit)(), limit - 1)
+        self.refused("microsecond", False, Time.from_hms_micro, 0, 0, 0, 4294968)
+        self.refused("hour", False, Time.from_hms, 24, 60, 60)
+
+    def test_moves(self):
+        hours = SignedDuration.hours
+        late = Time.from_hms(23, 0, 0)
+        self.assertEqual(Time.from_hms_milli(23, 59, 59, 500).duration_until(Time.from_hms_milli(0, 0, 0, 200)),
+            SignedDuration.milliseconds(700))
+        self.assertEqual(late.duration_until(Time.from_hms(1, 0, 0)), hours(2))
+        self.assertEqual(Time.from_hms(1, 0, 0).duration_since(late), hours(2))
+        self.assertEqual(Time.MIDNIGHT - late, hours(-23))
+        self.assertEqual(Time.MAX - Time.MIDNIGHT, SignedDuration.nanoseconds(86399999999999))
+        self.assertEqual(Time.MIDNIGHT.adjusting_add(LEAST), (-1, Time.from_hms_nano(8, 29, 51, 1)))
+        self.assertEqual(Time.MIDNIGHT.adjusting_sub(LEAST), (0, Time.from_hms_nano(15, 30, 8, 999999999)))
+        self.assertEqual(late.adjusting_add(hours(26)), (1, Time.from_hms(1, 0, 0)))
+        self.assertEqual(late + hours(26), Time.from_hms(1, 0, 0))
+        self.assertEqual(Time.from_hms(1, 0, 0) - hours(26), late)
+        self.assertEqual(Time.from_hms(0, 0, 1) - SignedDuration.seconds(2), Time.from_hms(23, 59, 59))
+        self.assertEqual(Time.MIDNIGHT + LEAST, Time.from_hms_nano(8, 29, 51, 1))
+
+    def test_pairs(self):
+        hours = SignedDuration.hours
+        late, early = (day(2020, 12, 31), Time.from_hms(23, 0, 0)), (day(2021, 1, 1), Time.from_hms(1, 0, 0))
+        self.assertEqual(add_to_pair(*late, hours(2)), early)
+        self.assertEqual(sub_from_pair(*early, hours(2)), late)
+        self.assertIsNone(add_to_pair(Date.MAX, Time.MAX, SignedDuration.NANOSECOND))
+        self.assertIsNone(add_to_pair(Date.MIN, Time.from_hms(12, 0, 0), hours(-13)))
+        self.assertIsNone(sub_from_pair(Date.MIN, Time.from_hms(12, 0, 0), hours(13)))
+        self.assertIsNone(sub_from_pair(Date.MIN, Time.MIDNIGHT, SignedDuration.NANOSECOND))
+        self.assertIsNone(add_to_pair(Date.MAX, Time.MAX, GREATEST))
+
+    def test_pairs_by_moments(self):
+        draw = random.Random(32)
+        for _ in range(3000):
+            julian_day, clock = draw.randint(-363521074, 366963559), draw.randrange(DAY * 10**9)
+            number = draw.randint(-2**draw.randint(1, 86), 2**draw.randint(1, 86))
+            date, time = Date.from_julian_day(julian_day), Time.MIDNIGHT + SignedDuration.nanoseconds(clock)
+            for call, moved in ((add_to_pair, number), (sub_from_pair, -number)):
+                to_day, to_clock = divmod(julian_day * DAY * 10**9 + clock + moved, DAY * 10**9)
+                found = call(date, time, SignedDuration.nanoseconds_i128(number))
+                if -363521074 <= to_day <= 366963559:
+                    self.assertEqual(found[0].to_julian_day(), to_day)
+                    self.assertEqual((found[1] - Time.MIDNIGHT).whole_nanoseconds(), to_clock)
+                else:
+                    self.assertIsNone(found)
+
+
+class Offsets(Cases):
+    ROWS = [
+        ((0, -30, 15), -1815, (0, -30, -15), "-00:30:15"), ((-25, 59, 59), -93599, (-25, -59, -59), "-25:59:59"),
+        ((1, -2, -3), 3723, (1, 2, 3), "+01:02:03"), ((-5, 30, 0), -19800, (-5, -30, 0), "-05:30:00"),
+        ((0, 0, 0), 0, (0, 0, 0), "+00:00:00"),
+    ]
+
+    def test_rows(self):
+        for given, seconds, parts, text in self.ROWS:
+            offset = UtcOffset.from_hms(*given)
+            self.assertEqual(offset, UtcOffset.from_whole_seconds(seconds))
+            self.assertEqual(offset.whole_seconds(), seconds)
+            self.assertEqual(offset.as_hms(), parts)
+            self.assertEqual((offset.whole_hours(), offset.minutes_past_hour(), offset.seconds_past_minute()), parts)
+            self.assertEqual(offset.whole_minutes(), parts[0] * 60 + parts[1])
+            self.assertEqual((offset.is_utc(), offset.is_positive(), offset.is_negative()), (seconds == 0, seconds > 0, seconds < 0))
+            self.assertEqual((-offset).whole_seconds(), -seconds)
+            self.assertEqual((str(offset), repr(offset), f"{offset:<12}"), (text, text, text.ljust(12)))
+        self.assertLess(UtcOffset.from_hms(-5, 30, 0), UtcOffset.from_hms(-4, 30, 0))
+        self.assertEqual(UtcOffset.UTC.whole_seconds(), 0)
+
+    def test_refusals(self):
+        past = (2**7, 2**8, -2**8, 2**32, -2**32, 2**32 + 1, 10**30, -10**30)
+        for hours in (26, -26, *past):
+            self.refused("offset hour", False, UtcOffset.from_hms, hours, 99, 0)
+        for sixty in (60, -60, *past):
+            self.refused("offset minute", False, UtcOffset.from_hms, 0, sixty, 99)
+            self.refused("offset second", False, UtcOffset.from_hms, 0, 0, sixty)
+        for seconds in (93600, -93600, 2**32, -2**32, 2**64, 10**30, -10**30):
+            self.refused("seconds", False, UtcOffset.from_whole_seconds, seconds)
+
+
+class Durations(Cases):
+    def test_rows(self):
+        new, nanoseconds, seconds = SignedDuration.new, SignedDuration.nanoseconds, SignedDuration.seconds
+        zero, long_one = SignedDuration.ZERO, span(-3074457345618258602, -999999999)
+        rows = [
+            (new(1, 2000000000), span(3)), (new(-1, 1), nanoseconds(-999999999)), (zero.saturating_sub(LEAST), GREATEST),
+            (nanoseconds(-1).checked_sub(seconds(-2**63)), GREATEST), (LEAST.checked_sub(nanoseconds(1)), None),
+            (GREATEST.checked_add(LEAST), span(-1)), (GREATEST.checked_add(nanoseconds(1)), None),
+            (GREATEST.saturating_add(nanoseconds(1)), GREATEST), (long_one.saturating_mul(-3), GREATEST),
+            (long_one.checked_mul(-3), None), (LEAST.saturating_mul(-2), GREATEST), (GREATEST.saturating_mul(-2), LEAST),
+            (SignedDuration.SECOND * 200, span(200)), (200 * SignedDuration.SECOND, span(200)),
+            (span(-7, -500000000).checked_div(2), span(-3, -750000000)), (span(-7, -500000000) / 2, span(-3, -750000000)),
+            (nanoseconds(-1).checked_div(2), zero), (seconds(1).checked_div(0), None), (seconds(-2**63).checked_div(-1), None),
+            (LEAST.checked_neg(), None), (seconds(1).checked_neg(), span(-1)), (LEAST.abs(), GREATEST), (abs(LEAST), GREATEST),
+            (SignedDuration.days(-3), span(-259200)), (SignedDuration.weeks(2), span(1209600)),
+            (SignedDuration.hours(36), span(129600)), (SignedDuration.minutes(90), span(5400)),
+            (SignedDuration.milliseconds(-1500), span(-1, -500000000)),
+            (SignedDuration.microseconds(1500000), span(1, 500000000)), (SignedDuration.nanoseconds_i128(1000000001), span(1, 1)),
+            (SignedDuration.try_sum([GREATEST, nanoseconds(1), nanoseconds(-1)]), None),
+            (SignedDuration.try_sum([GREATEST, nanoseconds(-1), nanoseconds(1)]), GREATEST), (SignedDuration.try_sum([]), zero),
+            (-span(1, 5), span(-1, -5)), (span(1) - span(0, 1), span(0, 999999999)), (span(1) + span(-2), span(-1)),
+        ]
+        for place, (found, expected) in enumerate(rows):
+            self.assertEqual(found, expected, place)
+
+    def test_parts(self):
+        self.assertEqual(SignedDuration.days(-6).whole_weeks(), 0)
+        self.assertEqual(SignedDuration.hours(-47).whole_days(), -1)
+        self.assertEqual(SignedDuration.minutes(-90).whole_hours(), -1)
+        self.assertEqual(SignedDuration.seconds(90).whole_minutes(), 1)
+        half = SignedDuration.milliseconds(-1500)
+        self.assertEqual((half.whole_seconds(), half.whole_milliseconds(), half.whole_microseconds(), half.whole_nanoseconds()),
+            (-1, -1500, -1500000, -1500000000))
+        self.assertEqual((half.subsec_milliseconds(), half.subsec_microseconds(), half.subsec_nanoseconds()),
+            (-500, -500000, -500000000))
+        self.assertEqual(SignedDuration.nanoseconds(2500).whole_microseconds(), 2)
+        self.assertEqual(LEAST.whole_nanoseconds(), -9223372036854775808999999999)
+        self.assertEqual(GREATEST.whole_nanoseconds(), 9223372036854775807999999999)
+        self.assertEqual(LEAST.whole_milliseconds(), -9223372036854775808999)
+        self.assertEqual(LEAST.unsigned_abs(), (9223372036854775808, 999999999))
+        rows = [(span(0), (True, False, False)), (span(0, 1), (False, False, True)), (span(0, -1), (False, True, False))]
+        for duration, signs in rows:
+            self.assertEqual((duration.is_zero(), duration.is_negative(), duration.is_positive()), signs)
+
+    def test_constants(self):
+        rows = [
+            ("ZERO", 0), ("NANOSECOND", 1), ("MICROSECOND", 10**3), ("MILLISECOND", 10**6), ("SECOND", 10**9), ("MINUTE", 60 * 10**9),
+            ("HOUR", 3600 * 10**9), ("DAY", DAY * 10**9), ("WEEK", 7 * DAY * 10**9), ("MIN", -9223372036854775808999999999),
+            ("MAX", 9223372036854775807999999999),
+        ]
+        for name, number in rows:
+            self.assertEqual(getattr(SignedDuration, name).whole_nanoseconds(), number, name)
+
+    def test_past_the_range(self):
+        limits = [("weeks", 15250284452471), ("days", 106751991167300), ("hours", 2562047788015215), ("minutes", 153722867280912930)]
+        for name, most in limits:
+            make = getattr(SignedDuration, name)
+            unit = {"weeks": 7 * DAY, "days": DAY, "hours": 3600, "minutes": 60}[name]
+            for number in (most, -most):
+                self.assertEqual(make(number), span(number * unit))
+            for number in (most + 1, -most - 1, 2**63, -2**63 - 1, 2**64, 10**30):
+                self.past(make, number)
+        for name in ("seconds", "milliseconds", "microseconds", "nanoseconds"):
+            make = getattr(SignedDuration, name)
+            unit = {"seconds": 10**9, "milliseconds": 10**6, "microseconds": 10**3, "nanoseconds": 1}[name]
+            for number in (2**63 - 1, -2**63):
+                self.assertEqual(make(number).whole_nanoseconds(), number * unit)
+            for number in (2**63, -2**63 - 1, 2**64, 2**64 + 1, 10**30):
+                self.past(make, number)
+        for row in [(2**63 - 1, 10**9), (-2**63, -10**9), (2**63, 0), (0, 2**31), (0, -2**31 - 1), (2**64, 0), (0, 2**32)]:
+            self.past(SignedDuration.new, *row)
+        for number in (2**63 * 10**9, -(2**63 + 1) * 10**9, 10**40):
+            self.past(SignedDuration.nanoseconds_i128, number)
+        self.past(lambda: GREATEST + SignedDuration.NANOSECOND)
+        self.past(lambda: LEAST - SignedDuration.NANOSECOND)
+        self.past(lambda: GREATEST * 2)
+        self.past(lambda: -LEAST)
+        self.past(lambda: SignedDuration.seconds(-2**63) / -1)
+        for number in (2**31, -2**31 - 1, 2**32, 2**32 + 1):
+            self.past(lambda number=number: SignedDuration.SECOND * number)
+            self.past(lambda number=number: SignedDuration.SECOND / number)
+            for call in ("checked_mul", "checked_div", "saturating_mul"):
+                self.past(getattr(SignedDuration.SECOND, call), number)
+        with self.assertRaises(ZeroDivisionError):
+            SignedDuration.SECOND / 0
+
+    def test_texts(self):
+        rows = [
+            (SignedDuration.ZERO, "0s"), (SignedDuration.nanoseconds(-1), "-1ns"),
+            (LEAST, "-106751991167300d15h30m8s999ms999\u00b5s999ns"), (GREATEST, "106751991167300d15h30m7s999ms999\u00b5s999ns"),
+            (SignedDuration.milliseconds(-93784005), "-1d2h3m4s5ms"), (SignedDuration.hours(26), "1d2h"),
+        ]
+        for duration, text in rows:
+            self.assertEqual((str(duration), repr(duration)), (text, text))
+
+    def test_against_whole_numbers(self):
+        draw = random.Random(29)
+        least, greatest = LEAST.whole_nanoseconds(), GREATEST.whole_nanoseconds()
+
+        def clamped(number):
+            return min(max(number, least), greatest)
+
+        def exact(number):
+            return number if least <= number <= greatest else None
+
+        def number_of(duration):
+            return None if duration is None else duration.whole_nanoseconds()
+
+        for _ in range(5000):
+            numbers = [clamped(draw.randint(-2**draw.randint(1, 95), 2**draw.randint(1, 95))) for _ in range(2)]
+            one, other = map(SignedDuration.nanoseconds_i128, numbers)
+            a, b = numbers
+            factor = draw.choice([0, 1, -1, 2, -2, 2**31 - 1, -2**31, draw.randint(-2**31, 2**31 - 1)])
+            self.assertEqual([number_of(one), number_of(other)], numbers)
+            self.assertEqual(number_of(one.checked_add(other)), exact(a + b))
+            self.assertEqual(number_of(one.checked_sub(other)), exact(a - b))
+            self.assertEqual(number_of(one.checked_mul(factor)), exact(a * factor))
+            self.assertEqual(number_of(one.checked_neg()), exact(-a))
+            self.assertEqual(number_of(one.saturating_add(other)), clamped(a + b))
+            self.assertEqual(number_of(one.saturating_sub(other)), clamped(a - b))
+            self.assertEqual(number_of(one.saturating_mul(factor)), clamped(a * factor))
+            if factor:
+                quotient = abs(a) // abs(factor) * (1 if (a < 0) == (factor < 0) else -1)
+                self.assertEqual(number_of(one.checked_div(factor)), exact(quotient))
+            self.assertEqual((one < other, one == other, one > other), (a < b, a == b, a > b))
+            self.assertEqual((one <= other, one >= other, one != other), (a <= b, a >= b, a != b))
+
+
+class Cycles(Cases):
+    def test_months(self):
+        self.assertEqual(Month.July.nth_next(9), Month.April)
+        self.assertEqual(Month.January.nth_next(255), Month.April)
+        self.assertEqual(Month.July.nth_prev(9), Month.October)
+        self.assertEqual(Month.January.nth_prev(4), Month.September)
+        self.assertEqual((Month.December.next(), Month.January.previous()), (Month.January, Month.December))
+        self.assertEqual((Month.February.length(2000), Month.February.length(1900), Month.April.length(-1)), (29, 28, 30))
+        names = "January February March April May June July August September October November December"
+        self.assertEqual(" ".join(str(Month(number)) for number in range(1, 13)), names)
+        self.assertEqual((repr(Month.May), f"{Month.May:>5}", Month["March"]), ("May", "  May", Month.March))
+        self.assertLess(Month.January, Month.February)
+        for number in (0, 13, -1, 257, 2**32 + 1):
+            self.refused("month", False, Month, number)
+            self.refused("month", False, days_in_month, number, 2000)
+        with self.assertRaises(KeyError):
+            Month["march"]
+        for month in Month:
+            for n in (0, 1, 11, 12, 13, 255):
+                self.assertEqual(month.nth_next(n), (month - 1 + n) % 12 + 1)
+                self.assertEqual(month.nth_prev(n), (month - 1 - n) % 12 + 1)
+        for n in (-1, 2**32, 10**30):
+            self.past(Month.May.nth_next, n)
+            self.past(Month.May.nth_prev, n)
+        for year in (2**31, -2**31 - 1, 2**32 + 2000):
+            self.past(Month.May.length, year)
+
+    def test_weekdays(self):
+        self.assertEqual(Weekday.Sunday.nth_next(10), Weekday.Wednesday)
+        self.assertEqual(Weekday.Sunday.nth_prev(10), Weekday.Thursday)
+        self.assertEqual((Weekday.Sunday.next(), Weekday.Monday.previous()), (Weekday.Monday, Weekday.Sunday))
+        friday = Weekday.Friday
+        self.assertEqual((friday.number_from_monday(), friday.number_from_sunday()), (5, 6))
+        self.assertEqual((friday.number_days_from_monday(), friday.number_days_from_sunday()), (4, 5))
+        self.assertEqual(Weekday.Sunday.number_from_sunday(), 1)
+        names = "Monday Tuesday Wednesday Thursday Friday Saturday Sunday"
+        self.assertEqual(" ".join(str(Weekday(number)) for number in range(1, 8)), names)
+        self.assertEqual((str(friday), repr(friday), f"{friday:<8}"), ("Friday", "Friday", "Friday  "))
+        for weekday in Weekday:
+            for n in (0, 1, 6, 7, 8, 255):
+                self.assertEqual(weekday.nth_next(n).value, (weekday.value - 1 + n) % 7 + 1)
+                self.assertEqual(weekday.nth_prev(n).value, (weekday.value - 1 - n) % 7 + 1)
+        for number in (0, 8, -1, 257):
+            with self.assertRaises(ValueError):
+                Weekday(number)
+        for n in (-1, 2**32, 10**30):
+            self.past(Weekday.Friday.nth_next, n)
+            self.past(Weekday.Friday.nth_prev, n)
+
+    def test_years(self):
+        for year in itertools.chain(range(-1200, 2400), (-2**31, 2**31 - 1, 999999, -999999)):
+            leap = year % 4 == 0 and (year % 100 != 0 or year % 400 == 0)
+            self.assertEqual((is_leap_year(year), days_in_year(year)), (leap, 366 if leap else 365))
+            self.assertEqual(days_in_year_month(year, Month.February), 29 if leap else 28)
+        for year in range(1, 10000, 7):
+            self.assertEqual(weeks_in_year(year), datetime.date(year, 12, 28).isocalendar()[1])
+        for year in (2**31, -2**31 - 1, 2**32 + 2000, 10**30):
+            for call in (is_leap_year, days_in_year, weeks_in_year):
+                self.past(call, year)
+            self.past(days_in_month, 2, year)
+
+
+class Columns(Cases):
+    JULIAN_DAYS = array.array("q", [
+        2451545, -363521074, 366963559, -363521075, 366963560, 0, 2**63 - 1, -2**63, 2**32 + 2451545, *range(2451000, 2453000),
+    ])
+    DATES = array.array("i", [
+        2451545, -363521074, 366963559, -363521075, 366963560, 0, 2**31 - 1, -2**31, *range(2451000, 2453000),
+    ])
+    CALENDAR = [
+        array.array("i", [2000, 1900, 2000, 2000, 1000000, 2000, -999999, 2**31 - 1]),
+        array.array("I", [2, 2, 13, 0, 1, 2**32 - 1, 1, 1]),
+        array.array("I", [29, 29, 1, 1, 1, 1, 1, 1]),
+    ]
+
+    def row_by_row(self, found, expected):
+        """Compares the rows of a call over columns with what the call of one value answers for each."""
+        rows, refused = found
+        self.assertEqual(len(rows), len(expected))
+        self.assertEqual(refused, sum(row.status != 0 for row in rows))
+        for row, (call, fields) in zip(rows, expected):
+            error = fotsevindre.status_error(row.status)
+            try:
+                answer = call()
+            except (ValueError, OverflowError) as raised:
+                self.assertEqual((type(error), str(error)), (type(raised), str(raised)))
+            else:
+                self.assertIsNone(error)
+                self.assertEqual(tuple(getattr(row, name) for name, _ in type(row)._fields_[1:]), fields(answer))
+
+    def test_dates_made(self):
+        def made(answer):
+            return (answer.to_julian_day(),)
+
+        self.row_by_row(fotsevindre.dates_from_julian_days(self.JULIAN_DAYS),
+            [(lambda n=n: Date.from_julian_day(n), made) for n in self.JULIAN_DAYS])
+        self.row_by_row(fotsevindre.dates_from_calendar_dates(*self.CALENDAR),
+            [(lambda row=row: Date.from_calendar_date(*row), made) for row in zip(*self.CALENDAR)])
+        years = array.array("i", [2000, 1900, 2000, 10**6, -2**31])
+        ordinals = array.array("I", [366, 366, 0, 1, 1])
+        self.row_by_row(fotsevindre.dates_from_ordinal_dates(years, ordinals),
+            [(lambda row=row: Date.from_ordinal_date(*row), made) for row in zip(years, ordinals)])
+        years = array.array("i", [2020, 2019, 999999, 10**6, 999999])
+        weeks = array.array("I", [53, 53, 52, 0, 52])
+        weekdays = array.array("I", [5, 1, 6, 1, 5])
+        self.row_by_row(fotsevindre.dates_from_iso_week_dates(years, weeks, weekdays),
+            [(lambda row=row: Date.from_iso_week_date(*row[:2], Weekday(row[2])), made) for row in zip(years, weeks, weekdays)])
+        rows, refused = fotsevindre.dates_from_iso_week_dates(years, weeks, array.array("I", [0, 8, 2**32 - 1, 9, 10]))
+        self.assertEqual((refused, {type(fotsevindre.status_error(row.status)) for row in rows}), (5, {ValueError}))
+
+    def test_what_dates_have(self):
+        calls = [
+            (fotsevindre.dates_to_calendar_dates, Date.to_calendar_date, tuple),
+            (fotsevindre.dates_to_ordinal_dates, Date.to_ordinal_date, tuple),
+            (fotsevindre.dates_to_iso_week_dates, Date.to_iso_week_date, lambda found: (*found[:2], found[2].value)),
+            (fotsevindre.dates_weekdays, Date.weekday, lambda found: (found.value,)),
+        ]
+        for over_columns, of_one, fields in calls:
+            self.row_by_row(over_columns(self.DATES), [(lambda n=n: of_one(Date._of(n)), fields) for n in self.DATES])
+
+    def test_names_of_the_parts(self):
+        calls = [
+            (fotsevindre.dates_to_calendar_dates, ["status", "year", "month", "day"]),
+            (fotsevindre.dates_to_ordinal_dates, ["status", "year", "ordinal"]),
+            (fotsevindre.dates_to_iso_week_dates, ["status", "year", "week", "weekday"]),
+            (fotsevindre.dates_weekdays, ["status", "number"]),
+        ]
+        for call, names in calls:
+            self.assertEqual([name for name, _ in call(self.DATES)[0]._type_._fields_], names)
+
+    def test_many_refusals_are_counted(self):
+        refused = fotsevindre.dates_from_julian_days(array.array("q", [2**40] * 100_000))[1]
+        self.assertEqual(refused, 100_000)
+
+    def test_dates_moved(self):
+        days = array.array("q", [0, -1, 1, 1, 1, 2**63 - 1, 1, -2**63, *range(-1000, 1000)])
+        rows, refused = fotsevindre.dates_add_days(self.DATES, days)
+        for row, date, move in zip(rows, self.DATES, days):
+            if not -363521074 <= date <= 366963559:
+                self.assertIsInstance(fotsevindre.status_error(row.status), ValueError)
+            elif not -363521074 <= date + move <= 366963559:
+                self.assertIsInstance(fotsevindre.status_error(row.status), OverflowError)
+            else:
+                self.assertEqual((row.status, row.date), (0, date + move))
+        self.assertEqual(refused, sum(row.status != 0 for row in rows))
+
+    def test_buffers(self):
+        whole = array.array("q", range(2451545, 2451550))
+        unaligned = memoryview(bytearray(b"-" + bytes(whole)))[1:].cast("q")
+        for values in (whole, memoryview(whole), memoryview(whole)[1:3], memoryview(whole).toreadonly(), (ctypes.c_int64 * 2)(0, 1),
+                array.array("q"), memoryview(b"").cast("q"), unaligned):
+            rows, refused = fotsevindre.dates_from_julian_days(values)
+            self.assertEqual((refused, [row.date for row in rows]), (0, list(values)))
+        self.assertEqual(list(whole), list(range(2451545, 2451550)))
+        rows = fotsevindre.dates_from_julian_days(whole)[0]
+        self.assertEqual(len(bytes(rows)), 8 * len(whole))
+        self.assertIn(":date:", memoryview(rows).format)
+        for values in (array.array("q"), unaligned):
+            address = ctypes.addressof(fotsevindre._column(values, ctypes.c_int64))
+            self.assertTrue(address and address % 8 == 0)
+        self.assertEqual(ctypes.addressof(fotsevindre._column(whole, ctypes.c_int64)), whole.buffer_info()[0])
+
+    def test_wrong_buffers(self):
+        wrong = [
+            [2451545], 2451545, None, "2451545", b"12345678", array.array("i", [1]), array.array("Q", [1]), array.array("d", [1.0]),
+            memoryview(array.array("q", [1, 2, 3, 4]))[::2], memoryview(bytes(32)).cast("q", (2, 2)),
+        ]
+        for values in wrong:
+            with self.assertRaises(TypeError, msg=values):
+                fotsevindre.dates_from_julian_days(values)
+        for values in (array.array("q", [1]), array.array("i", [1])):
+            with self.assertRaises(TypeError):
+                fotsevindre.dates_from_calendar_dates(array.array("i", [2000]), values, array.array("I", [1]))
+        years, months, days = (column[:3] for column in self.CALENDAR)
+        for columns in [(years[:2], months, days), (years, months[:2], days), (years, months, days[:2]), (years[:0], months, days)]:
+            with self.assertRaises(ValueError):
+                fotsevindre.dates_from_calendar_dates(*columns)
+
+
+class Header(Cases):
+    """The declarations of the client against those of the header."""
+
+    TEXT = (pathlib.Path(__file__).resolve().parents[2] / "include" / "fotsevindre.h").read_text(encoding="utf-8")
+    NUMBERS = {
+        "int32_t": ctypes.c_int32, "uint32_t": ctypes.c_uint32, "int64_t": ctypes.c_int64, "uint64_t": ctypes.c_uint64,
+        "size_t": ctypes.c_size_t, "fots_date": ctypes.c_int32, "fots_offset": ctypes.c_int32, "fots_time": ctypes.c_uint64,
+    }
+
+    def setUp(self):
+        plain = " ".join(re.sub(r"/\*.*?\*/", "", self.TEXT, flags=re.DOTALL).split())
+        self.structs = dict(re.findall(r"typedef struct (\w+) \{ ([^}]*) \} \1;", plain))
+        self.functions = {name: (returned, taken) for returned, name, taken in re.findall(r"(\w+) (fots_\w+)\(([^()]*)\);", plain)}
+        self.statuses = {name: int(number) for name, number in re.findall(r"(FOTS_\w+) = (\d+)", plain)}
+        self.names = dict(re.findall(r'case (FOTS_\w+): return "([^"]*)";', plain))
+
+    def is_of(self, declared, name):
+        """Whether the type that the client declares is that of the header with this name."""
+        if name in self.NUMBERS:
+            return declared is self.NUMBERS[name]
+        fields = [field.strip().rsplit(" ", 1) for field in self.structs[name].split(";") if field.strip()]
+        return len(fields) == len(declared._fields_) and all(
+            field == own and self.is_of(kind, type_name) for (type_name, field), (own, kind) in zip(fields, declared._fields_))
+
+    def test_calls(self):
+        self.assertGreater(len(fotsevindre._calls), 100)
+        for name, call in fotsevindre._calls.items():
+            returned, taken = self.functions["fots_" + name]
+            self.assertTrue(self.is_of(call.restype, returned), name)
+            parts = [part.strip() for part in taken.split(",")]
+            self.assertEqual(len(parts), len(call.argtypes), name)
+            for part, declared in zip(parts, call.argtypes):
+                type_name = re.sub(r"^const ", "", re.match(r"(.*[ *])\w+$", part)[1]).strip()
+                if type_name.endswith("*"):
+                    declared, type_name = declared._type_, type_name[:-1].strip()
+                self.assertTrue(self.is_of(declared, type_name), (name, part))
+
+    def test_statuses(self):
+        refusals = {number: self.names[name] for name, number in self.statuses.items() if number >= 16}
+        self.assertEqual(fotsevindre._REFUSALS, refusals)
+        self.assertEqual(fotsevindre._FIRST_CONDITIONAL, self.statuses["FOTS_DAY"])
+        self.assertEqual(fotsevindre._PAST_RANGE, self.statuses["FOTS_PAST_RANGE"])
+        self.assertEqual(fotsevindre._BAD_COUNT, self.statuses["FOTS_BAD_COUNT"])
+
+
+class Documentation(Cases):
+    def test_all_that_is_public_is_documented(self):
+        for name in fotsevindre.__all__:
+            item = getattr(fotsevindre, name)
+            self.assertTrue(item.__doc__, name)
+            for member, value in vars(item).items() if isinstance(item, type) else ():
+                if not member.startswith("_") and (callable(value) or isinstance(value, classmethod)):
+                    self.assertTrue(value.__doc__, (name, member))
+
+
+class Values(Cases):
+    def values(self):
+        return [day(2000, 2, 29), Time.from_hms_nano(1, 2, 3, 4), UtcOffset.from_hms(-5, 30, 0), span(-1, -5)]
+
+    def test_order_and_hash(self):
+        pairs = [
+            (Date.MIN, Date.MAX), (day(2019, 12, 31), day(2020, 1, 1)), (Time.MIDNIGHT, Time.MAX), (LEAST, GREATEST),
+            (span(0, -1), span(0)), (span(-1, -1), span(-1)), (UtcOffset.from_whole_seconds(-1), UtcOffset.UTC),
+        ]
+        for less, greater in pairs:
+            self.assertTrue(less < greater and less <= greater and greater > less and greater >= less and less != greater)
+            self.assertFalse(less > greater or less >= greater or less == greater)
+            self.assertEqual(sorted([greater, less]), [less, greater])
+        self.assertEqual(len({day(2000, 1, 1), Date.from_julian_day(2451545), Date.from_ordinal_date(2000, 1)}), 1)
+
+    def test_kinds_are_apart(self):
+        for one, other in itertools.permutations(self.values(), 2):
+            self.assertNotEqual(one, other)
+            with self.assertRaises(TypeError):
+                one < other
+        self.assertNotEqual(UtcOffset.UTC, 0)
+
+    def test_copies(self):
+        for value in self.values():
+            self.assertEqual((copy.copy(value), copy.deepcopy(value), pickle.loads(pickle.dumps(value))), (value,) * 3)
+        error = pickle.loads(pickle.dumps(ComponentRange("day", True)))
+        self.assertEqual((error.name, error.is_conditional, str(error)), ("day", True, "day was not in range"))
+
+    def test_values_do_not_change(self):
+        for value in self.values():
+            for name in ("_key", "other"):
+                with self.assertRaises(AttributeError):
+                    setattr(value, name, 1)
+            with self.assertRaises(AttributeError):
+                del value._key
+            with self.assertRaises(TypeError):
+                type(value)(1)
+
+    def test_forged_values_are_refused(self):
+        for forged in (Date._of(-363521075), Date._of(366963560), Date._of(-2**31)):
+            with self.assertRaises(ValueError):
+                forged.year()
+        with self.assertRaises(ValueError):
+            Time._of(DAY * 10**9).hour()
+        with self.assertRaises(ValueError):
+            UtcOffset._of(93600).whole_hours()
+        for key in ((1, -1), (-1, 1), (0, 10**9), (0, -10**9)):
+            with self.assertRaises(ValueError):
+                SignedDuration._of(key).whole_days()
+
+    def test_wrong_kinds(self):
+        date, time, offset, duration = self.values()
+        number_calls = [
+            (Date.from_julian_day, 1), (Date.from_calendar_date, 3), (Date.from_ordinal_date, 2), (date.replace_year, 1),
+            (date.replace_month, 1), (date.replace_day, 1), (date.replace_ordinal, 1), (Time.from_hms, 3), (Time.from_hms_milli, 4),
+            (Time.from_hms_micro, 4), (Time.from_hms_nano, 4), (time.replace_hour, 1), (time.replace_minute, 1),
+            (time.replace_second, 1), (time.replace_millisecond, 1), (time.replace_microsecond, 1), (time.replace_nanosecond, 1),
+            (UtcOffset.from_hms, 3), (UtcOffset.from_whole_seconds, 1), (SignedDuration.new, 2), (SignedDuration.weeks, 1),
+            (SignedDuration.days, 1), (SignedDuration.hours, 1), (SignedDuration.minutes, 1), (SignedDuration.seconds, 1),
+            (SignedDuration.milliseconds, 1), (SignedDuration.microseconds, 1), (SignedDuration.nanoseconds, 1),
+            (SignedDuration.nanoseconds_i128, 1), (duration.checked_mul, 1), (duration.checked_div, 1), (duration.saturating_mul, 1),
+            (Month.May.length, 1), (Month.May.nth_next, 1), (Month.May.nth_prev, 1), (Weekday.Monday.nth_next, 1),
+            (Weekday.Monday.nth_prev, 1), (is_leap_year, 1), (days_in_year, 1), (weeks_in_year, 1), (days_in_month, 2),
+            (days_in_year_month, 2),
+        ]
+        for call, count in number_calls:
+            for place, wrong in itertools.product(range(count), NO_NUMBERS + self.values() + [Weekday.Monday]):
+                arguments = [1] * count
+                arguments[place] = wrong
+                with self.assertRaises(TypeError, msg=(call, arguments)):
+                    call(*arguments)
+        weekday_calls = [
+            lambda wrong: Date.from_iso_week_date(2000, 9, wrong), date.next_occurrence, date.prev_occurrence,
+            date.checked_next_occurrence, date.checked_prev_occurrence, lambda wrong: date.nth_next_occurrence(wrong, 1),
+            lambda wrong: date.nth_prev_occurrence(wrong, 1), lambda wrong: date.checked_nth_next_occurrence(wrong, 1),
+            lambda wrong: date.checked_nth_prev_occurrence(wrong, 1),
+        ]
+        for call, wrong in itertools.product(weekday_calls, NO_NUMBERS + self.values() + [1, Month.May]):
+            with self.assertRaises(TypeError):
+                call(wrong)
+        for call, wrong in itertools.product(
+            [lambda n: date.nth_next_occurrence(Weekday.Monday, n), lambda n: date.checked_nth_prev_occurrence(Weekday.Monday, n),
+                lambda n: Date.from_iso_week_date(n, 1, Weekday.Monday), lambda n: Date.from_iso_week_date(2000, n, Weekday.Monday)],
+            NO_NUMBERS + self.values()):
+            with self.assertRaises(TypeError):
+                call(wrong)
+        value_calls = [
+            (date.checked_add, duration), (date.checked_sub, duration), (date.saturating_add, duration),
+            (date.saturating_sub, duration), (date.iter_to, date), (time.adjusting_add, duration), (time.adjusting_sub, duration),
+            (time.duration_until, time),
+            (time.duration_since, time), (duration.checked_add, duration), (duration.checked_sub, duration),
+            (duration.saturating_add, duration), (duration.saturating_sub, duration),
+            (lambda wrong: add_to_pair(wrong, time, duration), date), (lambda wrong: add_to_pair(date, wrong, duration), time),
+            (lambda wrong: add_to_pair(date, time, wrong), duration), (lambda wrong: sub_from_pair(wrong, time, duration), date),
+            (lambda wrong: sub_from_pair(date, wrong, duration), time), (lambda wrong: sub_from_pair(date, time, wrong), duration),
+        ]
+        for call, right in value_calls:
+            call(right)
+            for wrong in NO_NUMBERS + [value for value in self.values() if type(value) is not type(right)] + [1, Month.May]:
+                with self.assertRaises(TypeError):
+                    call(wrong)
+
+    def test_operators_of_wrong_kinds(self):
+        date, time, offset, duration = self.values()
+        pairs = [
+            (date, date), (date, time), (date, offset), (time, time), (time, date), (offset, offset), (offset, duration),
+            (duration, date), (duration, time), (duration, 1), (date, 1), (time, 1), (offset, 1),
+        ]
+        for one, other in pairs:
+            with self.assertRaises(TypeError):
+                one + other
+        for one, other in [(date, time), (date, 1), (time, date), (offset, offset), (duration, date), (duration, 1), (1, duration)]:
+            with self.assertRaises(TypeError):
+                one - other
+        for wrong in (1.5, duration, date, "2", None):
+            with self.assertRaises(TypeError):
+                duration * wrong
+            with self.assertRaises(TypeError):
+                duration / wrong
+
+    def test_wide_numbers_never_wrap(self):
+        calls = [
+            lambda n: Date.from_calendar_date(n, 1, 1), lambda n: Date.from_ordinal_date(n, 1),
+            lambda n: day(2000, 1, 1).replace_year(n),
+        ]
+        for call, number in itertools.product(calls, WIDE):
+            if abs(number) <= 999999:
+                self.assertEqual(call(number).year(), number)
+            else:
+                self.refused("year", False, call, number)
+        for number in WIDE:
+            if -363521074 <= number <= 366963559:
+                self.assertEqual(Date.from_julian_day(number).to_julian_day(), number)
+            else:
+                self.refused("julian_day", False, Date.from_julian_day, number)
+
+
+def load_tests(loader, tests, _pattern):
+    tests.addTests(doctest.DocTestSuite(fotsevindre))
+    tests.addTests(doctest.DocFileSuite("../../docs/PYTHON.md", encoding="utf-8"))
+    return tests
+
+
+if __name__ == "__main__":
+    unittest.main()

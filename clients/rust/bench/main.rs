@@ -1,0 +1,165 @@
+//! Times each call of the client, and that of each crate beside it, in turn, over the same drawn dates of the years 1 to 9999. It
+//! prints the median of the rounds, in nanoseconds a call.
+#![allow(unexpected_cfgs)]
+
+use std::hint::black_box;
+use std::time::Instant;
+
+const DRAWN: usize = 4096;
+const PASSES: usize = 25;
+const ROUNDS: usize = 21;
+
+/// A drawn date, by the numbers that the calls take.
+struct Drawn {
+    julian_day: i32,
+    year: i32,
+    month: u8,
+    day: u8,
+    ordinal: u16,
+    days: i64,
+}
+
+/// Numbers drawn one after another.
+struct Draw(u64);
+
+impl Draw {
+    fn below(&mut self, limit: u64) -> u64 {
+        self.0 ^= self.0 << 13;
+        self.0 ^= self.0 >> 7;
+        self.0 ^= self.0 << 17;
+        self.0 % limit
+    }
+}
+
+fn drawn() -> Vec<Drawn> {
+    let mut draw = Draw(0x9e37_79b9_7f4a_7c15);
+    (0..DRAWN)
+        .map(|_| {
+            let julian_day = 1_721_426 + draw.below(3_652_059) as i32;
+            let date = fotsevindre::Date::from_julian_day(julian_day).unwrap();
+            let (year, month, day) = date.to_calendar_date();
+            let days = draw.below(20_001) as i64 - 10_000;
+            Drawn { julian_day, year, month: month as u8, day, ordinal: date.ordinal(), days }
+        })
+        .collect()
+}
+
+/// A call, and who makes it.
+type Timed<'a> = (&'static str, Box<dyn Fn() + 'a>);
+
+/// The call, over each of the values.
+fn over<'a, T, R>(values: &'a [T], call: impl Fn(&T) -> R + 'a) -> Box<dyn Fn() + 'a> {
+    Box::new(move || {
+        for value in values {
+            black_box(call(black_box(value)));
+        }
+    })
+}
+
+/// Times the calls in turn, and prints the median of each.
+fn compare(name: &str, calls: Vec<Timed>) {
+    let mut times = vec![Vec::new(); calls.len()];
+    for _ in 0..ROUNDS {
+        for ((_, call), times) in calls.iter().zip(&mut times) {
+            let start = Instant::now();
+            for _ in 0..PASSES {
+                call();
+            }
+            times.push(start.elapsed().as_secs_f64() * 1e9 / (DRAWN * PASSES) as f64);
+        }
+    }
+    print!("{name:<20}");
+    for ((who, _), times) in calls.iter().zip(&mut times) {
+        times.sort_by(f64::total_cmp);
+        print!("  {who} {:6.2}", times[ROUNDS / 2]);
+    }
+    println!();
+}
+
+fn main() {
+    let numbers = drawn();
+    let ours: Vec<_> = numbers.iter().map(|n| fotsevindre::Date::from_julian_day(n.julian_day).unwrap()).collect();
+    let ours_moved: Vec<_> = ours.iter().zip(&numbers).map(|(date, n)| (*date, fotsevindre::Duration::days(n.days))).collect();
+    #[cfg(has_time)]
+    let times: Vec<_> = numbers.iter().map(|n| time::Date::from_julian_day(n.julian_day).unwrap()).collect();
+    #[cfg(has_time)]
+    let times_moved: Vec<_> = times.iter().zip(&numbers).map(|(date, n)| (*date, time::Duration::days(n.days))).collect();
+    #[cfg(has_chrono)]
+    let chronos: Vec<_> = numbers.iter().map(|n| chrono::NaiveDate::from_yo_opt(n.year, n.ordinal.into()).unwrap()).collect();
+    #[cfg(has_chrono)]
+    let chronos_moved: Vec<_> = chronos.iter().zip(&numbers).map(|(date, n)| (*date, chrono::Duration::days(n.days))).collect();
+    #[cfg(has_chrono)]
+    use chrono::Datelike;
+
+    println!("nanoseconds a call, median of {ROUNDS} rounds");
+    compare(
+        "from_calendar_date",
+        vec![
+            ("ours", over(&numbers, |n| fotsevindre::Date::from_calendar_date(n.year, n.month.try_into().unwrap(), n.day))),
+            #[cfg(has_time)]
+            ("time", over(&numbers, |n| time::Date::from_calendar_date(n.year, n.month.try_into().unwrap(), n.day))),
+            #[cfg(has_chrono)]
+            ("chrono", over(&numbers, |n| chrono::NaiveDate::from_ymd_opt(n.year, n.month.into(), n.day.into()))),
+        ],
+    );
+    compare(
+        "from_ordinal_date",
+        vec![
+            ("ours", over(&numbers, |n| fotsevindre::Date::from_ordinal_date(n.year, n.ordinal))),
+            #[cfg(has_time)]
+            ("time", over(&numbers, |n| time::Date::from_ordinal_date(n.year, n.ordinal))),
+            #[cfg(has_chrono)]
+            ("chrono", over(&numbers, |n| chrono::NaiveDate::from_yo_opt(n.year, n.ordinal.into()))),
+        ],
+    );
+    compare(
+        "to_calendar_date",
+        vec![
+            ("ours", over(&ours, |date| date.to_calendar_date())),
+            #[cfg(has_time)]
+            ("time", over(&times, |date| date.to_calendar_date())),
+            #[cfg(has_chrono)]
+            ("chrono", over(&chronos, |date| (date.year(), date.month(), date.day()))),
+        ],
+    );
+    compare(
+        "to_iso_week_date",
+        vec![
+            ("ours", over(&ours, |date| date.to_iso_week_date())),
+            #[cfg(has_time)]
+            ("time", over(&times, |date| date.to_iso_week_date())),
+            #[cfg(has_chrono)]
+            ("chrono", over(&chronos, |date| (date.iso_week(), date.weekday()))),
+        ],
+    );
+    compare(
+        "weekday",
+        vec![
+            ("ours", over(&ours, |date| date.weekday())),
+            #[cfg(has_time)]
+            ("time", over(&times, |date| date.weekday())),
+            #[cfg(has_chrono)]
+            ("chrono", over(&chronos, |date| date.weekday())),
+        ],
+    );
+    compare(
+        "checked_add",
+        vec![
+            ("ours", over(&ours_moved, |(date, duration)| date.checked_add(*duration))),
+            #[cfg(has_time)]
+            ("time", over(&times_moved, |(date, duration)| date.checked_add(*duration))),
+            #[cfg(has_chrono)]
+            ("chrono", over(&chronos_moved, |(date, duration)| date.checked_add_signed(*duration))),
+        ],
+    );
+    compare(
+        "to_string",
+        vec![
+            ("ours", over(&ours, |date| date.to_string())),
+            #[cfg(has_time)]
+            ("time", over(&times, |date| date.to_string())),
+            #[cfg(has_chrono)]
+            ("chrono", over(&chronos, |date| date.to_string())),
+        ],
+    );
+}

@@ -1,0 +1,103 @@
+//! What calls refuse.
+
+use crate::ffi::unexpected;
+use core::fmt;
+
+/// A component, such as a month or an hour, was outside its range.
+///
+/// It carries the name of the component, and whether the range depends on other components: that of a day depends on the month
+/// and the year, that of an hour on nothing. It prints `<name> was not in range`, such as `hour was not in range`.
+///
+/// ```
+/// use fotsevindre::{Date, Month};
+///
+/// let error = Date::from_calendar_date(1900, Month::February, 29).unwrap_err();
+/// assert_eq!((error.name(), error.is_conditional()), ("day", true));
+/// assert_eq!(error.to_string(), "day was not in range");
+/// ```
+#[derive(Clone, Copy, Debug, PartialEq, Eq, Hash)]
+pub struct ComponentRange {
+    name: &'static str,
+    is_conditional: bool,
+}
+
+/// The least status whose component has a range that depends on others.
+const FIRST_CONDITIONAL: i32 = 64;
+
+impl ComponentRange {
+    /// The refusal that a status stands for.
+    #[cold]
+    pub(crate) fn of_status(status: i32) -> Self {
+        let name = match status {
+            16 => "year",
+            17 => "month",
+            18 => "julian_day",
+            19 => "hour",
+            20 => "minute",
+            21 => "second",
+            22 => "millisecond",
+            23 => "microsecond",
+            24 => "nanosecond",
+            25 => "offset hour",
+            26 => "offset minute",
+            27 => "offset second",
+            28 => "seconds",
+            64 => "day",
+            65 => "ordinal",
+            66 => "week",
+            67 => "weekday",
+            _ => unexpected(status),
+        };
+        let is_conditional = status >= FIRST_CONDITIONAL;
+        Self { name, is_conditional }
+    }
+
+    /// The refusal of a number that is none of a month.
+    pub(crate) const MONTH: Self = Self { name: "month", is_conditional: false };
+
+    /// The name of the component, such as `day`.
+    pub const fn name(self) -> &'static str {
+        self.name
+    }
+
+    /// Whether the range of the component depends on other components: it does for `day`, and not for `hour`.
+    pub const fn is_conditional(self) -> bool {
+        self.is_conditional
+    }
+}
+
+impl fmt::Display for ComponentRange {
+    fn fmt(&self, f: &mut fmt::Formatter<'_>) -> fmt::Result {
+        write!(f, "{} was not in range", self.name)
+    }
+}
+
+impl core::error::Error for ComponentRange {}
+
+/// A duration was outside the range of the type that it was to be converted to.
+///
+/// It prints `Source value is out of range for the target type`.
+#[derive(Clone, Copy, Debug, PartialEq, Eq, Hash)]
+pub struct ConversionRange;
+
+impl fmt::Display for ConversionRange {
+    fn fmt(&self, f: &mut fmt::Formatter<'_>) -> fmt::Result {
+        f.write_str("Source value is out of range for the target type")
+    }
+}
+
+impl core::error::Error for ConversionRange {}
+
+/// A text was not the exact English name of a month or a weekday.
+///
+/// It prints `value was not a valid variant`.
+#[derive(Clone, Copy, Debug, PartialEq, Eq, Hash)]
+pub struct InvalidVariant;
+
+impl fmt::Display for InvalidVariant {
+    fn fmt(&self, f: &mut fmt::Formatter<'_>) -> fmt::Result {
+        f.write_str("value was not a valid variant")
+    }
+}
+
+impl core::error::Error for InvalidVariant {}

@@ -1,0 +1,234 @@
+//! The calls of the library, each declared as in `fotsevindre.h`, and each behind a safe function of the same name.
+//!
+//! A call takes numbers and returns numbers. It takes no pointer, answers for each argument whatever its bits, and keeps no state. So
+//! each is safe to call wherever the declaration here is that of the header.
+
+use crate::error::ComponentRange;
+
+/// The status of a call that has an answer.
+const DONE: i32 = 0;
+/// The status of a call whose exact result is no value of its type.
+const PAST_RANGE: i32 = 1;
+
+/// A duration as it crosses.
+#[repr(C)]
+#[derive(Clone, Copy)]
+pub(crate) struct CDuration {
+    pub(crate) seconds: i64,
+    pub(crate) nanoseconds: i32,
+}
+
+/// What a call returned: its answer, or a status that is not [`DONE`].
+pub(crate) type Answer<T> = Result<T, i32>;
+
+/// Ends a call whose status none of its values can have.
+#[cold]
+pub(crate) fn unexpected(status: i32) -> ! {
+    unreachable!("status {status} for values of the library's own")
+}
+
+/// The answer of a call that has one for each value of its types.
+pub(crate) fn certain<T>(answer: Answer<T>) -> T {
+    answer.unwrap_or_else(|status| unexpected(status))
+}
+
+/// The answer of a call, or `None` where it is past the range.
+pub(crate) fn or_none<T>(answer: Answer<T>) -> Option<T> {
+    match answer {
+        Err(PAST_RANGE) => None,
+        answer => Some(certain(answer)),
+    }
+}
+
+/// The answer of a call, or the component that it refuses.
+pub(crate) fn or_refused<T>(answer: Answer<T>) -> Result<T, ComponentRange> {
+    answer.map_err(ComponentRange::of_status)
+}
+
+/// Structs that begin with a status, and the value that each has where that is [`DONE`].
+macro_rules! results {
+    ($($name:ident { $($field:ident: $kind:ty),* } => $value:ty;)*) => {
+        $(
+            #[repr(C)]
+            #[derive(Clone, Copy)]
+            pub(crate) struct $name {
+                status: i32,
+                $($field: $kind),*
+            }
+
+            impl Returned for $name {
+                type Value = $value;
+
+                fn answer(self) -> Answer<$value> {
+                    if self.status == DONE {
+                        Ok(($(self.$field),*))
+                    } else {
+                        Err(self.status)
+                    }
+                }
+            }
+        )*
+    };
+}
+
+/// What a call returns, as a safe function passes it on.
+pub(crate) trait Returned {
+    type Value;
+
+    fn answer(self) -> Answer<Self::Value>;
+}
+
+results! {
+    DateResult { date: i32 } => i32;
+    NumberResult { number: i32 } => i32;
+    LongResult { number: i64 } => i64;
+    CalendarDateResult { year: i32, month: u32, day: u32 } => (i32, u32, u32);
+    OrdinalDateResult { year: i32, ordinal: u32 } => (i32, u32);
+    IsoWeekDateResult { year: i32, week: u32, weekday: u32 } => (i32, u32, u32);
+    TimeResult { time: u64 } => u64;
+    AdjustedTimeResult { carry: i32, time: u64 } => (i32, u64);
+    ClockResult { hour: u32, minute: u32, second: u32, nanosecond: u32 } => (u32, u32, u32, u32);
+    OffsetResult { offset: i32 } => i32;
+    OffsetPartsResult { hours: i32, minutes: i32, seconds: i32 } => (i32, i32, i32);
+    DurationResult { duration: CDuration } => CDuration;
+    PairResult { date: i32, time: u64 } => (i32, u64);
+}
+
+/// Calls that return a struct with a status.
+macro_rules! calls {
+    ($($name:ident($($argument:ident: $kind:ty),*) -> $result:ident;)*) => {
+        mod declared {
+            use super::*;
+
+            extern "C" {
+                $(pub(super) fn $name($($argument: $kind),*) -> $result;)*
+            }
+        }
+
+        $(
+            pub(crate) fn $name($($argument: $kind),*) -> Answer<<$result as Returned>::Value> {
+                unsafe { declared::$name($($argument),*) }.answer()
+            }
+        )*
+    };
+}
+
+calls! {
+    fots_date_from_julian_day(julian_day: i64) -> DateResult;
+    fots_date_from_calendar_date(year: i32, month: u32, day: u32) -> DateResult;
+    fots_date_from_ordinal_date(year: i32, ordinal: u32) -> DateResult;
+    fots_date_from_iso_week_date(year: i32, week: u32, weekday: u32) -> DateResult;
+    fots_date_to_calendar_date(date: i32) -> CalendarDateResult;
+    fots_date_to_ordinal_date(date: i32) -> OrdinalDateResult;
+    fots_date_to_iso_week_date(date: i32) -> IsoWeekDateResult;
+    fots_date_year(date: i32) -> NumberResult;
+    fots_date_month(date: i32) -> NumberResult;
+    fots_date_day(date: i32) -> NumberResult;
+    fots_date_ordinal(date: i32) -> NumberResult;
+    fots_date_iso_week(date: i32) -> NumberResult;
+    fots_date_weekday(date: i32) -> NumberResult;
+    fots_date_sunday_based_week(date: i32) -> NumberResult;
+    fots_date_monday_based_week(date: i32) -> NumberResult;
+    fots_date_next_day(date: i32) -> DateResult;
+    fots_date_previous_day(date: i32) -> DateResult;
+    fots_date_add_days(date: i32, days: i64) -> DateResult;
+    fots_date_checked_add(date: i32, duration: CDuration) -> DateResult;
+    fots_date_checked_sub(date: i32, duration: CDuration) -> DateResult;
+    fots_date_saturating_add(date: i32, duration: CDuration) -> DateResult;
+    fots_date_saturating_sub(date: i32, duration: CDuration) -> DateResult;
+    fots_date_duration_since(date: i32, other: i32) -> DurationResult;
+    fots_date_next_occurrence(date: i32, weekday: u32) -> DateResult;
+    fots_date_prev_occurrence(date: i32, weekday: u32) -> DateResult;
+    fots_date_nth_next_occurrence(date: i32, weekday: u32, n: u32) -> DateResult;
+    fots_date_nth_prev_occurrence(date: i32, weekday: u32, n: u32) -> DateResult;
+    fots_date_replace_year(date: i32, year: i32) -> DateResult;
+    fots_date_replace_month(date: i32, month: u32) -> DateResult;
+    fots_date_replace_day(date: i32, day: u32) -> DateResult;
+    fots_date_replace_ordinal(date: i32, ordinal: u32) -> DateResult;
+    fots_time_from_hms(hour: u32, minute: u32, second: u32) -> TimeResult;
+    fots_time_from_hms_milli(hour: u32, minute: u32, second: u32, millisecond: u32) -> TimeResult;
+    fots_time_from_hms_micro(hour: u32, minute: u32, second: u32, microsecond: u32) -> TimeResult;
+    fots_time_from_hms_nano(hour: u32, minute: u32, second: u32, nanosecond: u32) -> TimeResult;
+    fots_time_as_hms_nano(time: u64) -> ClockResult;
+    fots_time_hour(time: u64) -> NumberResult;
+    fots_time_minute(time: u64) -> NumberResult;
+    fots_time_second(time: u64) -> NumberResult;
+    fots_time_millisecond(time: u64) -> NumberResult;
+    fots_time_microsecond(time: u64) -> NumberResult;
+    fots_time_nanosecond(time: u64) -> NumberResult;
+    fots_time_replace_hour(time: u64, hour: u32) -> TimeResult;
+    fots_time_replace_minute(time: u64, minute: u32) -> TimeResult;
+    fots_time_replace_second(time: u64, second: u32) -> TimeResult;
+    fots_time_replace_millisecond(time: u64, millisecond: u32) -> TimeResult;
+    fots_time_replace_microsecond(time: u64, microsecond: u32) -> TimeResult;
+    fots_time_replace_nanosecond(time: u64, nanosecond: u32) -> TimeResult;
+    fots_time_add(time: u64, duration: CDuration) -> TimeResult;
+    fots_time_sub(time: u64, duration: CDuration) -> TimeResult;
+    fots_time_adjusting_add(time: u64, duration: CDuration) -> AdjustedTimeResult;
+    fots_time_adjusting_sub(time: u64, duration: CDuration) -> AdjustedTimeResult;
+    fots_time_duration_until(time: u64, other: u64) -> DurationResult;
+    fots_time_duration_since(time: u64, other: u64) -> DurationResult;
+    fots_offset_from_hms(hours: i32, minutes: i32, seconds: i32) -> OffsetResult;
+    fots_offset_from_whole_seconds(seconds: i64) -> OffsetResult;
+    fots_offset_as_hms(offset: i32) -> OffsetPartsResult;
+    fots_offset_whole_hours(offset: i32) -> NumberResult;
+    fots_offset_whole_minutes(offset: i32) -> NumberResult;
+    fots_offset_minutes_past_hour(offset: i32) -> NumberResult;
+    fots_offset_seconds_past_minute(offset: i32) -> NumberResult;
+    fots_offset_negated(offset: i32) -> OffsetResult;
+    fots_duration_new(seconds: i64, nanoseconds: i32) -> DurationResult;
+    fots_duration_weeks(weeks: i64) -> DurationResult;
+    fots_duration_days(days: i64) -> DurationResult;
+    fots_duration_hours(hours: i64) -> DurationResult;
+    fots_duration_minutes(minutes: i64) -> DurationResult;
+    fots_duration_seconds(seconds: i64) -> DurationResult;
+    fots_duration_milliseconds(milliseconds: i64) -> DurationResult;
+    fots_duration_microseconds(microseconds: i64) -> DurationResult;
+    fots_duration_nanoseconds(nanoseconds: i64) -> DurationResult;
+    fots_duration_whole_weeks(duration: CDuration) -> LongResult;
+    fots_duration_whole_days(duration: CDuration) -> LongResult;
+    fots_duration_whole_hours(duration: CDuration) -> LongResult;
+    fots_duration_whole_minutes(duration: CDuration) -> LongResult;
+    fots_duration_subsec_milliseconds(duration: CDuration) -> NumberResult;
+    fots_duration_subsec_microseconds(duration: CDuration) -> NumberResult;
+    fots_duration_abs(duration: CDuration) -> DurationResult;
+    fots_duration_checked_add(duration: CDuration, other: CDuration) -> DurationResult;
+    fots_duration_checked_sub(duration: CDuration, other: CDuration) -> DurationResult;
+    fots_duration_checked_mul(duration: CDuration, factor: i32) -> DurationResult;
+    fots_duration_checked_div(duration: CDuration, divisor: i32) -> DurationResult;
+    fots_duration_checked_neg(duration: CDuration) -> DurationResult;
+    fots_duration_saturating_add(duration: CDuration, other: CDuration) -> DurationResult;
+    fots_duration_saturating_sub(duration: CDuration, other: CDuration) -> DurationResult;
+    fots_duration_saturating_mul(duration: CDuration, factor: i32) -> DurationResult;
+    fots_month_length(month: u32, year: i32) -> NumberResult;
+    fots_month_nth_next(month: u32, n: u32) -> NumberResult;
+    fots_month_nth_prev(month: u32, n: u32) -> NumberResult;
+    fots_weekday_nth_next(weekday: u32, n: u32) -> NumberResult;
+    fots_weekday_nth_prev(weekday: u32, n: u32) -> NumberResult;
+    fots_weekday_number_from_sunday(weekday: u32) -> NumberResult;
+    fots_add_to_pair(date: i32, time: u64, duration: CDuration) -> PairResult;
+    fots_sub_from_pair(date: i32, time: u64, duration: CDuration) -> PairResult;
+}
+
+/// Calls of years, which answer for each.
+macro_rules! calls_of_years {
+    ($($name:ident;)*) => {
+        mod declared_of_years {
+            extern "C" {
+                $(pub(super) fn $name(year: i32) -> u32;)*
+            }
+        }
+
+        $(
+            pub(crate) fn $name(year: i32) -> u32 {
+                unsafe { declared_of_years::$name(year) }
+            }
+        )*
+    };
+}
+
+calls_of_years! {
+    fots_is_leap_year;
+    fots_days_in_year;
+    fots_weeks_in_year;
+}

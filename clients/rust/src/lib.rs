@@ -1,0 +1,47 @@
+//! The calendar of Fotsevindre for Rust: dates, times of day, offsets from UTC, durations, months and weekdays, under the names of
+//! the crate `time`.
+//!
+//! Each answer comes from the library of Fotsevindre, which is proved, through its C calls. This crate is the caller alone: it is
+//! safe but for one module that declares these calls, and it is tested, not proved.
+//!
+//! ```
+//! use fotsevindre::{Date, Duration, Month};
+//!
+//! let day = Date::from_calendar_date(2024, Month::February, 29)?;
+//! assert_eq!((day + Duration::days(366)).to_string(), "2025-03-01");
+//! assert_eq!(day.replace_year(2023).unwrap_err().name(), "day");
+//! # Ok::<(), fotsevindre::error::ComponentRange>(())
+//! ```
+//!
+//! A call panics where that of `time` does: an operator past the range, `Duration::days` and the like past the greatest duration,
+//! and an occurrence that the range has not. Beside each of these but the makers of durations is a checked form.
+#![no_std]
+#![deny(missing_docs)]
+#![deny(unsafe_code)]
+
+mod date;
+mod duration;
+pub mod error;
+#[allow(unsafe_code)]
+mod ffi;
+pub mod iter;
+mod month;
+mod pair;
+mod text;
+mod time;
+mod utc_offset;
+pub mod util;
+mod weekday;
+
+pub use date::Date;
+pub use duration::{Duration, SignedDuration};
+pub use month::Month;
+pub use pair::{add_to_pair, sub_from_pair};
+pub use time::Time;
+pub use utc_offset::UtcOffset;
+pub use weekday::Weekday;
+
+/// The page of the guide, whose examples are tested with those of the crate.
+#[cfg(doctest)]
+#[doc = include_str!("../../../docs/RUST.md")]
+struct Page;

@@ -1,0 +1,115 @@
+//! The declarations of the client against those of the header.
+
+use std::collections::HashMap;
+
+const HEADER: &str = include_str!("../../../include/fotsevindre.h");
+const DECLARED: &str = include_str!("../src/ffi.rs");
+const ERRORS: &str = include_str!("../src/error.rs");
+
+/// The header without its comments, on one line.
+fn plain() -> String {
+    let mut text = String::new();
+    for (place, part) in HEADER.split("/*").enumerate() {
+        text += if place == 0 { part } else { part.split_once("*/").unwrap().1 };
+    }
+    text.split_whitespace().collect::<Vec<_>>().join(" ")
+}
+
+/// The type of Rust for one of C.
+fn rust_type(name: &str) -> String {
+    match name {
+        "int32_t" | "fots_date" | "fots_offset" => "i32".into(),
+        "uint32_t" => "u32".into(),
+        "int64_t" => "i64".into(),
+        "uint64_t" | "fots_time" => "u64".into(),
+        "fots_duration" => "CDuration".into(),
+        _ => {
+            let words = name.strip_prefix("fots_").unwrap().split('_');
+            words.map(|word| word[..1].to_uppercase() + &word[1..]).collect()
+        }
+    }
+}
+
+/// A list of C declarations, as `i32, u32`, or with the names as `date: i32`.
+fn list(parts: &str, separator: char, with_names: bool) -> String {
+    let parts = parts.split(separator).map(str::trim).filter(|part| !part.is_empty());
+    let parts = parts.map(|part| {
+        let (kind, name) = part.rsplit_once(' ').unwrap();
+        if with_names {
+            format!("{name}: {}", rust_type(kind))
+        } else {
+            rust_type(kind)
+        }
+    });
+    parts.collect::<Vec<_>>().join(", ")
+}
+
+/// Each call of the header that takes no pointer: its arguments and what it returns.
+fn calls_of_header() -> HashMap<String, (String, String)> {
+    let plain = plain();
+    let calls = plain.split(';').filter_map(|line| {
+        let (before, arguments) = line.trim().strip_suffix(')')?.split_once('(')?;
+        let (result, name) = before.rsplit_once(' ')?;
+        let result = result.rsplit_once(' ').map_or(result, |(_, last)| last);
+        let is_plain = name.starts_with("fots_") && !arguments.contains('*');
+        is_plain.then(|| (name.to_string(), (list(arguments, ',', false), rust_type(result))))
+    });
+    calls.collect()
+}
+
+#[test]
+fn calls_are_those_of_the_header() {
+    let header = calls_of_header();
+    let mut count = 0;
+    for line in DECLARED.lines().filter_map(|line| line.trim().strip_suffix(';')) {
+        let Some((name, rest)) = line.split_once('(').filter(|(name, _)| name.starts_with("fots_")) else {
+            if line.starts_with("fots_") {
+                assert_eq!(header[line], ("i32".into(), "u32".into()), "{line}");
+                count += 1;
+            }
+            continue;
+        };
+        let (arguments, result) = rest.split_once(") -> ").unwrap();
+        let kinds = arguments.split(", ").map(|argument| argument.split_once(": ").unwrap().1);
+        assert_eq!(header[name], (kinds.collect::<Vec<_>>().join(", "), result.into()), "{name}");
+        count += 1;
+    }
+    assert!(count > 90, "{count} calls were found");
+}
+
+#[test]
+fn structs_are_those_of_the_header() {
+    let plain = plain();
+    let mut count = 0;
+    for part in plain.split("typedef struct ").skip(1) {
+        let (name, rest) = part.split_once(" { ").unwrap();
+        let fields = list(rest.split_once('}').unwrap().0, ';', true);
+        let declared = match fields.strip_prefix("status: i32, ") {
+            Some(fields) => format!("    {} {{ {fields} }} => ", rust_type(name)),
+            None => {
+                assert_eq!((name, fields.as_str()), ("fots_duration", "seconds: i64, nanoseconds: i32"));
+                "    pub(crate) seconds: i64,\n    pub(crate) nanoseconds: i32,\n}".into()
+            }
+        };
+        assert!(DECLARED.contains(&declared), "{declared}");
+        count += 1;
+    }
+    assert_eq!(count, 14);
+}
+
+#[test]
+fn refusals_are_those_of_the_header() {
+    let plain = plain();
+    let mut count = 0;
+    for part in plain.split("case FOTS_").skip(1) {
+        let (name, rest) = part.split_once(": return \"").unwrap();
+        let text = rest.split_once('"').unwrap().0;
+        let number = plain.split_once(&format!("FOTS_{name} = ")).unwrap().1;
+        let number: i32 = number.split(|c: char| !c.is_ascii_digit()).next().unwrap().parse().unwrap();
+        if number >= 16 {
+            assert!(ERRORS.contains(&format!("            {number} => \"{text}\",\n")), "{name}");
+            count += 1;
+        }
+    }
+    assert_eq!(count, ERRORS.lines().filter(|line| line.contains(" => \"")).count());
+}
