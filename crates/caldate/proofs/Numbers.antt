@@ -1,6 +1,6 @@
 -- What std's `parse` says, in the words of the definition of a number.
-use Rattle.std.proofs.Common.{◌≡◌, ℕ, suc, zero, ◌<◌, Bool, true, false, cond, eqb, List, [], ◌∷◌, ℤ, pos, negsuc, Option, Some, None, Result, Ok, Err, refl, sym, ap, ◌∙◌, arith, inl, inr, Decides, ◌&&◌, subst}
-use Rattle.std.specs.Prelude.{int_le, nat_lt, length, FitsSigned, IsUtf8, IsAscii}
+use Rattle.std.proofs.Common.{◌≡◌, ℕ, suc, zero, ◌<◌, Bool, true, false, cond, eqb, List, [], ◌∷◌, ℤ, pos, negsuc, Some, None, Result, Ok, Err, refl, sym, ap, ◌∙◌, arith, inl, inr, Decides, ◌&&◌, subst}
+use Rattle.std.specs.Prelude.{int_le, nat_lt, FitsSigned, IsUtf8, IsAscii}
 use Rattle.std.specs.Int.{w64}
 use Rattle.std.specs.Result.{OkIff, result_ok}
 use Rattle.std.specs.Str.{all_ascii_digits}

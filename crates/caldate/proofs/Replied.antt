@@ -1,5 +1,5 @@
 -- The reply to a line, from the words for its text.
-use Rattle.std.proofs.Common.{◌≡◌, ℕ, zero, suc, ◌+◌, ◌-◌, ◌<◌, ◌≤◌, Bool, true, false, cond, eqb, List, [], ◌∷◌, ◌++◌, length, take, get_or, codes, refl, sym, ap, ◌∙◌, subst, arith, inl, inr, length-append, length-take, append_assoc}
+use Rattle.std.proofs.Common.{◌≡◌, ℕ, ◌+◌, ◌-◌, ◌<◌, Bool, true, false, cond, eqb, List, [], ◌∷◌, ◌++◌, length, take, get_or, codes, refl, sym, ap, ◌∙◌, subst, arith, inl, inr, length-append, length-take, append_assoc}
 use Rattle.std.proofs.lemmas.List.{get_or-append-add}
 use Rattle.caldate.specs.Answers.{HasAnswer, LacksAnswer}
 use Rattle.caldate.specs.Lines.{has_return, text_of, end_of}

@@ -1,5 +1,5 @@
 -- What arguments ask for, by their first word and the others.
-use Rattle.std.proofs.Common.{◌≡◌, ℕ, Bool, true, false, cond, eqb, List, [], ◌∷◌, Option, None, Some, refl, sym, ap, ◌∙◌, inl, inr, arith, length, ◌<◌, ℤ, pos, ◌*ℤ◌}
+use Rattle.std.proofs.Common.{◌≡◌, ℕ, Bool, true, false, cond, eqb, List, [], ◌∷◌, Option, None, Some, refl, sym, ap, ◌∙◌, arith, length, ◌<◌, ℤ, pos, ◌*ℤ◌}
 use Rattle.std.specs.Prelude.{FitsSigned, bytes_eq, codes}
 use Rattle.std.specs.Int.{w64}
 use Rattle.std.proofs.lemmas.List.Splits.{length-slice_split}

@@ -1,7 +1,7 @@
 -- What a run does to the bytes of its reader and its writer, where those are told.
 use Rattle.std.specs.Prelude.{◌≡◌, ℕ, ◌+◌, ◌<◌, Bool, true, false, List, [], ◌∷◌, ◌++◌, length, Option}
 use Rattle.std.specs.List.{slice_split}
-use Rattle.std.specs.Io.KnownBytes.{Appends, Consumes, IsAtEnd}
+use Rattle.std.specs.Io.KnownBytes.{Appends, Consumes}
 use Rattle.caldate.specs.Answers.{HasAnswer, LacksAnswer, IsAnswer}
 use Rattle.caldate.specs.Lines.{is_end, lines_of, text_of}
 use Rattle.caldate.specs.Standing.{AreReplies, Stands, counted}

@@ -1,4 +1,3 @@
-use Rattle.std.proofs.Common.{◌≡◌, ap, inl, inr}
 use Rattle.caldate.proofs.Texts.{short_name}
 use Rattle.caldate.proofs.Lacks.{lacks_none, lacks_why}
 use Rattle.caldate.proofs.answer.push_answer.Goals as goal

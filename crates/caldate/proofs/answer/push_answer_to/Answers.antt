@@ -1,4 +1,4 @@
-use Rattle.std.proofs.Common.{ℕ, sym, subst}
+use Rattle.std.proofs.Common.{subst}
 use Rattle.caldate.specs.Answers.{IsAlike, IsAnswerTo}
 use Rattle.caldate.proofs.Laters.{one_later}
 use Rattle.caldate.proofs.answer.push_answer_to.Goals as goal

@@ -1,4 +1,4 @@
-use Rattle.std.proofs.Common.{◌≡◌, ◌∙◌, ◌∷◌, [], Some, ap, sym}
+use Rattle.std.proofs.Common.{◌∙◌, ◌∷◌, ap, sym}
 use Rattle.std.specs.Prelude.{option_and_then}
 use Rattle.caldate.specs.Requests.{add_request, amount_in}
 use Rattle.caldate.proofs.asked.add_request.Goals as goal

@@ -1,6 +1,6 @@
-use Rattle.std.proofs.Common.{◌≡◌, ◌∙◌, ◌++◌, List, ℕ, Bool, true, false, sym, ap, subst, inl, inr}
+use Rattle.std.proofs.Common.{◌≡◌, ◌∙◌, ◌++◌, List, ℕ, true, sym, subst, inl, inr}
 use Rattle.std.proofs.lemmas.Bool.{cases_Bool, false≢true}
-use Rattle.caldate.specs.Answers.{HasAnswer, LacksAnswer}
+use Rattle.caldate.specs.Answers.{LacksAnswer}
 use Rattle.caldate.specs.Lines.{text_of}
 use Rattle.caldate.specs.Runs.{AppendsThat, IsAllowed}
 use Rattle.caldate.specs.Standing.{IsHeld}

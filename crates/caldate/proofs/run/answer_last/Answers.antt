@@ -1,8 +1,8 @@
-use Rattle.std.proofs.Common.{◌≡◌, ◌<◌, ◌++◌, ℕ, List, [], length, arith, rules, sym, subst}
+use Rattle.std.proofs.Common.{◌≡◌, ◌<◌, ◌++◌, [], length, arith, rules, subst}
 use Rattle.std.specs.Io.KnownBytes.{Appends}
 use Rattle.std.proofs.lemmas.Result.{on_ok_weaker}
 use Rattle.caldate.specs.Runs.{AppendsFront, AppendsThat, EndsFrom, IsAllowed}
-use Rattle.caldate.specs.Standing.{IsHeld, IsReply, Stands}
+use Rattle.caldate.specs.Standing.{IsReply, Stands}
 use Rattle.caldate.proofs.Ends.{empty, same_number, write_failed}
 use Rattle.caldate.proofs.Steps.{all_answered, last_answered, last_failed, last_stopped}
 use Rattle.caldate.proofs.run.answer_last.Goals as goal

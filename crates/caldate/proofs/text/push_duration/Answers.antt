@@ -1,4 +1,4 @@
-use Rattle.std.proofs.Common.{◌≡◌, ◌∙◌, ◌+◌, ◌*◌, ◌++◌, [], ◌∷◌, pos, ◌<ℤ◌, ap, sym, append_assoc, rules, arith}
+use Rattle.std.proofs.Common.{◌≡◌, ◌∙◌, ◌+◌, ◌*◌, ◌++◌, [], ◌∷◌, pos, ◌<ℤ◌, ap, append_assoc, rules, arith}
 use Rattle.cal_time.specs.SignedDuration.{second, parts_text}
 use Rattle.cal_span.proofs.Text.{text-negative, text-positive}
 use Rattle.caldate.proofs.Texts.{duration_parts}

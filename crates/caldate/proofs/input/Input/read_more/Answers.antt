@@ -1,5 +1,4 @@
-use Rattle.std.proofs.Common.{◌≡◌, ◌∙◌, ◌-◌, ◌≤◌, ◌++◌, length, rules, ap}
-use Rattle.caldate.specs.Runs.{HasRead}
+use Rattle.std.proofs.Common.{◌∙◌, ◌-◌, ◌≤◌, ◌++◌, length, rules, ap}
 use Rattle.caldate.proofs.Known.{given_more}
 use Rattle.caldate.proofs.input.Input.read_more.Goals as goal
 

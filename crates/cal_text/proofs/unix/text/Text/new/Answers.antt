@@ -1,4 +1,4 @@
-use Rattle.std.proofs.Common.{◌≡◌, sym, subst}
+use Rattle.std.proofs.Common.{subst}
 use Rattle.cal_text.specs.UnixText.{HasUnixForm, unix_text}
 use Rattle.cal_text.proofs.UnixPrinted.{printed}
 use Rattle.cal_text.proofs.unix.text.Text.new.Goals as goal
