@@ -3,11 +3,60 @@ use crate::date::{OrdinalText, WeekText, read};
 use crate::julian_day::JulianText;
 use crate::{Unreadable, julian_day};
 use cal_time::{Date, Month, SignedDuration, Time, UtcOffset};
+use std::fmt::Debug;
+use std::process::Abort;
 use std::test::Fail;
 
 mod any;
 mod moments;
 mod unix_times;
+
+/// Stops the test unless the two are equal. One function for all is proved once, where `assert_eq!` is proved at each place.
+fn same<T: Copy + Debug + PartialEq>(rt: &impl Abort, found: T, wanted: T) {
+    assert!(rt; found == wanted, "{found:?} and not {wanted:?}");
+}
+
+/// Stops the test unless this is what was read in the row, which is a text or what was changed in one.
+fn reads<T: Copy + Debug + PartialEq, R: Copy + Debug>(
+    rt: &impl Abort,
+    row: R,
+    found: &Result<T, Unreadable>,
+    wanted: &Result<T, Unreadable>,
+) {
+    assert!(rt;
+        *found == *wanted,
+        "{found:?} and not {wanted:?} at {row:?}"
+    );
+}
+
+/// Stops the test unless the text was refused for the byte at this place.
+fn wrong_at<T: Copy + Debug + PartialEq>(
+    rt: &impl Abort,
+    text: &str,
+    found: &Result<T, Unreadable>,
+    place: usize,
+) {
+    reads(rt, text, found, &Err(Unreadable::UnexpectedByte(place)));
+}
+
+/// Stops the test unless the text was refused for the component of this name, with this mark.
+fn out_of_range<T: Copy + Debug>(
+    rt: &impl Abort,
+    text: &str,
+    found: &Result<T, Unreadable>,
+    name: &str,
+    is_conditional: bool,
+) {
+    match found {
+        Err(Unreadable::OutOfRange(error)) => {
+            assert!(rt;
+                error.name() == name && error.is_conditional() == is_conditional,
+                "{text}: {error:?} and not {name} {is_conditional}"
+            );
+        }
+        other => panic!(rt; "{text}: {other:?}"),
+    }
+}
 
 #[test]
 fn dates_in_three_forms(rt: HostRuntime) -> Result<(), Fail> {
@@ -31,7 +80,7 @@ fn dates_in_three_forms(rt: HostRuntime) -> Result<(), Fail> {
         let Ok(date) = Date::from_calendar_date(year, month, day) else {
             return Err(Fail::from("a date"));
         };
-        assert_eq!(rt; read(text.as_bytes()), Ok(date), "{text}");
+        reads(&rt, text, &read(text.as_bytes()), &Ok(date));
     }
     Ok(())
 }
@@ -53,13 +102,7 @@ fn components_out_of_range(rt: HostRuntime) {
         ("2021-W00-1", "week", true),
         ("+999999-W52-6", "weekday", true),
     ] {
-        match read(text.as_bytes()) {
-            Err(Unreadable::OutOfRange(error)) => {
-                assert_eq!(rt; error.name(), name, "{text}");
-                assert_eq!(rt; error.is_conditional(), is_conditional, "{text}");
-            }
-            other => assert!(rt; false, "{text}: {other:?}"),
-        }
+        out_of_range(&rt, text, &read(text.as_bytes()), name, is_conditional);
     }
 }
 
@@ -94,11 +137,7 @@ fn first_wrong_bytes(rt: HostRuntime) {
         ("2024-W09-8", 9),
         ("2024-W09-41", 10),
     ] {
-        assert_eq!(rt;
-            read(text.as_bytes()),
-            Err(Unreadable::UnexpectedByte(place)),
-            "{text}"
-        );
+        wrong_at(&rt, text, &read(text.as_bytes()), place);
     }
 }
 
@@ -111,7 +150,7 @@ fn texts_of_errors(rt: HostRuntime) -> Result<(), Fail> {
         let Err(refused) = read(text.as_bytes()) else {
             return Err(Fail::from("a text that is read"));
         };
-        assert_eq!(rt; format!(in rt.alloc(); "{refused}")?.as_str(), error);
+        same(&rt, format!(in rt.alloc(); "{refused}")?.as_str(), error);
     }
     Ok(())
 }
@@ -130,9 +169,9 @@ fn each_byte_replaced(rt: HostRuntime) {
                 assert!(rt; place >= i || text[place] == b'x');
                 if place < 12 {
                     let wrong = Err(Unreadable::UnexpectedByte(place));
-                    assert_eq!(rt; read(&changed[..place + 1]), wrong);
+                    reads(&rt, (i, byte), &read(&changed[..place + 1]), &wrong);
                     changed[place] = b'!';
-                    assert_eq!(rt; read(&changed), wrong);
+                    reads(&rt, (i, byte), &read(&changed), &wrong);
                 }
             }
         }
@@ -151,30 +190,36 @@ fn texts_of_dates(rt: HostRuntime) -> Result<(), Fail> {
         let Ok(date) = Date::from_julian_day(julian_day) else {
             return Err(Fail::from("a date"));
         };
-        assert_eq!(rt;
+        same(
+            &rt,
             format!(in rt.alloc(); "{}", OrdinalText(date))?.as_str(),
-            ordinal
+            ordinal,
         );
-        assert_eq!(rt;
+        same(
+            &rt,
             format!(in rt.alloc(); "{}", WeekText(date))?.as_str(),
-            week
+            week,
         );
     }
-    assert_eq!(rt;
+    same(
+        &rt,
         format!(in rt.alloc(); "{}", OrdinalText(Date::MAX))?.as_str(),
-        "+999999-365"
+        "+999999-365",
     );
-    assert_eq!(rt;
+    same(
+        &rt,
         format!(in rt.alloc(); "{}", WeekText(Date::MAX))?.as_str(),
-        "+999999-W52-5"
+        "+999999-W52-5",
     );
-    assert_eq!(rt;
+    same(
+        &rt,
         format!(in rt.alloc(); "{:>13}", OrdinalText(Date::MIN))?.as_str(),
-        "  -999999-001"
+        "  -999999-001",
     );
-    assert_eq!(rt;
+    same(
+        &rt,
         format!(in rt.alloc(); "{:*<14}", WeekText(Date::MIN))?.as_str(),
-        "-999999-W01-1*"
+        "-999999-W01-1*",
     );
     Ok(())
 }
@@ -192,7 +237,7 @@ fn days_printed_and_read(rt: HostRuntime) -> Result<(), Fail> {
                 format!(in rt.alloc(); "{}", OrdinalText(date))?,
                 format!(in rt.alloc(); "{}", WeekText(date))?,
             ] {
-                assert_eq!(rt; read(text.as_bytes()), Ok(date));
+                reads(&rt, day, &read(text.as_bytes()), &Ok(date));
             }
         }
     }
@@ -211,17 +256,21 @@ fn julian_days(rt: HostRuntime) -> Result<(), Fail> {
         let Ok(date) = Date::from_julian_day(number) else {
             return Err(Fail::from("a date"));
         };
-        assert_eq!(rt; julian_day::read(text.as_bytes()), Ok(date));
-        assert_eq!(rt;
+        reads(&rt, text, &julian_day::read(text.as_bytes()), &Ok(date));
+        same(
+            &rt,
             format!(in rt.alloc(); "{}", JulianText(date))?.as_str(),
-            text
+            text,
         );
     }
     for text in ["J366963560", "J-363521075", "J999999999"] {
-        match julian_day::read(text.as_bytes()) {
-            Err(Unreadable::OutOfRange(error)) => assert_eq!(rt; error.name(), "julian_day"),
-            other => assert!(rt; false, "{text}: {other:?}"),
-        }
+        out_of_range(
+            &rt,
+            text,
+            &julian_day::read(text.as_bytes()),
+            "julian_day",
+            false,
+        );
     }
     for (text, place) in [
         ("", 0),
@@ -237,8 +286,7 @@ fn julian_days(rt: HostRuntime) -> Result<(), Fail> {
         ("J2460370.5", 8),
         ("J2460370 ", 8),
     ] {
-        let wrong = Err(Unreadable::UnexpectedByte(place));
-        assert_eq!(rt; julian_day::read(text.as_bytes()), wrong, "{text}");
+        wrong_at(&rt, text, &julian_day::read(text.as_bytes()), place);
     }
     Ok(())
 }

@@ -1,5 +1,6 @@
 //! Texts read in whichever form they come.
-use crate::{DateOrMoment, Unreadable, read_any};
+use crate::tests::{out_of_range, reads, wrong_at};
+use crate::{DateOrMoment, read_any};
 use cal_time::{Date, Month, Time, UtcOffset};
 use std::test::Fail;
 
@@ -31,7 +32,7 @@ fn texts_in_any_form(rt: HostRuntime) -> Result<(), Fail> {
         ("+999999-12-31", DateOrMoment::Calendar(Date::MAX)),
         ("-999999-001", DateOrMoment::Ordinal(Date::MIN)),
     ] {
-        assert_eq!(rt; read_any(text.as_bytes()), Ok(found), "{text}");
+        reads(&rt, text, &read_any(text.as_bytes()), &Ok(found));
     }
     Ok(())
 }
@@ -48,13 +49,7 @@ fn components_of_texts_in_any_form(rt: HostRuntime) {
         ("1990-12-31T23:59:60Z", "second", false),
         ("@-31619087596801", "timestamp", false),
     ] {
-        match read_any(text.as_bytes()) {
-            Err(Unreadable::OutOfRange(error)) => {
-                assert_eq!(rt; error.name(), name, "{text}");
-                assert_eq!(rt; error.is_conditional(), is_conditional, "{text}");
-            }
-            other => assert!(rt; false, "{text}: {other:?}"),
-        }
+        out_of_range(&rt, text, &read_any(text.as_bytes()), name, is_conditional);
     }
 }
 
@@ -76,7 +71,6 @@ fn first_wrong_bytes_in_any_form(rt: HostRuntime) {
         ("+999999-02T00:00:00Z", 10),
         ("+999999-0 T", 9),
     ] {
-        let wrong = Err(Unreadable::UnexpectedByte(place));
-        assert_eq!(rt; read_any(text.as_bytes()), wrong, "{text}");
+        wrong_at(&rt, text, &read_any(text.as_bytes()), place);
     }
 }

@@ -1,6 +1,7 @@
 //! Moments of RFC 3339, read and printed.
 use crate::Unreadable;
 use crate::rfc3339::{Text, read};
+use crate::tests::{out_of_range, reads, same, wrong_at};
 use cal_time::{Date, Month, Time, UtcOffset};
 use std::process::Abort;
 use std::test::Fail;
@@ -75,7 +76,7 @@ fn moments_read(rt: HostRuntime) {
             ((2024, 2, 29), (0, 0, 0, 1), (0, 0)),
         ),
     ] {
-        assert_eq!(rt; read(text.as_bytes()), Ok(moment(&rt, numbers)), "{text}");
+        reads(&rt, text, &read(text.as_bytes()), &Ok(moment(&rt, numbers)));
     }
 }
 
@@ -94,13 +95,7 @@ fn components_of_moments_out_of_range(rt: HostRuntime) {
         ("2024-02-29T23:59:59-24:00", "offset hour", false),
         ("2024-02-29T23:59:59-23:60", "offset minute", false),
     ] {
-        match read(text.as_bytes()) {
-            Err(Unreadable::OutOfRange(error)) => {
-                assert_eq!(rt; error.name(), name, "{text}");
-                assert_eq!(rt; error.is_conditional(), is_conditional, "{text}");
-            }
-            other => assert!(rt; false, "{text}: {other:?}"),
-        }
+        out_of_range(&rt, text, &read(text.as_bytes()), name, is_conditional);
     }
 }
 
@@ -127,8 +122,7 @@ fn first_wrong_bytes_of_moments(rt: HostRuntime) {
         ("2024-02-29T00:00:00+0100", 22),
         ("2024-02-29T00:00:00+01:00:00", 25),
     ] {
-        let wrong = Err(Unreadable::UnexpectedByte(place));
-        assert_eq!(rt; read(text.as_bytes()), wrong, "{text}");
+        wrong_at(&rt, text, &read(text.as_bytes()), place);
     }
 }
 
@@ -149,9 +143,9 @@ fn each_byte_of_a_moment_replaced(rt: HostRuntime) {
                 assert!(rt; place >= i);
                 if place < 28 {
                     let wrong = Err(Unreadable::UnexpectedByte(place));
-                    assert_eq!(rt; read(&changed[..place + 1]), wrong);
+                    reads(&rt, (i, byte), &read(&changed[..place + 1]), &wrong);
                     changed[place] = b'!';
-                    assert_eq!(rt; read(&changed), wrong);
+                    reads(&rt, (i, byte), &read(&changed), &wrong);
                 }
             }
         }
@@ -179,16 +173,17 @@ fn moments_printed(rt: HostRuntime) -> Result<(), Fail> {
         let Some(printed) = Text::new(date, time, offset) else {
             return Err(Fail::from("a text"));
         };
-        assert_eq!(rt; format!(in rt.alloc(); "{printed}")?.as_str(), text);
-        assert_eq!(rt; read(text.as_bytes()), Ok((date, time, offset)));
+        same(&rt, format!(in rt.alloc(); "{printed}")?.as_str(), text);
+        reads(&rt, text, &read(text.as_bytes()), &Ok((date, time, offset)));
     }
     let (date, time, offset) = moment(&rt, ((2024, 2, 29), (0, 0, 0, 0), (0, 0)));
     let Some(printed) = Text::new(date, time, offset) else {
         return Err(Fail::from("a text"));
     };
-    assert_eq!(rt;
+    same(
+        &rt,
         format!(in rt.alloc(); "{printed:>22}|{printed:_<21}|{printed:2}|")?.as_str(),
-        "  2024-02-29T00:00:00Z|2024-02-29T00:00:00Z_|2024-02-29T00:00:00Z|"
+        "  2024-02-29T00:00:00Z|2024-02-29T00:00:00Z_|2024-02-29T00:00:00Z|",
     );
     Ok(())
 }
@@ -239,7 +234,12 @@ fn moments_printed_and_read(rt: HostRuntime) -> Result<(), Fail> {
                 return Err(Fail::from("a text"));
             };
             let text = format!(in rt.alloc(); "{printed}")?;
-            assert_eq!(rt; read(text.as_bytes()), Ok((date, time, offset)));
+            reads(
+                &rt,
+                text.as_str(),
+                &read(text.as_bytes()),
+                &Ok((date, time, offset)),
+            );
         }
     }
     Ok(())

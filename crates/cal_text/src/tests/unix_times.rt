@@ -1,5 +1,6 @@
 //! Unix times: as numbers, read and printed.
-use crate::{Unreadable, unix};
+use crate::tests::{out_of_range, reads, same, wrong_at};
+use crate::unix;
 use cal_time::{Date, Month, SignedDuration, Time, UtcOffset};
 use std::test::Fail;
 
@@ -50,8 +51,8 @@ fn unix_times(rt: HostRuntime) -> Result<(), Fail> {
         let duration = SignedDuration::seconds(seconds).saturating_add(SignedDuration::nanoseconds(
             nanoseconds,
         ));
-        assert_eq!(rt; unix::duration_of(date, time, offset), duration);
-        assert_eq!(rt; unix::pair_of(duration, offset), Some((date, time)));
+        same(&rt, unix::duration_of(date, time, offset), duration);
+        same(&rt, unix::pair_of(duration, offset), Some((date, time)));
     }
     Ok(())
 }
@@ -62,26 +63,33 @@ fn unix_times_at_the_ends(rt: HostRuntime) -> Result<(), Fail> {
         return Err(Fail::from("an offset"));
     };
     let last = unix::duration_of(Date::MAX, Time::MAX, UtcOffset::UTC);
-    assert_eq!(rt;
+    same(
+        &rt,
         unix::pair_of(last, UtcOffset::UTC),
-        Some((Date::MAX, Time::MAX))
+        Some((Date::MAX, Time::MAX)),
     );
-    assert_eq!(rt;
+    same(
+        &rt,
         unix::pair_of(
             last.saturating_add(SignedDuration::NANOSECOND),
-            UtcOffset::UTC
+            UtcOffset::UTC,
         ),
-        None
+        None,
     );
-    assert_eq!(rt; unix::pair_of(last, hour_east), None);
+    same(&rt, unix::pair_of(last, hour_east), None);
     let first = unix::duration_of(Date::MIN, Time::MIDNIGHT, hour_east);
-    assert_eq!(rt;
+    same(
+        &rt,
         unix::pair_of(first, hour_east),
-        Some((Date::MIN, Time::MIDNIGHT))
+        Some((Date::MIN, Time::MIDNIGHT)),
     );
-    assert_eq!(rt; unix::pair_of(first, UtcOffset::UTC), None);
-    assert_eq!(rt; unix::pair_of(SignedDuration::MAX, hour_east), None);
-    assert_eq!(rt; unix::pair_of(SignedDuration::MIN, UtcOffset::UTC), None);
+    same(&rt, unix::pair_of(first, UtcOffset::UTC), None);
+    same(&rt, unix::pair_of(SignedDuration::MAX, hour_east), None);
+    same(
+        &rt,
+        unix::pair_of(SignedDuration::MIN, UtcOffset::UTC),
+        None,
+    );
     Ok(())
 }
 
@@ -103,17 +111,14 @@ fn unix_times_read(rt: HostRuntime) -> Result<(), Fail> {
         let Some(pair) = unix::pair_of(since, UtcOffset::UTC) else {
             return Err(Fail::from("a date and a time"));
         };
-        assert_eq!(rt; unix::read(text.as_bytes()), Ok(pair), "{text}");
+        reads(&rt, text, &unix::read(text.as_bytes()), &Ok(pair));
     }
     for text in [
         "@31494784780800",
         "@-31619087596800.000000001",
         "@999999999999999999",
     ] {
-        match unix::read(text.as_bytes()) {
-            Err(Unreadable::OutOfRange(error)) => assert_eq!(rt; error.name(), "timestamp"),
-            other => assert!(rt; false, "{text}: {other:?}"),
-        }
+        out_of_range(&rt, text, &unix::read(text.as_bytes()), "timestamp", false);
     }
     Ok(())
 }
@@ -142,8 +147,7 @@ fn first_wrong_bytes_of_unix_times(rt: HostRuntime) {
         ("@1709164800 ", 11),
         ("@1000000000000000000", 19),
     ] {
-        let wrong = Err(Unreadable::UnexpectedByte(place));
-        assert_eq!(rt; unix::read(text.as_bytes()), wrong, "{text}");
+        wrong_at(&rt, text, &unix::read(text.as_bytes()), place);
     }
 }
 
@@ -169,12 +173,13 @@ fn unix_times_printed(rt: HostRuntime) -> Result<(), Fail> {
             return Err(Fail::from("a date and a time"));
         };
         let printed = unix::Text::new(date, time, UtcOffset::UTC);
-        assert_eq!(rt; format!(in rt.alloc(); "{printed}")?.as_str(), text);
+        same(&rt, format!(in rt.alloc(); "{printed}")?.as_str(), text);
     }
     let east = unix::Text::new(Date::MIN, Time::MIDNIGHT, hour_east);
-    assert_eq!(rt;
+    same(
+        &rt,
         format!(in rt.alloc(); "{east:>19}|{east:_<18}|{east:2}|")?.as_str(),
-        "   @-31619087600400|@-31619087600400__|@-31619087600400|"
+        "   @-31619087600400|@-31619087600400__|@-31619087600400|",
     );
     Ok(())
 }
