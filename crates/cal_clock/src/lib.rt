@@ -8,6 +8,3 @@ mod utc_offset;
 
 pub use time::Time;
 pub use utc_offset::UtcOffset;
-
-#[cfg(test)]
-mod tests;

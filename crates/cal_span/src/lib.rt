@@ -5,6 +5,3 @@ mod laws;
 mod signed_duration;
 
 pub use signed_duration::SignedDuration;
-
-#[cfg(test)]
-mod tests;

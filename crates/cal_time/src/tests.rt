@@ -1,10 +1,16 @@
 //! Worked values, under the names of this crate alone. Each was computed apart from the code.
+ghost use Rattle.std.specs.Prelude.{◌≡◌};
+ghost use Rattle.std.specs.List.{fold};
+ghost use Rattle.std.specs.Hash.DefaultHasher as hasher;
+
 use crate::error::ComponentRange;
 use crate::{Date, Month, Time, UtcOffset};
 use std::fmt::Debug;
 use std::hash::{DefaultHasher, Hash, Hasher};
 use std::process::Abort;
 
+mod conditions;
+mod counted;
 mod cycles;
 mod dates;
 mod durations;
@@ -68,7 +74,9 @@ fn same_at<T: Copy + Debug + PartialEq, P: Copy + Debug>(
     );
 }
 
-fn hash_of<T: Hash>(value: &T) -> u64 {
+fn hash_of<T: Hash>(value: &T) -> u64
+    ensures { result ≡ hasher.finish (fold hasher.write hasher.initial (T.hash_input value.now)) }
+{
     let mut state = DefaultHasher::new();
     value.hash(&mut state);
     state.finish()

@@ -20,6 +20,3 @@ pub use cycle::Cycle;
 pub use month::Month;
 pub use steps::nth_in;
 pub use weekday::Weekday;
-
-#[cfg(test)]
-mod tests;

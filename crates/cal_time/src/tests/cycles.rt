@@ -68,7 +68,6 @@ fn months_have_numbers_and_names(rt: HostRuntime) {
         };
         check(&rt, error, "month", false);
     }
-    same(&rt, "march".parse::<Month>(), Err(InvalidVariant));
     assert!(rt; Month::September < Month::October);
 }
 
@@ -92,7 +91,16 @@ fn weekdays_have_numbers_and_names(rt: HostRuntime) {
     same(&rt, Weekday::Sunday as u8, 6);
     same(&rt, Weekday::Sunday.number_days_from_sunday(), 0);
     same(&rt, Weekday::Monday.number_days_from_sunday(), 1);
-    same(&rt, "monday".parse::<Weekday>(), Err(InvalidVariant));
+}
+
+#[test]
+fn other_texts_are_no_names(rt: HostRuntime) {
+    for text in ["march", "MARCH", "Mar", "March ", ""] {
+        same_at(&rt, text, text.parse::<Month>(), Err(InvalidVariant));
+    }
+    for text in ["monday", "friday", "Fri", "Friday ", ""] {
+        same_at(&rt, text, text.parse::<Weekday>(), Err(InvalidVariant));
+    }
 }
 
 #[test]
@@ -153,6 +161,32 @@ fn walks_over_the_months_have_bounds(rt: HostRuntime) {
     same(&rt, back.clone().min(), first);
     same(&rt, back.clone().max(), last);
     assert!(rt; !back.is_sorted());
+}
+
+#[test]
+fn all_and_any_ask_each_value(rt: HostRuntime) {
+    for (start, limit, answers) in [
+        (Month::June, 5, [false, true, false, true]),
+        (Month::June, 13, [true, true, true, true]),
+        (Month::December, 1, [false, false, false, false]),
+    ] {
+        let mut walk = MonthIter::new(start);
+        let (all, any) = (
+            walk.all_once(|month| (month as u8) < limit),
+            walk.any_once(|month| (month as u8) < limit),
+        );
+        let mut back = walk.rev();
+        let backwards = (
+            back.all_once(|month| (month as u8) < limit),
+            back.any_once(|month| (month as u8) < limit),
+        );
+        same_at(
+            &rt,
+            (start, limit),
+            [all, any, backwards.0, backwards.1],
+            answers,
+        );
+    }
 }
 
 // The questions are counted, as no contract says that none is asked after the deciding answer.

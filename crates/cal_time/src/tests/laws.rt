@@ -1,8 +1,11 @@
 //! Laws that hold between calls, each shown at a few values.
+use crate::error::{ComponentRange, ConversionRange, InvalidVariant};
 use crate::tests::range::{DAYS, FIRST_JULIAN_DAY, FIRST_YEAR, LAST_JULIAN_DAY, LAST_YEAR};
 use crate::tests::{date, hash_of, offset, same, time};
+use crate::util::DateAdjustment;
 use crate::{Counted, Date, Month, SignedDuration, Time, UtcOffset, Weekday};
 use std::process::Abort;
+use std::test::Fail;
 
 fn days(rt: &impl Abort) -> [Date; 4] {
     [
@@ -272,4 +275,20 @@ fn a_walk_gives_each_day_once_from_whichever_end(rt: HostRuntime) {
         assert!(rt; gives_each_day_once(&first, &[is_from_front, true]));
         assert!(rt; gives_each_day_once(&last, &[is_from_front]));
     }
+}
+
+#[test]
+fn clones_are_the_values_themselves(rt: HostRuntime) -> Result<(), Fail> {
+    same(&rt, Month::May.clone()?, Month::May);
+    same(&rt, Weekday::Friday.clone()?, Weekday::Friday);
+    same(&rt, DateAdjustment::Next.clone()?, DateAdjustment::Next);
+    let error = ComponentRange::conditional("day");
+    same(&rt, error.clone()?, error);
+    same(&rt, ConversionRange.clone()?, ConversionRange);
+    same(&rt, InvalidVariant.clone()?, InvalidVariant);
+    same(&rt, SignedDuration::MAX.clone()?, SignedDuration::MAX);
+    same(&rt, Time::MAX.clone()?, Time::MAX);
+    same(&rt, UtcOffset::UTC.clone()?, UtcOffset::UTC);
+    same(&rt, Date::MAX.clone()?, Date::MAX);
+    Ok(())
 }

@@ -133,6 +133,24 @@ fn padded_texts(rt: HostRuntime) -> Result<(), Fail> {
     Ok(())
 }
 
+// A duration ignores a width.
+#[test]
+fn texts_of_durations_under_options(rt: HostRuntime) -> Result<(), Fail> {
+    let duration = SignedDuration::nanoseconds(-1);
+    same(
+        &rt,
+        format!(in rt.alloc(); "{duration:>9}")?.as_str(),
+        "-1ns",
+    );
+    same(
+        &rt,
+        format!(in rt.alloc(); "{duration:09}")?.as_str(),
+        "-1ns",
+    );
+    assert!(rt; !format!(in rt.alloc(); "{duration:?}")?.is_empty());
+    Ok(())
+}
+
 // The form of several lines is that of one line.
 #[test]
 fn styled_texts_for_debugging(rt: HostRuntime) -> Result<(), Fail> {

@@ -1,7 +1,7 @@
 //! Times of day.
 use crate::tests::{check, same, time};
 use crate::util::DateAdjustment;
-use crate::{SignedDuration, Time};
+use crate::{Counted, SignedDuration, Time};
 
 #[test]
 fn making(rt: HostRuntime) {
@@ -24,7 +24,9 @@ fn making(rt: HostRuntime) {
         same(&rt, time.as_hms_nano(), *parts);
     }
     same(&rt, Time::MIDNIGHT.as_hms_nano(), (0, 0, 0, 0));
+    same(&rt, Time::MIDNIGHT.number(), 0);
     same(&rt, Time::MAX.as_hms_nano(), (23, 59, 59, 999_999_999));
+    same(&rt, Time::MAX.number(), 86_399_999_999_999);
 }
 
 #[test]

@@ -1,11 +1,8 @@
 //! The bound at a type of the tests.
 ghost use Rattle.std.specs.Prelude.{◌≡◌, ◌↔◌, ◌<ℤ◌, IsTrue};
-ghost use Rattle.std.specs.List.{fold};
-ghost use Rattle.std.specs.Hash.DefaultHasher as hasher;
 
+use crate::tests::{hash_of, same};
 use crate::{Counted, extent, is_rising};
-use std::hash::{DefaultHasher, Hash, Hasher};
-use std::test::Fail;
 
 /// A floor of a house, counted from the street.
 #[derive(Clone, Copy, PartialEq, Eq, PartialOrd, Ord, Hash, Debug)]
@@ -39,14 +36,6 @@ fn is_same<T: Counted>(a: T, b: T) -> bool
     a == b
 }
 
-fn hash_of<T: Hash>(value: &T) -> u64
-    ensures { result ≡ hasher.finish (fold hasher.write hasher.initial (T.hash_input value.now)) }
-{
-    let mut state = DefaultHasher::new();
-    value.hash(&mut state);
-    state.finish()
-}
-
 fn hashes<T: Counted>(a: T, b: T) -> (u64, u64)
     ensures { T.number_of a ≡ T.number_of b → result.0 ≡ result.1 }
 {
@@ -54,18 +43,17 @@ fn hashes<T: Counted>(a: T, b: T) -> (u64, u64)
 }
 
 #[test]
-fn the_laws_of_counted_values(rt: HostRuntime) -> Result<(), Fail> {
+fn the_laws_of_counted_values(rt: HostRuntime) {
     let (cellar, street) = (Floor(-1), Floor(0));
-    assert_eq!(rt; cellar.number(), -1);
+    same(&rt, cellar.number(), -1);
     assert!(rt; is_below(cellar, street) && !is_below(street, street));
     assert!(rt; is_same(street, Floor(0)) && !is_same(cellar, street));
     let (one, other) = hashes(cellar, Floor(-1));
-    assert_eq!(rt; one, other);
-    Ok(())
+    same(&rt, one, other);
 }
 
 #[test]
-fn the_extent_of_a_slice(rt: HostRuntime) -> Result<(), Fail> {
+fn the_extent_of_a_slice(rt: HostRuntime) {
     let rows: [(&[Floor], Option<(Floor, Floor)>); 3] = [
         (&[], None),
         (&[Floor(4)], Some((Floor(4), Floor(4)))),
@@ -75,13 +63,12 @@ fn the_extent_of_a_slice(rt: HostRuntime) -> Result<(), Fail> {
         ),
     ];
     for (floors, ends) in rows {
-        assert_eq!(rt; extent(floors), ends);
+        same(&rt, extent(floors), ends);
     }
-    Ok(())
 }
 
 #[test]
-fn slices_that_rise(rt: HostRuntime) -> Result<(), Fail> {
+fn slices_that_rise(rt: HostRuntime) {
     let rows: [(&[Floor], bool); 5] = [
         (&[], true),
         (&[Floor(2)], true),
@@ -90,7 +77,6 @@ fn slices_that_rise(rt: HostRuntime) -> Result<(), Fail> {
         (&[Floor(-1), Floor(5), Floor(0)], false),
     ];
     for (floors, rises) in rows {
-        assert_eq!(rt; is_rising(floors), rises);
+        same(&rt, is_rising(floors), rises);
     }
-    Ok(())
 }

@@ -1,13 +1,10 @@
-//! Callers that know no more than a stated condition, the laws of constants and clones, and text under options.
+//! Callers that know no more than the condition that a call states, so a stronger one is refused.
 ghost use Rattle.std.specs.Prelude.{pos, neg_ℤ, ◌+ℤ◌, ◌-ℤ◌, ◌*ℤ◌, FitsSigned};
 ghost use Rattle.std.specs.Int.{w64};
 ghost use Rattle.cal_span.specs.SignedDuration.{second, minute, hour, day, week, IsDuration, HasQuotient, cut};
 
 use crate::SignedDuration;
-use crate::laws::{cloned, limits, units};
-use std::test::Fail;
-
-// Callers that know no more than the condition that each call states.
+use crate::tests::same;
 
 fn made(weeks: i64, days: i64, hours: i64, minutes: i64) -> [SignedDuration; 4]
     requires weeks { IsDuration (weeks *ℤ pos week) }
@@ -107,52 +104,31 @@ fn scaled_by_u32(a: SignedDuration, b: SignedDuration, k: u32) -> [SignedDuratio
 }
 
 #[test]
-fn constants_and_clones_are_given_back(rt: HostRuntime) -> Result<(), Fail> {
-    let [nanosecond, _, _, _, _, _, _, week] = units();
-    assert_eq!(rt;
-        (nanosecond, week),
-        (SignedDuration::NANOSECOND, SignedDuration::WEEK)
-    );
-    let [zero, min, max] = limits();
-    assert_eq!(rt;
-        (zero, min),
-        (SignedDuration::default(), SignedDuration::MIN)
-    );
-    assert_eq!(rt; cloned(max)?, max);
-    Ok(())
-}
-
-#[test]
-fn texts_under_options(rt: HostRuntime) -> Result<(), Fail> {
-    let duration = SignedDuration::nanoseconds(-1);
-    assert_eq!(rt; format!(in rt.alloc(); "{duration:>9}")?.as_str(), "-1ns");
-    assert_eq!(rt; format!(in rt.alloc(); "{duration:09}")?.as_str(), "-1ns");
-    assert!(rt; !format!(in rt.alloc(); "{duration:?}")?.is_empty());
-    Ok(())
-}
-
-#[test]
-fn calls_within_their_conditions(rt: HostRuntime) -> Result<(), Fail> {
+fn calls_within_their_conditions(rt: HostRuntime) {
     let [week, day, hour, minute] = made(1, 1, 1, 1);
-    assert_eq!(rt; week, SignedDuration::WEEK);
-    assert_eq!(rt; (day, hour), (SignedDuration::DAY, SignedDuration::HOUR));
-    assert_eq!(rt; minute, SignedDuration::MINUTE);
+    same(&rt, week, SignedDuration::WEEK);
+    same(
+        &rt,
+        (day, hour),
+        (SignedDuration::DAY, SignedDuration::HOUR),
+    );
+    same(&rt, minute, SignedDuration::MINUTE);
     let second = SignedDuration::SECOND;
     let half = SignedDuration::milliseconds(500);
     let double = SignedDuration::seconds(2);
-    assert_eq!(rt;
+    same(
+        &rt,
         made_of_nanoseconds(0, 1_000_000_000, 1_000_000_000),
-        [second, second]
+        [second, second],
     );
-    assert_eq!(rt; sum(second, second), [double, double]);
-    assert_eq!(rt; difference(double, second), [second, second]);
-    assert_eq!(rt; opposite(second), SignedDuration::seconds(-1));
+    same(&rt, sum(second, second), [double, double]);
+    same(&rt, difference(double, second), [second, second]);
+    same(&rt, opposite(second), SignedDuration::seconds(-1));
     let scaled = [double, half, double, half];
-    assert_eq!(rt; scaled_by_i8(second, second, 2), scaled);
-    assert_eq!(rt; scaled_by_i16(second, second, 2), scaled);
-    assert_eq!(rt; scaled_by_i32(second, second, 2), scaled);
-    assert_eq!(rt; scaled_by_u8(second, second, 2), scaled);
-    assert_eq!(rt; scaled_by_u16(second, second, 2), scaled);
-    assert_eq!(rt; scaled_by_u32(second, second, 2), scaled);
-    Ok(())
+    same(&rt, scaled_by_i8(second, second, 2), scaled);
+    same(&rt, scaled_by_i16(second, second, 2), scaled);
+    same(&rt, scaled_by_i32(second, second, 2), scaled);
+    same(&rt, scaled_by_u8(second, second, 2), scaled);
+    same(&rt, scaled_by_u16(second, second, 2), scaled);
+    same(&rt, scaled_by_u32(second, second, 2), scaled);
 }
