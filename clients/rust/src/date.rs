@@ -12,6 +12,7 @@ use core::ops::{Add, AddAssign, Sub, SubAssign};
 /// with a sign before a negative year and before one of more than four digits. Under a width the whole text is padded. `Debug`
 /// prints the same.
 #[derive(Clone, Copy, PartialEq, Eq, PartialOrd, Ord, Hash)]
+#[repr(transparent)]
 pub struct Date {
     julian_day: i32,
 }

@@ -55,6 +55,9 @@ impl ComponentRange {
     /// The refusal of a number that is none of a month.
     pub(crate) const MONTH: Self = Self { name: "month", is_conditional: false };
 
+    /// The refusal of a number that is none of a weekday.
+    pub(crate) const WEEKDAY: Self = Self { name: "weekday", is_conditional: false };
+
     /// The name of the component, such as `day`.
     pub const fn name(self) -> &'static str {
         self.name

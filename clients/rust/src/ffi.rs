@@ -1,14 +1,22 @@
 //! The calls of the library, each declared as in `fotsevindre.h`, and each behind a safe function of the same name.
 //!
-//! A call takes numbers and returns numbers. It takes no pointer, answers for each argument whatever its bits, and keeps no state. So
-//! each is safe to call wherever the declaration here is that of the header.
+//! A call of one value takes numbers and returns numbers. It takes no pointer, answers for each argument whatever its bits, and keeps
+//! no state. A call over columns reads slices and writes one, each of them passed on with its own length. So each is safe to call
+//! wherever the declaration here is that of the header.
 
+use crate::columns::{CalendarDate, IsoWeekDate, MadeDate, MovedDate, OrdinalDate, WeekdayOfDate};
 use crate::error::ComponentRange;
+use crate::Date;
+use core::mem::MaybeUninit;
 
 /// The status of a call that has an answer.
 const DONE: i32 = 0;
 /// The status of a call whose exact result is no value of its type.
 const PAST_RANGE: i32 = 1;
+/// The status of a call that was given a number that is none of a weekday.
+const BAD_WEEKDAY: i32 = 6;
+/// What a call over columns returns where these are not of one length.
+const UNLIKE: usize = usize::MAX;
 
 /// A duration as it crosses.
 #[repr(C)]
@@ -42,7 +50,10 @@ pub(crate) fn or_none<T>(answer: Answer<T>) -> Option<T> {
 
 /// The answer of a call, or the component that it refuses.
 pub(crate) fn or_refused<T>(answer: Answer<T>) -> Result<T, ComponentRange> {
-    answer.map_err(ComponentRange::of_status)
+    answer.map_err(|status| match status {
+        BAD_WEEKDAY => ComponentRange::WEEKDAY,
+        status => ComponentRange::of_status(status),
+    })
 }
 
 /// Structs that begin with a status, and the value that each has where that is [`DONE`].
@@ -231,4 +242,43 @@ calls_of_years! {
     fots_is_leap_year;
     fots_days_in_year;
     fots_weeks_in_year;
+}
+
+/// Calls over columns: what each is called, its columns, and the rows that it writes.
+macro_rules! calls_over_columns {
+    ($($name:ident($($column:ident: $kind:ty),*) -> $row:ty;)*) => {
+        mod declared_over_columns {
+            use super::*;
+
+            extern "C" {
+                $(pub(super) fn $name($($column: *const $kind, _: usize,)* rows: *mut MaybeUninit<$row>, length: usize) -> usize;)*
+            }
+        }
+
+        $(
+            /// The rows, and how many of them have no answer.
+            #[track_caller]
+            pub(crate) fn $name<'r>($($column: &[$kind],)* rows: &'r mut [MaybeUninit<$row>]) -> (&'r mut [$row], usize) {
+                let refused = unsafe {
+                    declared_over_columns::$name($($column.as_ptr(), $column.len(),)* rows.as_mut_ptr(), rows.len())
+                };
+                assert!(refused != UNLIKE, "columns and rows are not of one length");
+                // The lengths are the same, so each row is written.
+                (unsafe { &mut *(rows as *mut [MaybeUninit<$row>] as *mut [$row]) }, refused)
+            }
+        )*
+    };
+}
+
+// A date is its Julian day alone, and a row the struct that the call of one value returns, so both cross as they are.
+calls_over_columns! {
+    fots_dates_from_julian_days(julian_days: i64) -> MadeDate;
+    fots_dates_from_calendar_dates(years: i32, months: u32, days: u32) -> MadeDate;
+    fots_dates_from_ordinal_dates(years: i32, ordinals: u32) -> MadeDate;
+    fots_dates_from_iso_week_dates(years: i32, weeks: u32, weekdays: u32) -> MadeDate;
+    fots_dates_to_calendar_dates(dates: Date) -> CalendarDate;
+    fots_dates_to_ordinal_dates(dates: Date) -> OrdinalDate;
+    fots_dates_to_iso_week_dates(dates: Date) -> IsoWeekDate;
+    fots_dates_weekdays(dates: Date) -> WeekdayOfDate;
+    fots_dates_add_days(dates: Date, days: i64) -> MovedDate;
 }

@@ -19,6 +19,7 @@
 #![deny(missing_docs)]
 #![deny(unsafe_code)]
 
+pub mod columns;
 mod date;
 mod duration;
 pub mod error;
