@@ -1,3 +1,5 @@
 pub mod Days
 pub mod Durations
 pub mod Rows
+pub mod TextBytes
+pub mod Equals
