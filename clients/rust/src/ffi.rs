@@ -1,11 +1,11 @@
 //! The calls of the library, each declared as in `fotsevindre.h`, and each behind a safe function of the same name.
 //!
 //! A call of one value takes numbers and returns numbers. It takes no pointer, answers for each argument whatever its bits, and keeps
-//! no state. A call over columns reads slices and writes one, each of them passed on with its own length. So each is safe to call
+//! no state. A call that reads a text or columns takes slices, each of them passed on with its own length. So each is safe to call
 //! wherever the declaration here is that of the header.
 
 use crate::columns::{CalendarDate, IsoWeekDate, MadeDate, MovedDate, OrdinalDate, WeekdayOfDate};
-use crate::error::ComponentRange;
+use crate::error::{ComponentRange, Unreadable};
 use crate::Date;
 use core::mem::MaybeUninit;
 
@@ -15,6 +15,8 @@ const DONE: i32 = 0;
 const PAST_RANGE: i32 = 1;
 /// The status of a call that was given a number that is none of a weekday.
 const BAD_WEEKDAY: i32 = 6;
+/// The status of a call that was given bytes of none of its forms.
+const UNREADABLE: i32 = 8;
 /// What a call over columns returns where these are not of one length.
 const UNLIKE: usize = usize::MAX;
 
@@ -103,6 +105,9 @@ results! {
     OffsetPartsResult { hours: i32, minutes: i32, seconds: i32 } => (i32, i32, i32);
     DurationResult { duration: CDuration } => CDuration;
     PairResult { date: i32, time: u64 } => (i32, u64);
+    TextResult { length: u32, bytes: [u8; 40] } => (u32, [u8; 40]);
+    ReadDateResult { date: i32, place: usize } => (i32, usize);
+    ReadMomentResult { date: i32, time: u64, offset: i32, place: usize } => (i32, u64, i32, usize);
 }
 
 /// Calls that return a struct with a status.
@@ -173,12 +178,18 @@ calls! {
     fots_time_replace_millisecond(time: u64, millisecond: u32) -> TimeResult;
     fots_time_replace_microsecond(time: u64, microsecond: u32) -> TimeResult;
     fots_time_replace_nanosecond(time: u64, nanosecond: u32) -> TimeResult;
+    fots_time_truncate_to_hour(time: u64) -> TimeResult;
+    fots_time_truncate_to_minute(time: u64) -> TimeResult;
+    fots_time_truncate_to_second(time: u64) -> TimeResult;
+    fots_time_truncate_to_millisecond(time: u64) -> TimeResult;
+    fots_time_truncate_to_microsecond(time: u64) -> TimeResult;
     fots_time_add(time: u64, duration: CDuration) -> TimeResult;
     fots_time_sub(time: u64, duration: CDuration) -> TimeResult;
     fots_time_adjusting_add(time: u64, duration: CDuration) -> AdjustedTimeResult;
     fots_time_adjusting_sub(time: u64, duration: CDuration) -> AdjustedTimeResult;
     fots_time_duration_until(time: u64, other: u64) -> DurationResult;
     fots_time_duration_since(time: u64, other: u64) -> DurationResult;
+    fots_time_difference(time: u64, other: u64) -> DurationResult;
     fots_offset_from_hms(hours: i32, minutes: i32, seconds: i32) -> OffsetResult;
     fots_offset_from_whole_seconds(seconds: i64) -> OffsetResult;
     fots_offset_as_hms(offset: i32) -> OffsetPartsResult;
@@ -219,6 +230,14 @@ calls! {
     fots_weekday_number_from_sunday(weekday: u32) -> NumberResult;
     fots_add_to_pair(date: i32, time: u64, duration: CDuration) -> PairResult;
     fots_sub_from_pair(date: i32, time: u64, duration: CDuration) -> PairResult;
+    fots_unix_time(date: i32, time: u64, offset: i32) -> DurationResult;
+    fots_unix_pair(duration: CDuration, offset: i32) -> PairResult;
+    fots_date_calendar_text(date: i32) -> TextResult;
+    fots_date_ordinal_text(date: i32) -> TextResult;
+    fots_date_week_text(date: i32) -> TextResult;
+    fots_date_julian_text(date: i32) -> TextResult;
+    fots_moment_text(date: i32, time: u64, offset: i32) -> TextResult;
+    fots_unix_text(date: i32, time: u64, offset: i32) -> TextResult;
 }
 
 /// Calls of years, which answer for each.
@@ -242,6 +261,37 @@ calls_of_years! {
     fots_is_leap_year;
     fots_days_in_year;
     fots_weeks_in_year;
+}
+
+/// Calls that read a text.
+macro_rules! calls_that_read {
+    ($($name:ident -> $result:ident;)*) => {
+        mod declared_reading {
+            use super::*;
+
+            extern "C" {
+                $(pub(super) fn $name(text: *const u8, length: usize) -> $result;)*
+            }
+        }
+
+        $(
+            pub(crate) fn $name(text: &[u8]) -> Result<<$result as Returned>::Value, Unreadable> {
+                let result = unsafe { declared_reading::$name(text.as_ptr(), text.len()) };
+                let place = result.place;
+                result.answer().map_err(|status| match status {
+                    UNREADABLE => Unreadable::UnexpectedByte(place),
+                    status => Unreadable::OutOfRange(ComponentRange::of_status(status)),
+                })
+            }
+        )*
+    };
+}
+
+calls_that_read! {
+    fots_date_read -> ReadDateResult;
+    fots_julian_day_read -> ReadDateResult;
+    fots_moment_read -> ReadMomentResult;
+    fots_unix_read -> ReadMomentResult;
 }
 
 /// Calls over columns: what each is called, its columns, and the rows that it writes.

@@ -30,6 +30,7 @@ fn rust_type(name: &str) -> String {
         "int64_t" => "i64".into(),
         "uint64_t" | "fots_time" => "u64".into(),
         "size_t" => "usize".into(),
+        "char" => "u8".into(),
         "fots_duration" => "CDuration".into(),
         _ => {
             let words = name.strip_prefix("fots_").unwrap().split('_');
@@ -44,10 +45,10 @@ fn list(parts: &str, separator: char, with_names: bool) -> String {
     let parts = parts.map(|part| {
         let (kind, name) = part.rsplit_once(' ').unwrap();
         let kind = if name.starts_with('*') { format!("*{kind}") } else { kind.into() };
-        if with_names {
-            format!("{name}: {}", rust_type(&kind))
-        } else {
-            rust_type(&kind)
+        match name.split_once('[') {
+            Some((name, length)) => format!("{name}: [{}; {}", rust_type(&kind), length),
+            None if with_names => format!("{name}: {}", rust_type(&kind)),
+            None => rust_type(&kind),
         }
     });
     parts.collect::<Vec<_>>().join(", ")
@@ -79,7 +80,10 @@ fn calls_are_those_of_the_header() {
     let mut count = 0;
     for line in DECLARED.lines().filter_map(|line| line.trim().strip_suffix(';')) {
         let Some((name, rest)) = line.split_once('(').filter(|(name, _)| name.starts_with("fots_")) else {
-            if line.starts_with("fots_") {
+            if let Some((name, result)) = line.split_once(" -> ").filter(|_| line.starts_with("fots_")) {
+                assert_eq!(header[name], ("*const u8, usize".into(), result.into()), "{name}");
+                count += 1;
+            } else if line.starts_with("fots_") {
                 assert_eq!(header[line], ("i32".into(), "u32".into()), "{line}");
                 count += 1;
             }
@@ -95,7 +99,7 @@ fn calls_are_those_of_the_header() {
         assert_eq!(header[name], declared, "{name}");
         count += 1;
     }
-    assert!(count > 100, "{count} calls were found");
+    assert!(count > 120, "{count} calls were found");
 }
 
 #[test]
@@ -115,7 +119,7 @@ fn structs_are_those_of_the_header() {
         assert!(DECLARED.contains(&declared), "{declared}");
         count += 1;
     }
-    assert_eq!(count, 14);
+    assert_eq!(count, 17);
 }
 
 #[test]
