@@ -3,3 +3,4 @@ pub mod Durations
 pub mod Rows
 pub mod TextBytes
 pub mod Equals
+pub mod Cases

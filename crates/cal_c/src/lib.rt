@@ -9,6 +9,7 @@ mod batch;
 mod cycle;
 mod date;
 mod duration;
+mod laws;
 mod offset;
 mod pair;
 mod results;
