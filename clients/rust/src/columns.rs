@@ -27,6 +27,16 @@
 //! columns::dates_to_calendar_dates(&[Date::MIN], &mut room);
 //! ```
 //!
+//! What no call has written is no row:
+//!
+//! ```compile_fail,E0599
+//! use core::mem::MaybeUninit;
+//! use fotsevindre::columns;
+//!
+//! let mut room: [MaybeUninit<columns::MadeDate>; 1] = [MaybeUninit::uninit()];
+//! room[0].get();
+//! ```
+//!
 //! What a row has is looked at before it is a date:
 //!
 //! ```compile_fail,E0599
