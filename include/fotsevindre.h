@@ -21,7 +21,7 @@
  * FOTS_MONTH; then what the call itself refuses, in the order of the parameters.
  *
  * No call keeps a pointer, allocates, reads or writes anything but its arguments, or has a state: any thread may make any call at
- * any time. The single calls take no pointer, and answer for each argument whatever its bits.
+ * any time. Only the calls that read a text or take columns take a pointer; the others answer for each argument whatever its bits.
  */
 #ifndef FOTSEVINDRE_H
 #define FOTSEVINDRE_H
@@ -64,6 +64,7 @@ enum fots_status {
     FOTS_BAD_DURATION = 5,
     FOTS_BAD_WEEKDAY = 6,
     FOTS_BAD_COUNT = 7, /* a count above 255 */
+    FOTS_UNREADABLE = 8, /* the bytes have none of the forms that the call reads */
     FOTS_YEAR = 16,
     FOTS_MONTH = 17,
     FOTS_JULIAN_DAY = 18,
@@ -77,6 +78,7 @@ enum fots_status {
     FOTS_OFFSET_MINUTE = 26,
     FOTS_OFFSET_SECOND = 27,
     FOTS_SECONDS = 28,
+    FOTS_TIMESTAMP = 29, /* a Unix time of no day of the range */
     FOTS_DAY = 64,
     FOTS_ORDINAL = 65,
     FOTS_WEEK = 66,
@@ -96,6 +98,7 @@ static inline const char *fots_status_name(int32_t status)
     case FOTS_BAD_DURATION: return "bad duration";
     case FOTS_BAD_WEEKDAY: return "bad weekday";
     case FOTS_BAD_COUNT: return "bad count";
+    case FOTS_UNREADABLE: return "unreadable";
     case FOTS_YEAR: return "year";
     case FOTS_MONTH: return "month";
     case FOTS_JULIAN_DAY: return "julian_day";
@@ -109,6 +112,7 @@ static inline const char *fots_status_name(int32_t status)
     case FOTS_OFFSET_MINUTE: return "offset minute";
     case FOTS_OFFSET_SECOND: return "offset second";
     case FOTS_SECONDS: return "seconds";
+    case FOTS_TIMESTAMP: return "timestamp";
     case FOTS_DAY: return "day";
     case FOTS_ORDINAL: return "ordinal";
     case FOTS_WEEK: return "week";
@@ -206,6 +210,30 @@ typedef struct fots_pair_result {
     fots_date date; /* or FOTS_NOTHING */
     fots_time time; /* or FOTS_NO_TIME */
 } fots_pair_result;
+
+/* A text. */
+typedef struct fots_text_result {
+    int32_t status;
+    uint32_t length; /* of the text, or 0 */
+    char bytes[40]; /* the text, ASCII, and zero bytes after it */
+} fots_text_result;
+
+/* A date that was read. */
+typedef struct fots_read_date_result {
+    int32_t status;
+    fots_date date; /* or FOTS_NOTHING */
+    size_t place; /* where the status is FOTS_UNREADABLE, the place from 0 of the first byte that no such text has there, or the
+                   * length of a text that ends too early; else SIZE_MAX */
+} fots_read_date_result;
+
+/* A date, a time of day and an offset that were read. */
+typedef struct fots_read_moment_result {
+    int32_t status;
+    fots_date date; /* or FOTS_NOTHING */
+    fots_time time; /* or FOTS_NO_TIME */
+    fots_offset offset; /* or FOTS_NOTHING */
+    size_t place; /* as of fots_read_date_result */
+} fots_read_moment_result;
 
 /* ---- dates made */
 
@@ -328,6 +356,14 @@ fots_time_result fots_time_replace_millisecond(fots_time time, uint32_t millisec
 fots_time_result fots_time_replace_microsecond(fots_time time, uint32_t microsecond);
 fots_time_result fots_time_replace_nanosecond(fots_time time, uint32_t nanosecond);
 
+/* The time with all that lies below its hour, minute, second, millisecond or microsecond zero; FOTS_BAD_TIME. 3723004005006 becomes
+ * 3600000000000, 3720000000000, 3723000000000, 3723004000000 and 3723004005000. */
+fots_time_result fots_time_truncate_to_hour(fots_time time);
+fots_time_result fots_time_truncate_to_minute(fots_time time);
+fots_time_result fots_time_truncate_to_second(fots_time time);
+fots_time_result fots_time_truncate_to_millisecond(fots_time time);
+fots_time_result fots_time_truncate_to_microsecond(fots_time time);
+
 /* ---- times moved: each refuses as FOTS_BAD_TIME or FOTS_BAD_DURATION */
 
 /* The time so much later, or earlier, round the clock: two hours after 82800000000000, 23:00, it is 3600000000000, 1:00. */
@@ -342,6 +378,9 @@ fots_adjusted_time_result fots_time_adjusting_sub(fots_time time, fots_duration 
 /* The way forward to the other time, or from it, from zero to below a day: from 23:00 until 1:00 it is {7200, 0}. */
 fots_duration_result fots_time_duration_until(fots_time time, fots_time other);
 fots_duration_result fots_time_duration_since(fots_time time, fots_time other);
+
+/* The time less the other one, within a day, and below zero where it is earlier: at 0:00 less 23:00 it is {-82800, 0}. */
+fots_duration_result fots_time_difference(fots_time time, fots_time other);
 
 /* ---- offsets */
 
@@ -452,6 +491,62 @@ uint32_t fots_weeks_in_year(int32_t year);
  * Two hours after 2451604 and 23:00 it is 2451605 and 1:00. */
 fots_pair_result fots_add_to_pair(fots_date date, fots_time time, fots_duration duration);
 fots_pair_result fots_sub_from_pair(fots_date date, fots_time time, fots_duration duration);
+
+/* ---- Unix times, as durations from 1970-01-01 00:00 UTC on, without leap seconds */
+
+/* The Unix time of a date and a time of day that a clock shows at the offset; FOTS_BAD_DATE, FOTS_BAD_TIME or FOTS_BAD_OFFSET. That of
+ * 2460370, 500000000 and 0 is {1709164800, 500000000}. */
+fots_duration_result fots_unix_time(fots_date date, fots_time time, fots_offset offset);
+
+/* The date and the time of day that a clock shows at the offset, of a Unix time; FOTS_BAD_DURATION or FOTS_BAD_OFFSET, and
+ * FOTS_PAST_RANGE where no day of the range has it. Those of {1709164800, 0} at 3600 are 2460370 and 3600000000000, 1:00. */
+fots_pair_result fots_unix_pair(fots_duration duration, fots_offset offset);
+
+/* ---- texts printed: each in ASCII, of at most 38 bytes and a zero byte after them, so bytes is a string of C */
+
+/* The calendar date, as "2024-02-29"; the ordinal date, as "2024-060"; the ISO week date, as "2024-W09-4"; and the Julian day after a
+ * letter J, as "J2460370". FOTS_BAD_DATE alone. A year below 0 has a minus sign, one above 9999 a plus sign: "+999999-12-31". */
+fots_text_result fots_date_calendar_text(fots_date date);
+fots_text_result fots_date_ordinal_text(fots_date date);
+fots_text_result fots_date_week_text(fots_date date);
+fots_text_result fots_date_julian_text(fots_date date);
+
+/* The text of RFC 3339 of a date and a time of day that a clock shows at the offset, as "2024-02-29T23:59:59.25+01:00". The fraction has
+ * no zeros at its end, and is left out where it is zero; an offset of 0 is "Z". FOTS_BAD_DATE, FOTS_BAD_TIME or FOTS_BAD_OFFSET, and
+ * FOTS_PAST_RANGE where RFC 3339 has no text: for a year outside 0 to 9999, an offset of a day and more, and one with seconds. */
+fots_text_result fots_moment_text(fots_date date, fots_time time, fots_offset offset);
+
+/* The Unix time in text after an @, as "@1709164800.5" and "@-0.000000001"; FOTS_BAD_DATE, FOTS_BAD_TIME or FOTS_BAD_OFFSET. */
+fots_text_result fots_unix_text(fots_date date, fots_time time, fots_offset offset);
+
+/* The English name of a month, as "February", and of a weekday, as "Thursday"; FOTS_MONTH and FOTS_BAD_WEEKDAY. */
+fots_text_result fots_month_name(uint32_t month);
+fots_text_result fots_weekday_name(uint32_t weekday);
+
+/* ---- texts read
+ *
+ * Each call takes bytes and their number, and looks at no byte after them; no zero byte need be there. The bytes must be there, also where
+ * their number is 0. The whole of them must be the text: no spaces, and nothing before or after it. A text that has not the form is
+ * FOTS_UNREADABLE, with a place; one that has the form is refused for the first component that is out of range. */
+
+/* The day of a calendar date, an ordinal date or an ISO week date, as "2024-02-29", "2024-060" and "2024-W09-4", just as they are
+ * printed: years from 0 to 9999 in four digits, others with their sign. Refused as FOTS_UNREADABLE, FOTS_MONTH, FOTS_YEAR, FOTS_DAY,
+ * FOTS_ORDINAL, FOTS_WEEK, or as FOTS_WEEKDAY after FOTS_MAX_DATE. "2024-02-3" is unreadable at 9, and "2023-02-29" has no such day. */
+fots_read_date_result fots_date_read(const char *text, size_t length);
+
+/* The day of a Julian day after a letter J, as "J2460370" and "J-1". Refused as FOTS_UNREADABLE, or as FOTS_JULIAN_DAY where no day of
+ * the range has it. */
+fots_read_date_result fots_julian_day_read(const char *text, size_t length);
+
+/* The date, the time of day and the offset of a text of RFC 3339, as "2024-02-29T23:59:59.25+01:00". A T, a t or one space is before the
+ * time; of a fraction the first nine digits count; the offset is Z, z, or a sign, hours and minutes. Refused as FOTS_UNREADABLE,
+ * FOTS_MONTH, FOTS_DAY, FOTS_HOUR, FOTS_MINUTE, FOTS_SECOND (60 too), FOTS_OFFSET_HOUR above 23, or FOTS_OFFSET_MINUTE. */
+fots_read_moment_result fots_moment_read(const char *text, size_t length);
+
+/* The date and the time of day at UTC, so with an offset of 0, of a Unix time in text, as "@1709164800.5": an @, at most 18 digits, with a
+ * minus sign below 0, and a fraction of at most nine. Refused as FOTS_UNREADABLE, or as FOTS_TIMESTAMP where no day of the range has
+ * it. */
+fots_read_moment_result fots_unix_read(const char *text, size_t length);
 
 /* ---- whole columns
  *

@@ -1,4 +1,4 @@
-/* Worked rows of dates, weeks, the ends of the range, durations, times and offsets, as tables. */
+/* Worked rows of dates, weeks, the ends of the range, durations, times, offsets and texts, as tables. */
 #include <string.h>
 
 #include "fotsevindre.h"
@@ -70,6 +70,48 @@ static void is_time(fots_time_result result, fots_time time, const char *what)
 static void is_number(fots_number_result result, int32_t number, const char *what)
 {
     check(result.status == FOTS_DONE && result.number == number, what, result.status, result.number);
+}
+
+static void is_text(fots_text_result result, const char *text, const char *what)
+{
+    size_t length = strlen(text);
+    int rest_is_zero = 1;
+    for (size_t k = length; k < sizeof(result.bytes); k++) {
+        rest_is_zero &= result.bytes[k] == 0;
+    }
+    check(result.status == FOTS_DONE && result.length == length && memcmp(result.bytes, text, length) == 0 && rest_is_zero, what,
+        result.status, result.length);
+}
+
+static void is_no_text(fots_text_result result, int32_t status, const char *what)
+{
+    static const char none[sizeof(result.bytes)];
+    check(result.status == status && result.length == 0 && memcmp(result.bytes, none, sizeof(none)) == 0, what, result.status,
+        result.length);
+}
+
+static void is_read(fots_read_date_result result, fots_date date, const char *what)
+{
+    check(result.status == FOTS_DONE && result.date == date && result.place == SIZE_MAX, what, result.status, result.date);
+}
+
+/* What is refused, with its place where it is unreadable. */
+static void is_not_read(fots_read_date_result result, int32_t status, size_t place, const char *what)
+{
+    check(result.status == status && result.date == FOTS_NOTHING && result.place == place, what, result.status,
+        (long long)result.place);
+}
+
+static void is_moment(fots_read_moment_result result, fots_date date, fots_time time, fots_offset offset, const char *what)
+{
+    check(result.status == FOTS_DONE && result.date == date && result.time == time && result.offset == offset
+        && result.place == SIZE_MAX, what, result.status, result.date);
+}
+
+static void is_no_moment(fots_read_moment_result result, int32_t status, size_t place, const char *what)
+{
+    check(result.status == status && result.date == FOTS_NOTHING && result.time == FOTS_NO_TIME && result.offset == FOTS_NOTHING
+        && result.place == place, what, result.status, (long long)result.place);
 }
 
 static fots_time clock_of(uint32_t hour, uint32_t minute, uint32_t second, uint32_t nanosecond)
@@ -291,6 +333,15 @@ static void times(void)
     is_time(fots_time_add(clock_of(23, 0, 0, 0), seconds(26 * 3600)), clock_of(1, 0, 0, 0), "26 hours after 23:00");
     is_time(fots_time_replace_microsecond(one, 7008), clock_of(1, 2, 3, 7008000), "7008 us");
     is_time(fots_time_replace_hour(one, 7), clock_of(7, 2, 3, 4005006), "hour 7");
+    is_time(fots_time_truncate_to_hour(one), clock_of(1, 0, 0, 0), "cut to the hour");
+    is_time(fots_time_truncate_to_minute(one), clock_of(1, 2, 0, 0), "cut to the minute");
+    is_time(fots_time_truncate_to_second(one), clock_of(1, 2, 3, 0), "cut to the second");
+    is_time(fots_time_truncate_to_millisecond(one), clock_of(1, 2, 3, 4000000), "cut to the millisecond");
+    is_time(fots_time_truncate_to_microsecond(one), clock_of(1, 2, 3, 4005000), "cut to the microsecond");
+    is_time(fots_time_truncate_to_hour(FOTS_MAX_TIME), clock_of(23, 0, 0, 0), "the last hour");
+    is_duration(fots_time_difference(0, clock_of(23, 0, 0, 0)), seconds(-23 * 3600), "0:00 less 23:00");
+    is_duration(fots_time_difference(FOTS_MAX_TIME, 0), both(86399, 999999999), "the last nanosecond less midnight");
+    is_duration(fots_time_difference(one, one), zero, "a time less itself");
     is_number(fots_time_millisecond(one), 4, "the millisecond");
     is_number(fots_time_microsecond(one), 4005, "the microsecond");
     is_number(fots_time_nanosecond(one), 4005006, "the nanosecond");
@@ -356,12 +407,203 @@ static void cycles(void)
     check(fots_weeks_in_year(2020) == 53 && fots_weeks_in_year(2019) == 52, "weeks of a year", 0, 0);
 }
 
+/* Days in text, printed and read. */
+static void texts_of_days(void)
+{
+    static const struct {
+        fots_date date;
+        const char *calendar, *ordinal, *week, *julian;
+    } rows[] = {
+        {2460370, "2024-02-29", "2024-060", "2024-W09-4", "J2460370"},
+        {2459216, "2021-01-01", "2021-001", "2020-W53-5", "J2459216"},
+        {2458484, "2018-12-31", "2018-365", "2019-W01-1", "J2458484"},
+        {1721060, "0000-01-01", "0000-001", "-0001-W52-6", "J1721060"},
+        {1721059, "-0001-12-31", "-0001-365", "-0001-W52-5", "J1721059"},
+        {5373485, "+10000-01-01", "+10000-001", "9999-W52-6", "J5373485"},
+        {-1, "-4713-11-23", "-4713-327", "-4713-W47-7", "J-1"},
+        {366963559, "+999999-12-31", "+999999-365", "+999999-W52-5", "J366963559"},
+        {-363521074, "-999999-01-01", "-999999-001", "-999999-W01-1", "J-363521074"},
+    };
+    for (int k = 0; k < COUNT(rows); k++) {
+        is_text(fots_date_calendar_text(rows[k].date), rows[k].calendar, rows[k].calendar);
+        is_text(fots_date_ordinal_text(rows[k].date), rows[k].ordinal, rows[k].ordinal);
+        is_text(fots_date_week_text(rows[k].date), rows[k].week, rows[k].week);
+        is_text(fots_date_julian_text(rows[k].date), rows[k].julian, rows[k].julian);
+        is_read(fots_date_read(rows[k].calendar, strlen(rows[k].calendar)), rows[k].date, rows[k].calendar);
+        is_read(fots_date_read(rows[k].ordinal, strlen(rows[k].ordinal)), rows[k].date, rows[k].ordinal);
+        is_read(fots_date_read(rows[k].week, strlen(rows[k].week)), rows[k].date, rows[k].week);
+        is_read(fots_julian_day_read(rows[k].julian, strlen(rows[k].julian)), rows[k].date, rows[k].julian);
+    }
+    is_read(fots_date_read("2024-060-", 8), 2460370, "no byte after the length is looked at");
+    is_no_text(fots_date_calendar_text(FOTS_MAX_DATE + 1), FOTS_BAD_DATE, "the text of no date");
+}
+
+/* Texts that are no days: where they are wrong, or which component. */
+static void refused_texts_of_days(void)
+{
+    static const struct {
+        const char *text;
+        int32_t status;
+        size_t place;
+    } rows[] = {
+        {"", FOTS_UNREADABLE, 0}, {"2024x", FOTS_UNREADABLE, 4}, {"2024", FOTS_UNREADABLE, 4}, {"20240229", FOTS_UNREADABLE, 4},
+        {"12345-01-01", FOTS_UNREADABLE, 4}, {"+2024-01-01", FOTS_UNREADABLE, 5}, {"+02024-01-01", FOTS_UNREADABLE, 1},
+        {"-0000-01-01", FOTS_UNREADABLE, 4}, {"-12345678901-001", FOTS_UNREADABLE, 10}, {"2024-60", FOTS_UNREADABLE, 7},
+        {"2024-02-2", FOTS_UNREADABLE, 9}, {"2024-02-29 ", FOTS_UNREADABLE, 10}, {"2024-w09-4", FOTS_UNREADABLE, 5},
+        {"2024-W09-0", FOTS_UNREADABLE, 9}, {"2024-W09-8", FOTS_UNREADABLE, 9}, {"2024-02-29T", FOTS_UNREADABLE, 10},
+        {"2024-13-01", FOTS_MONTH, SIZE_MAX}, {"+1000000-13-01", FOTS_MONTH, SIZE_MAX}, {"+1000000-001", FOTS_YEAR, SIZE_MAX},
+        {"2023-02-29", FOTS_DAY, SIZE_MAX}, {"2023-366", FOTS_ORDINAL, SIZE_MAX}, {"2021-W53-1", FOTS_WEEK, SIZE_MAX},
+        {"+999999-W52-6", FOTS_WEEKDAY, SIZE_MAX},
+    };
+    static const struct {
+        const char *text;
+        int32_t status;
+        size_t place;
+    } julian_days[] = {
+        {"", FOTS_UNREADABLE, 0}, {"2460370", FOTS_UNREADABLE, 0}, {"J", FOTS_UNREADABLE, 1}, {"J-", FOTS_UNREADABLE, 2},
+        {"J+1", FOTS_UNREADABLE, 1}, {"J-0", FOTS_UNREADABLE, 2}, {"J02", FOTS_UNREADABLE, 2}, {"J24603700000", FOTS_UNREADABLE, 10},
+        {"J2460370 ", FOTS_UNREADABLE, 8}, {"J366963560", FOTS_JULIAN_DAY, SIZE_MAX}, {"J-363521075", FOTS_JULIAN_DAY, SIZE_MAX},
+    };
+    for (int k = 0; k < COUNT(rows); k++) {
+        is_not_read(fots_date_read(rows[k].text, strlen(rows[k].text)), rows[k].status, rows[k].place, rows[k].text);
+    }
+    for (int k = 0; k < COUNT(julian_days); k++) {
+        const char *text = julian_days[k].text;
+        is_not_read(fots_julian_day_read(text, strlen(text)), julian_days[k].status, julian_days[k].place, text);
+    }
+}
+
+/* Moments of RFC 3339: the examples of the standard come first. */
+static void texts_of_moments(void)
+{
+    static const struct {
+        const char *text, *printed;
+        int32_t year;
+        uint32_t month, day, hour, minute, second, nanosecond;
+        fots_offset offset;
+    } rows[] = {
+        {"1985-04-12T23:20:50.52Z", "1985-04-12T23:20:50.52Z", 1985, 4, 12, 23, 20, 50, 520000000, 0},
+        {"1996-12-19T16:39:57-08:00", "1996-12-19T16:39:57-08:00", 1996, 12, 19, 16, 39, 57, 0, -28800},
+        {"1937-01-01T12:00:27.87+00:20", "1937-01-01T12:00:27.87+00:20", 1937, 1, 1, 12, 0, 27, 870000000, 1200},
+        {"2024-02-29T23:59:59.25+01:00", "2024-02-29T23:59:59.25+01:00", 2024, 2, 29, 23, 59, 59, 250000000, 3600},
+        {"0000-01-01t00:00:00z", "0000-01-01T00:00:00Z", 0, 1, 1, 0, 0, 0, 0, 0},
+        {"9999-12-31 23:59:59.999999999-23:59", "9999-12-31T23:59:59.999999999-23:59", 9999, 12, 31, 23, 59, 59, 999999999, -86340},
+        {"2024-02-29T00:00:00.00000000190-00:00", "2024-02-29T00:00:00.000000001Z", 2024, 2, 29, 0, 0, 0, 1, 0},
+    };
+    static const struct {
+        const char *text;
+        int32_t status;
+        size_t place;
+    } refused[] = {
+        {"1990-12-31T23:59:60Z", FOTS_SECOND, SIZE_MAX}, {"1990-12-31T15:59:60-08:00", FOTS_SECOND, SIZE_MAX},
+        {"2024-00-99T99:99:99Z", FOTS_MONTH, SIZE_MAX}, {"2023-02-29T24:00:00Z", FOTS_DAY, SIZE_MAX},
+        {"2024-02-29T24:60:60Z", FOTS_HOUR, SIZE_MAX}, {"2024-02-29T23:60:60+24:00", FOTS_MINUTE, SIZE_MAX},
+        {"2024-02-29T23:59:59+24:60", FOTS_OFFSET_HOUR, SIZE_MAX}, {"2024-02-29T23:59:59-23:60", FOTS_OFFSET_MINUTE, SIZE_MAX},
+        {"", FOTS_UNREADABLE, 0}, {"-2024-02-29T00:00:00Z", FOTS_UNREADABLE, 0}, {"2024-02-29", FOTS_UNREADABLE, 10},
+        {"2024-02-29  00:00:00Z", FOTS_UNREADABLE, 11}, {"2024-02-29T00:00Z", FOTS_UNREADABLE, 16},
+        {"2024-02-29T00:00:00.Z", FOTS_UNREADABLE, 20}, {"2024-02-29T00:00:00.5", FOTS_UNREADABLE, 21},
+        {"2024-02-29T00:00:00Z ", FOTS_UNREADABLE, 20}, {"2024-02-29T00:00:00+0100", FOTS_UNREADABLE, 22},
+    };
+    for (int k = 0; k < COUNT(rows); k++) {
+        fots_date date = day_of(rows[k].year, rows[k].month, rows[k].day);
+        fots_time time = clock_of(rows[k].hour, rows[k].minute, rows[k].second, rows[k].nanosecond);
+        is_moment(fots_moment_read(rows[k].text, strlen(rows[k].text)), date, time, rows[k].offset, rows[k].text);
+        is_text(fots_moment_text(date, time, rows[k].offset), rows[k].printed, rows[k].printed);
+    }
+    for (int k = 0; k < COUNT(refused); k++) {
+        const char *text = refused[k].text;
+        is_no_moment(fots_moment_read(text, strlen(text)), refused[k].status, refused[k].place, text);
+    }
+    is_no_text(fots_moment_text(day_of(10000, 1, 1), 0, 0), FOTS_PAST_RANGE, "a moment of the year 10000");
+    is_no_text(fots_moment_text(day_of(-1, 12, 31), 0, 0), FOTS_PAST_RANGE, "a moment of the year -1");
+    is_no_text(fots_moment_text(day_of(2024, 2, 29), 0, 86400), FOTS_PAST_RANGE, "an offset of a day");
+    is_no_text(fots_moment_text(day_of(2024, 2, 29), 0, -1), FOTS_PAST_RANGE, "an offset with seconds");
+    is_no_text(fots_moment_text(FOTS_NOTHING, FOTS_NO_TIME, FOTS_NOTHING), FOTS_BAD_DATE, "no date first");
+    is_no_text(fots_moment_text(2460370, FOTS_NO_TIME, FOTS_NOTHING), FOTS_BAD_TIME, "no time second");
+    is_no_text(fots_moment_text(FOTS_MAX_DATE, 0, FOTS_NOTHING), FOTS_BAD_OFFSET, "no offset before what has no text");
+}
+
+/* Unix times, as durations and in text. */
+static void unix_times(void)
+{
+    static const struct {
+        fots_date date;
+        fots_time time;
+        fots_offset offset;
+        int64_t seconds;
+        int32_t nanoseconds;
+        const char *text;
+    } rows[] = {
+        {2440588, 0, 0, 0, 0, "@0"},
+        {2460370, 500000000, 0, 1709164800, 500000000, "@1709164800.5"},
+        {2460370, 3600000000000, 3600, 1709164800, 0, "@1709164800"},
+        {2440587, 86399999999999, 0, 0, -1, "@-0.000000001"},
+        {2440587, 86398750000000, 0, -1, -250000000, "@-1.25"},
+        {2465443, 11647000000000, 0, 2147483647, 0, "@2147483647"},
+        {366963559, 86399999999999, 0, 31494784780799, 999999999, "@31494784780799.999999999"},
+        {-363521074, 0, 0, -31619087596800, 0, "@-31619087596800"},
+        {-363521074, 0, 93599, -31619087690399, 0, "@-31619087690399"},
+    };
+    static const struct {
+        const char *text;
+        int32_t status;
+        size_t place;
+    } refused[] = {
+        {"@31494784780800", FOTS_TIMESTAMP, SIZE_MAX}, {"@-31619087596800.000000001", FOTS_TIMESTAMP, SIZE_MAX},
+        {"@999999999999999999", FOTS_TIMESTAMP, SIZE_MAX}, {"", FOTS_UNREADABLE, 0}, {"@", FOTS_UNREADABLE, 1},
+        {"@+1", FOTS_UNREADABLE, 1}, {"@01", FOTS_UNREADABLE, 2}, {"@-0", FOTS_UNREADABLE, 3}, {"@-0.0", FOTS_UNREADABLE, 5},
+        {"@1.", FOTS_UNREADABLE, 3}, {"@1.1234567890", FOTS_UNREADABLE, 12}, {"@1000000000000000000", FOTS_UNREADABLE, 19},
+    };
+    fots_pair_result pair;
+    for (int k = 0; k < COUNT(rows); k++) {
+        fots_duration duration = both(rows[k].seconds, rows[k].nanoseconds);
+        is_duration(fots_unix_time(rows[k].date, rows[k].time, rows[k].offset), duration, rows[k].text);
+        is_text(fots_unix_text(rows[k].date, rows[k].time, rows[k].offset), rows[k].text, rows[k].text);
+        pair = fots_unix_pair(duration, rows[k].offset);
+        check(pair.status == FOTS_DONE && pair.date == rows[k].date && pair.time == rows[k].time, rows[k].text, pair.date, k);
+        if (rows[k].offset == 0) {
+            is_moment(fots_unix_read(rows[k].text, strlen(rows[k].text)), rows[k].date, rows[k].time, 0, rows[k].text);
+        }
+    }
+    is_moment(fots_unix_read("@1709164800.50", 14), 2460370, 500000000, 0, "a zero at the end");
+    for (int k = 0; k < COUNT(refused); k++) {
+        const char *text = refused[k].text;
+        is_no_moment(fots_unix_read(text, strlen(text)), refused[k].status, refused[k].place, text);
+    }
+    pair = fots_unix_pair(seconds(31494784780799), 3600);
+    check(pair.status == FOTS_PAST_RANGE && pair.date == FOTS_NOTHING && pair.time == FOTS_NO_TIME, "past the last day", pair.date, 0);
+    check(fots_unix_pair(both(1, -1), FOTS_NOTHING).status == FOTS_BAD_DURATION, "no duration first", 0, 0);
+    check(fots_unix_pair(greatest, FOTS_NOTHING).status == FOTS_BAD_OFFSET, "no offset before the range", 0, 0);
+    is_no_duration(fots_unix_time(FOTS_NOTHING, FOTS_NO_TIME, 0), FOTS_BAD_DATE, "the Unix time of no date");
+}
+
+/* The names of months and weekdays. */
+static void names_of_cycles(void)
+{
+    static const char *const months[] = {"January", "February", "March", "April", "May", "June", "July", "August", "September",
+        "October", "November", "December"};
+    static const char *const weekdays[] = {"Monday", "Tuesday", "Wednesday", "Thursday", "Friday", "Saturday", "Sunday"};
+    for (uint32_t k = 0; k < 12; k++) {
+        is_text(fots_month_name(k + 1), months[k], months[k]);
+    }
+    for (uint32_t k = 0; k < 7; k++) {
+        is_text(fots_weekday_name(k + 1), weekdays[k], weekdays[k]);
+    }
+    is_no_text(fots_month_name(0), FOTS_MONTH, "month 0");
+    is_no_text(fots_month_name(258), FOTS_MONTH, "month 258");
+    is_no_text(fots_weekday_name(8), FOTS_BAD_WEEKDAY, "weekday 8");
+    is_no_text(fots_weekday_name(0), FOTS_BAD_WEEKDAY, "weekday 0");
+}
+
 /* The names of the statuses. */
 static void names(void)
 {
     check(strcmp(fots_status_name(FOTS_DAY), "day") == 0, "the name of a refusal", FOTS_DAY, 0);
     check(strcmp(fots_status_name(FOTS_OFFSET_HOUR), "offset hour") == 0, "the name of a refusal", FOTS_OFFSET_HOUR, 0);
     check(strcmp(fots_status_name(FOTS_PAST_RANGE), "past the range") == 0, "the name of a status", FOTS_PAST_RANGE, 0);
+    check(strcmp(fots_status_name(FOTS_UNREADABLE), "unreadable") == 0, "the name of a status", FOTS_UNREADABLE, 0);
+    check(strcmp(fots_status_name(FOTS_TIMESTAMP), "timestamp") == 0, "the name of a refusal", FOTS_TIMESTAMP, 0);
+    check(!fots_status_is_conditional(FOTS_TIMESTAMP) && !fots_status_is_conditional(FOTS_UNREADABLE), "the marks", 0, 0);
     check(strcmp(fots_status_name(-1), "unknown") == 0, "the name of no status", -1, 0);
     check(fots_status_is_conditional(FOTS_WEEK) && !fots_status_is_conditional(FOTS_YEAR), "the marks", 0, 0);
 }
@@ -375,6 +617,11 @@ int main(void)
     times();
     offsets();
     cycles();
+    texts_of_days();
+    refused_texts_of_days();
+    texts_of_moments();
+    unix_times();
+    names_of_cycles();
     names();
     return ended("rows");
 }

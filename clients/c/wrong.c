@@ -1,4 +1,7 @@
-/* Arguments that are no values, with all their bits: each call gives them a status and no answer, and gives a value no such status. */
+/* Arguments that are no values, with all their bits: each call gives them a status and no answer, and gives a value no such status. And
+ * bytes that are no text, or nearly one. */
+#include <string.h>
+
 #include "fotsevindre.h"
 #include "testing.h"
 
@@ -61,6 +64,11 @@ static int32_t of_time(fots_time time)
     return is_time(time) ? FOTS_DONE : FOTS_BAD_TIME;
 }
 
+static int32_t of_offset(fots_offset offset)
+{
+    return is_offset(offset) ? FOTS_DONE : FOTS_BAD_OFFSET;
+}
+
 static int32_t first_of(int32_t one, int32_t other)
 {
     return one != FOTS_DONE ? one : other;
@@ -73,6 +81,21 @@ static void status_is(int32_t wanted, int32_t status, int has_value, const char 
         : status == FOTS_DONE || status == FOTS_PAST_RANGE || status == FOTS_BAD_COUNT || (status >= FOTS_YEAR && status <= FOTS_WEEKDAY);
     check(fits, what, first, second);
     check((status == FOTS_DONE) == has_value, what, first, second);
+}
+
+/* The bytes of a text, which are ASCII with zero bytes after them; or -1 where it is no such text. */
+static int bytes_of_text(const fots_text_result *result)
+{
+    size_t k = 0;
+    while (k < sizeof(result->bytes) && result->bytes[k] > ' ' && result->bytes[k] <= '~') {
+        k++;
+    }
+    for (size_t rest = k; rest < sizeof(result->bytes); rest++) {
+        if (result->bytes[rest] != 0) {
+            return -1;
+        }
+    }
+    return k == result->length && k <= 38 ? (int)k : -1;
 }
 
 #define DATE(wanted, call) \
@@ -98,6 +121,12 @@ static void status_is(int32_t wanted, int32_t status, int has_value, const char 
         fots_time_result result = call; \
         status_is(wanted, result.status, is_time(result.time), #call, (long long)time, result.status); \
         check(result.status == FOTS_DONE || result.time == FOTS_NO_TIME, #call, (long long)time, result.status); \
+    } while (0)
+#define TEXT(wanted, call, first) \
+    do { \
+        fots_text_result result = call; \
+        status_is(wanted, result.status, bytes_of_text(&result) > 0, #call, (long long)(first), result.status); \
+        check(bytes_of_text(&result) >= 0, #call, (long long)(first), result.length); \
     } while (0)
 #define DURATION(wanted, call, first) \
     do { \
@@ -156,6 +185,10 @@ static void dates(fots_date date, uint32_t number, fots_duration duration)
     NUMBER(wrong, fots_date_weekday(date), date);
     NUMBER(wrong, fots_date_sunday_based_week(date), date);
     NUMBER(wrong, fots_date_monday_based_week(date), date);
+    TEXT(wrong, fots_date_calendar_text(date), date);
+    TEXT(wrong, fots_date_ordinal_text(date), date);
+    TEXT(wrong, fots_date_week_text(date), date);
+    TEXT(wrong, fots_date_julian_text(date), date);
     DATE(wrong, fots_date_next_day(date));
     DATE(wrong, fots_date_previous_day(date));
     DATE(wrong, fots_date_add_days(date, duration.seconds));
@@ -210,6 +243,12 @@ static void times(fots_time time, uint32_t number, fots_duration duration)
     TIME(with_duration, fots_time_sub(time, duration));
     DURATION(with_other, fots_time_duration_until(time, other), time);
     DURATION(with_other, fots_time_duration_since(time, other), time);
+    DURATION(with_other, fots_time_difference(time, other), time);
+    TIME(wrong, fots_time_truncate_to_hour(time));
+    TIME(wrong, fots_time_truncate_to_minute(time));
+    TIME(wrong, fots_time_truncate_to_second(time));
+    TIME(wrong, fots_time_truncate_to_millisecond(time));
+    TIME(wrong, fots_time_truncate_to_microsecond(time));
     TIME(FOTS_DONE, fots_time_from_hms(number, (uint32_t)time, (uint32_t)duration.seconds));
     TIME(FOTS_DONE, fots_time_from_hms_milli(number, (uint32_t)time, (uint32_t)duration.seconds, (uint32_t)duration.nanoseconds));
     TIME(FOTS_DONE, fots_time_from_hms_micro(number, (uint32_t)time, (uint32_t)duration.seconds, (uint32_t)duration.nanoseconds));
@@ -218,7 +257,7 @@ static void times(fots_time time, uint32_t number, fots_duration duration)
 
 static void offsets(fots_offset offset, int32_t number)
 {
-    int32_t wrong = is_offset(offset) ? FOTS_DONE : FOTS_BAD_OFFSET;
+    int32_t wrong = of_offset(offset);
     fots_offset_parts_result parts = fots_offset_as_hms(offset);
     fots_offset_result negated = fots_offset_negated(offset);
     fots_offset_result made = fots_offset_from_hms(offset, number, (int32_t)((uint32_t)offset ^ (uint32_t)number));
@@ -277,13 +316,182 @@ static void cycles(uint32_t number, uint32_t count)
     NUMBER(no_weekday, fots_weekday_nth_next(number, count), number);
     NUMBER(no_weekday, fots_weekday_nth_prev(number, count), number);
     NUMBER(no_weekday, fots_weekday_number_from_sunday(number), number);
+    TEXT(no_month, fots_month_name(number), number);
+    TEXT(no_weekday, fots_weekday_name(number), number);
     check(fots_is_leap_year(year) == (year % 4 == 0 && (year % 100 != 0 || year % 400 == 0)), "is_leap_year", year, 0);
     check(fots_days_in_year(year) == 365 + fots_is_leap_year(year), "days_in_year", year, 0);
     check(fots_weeks_in_year(year) == 52 || fots_weeks_in_year(year) == 53, "weeks_in_year", year, 0);
 }
 
+/* RFC 3339 has the years 0 to 9999, and offsets of whole minutes and less than a day. */
+static int has_moment_text(fots_date date, fots_offset offset)
+{
+    return date >= 1721060 && date <= 5373484 && offset % 60 == 0 && offset > -86400 && offset < 86400;
+}
+
+static void moments(fots_date date, fots_time time, fots_offset offset, fots_duration duration)
+{
+    int32_t wrong = first_of(first_of(of_date(date), of_time(time)), of_offset(offset));
+    fots_duration_result since_epoch = fots_unix_time(date, time, offset);
+    fots_pair_result pair = fots_unix_pair(duration, offset);
+    status_is(first_of(of_duration(duration), of_offset(offset)), pair.status, is_date(pair.date) && is_time(pair.time), "unix_pair",
+        duration.seconds, pair.date);
+    TEXT(wrong == FOTS_DONE && !has_moment_text(date, offset) ? FOTS_PAST_RANGE : wrong, fots_moment_text(date, time, offset), date);
+    TEXT(wrong, fots_unix_text(date, time, offset), date);
+    status_is(wrong, since_epoch.status, is_duration(since_epoch.duration), "unix_time", date, since_epoch.duration.seconds);
+    if (since_epoch.status == FOTS_DONE) {
+        pair = fots_unix_pair(since_epoch.duration, offset);
+        check(pair.status == FOTS_DONE && pair.date == date && pair.time == time, "the pair of a Unix time", date, pair.date);
+    }
+}
+
+/* A status that a call that reads has, and a place exactly where it is unreadable: that of a byte of the text, or its length. */
+static void reads(int32_t status, size_t place, size_t length, int is_listed, int has_value, const char *what)
+{
+    check(status == FOTS_DONE || status == FOTS_UNREADABLE || is_listed, what, status, (long long)length);
+    check(status == FOTS_UNREADABLE ? place <= length : place == SIZE_MAX, what, status, (long long)place);
+    check((status == FOTS_DONE) == has_value, what, status, (long long)length);
+}
+
+static int is_this(fots_text_result text, const char *bytes, size_t length)
+{
+    return text.status == FOTS_DONE && text.length == length && memcmp(text.bytes, bytes, length) == 0;
+}
+
+static int reads_as_date(fots_text_result text, fots_date date)
+{
+    fots_read_date_result read = fots_date_read(text.bytes, text.length);
+    return read.status == FOTS_DONE && read.date == date;
+}
+
+/* What is read as a date is one of its three texts, and each of these reads as it. */
+static void read_date(const char *bytes, size_t length)
+{
+    fots_read_date_result read = fots_date_read(bytes, length);
+    reads(read.status, read.place, length, read.status == FOTS_MONTH || read.status == FOTS_YEAR
+        || (read.status >= FOTS_DAY && read.status <= FOTS_WEEKDAY), is_date(read.date), "date_read");
+    if (read.status == FOTS_UNREADABLE && read.place < length) {
+        check(fots_date_read(bytes, read.place + 1).place == read.place, "the place in a date", (long long)read.place, (long long)length);
+    }
+    if (read.status == FOTS_DONE) {
+        fots_text_result calendar = fots_date_calendar_text(read.date), ordinal = fots_date_ordinal_text(read.date);
+        fots_text_result week = fots_date_week_text(read.date);
+        check(is_this(calendar, bytes, length) || is_this(ordinal, bytes, length) || is_this(week, bytes, length), "the text of a date",
+            read.date, (long long)length);
+        check(reads_as_date(calendar, read.date) && reads_as_date(ordinal, read.date) && reads_as_date(week, read.date),
+            "a date read back", read.date, (long long)length);
+    }
+}
+
+static void read_julian_day(const char *bytes, size_t length)
+{
+    fots_read_date_result read = fots_julian_day_read(bytes, length);
+    reads(read.status, read.place, length, read.status == FOTS_JULIAN_DAY, is_date(read.date), "julian_day_read");
+    if (read.status == FOTS_UNREADABLE && read.place < length) {
+        check(fots_julian_day_read(bytes, read.place + 1).place == read.place, "the place in a Julian day", (long long)read.place,
+            (long long)length);
+    }
+    if (read.status == FOTS_DONE) {
+        check(is_this(fots_date_julian_text(read.date), bytes, length), "the text of a Julian day", read.date, (long long)length);
+    }
+}
+
+static int is_moment(fots_read_moment_result read)
+{
+    return is_date(read.date) && is_time(read.time) && is_offset(read.offset);
+}
+
+static int is_same_moment(fots_read_moment_result one, fots_read_moment_result other)
+{
+    return one.status == FOTS_DONE && other.status == FOTS_DONE && one.date == other.date && one.time == other.time
+        && one.offset == other.offset;
+}
+
+static void read_moment(const char *bytes, size_t length)
+{
+    fots_read_moment_result read = fots_moment_read(bytes, length);
+    reads(read.status, read.place, length, read.status == FOTS_MONTH || read.status == FOTS_DAY
+        || (read.status >= FOTS_HOUR && read.status <= FOTS_SECOND) || read.status == FOTS_OFFSET_HOUR
+        || read.status == FOTS_OFFSET_MINUTE, is_moment(read), "moment_read");
+    if (read.status == FOTS_UNREADABLE && read.place < length) {
+        check(fots_moment_read(bytes, read.place + 1).place == read.place, "the place in a moment", (long long)read.place,
+            (long long)length);
+    }
+    if (read.status == FOTS_DONE) {
+        fots_text_result text = fots_moment_text(read.date, read.time, read.offset);
+        check(is_same_moment(fots_moment_read(text.bytes, text.length), read), "a moment read back", read.date, read.offset);
+    }
+}
+
+static void read_unix(const char *bytes, size_t length)
+{
+    fots_read_moment_result read = fots_unix_read(bytes, length);
+    reads(read.status, read.place, length, read.status == FOTS_TIMESTAMP, is_moment(read) && read.offset == 0, "unix_read");
+    if (read.status == FOTS_UNREADABLE && read.place < length) {
+        check(fots_unix_read(bytes, read.place + 1).place == read.place, "the place in a Unix time", (long long)read.place,
+            (long long)length);
+    }
+    if (read.status == FOTS_DONE) {
+        fots_text_result text = fots_unix_text(read.date, read.time, 0);
+        check(is_same_moment(fots_unix_read(text.bytes, text.length), read), "a Unix time read back", read.date, (long long)length);
+    }
+}
+
+static void read_all(const char *bytes, size_t length)
+{
+    read_date(bytes, length);
+    read_julian_day(bytes, length);
+    read_moment(bytes, length);
+    read_unix(bytes, length);
+}
+
+#define LONGEST 64
+
+/* Right texts, and each with a byte changed, left out or put in, and cut at each length. */
+static void nearly_texts(void)
+{
+    static const char *const texts[] = {"2024-02-29", "+12024-02-29", "-999999-01-01", "2024-060", "+999999-365", "2024-W09-4",
+        "-0001-W52-6", "J2460370", "J-363521074", "J0", "2024-02-29T23:59:59.25+01:00", "0000-01-01t00:00:00z",
+        "9999-12-31 23:59:59.999999999-23:59", "@0", "@1709164800.5", "@-0.000000001", "@-31619087596800"};
+    for (int k = 0; k < COUNT(texts); k++) {
+        size_t length = strlen(texts[k]);
+        for (size_t place = 0; place <= length; place++) {
+            char changed[LONGEST], longer[LONGEST], shorter[LONGEST];
+            memcpy(changed, texts[k], length + 1);
+            memcpy(shorter, texts[k], place);
+            memcpy(shorter + place, texts[k] + place + 1, length - place);
+            memcpy(longer, texts[k], place);
+            memcpy(longer + place + 1, texts[k] + place, length - place);
+            read_all(texts[k], place);
+            read_all(shorter, length - 1);
+            for (int byte = 0; byte < 256; byte++) {
+                changed[place] = longer[place] = (char)byte;
+                read_all(changed, length);
+                read_all(longer, length + 1);
+            }
+        }
+    }
+}
+
+/* Drawn bytes of each length, half of them of those that texts have. */
+static void drawn_texts(void)
+{
+    static const char used[] = "0123456789-+:.TtZzW J@0011223344";
+    for (int k = 0; k < 4000; k++) {
+        for (size_t length = 0; length <= LONGEST; length++) {
+            char bytes[LONGEST];
+            for (size_t place = 0; place < length; place++) {
+                uint64_t word = drawn();
+                bytes[place] = k % 2 == 0 ? used[word % (sizeof(used) - 1)] : (char)(word >> 24);
+            }
+            read_all(bytes, length);
+        }
+    }
+}
+
 static const int32_t border_dates[] = {INT32_MIN, INT32_MIN + 1, FOTS_MIN_DATE - 1, FOTS_MIN_DATE, FOTS_MIN_DATE + 1, -93600, -93599,
-    -1, 0, 1, 93599, 93600, 2451545, FOTS_MAX_DATE - 1, FOTS_MAX_DATE, FOTS_MAX_DATE + 1, INT32_MAX - 1, INT32_MAX};
+    -1, 0, 1, 93599, 93600, 1721059, 1721060, 2451545, 5373484, 5373485, FOTS_MAX_DATE - 1, FOTS_MAX_DATE, FOTS_MAX_DATE + 1,
+    INT32_MAX - 1, INT32_MAX};
 static const uint32_t border_numbers[] = {0, 1, 2, 7, 8, 12, 13, 23, 24, 28, 29, 30, 31, 32, 52, 53, 54, 59, 60, 128, 255, 256, 257, 258,
     263, 268, 365, 366, 367, 999, 1000, 65535, 65536, 65537, 999999, 1000000, 999999999, 1000000000, 2147483647, 2147483648,
     4294967295};
@@ -292,6 +500,9 @@ static const uint64_t border_times[] = {0, 1, 86399999999998, 86399999999999, 86
 static const int64_t border_seconds[] = {INT64_MIN, INT64_MIN + 1, -106751991167301, -86400, -1, 0, 1, 86399, 86400, 363521074,
     366963559, 4294967296, 106751991167301, INT64_MAX - 1, INT64_MAX};
 static const int32_t border_nanoseconds[] = {INT32_MIN, -1000000000, -999999999, -1, 0, 1, 255, 256, 999999999, 1000000000, INT32_MAX};
+
+static const int32_t border_offsets[] = {INT32_MIN, -93600, -93599, -86400, -86399, -86340, -3600, -60, -1, 0, 1, 60, 19800, 86340, 86400,
+    93599, 93600, INT32_MAX};
 
 static fots_duration drawn_duration(int k)
 {
@@ -321,6 +532,11 @@ static fots_time drawn_time(int k)
     return k < COUNT(border_times) ? border_times[k] : drawn() >> (drawn() & 63);
 }
 
+static fots_offset drawn_offset(int k)
+{
+    return k < COUNT(border_offsets) ? border_offsets[k] : (fots_offset)(uint32_t)drawn() >> (drawn() & 31);
+}
+
 /* Each border against each other one, and drawn ones beside them. */
 static void everything(void)
 {
@@ -336,6 +552,11 @@ static void everything(void)
                 times(drawn_time(time), drawn_number(number), duration);
             }
         }
+        for (int date = 0; date < 40; date++) {
+            for (int offset = 0; offset < 40; offset++) {
+                moments(drawn_date(date), drawn_time(offset % 20), drawn_offset(offset), duration);
+            }
+        }
         for (int other = 0; other < DRAWN; other++) {
             durations(duration, drawn_duration(other), (int32_t)drawn_number(other % 80));
         }
@@ -346,6 +567,8 @@ static void everything(void)
             offsets(drawn_date(number), (int32_t)drawn_number(other));
         }
     }
+    nearly_texts();
+    drawn_texts();
 }
 
 /* With no argument everything but the walks over all 32 bits, which 'low' and 'high' make, of the numbers below 0 and the others. */

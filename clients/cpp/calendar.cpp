@@ -29,6 +29,10 @@ int main()
     check(none.status == FOTS_DAY && std::strcmp(fots_status_name(none.status), "day") == 0, "29 February of 2023");
     check(fots_status_is_conditional(none.status) == 1, "the mark of a day");
     check(fots_date_weekday(none.date).status == FOTS_BAD_DATE, "the weekday of no date");
+    const fots_read_date_result read = fots_date_read("2024-060", 8);
+    check(read.status == FOTS_DONE && read.date == leap_day.date && read.place == SIZE_MAX, "an ordinal date read");
+    const fots_text_result text = fots_date_week_text(read.date);
+    check(text.length == 10 && std::strcmp(text.bytes, "2024-W09-4") == 0, "a week date printed");
     std::printf("calendar in C++: %d failed\n", failed);
     return failed != 0;
 }

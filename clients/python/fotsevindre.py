@@ -11,9 +11,9 @@ one that the system finds as `fotsevindre`.
     Traceback (most recent call last):
     fotsevindre.ComponentRange: day was not in range
 
-A component out of its range raises `ComponentRange`. Calls whose name begins with `checked_`, and the few others that say so, return
-`None` past the end of the range; operators and the rest raise `OverflowError` there. A value of the wrong type raises `TypeError`. No
-number wraps, however great it is.
+A component out of its range raises `ComponentRange`, and a text of no form that is read raises `Unreadable`. Calls whose name begins with
+`checked_`, and the few others that say so, return `None` past the end of the range; operators and the rest raise `OverflowError` there. A
+value of the wrong type raises `TypeError`. No number wraps, however great it is.
 
 Values are immutable. They compare and hash as their number, and `str` and `repr` give the text of the library.
 """
@@ -27,10 +27,11 @@ import os
 import sys
 
 __all__ = [
-    "ComponentRange", "Date", "Month", "SignedDuration", "Time", "UtcOffset", "Weekday", "add_to_pair", "dates_add_days",
+    "ComponentRange", "Date", "Month", "SignedDuration", "Time", "Unreadable", "UtcOffset", "Weekday", "add_to_pair", "dates_add_days",
     "dates_from_calendar_dates", "dates_from_iso_week_dates", "dates_from_julian_days", "dates_from_ordinal_dates",
     "dates_to_calendar_dates", "dates_to_iso_week_dates", "dates_to_ordinal_dates", "dates_weekdays", "days_in_month", "days_in_year",
-    "days_in_year_month", "is_leap_year", "status_error", "sub_from_pair", "weeks_in_year",
+    "days_in_year_month", "is_leap_year", "read_rfc3339", "read_unix", "rfc3339_text", "status_error", "sub_from_pair",
+    "unix_duration", "unix_pair", "unix_text", "weeks_in_year",
 ]
 
 # ---- the library
@@ -72,6 +73,9 @@ _OFFSET = _result(("offset", _I32))
 _OFFSET_PARTS = _result(("hours", _I32), ("minutes", _I32), ("seconds", _I32))
 _DURATION = _result(("duration", _CDuration))
 _PAIR = _result(("date", _I32), ("time", _U64))
+_TEXT = _result(("length", _U32), ("bytes", ctypes.c_char * 40))
+_READ_DATE = _result(("date", _I32), ("place", ctypes.c_size_t))
+_READ_MOMENT = _result(("date", _I32), ("time", _U64), ("offset", _I32), ("place", ctypes.c_size_t))
 
 # What each call returns, what it takes, and the calls of that form.
 _FORMS = [
@@ -95,9 +99,11 @@ _FORMS = [
     (_NUMBER, [_U64], "time_hour time_minute time_second time_millisecond time_microsecond time_nanosecond"),
     (_TIME, [_U64, _U32], "time_replace_hour time_replace_minute time_replace_second time_replace_millisecond "
         "time_replace_microsecond time_replace_nanosecond"),
+    (_TIME, [_U64], "time_truncate_to_hour time_truncate_to_minute time_truncate_to_second time_truncate_to_millisecond "
+        "time_truncate_to_microsecond"),
     (_TIME, [_U64, _CDuration], "time_add time_sub"),
     (_ADJUSTED_TIME, [_U64, _CDuration], "time_adjusting_add time_adjusting_sub"),
-    (_DURATION, [_U64, _U64], "time_duration_until time_duration_since"),
+    (_DURATION, [_U64, _U64], "time_duration_until time_duration_since time_difference"),
     (_OFFSET, [_I32, _I32, _I32], "offset_from_hms"),
     (_OFFSET, [_I64], "offset_from_whole_seconds"),
     (_OFFSET_PARTS, [_I32], "offset_as_hms"),
@@ -117,6 +123,12 @@ _FORMS = [
     (_NUMBER, [_U32], "weekday_number_from_sunday"),
     (_U32, [_I32], "is_leap_year days_in_year weeks_in_year"),
     (_PAIR, [_I32, _U64, _CDuration], "add_to_pair sub_from_pair"),
+    (_DURATION, [_I32, _U64, _I32], "unix_time"),
+    (_PAIR, [_CDuration, _I32], "unix_pair"),
+    (_TEXT, [_I32], "date_calendar_text date_ordinal_text date_week_text date_julian_text"),
+    (_TEXT, [_I32, _U64, _I32], "moment_text unix_text"),
+    (_READ_DATE, [ctypes.c_char_p, ctypes.c_size_t], "date_read julian_day_read"),
+    (_READ_MOMENT, [ctypes.c_char_p, ctypes.c_size_t], "moment_read unix_read"),
 ]
 
 _library = _load()
@@ -151,10 +163,11 @@ for _name, (_returned, _taken) in _COLUMNS.items():
 
 _PAST_RANGE = 1
 _BAD_COUNT = 7
+_UNREADABLE = 8
 _REFUSALS = {
     16: "year", 17: "month", 18: "julian_day", 19: "hour", 20: "minute", 21: "second", 22: "millisecond", 23: "microsecond",
-    24: "nanosecond", 25: "offset hour", 26: "offset minute", 27: "offset second", 28: "seconds", 64: "day", 65: "ordinal",
-    66: "week", 67: "weekday",
+    24: "nanosecond", 25: "offset hour", 26: "offset minute", 27: "offset second", 28: "seconds", 29: "timestamp",
+    64: "day", 65: "ordinal", 66: "week", 67: "weekday",
 }
 _FIRST_CONDITIONAL = 64
 
@@ -178,6 +191,24 @@ class ComponentRange(ValueError):
 
     def __str__(self):
         return f"{self.name} was not in range"
+
+
+class Unreadable(ValueError):
+    """A text has no form that is read: `place` is that, from 0, of the first character that no text of the forms has there.
+
+    It is the length of a text that ends too early.
+
+    >>> Date.read("2024x")
+    Traceback (most recent call last):
+    fotsevindre.Unreadable: unexpected byte at 4
+    """
+
+    def __init__(self, place):
+        super().__init__(place)
+        self.place = place
+
+    def __str__(self):
+        return f"unexpected byte at {self.place}"
 
 
 def _error(status):
@@ -207,6 +238,23 @@ def _done_or_none(name, *arguments):
     if result.status:
         raise _error(result.status)
     return result
+
+
+def _read(name, text):
+    """What the call reads of the text."""
+    # Every byte before the first wrong one is ASCII, so its place is the same among the characters. A lone surrogate is a wrong byte.
+    text = _is(text, str).encode("utf-8", "surrogatepass")
+    result = _calls[name](text, len(text))
+    if result.status == _UNREADABLE:
+        raise Unreadable(result.place)
+    if result.status:
+        raise _error(result.status)
+    return result
+
+
+def _text(result):
+    """The text that a call returned, or `None` where there is none."""
+    return result and result.bytes[:result.length].decode("ascii")
 
 
 # ---- arguments
@@ -802,23 +850,23 @@ class Time(_Value):
 
     def truncate_to_hour(self):
         """The time with all that lies below its hour zero: 1:02:03.004005006 becomes 1:00:00.0."""
-        return Time.from_hms(self.hour(), 0, 0)
+        return self._from_c(_done("time_truncate_to_hour", self._key))
 
     def truncate_to_minute(self):
         """The time with all that lies below its minute zero: 1:02:03.004005006 becomes 1:02:00.0."""
-        return Time.from_hms(self.hour(), self.minute(), 0)
+        return self._from_c(_done("time_truncate_to_minute", self._key))
 
     def truncate_to_second(self):
         """The time with all that lies below its second zero: 1:02:03.004005006 becomes 1:02:03.0."""
-        return self.replace_nanosecond(0)
+        return self._from_c(_done("time_truncate_to_second", self._key))
 
     def truncate_to_millisecond(self):
         """The time with all that lies below its millisecond zero: 1:02:03.004005006 becomes 1:02:03.004."""
-        return self.replace_millisecond(self.millisecond())
+        return self._from_c(_done("time_truncate_to_millisecond", self._key))
 
     def truncate_to_microsecond(self):
         """The time with all that lies below its microsecond zero: 1:02:03.004005006 becomes 1:02:03.004005."""
-        return self.replace_microsecond(self.microsecond())
+        return self._from_c(_done("time_truncate_to_microsecond", self._key))
 
     def duration_until(self, other):
         """The way forward to the other time, from zero to below a day: from 23:00 until 1:00 it is two hours."""
@@ -845,7 +893,7 @@ class Time(_Value):
 
     def __sub__(self, other):
         if isinstance(other, Time):
-            return SignedDuration.nanoseconds(self._key - other._key)
+            return SignedDuration._from_c(_done("time_difference", self._key, other._key))
         if not isinstance(other, SignedDuration):
             return NotImplemented
         return self._from_c(_done("time_sub", self._key, other._c()))
@@ -988,6 +1036,38 @@ class Date(_Value):
         `from_julian_day(2451545)` is 2000-01-01.
         """
         return cls._from_c(_done("date_from_julian_day", _long(julian_day)))
+
+    @classmethod
+    def read(cls, text):
+        """The date of a calendar date, an ordinal date or an ISO week date in text, as `2024-02-29`, `2024-060` or `2024-W09-4`.
+
+        `Unreadable` where the text is none of these, and `ComponentRange` as `month`, `year`, `day`, `ordinal`, `week` or `weekday`.
+
+        >>> Date.read("2020-W53-5"), Date.read("+10000-001")
+        (2021-01-01, +10000-01-01)
+        """
+        return cls._from_c(_read("date_read", text))
+
+    @classmethod
+    def read_julian_day(cls, text):
+        """The date of a Julian day in text, as `J2460370`; `Unreadable`, or `ComponentRange` as `julian_day`."""
+        return cls._from_c(_read("julian_day_read", text))
+
+    def calendar_text(self):
+        """The calendar date in text, as `2024-02-29`: what `str` gives."""
+        return _text(_done("date_calendar_text", self._key))
+
+    def ordinal_text(self):
+        """The ordinal date in text, as `2024-060`."""
+        return _text(_done("date_ordinal_text", self._key))
+
+    def week_text(self):
+        """The ISO week date in text, as `2024-W09-4`."""
+        return _text(_done("date_week_text", self._key))
+
+    def julian_text(self):
+        """The Julian day in text, as `J2460370`."""
+        return _text(_done("date_julian_text", self._key))
 
     @classmethod
     def from_date(cls, date):
@@ -1150,9 +1230,7 @@ class Date(_Value):
         return Date.from_julian_day, (self._key,)
 
     def __str__(self):
-        year, month, day = self.to_calendar_date()
-        sign = "-" if year < 0 else "+" if year > 9999 else ""
-        return f"{sign}{abs(year):04}-{int(month):02}-{day:02}"
+        return self.calendar_text()
 
 
 Date.MIN = Date.from_julian_day(-363_521_074)
@@ -1176,6 +1254,70 @@ def add_to_pair(date, time, duration):
 def sub_from_pair(date, time, duration):
     """The date and the time that come so much earlier, to the nanosecond, or `None` where that date is past the range."""
     return _pair(_done_or_none("sub_from_pair", _is(date, Date)._key, _is(time, Time)._key, _is(duration, SignedDuration)._c()))
+
+
+# ---- moments
+
+
+def _moment(date, time, offset):
+    """A date, a time and an offset, as they cross."""
+    return _is(date, Date)._key, _is(time, Time)._key, _is(offset, UtcOffset)._key
+
+
+def rfc3339_text(date, time, offset):
+    """The text of RFC 3339 of a date and a time that a clock shows at the offset, or `None` where RFC 3339 has none.
+
+    It has none for a year outside 0 to 9999, an offset of a day and more, and one with seconds.
+
+    >>> rfc3339_text(Date.read("2024-02-29"), Time.from_hms_milli(23, 59, 59, 250), UtcOffset.from_hms(1, 0, 0))
+    '2024-02-29T23:59:59.25+01:00'
+    """
+    return _text(_done_or_none("moment_text", *_moment(date, time, offset)))
+
+
+def read_rfc3339(text):
+    """The date, the time and the offset of a text of RFC 3339.
+
+    `Unreadable`, or `ComponentRange` as `month`, `day`, `hour`, `minute`, `second`, `offset hour` or `offset minute`. A second of 60 is
+    refused, as no leap second is counted; of a fraction the first nine digits count.
+
+    >>> read_rfc3339("2024-02-29T23:59:59.25+01:00")
+    (2024-02-29, 23:59:59.25, +01:00:00)
+    """
+    found = _read("moment_read", text)
+    return Date._of(found.date), Time._of(found.time), UtcOffset._of(found.offset)
+
+
+def unix_duration(date, time, offset):
+    """The Unix time of a date and a time that a clock shows at the offset, as a duration from 1970-01-01 0:00 UTC on.
+
+    >>> unix_duration(Date.read("2024-02-29"), Time.MIDNIGHT, UtcOffset.UTC).whole_seconds()
+    1709164800
+    """
+    return SignedDuration._from_c(_done("unix_time", *_moment(date, time, offset)))
+
+
+def unix_pair(duration, offset):
+    """The date and the time of a Unix time, as a clock shows them at the offset, or `None` where no day of the range has it.
+
+    >>> unix_pair(SignedDuration.seconds(1709164800), UtcOffset.from_hms(1, 0, 0))
+    (2024-02-29, 1:00:00.0)
+    """
+    return _pair(_done_or_none("unix_pair", _is(duration, SignedDuration)._c(), _is(offset, UtcOffset)._key))
+
+
+def unix_text(date, time, offset):
+    """The Unix time in text of a date and a time that a clock shows at the offset, as `@1709164800.5`."""
+    return _text(_done("unix_text", *_moment(date, time, offset)))
+
+
+def read_unix(text):
+    """The date and the time, at UTC, of a Unix time in text; `Unreadable`, or `ComponentRange` as `timestamp`.
+
+    >>> read_unix("@1709164800.5")
+    (2024-02-29, 0:00:00.5)
+    """
+    return _pair(_read("unix_read", text))
 
 
 # ---- columns

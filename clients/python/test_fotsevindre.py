@@ -15,8 +15,9 @@ import unittest
 
 import fotsevindre
 from fotsevindre import (
-    ComponentRange, Date, Month, SignedDuration, Time, UtcOffset, Weekday, add_to_pair, days_in_month, days_in_year,
-    days_in_year_month, is_leap_year, sub_from_pair, weeks_in_year,
+    ComponentRange, Date, Month, SignedDuration, Time, Unreadable, UtcOffset, Weekday, add_to_pair, days_in_month, days_in_year,
+    days_in_year_month, is_leap_year, read_rfc3339, read_unix, rfc3339_text, sub_from_pair, unix_duration, unix_pair, unix_text,
+    weeks_in_year,
 )
 
 DAY = 86400
@@ -355,6 +356,189 @@ class Times(Cases):
                     self.assertEqual((found[1] - Time.MIDNIGHT).whole_nanoseconds(), to_clock)
                 else:
                     self.assertIsNone(found)
+
+
+class Texts(Cases):
+    # Julian day, and the texts: by the calendar, by the ordinal, by the week and by the Julian day.
+    DAYS = [
+        (2460370, "2024-02-29", "2024-060", "2024-W09-4", "J2460370"), (2459216, "2021-01-01", "2021-001", "2020-W53-5", "J2459216"),
+        (2458484, "2018-12-31", "2018-365", "2019-W01-1", "J2458484"), (1721060, "0000-01-01", "0000-001", "-0001-W52-6", "J1721060"),
+        (1721059, "-0001-12-31", "-0001-365", "-0001-W52-5", "J1721059"),
+        (5373485, "+10000-01-01", "+10000-001", "9999-W52-6", "J5373485"), (-1, "-4713-11-23", "-4713-327", "-4713-W47-7", "J-1"),
+        (366963559, "+999999-12-31", "+999999-365", "+999999-W52-5", "J366963559"),
+        (-363521074, "-999999-01-01", "-999999-001", "-999999-W01-1", "J-363521074"),
+    ]
+
+    def unreadable(self, place, call, text):
+        with self.assertRaises(Unreadable, msg=text) as caught:
+            call(text)
+        self.assertEqual((caught.exception.place, str(caught.exception)), (place, f"unexpected byte at {place}"), text)
+        self.assertIsInstance(caught.exception, ValueError)
+
+    def test_days(self):
+        for julian_day, calendar, ordinal, week, julian in self.DAYS:
+            date = Date.from_julian_day(julian_day)
+            self.assertEqual((date.calendar_text(), date.ordinal_text(), date.week_text()), (calendar, ordinal, week))
+            self.assertEqual((str(date), date.julian_text()), (calendar, julian))
+            self.assertEqual([Date.read(text) for text in (calendar, ordinal, week)], [date] * 3)
+            self.assertEqual(Date.read_julian_day(julian), date)
+
+    def test_days_of_the_standard_library(self):
+        for number in itertools.chain(range(1, 800), range(738000, 739000), range(datetime.date.max.toordinal() - 800,
+                datetime.date.max.toordinal() + 1)):
+            other = datetime.date.fromordinal(number)
+            date = Date.from_date(other)
+            iso_year, week, weekday = other.isocalendar()
+            texts = [other.isoformat(), f"{other.year:04}-{other.timetuple().tm_yday:03}", f"{iso_year:04}-W{week:02}-{weekday}"]
+            self.assertEqual([date.calendar_text(), date.ordinal_text(), date.week_text()], texts)
+            self.assertEqual([Date.read(text) for text in texts], [date] * 3)
+
+    def test_every_day_of_four_years_at_each_end(self):
+        for first in (-363521074, 366963559 - 1460):
+            for number in range(first, first + 1461):
+                date = Date.from_julian_day(number)
+                year, month, day_of_month = date.to_calendar_date()
+                sign = "-" if year < 0 else "+"
+                self.assertEqual(date.calendar_text(), f"{sign}{abs(year)}-{int(month):02}-{day_of_month:02}")
+                self.assertEqual(date.ordinal_text(), f"{sign}{abs(year)}-{date.ordinal():03}")
+                for text in (date.calendar_text(), date.ordinal_text(), date.week_text()):
+                    self.assertEqual(Date.read(text), date)
+                self.assertEqual(date.julian_text(), f"J{number}")
+                self.assertEqual(Date.read_julian_day(date.julian_text()), date)
+
+    def test_refused_days(self):
+        rows = [
+            ("2024-13-01", "month", False), ("2024-00-01", "month", False), ("+1000000-13-01", "month", False),
+            ("+1000000-12-01", "year", False), ("-999999999-001", "year", False), ("2023-02-29", "day", True),
+            ("2024-01-00", "day", True), ("2023-366", "ordinal", True), ("2024-000", "ordinal", True), ("2021-W53-1", "week", True),
+            ("2021-W00-1", "week", True), ("+999999-W52-6", "weekday", True),
+        ]
+        for text, name, is_conditional in rows:
+            self.refused(name, is_conditional, Date.read, text)
+        for text in ("J366963560", "J-363521075", "J999999999"):
+            self.refused("julian_day", False, Date.read_julian_day, text)
+        rows = [
+            ("", 0), ("x024-02-29", 0), ("2024x", 4), ("2024", 4), ("20240229", 4), ("12345-01-01", 4), ("+2024-01-01", 5),
+            ("+02024-01-01", 1), ("-0000-01-01", 4), ("-12345678901-001", 10), ("2024-60", 7), ("2024-02-2", 9), ("2024-02-29 ", 10),
+            ("2024-w09-4", 5), ("2024-W09-0", 9), ("2024-W09-8", 9), ("2024-02-2\u0661", 9), ("2024-02-29\0", 10), ("\udc80", 0),
+            ("2024-\ud800", 5), ("\0" * 50, 0),
+        ]
+        for text, place in rows:
+            self.unreadable(place, Date.read, text)
+        for text, place in [("", 0), ("2460370", 0), ("J", 1), ("J-", 2), ("J+1", 1), ("J-0", 2), ("J02", 2), ("J24603700000", 10)]:
+            self.unreadable(place, Date.read_julian_day, text)
+
+    # The examples of the standard come first.
+    MOMENTS = [
+        ("1985-04-12T23:20:50.52Z", (1985, 4, 12), (23, 20, 50, 520000000), 0),
+        ("1996-12-19T16:39:57-08:00", (1996, 12, 19), (16, 39, 57, 0), -28800),
+        ("1937-01-01T12:00:27.87+00:20", (1937, 1, 1), (12, 0, 27, 870000000), 1200),
+        ("2024-02-29T23:59:59.25+01:00", (2024, 2, 29), (23, 59, 59, 250000000), 3600),
+        ("0000-01-01T00:00:00Z", (0, 1, 1), (0, 0, 0, 0), 0),
+        ("9999-12-31T23:59:59.999999999-23:59", (9999, 12, 31), (23, 59, 59, 999999999), -86340),
+        ("2024-02-29T09:05:07.000000001-00:30", (2024, 2, 29), (9, 5, 7, 1), -1800),
+    ]
+
+    def moment(self, calendar, clock, offset):
+        return day(*calendar), Time.from_hms_nano(*clock), UtcOffset.from_whole_seconds(offset)
+
+    def test_moments(self):
+        for text, *numbers in self.MOMENTS:
+            moment = self.moment(*numbers)
+            self.assertEqual((rfc3339_text(*moment), read_rfc3339(text)), (text, moment))
+        rows = [
+            ("0000-01-01t00:00:00z", (0, 1, 1), (0, 0, 0, 0), 0), ("2024-02-29 00:00:00-00:00", (2024, 2, 29), (0, 0, 0, 0), 0),
+            ("2024-02-29T00:00:00.9999999999999Z", (2024, 2, 29), (0, 0, 0, 999999999), 0),
+            ("2024-02-29T00:00:00.0000000019Z", (2024, 2, 29), (0, 0, 0, 1), 0),
+        ]
+        for text, *numbers in rows:
+            self.assertEqual(read_rfc3339(text), self.moment(*numbers))
+        for date in (day(10000, 1, 1), day(-1, 12, 31)):
+            self.assertIsNone(rfc3339_text(date, Time.MIDNIGHT, UtcOffset.UTC))
+        for seconds in (86400, -86400, 1, -1, 3601, 93599):
+            self.assertIsNone(rfc3339_text(day(2024, 2, 29), Time.MIDNIGHT, UtcOffset.from_whole_seconds(seconds)))
+
+    def test_refused_moments(self):
+        rows = [
+            ("1990-12-31T23:59:60Z", "second", False), ("1990-12-31T15:59:60-08:00", "second", False),
+            ("2024-00-99T99:99:99Z", "month", False), ("2023-02-29T24:00:00Z", "day", True), ("2024-02-29T24:60:60Z", "hour", False),
+            ("2024-02-29T23:60:60+24:00", "minute", False), ("2024-02-29T23:59:59+24:60", "offset hour", False),
+            ("2024-02-29T23:59:59-23:60", "offset minute", False),
+        ]
+        for text, name, is_conditional in rows:
+            self.refused(name, is_conditional, read_rfc3339, text)
+        rows = [
+            ("", 0), ("-2024-02-29T00:00:00Z", 0), ("2024-02-29", 10), ("2024-02-29  00:00:00Z", 11), ("2024-02-29T00:00Z", 16),
+            ("2024-02-29T00:00:00.Z", 20), ("2024-02-29T00:00:00.5", 21), ("2024-02-29T00:00:00Z ", 20),
+            ("2024-02-29T00:00:00+0100", 22),
+        ]
+        for text, place in rows:
+            self.unreadable(place, read_rfc3339, text)
+
+    def test_moments_of_the_standard_library(self):
+        draw = random.Random(3339)
+        epoch = datetime.datetime(1970, 1, 1, tzinfo=datetime.timezone.utc)
+        for _ in range(3000):
+            minutes = draw.randint(-1439, 1439)
+            zone = datetime.timezone(datetime.timedelta(minutes=minutes))
+            other = datetime.datetime(1, 1, 3, tzinfo=zone) + datetime.timedelta(draw.randrange(3652050), draw.randrange(DAY),
+                draw.choice([0, draw.randrange(10**6)]))
+            date, time = Date.from_date(other.date()), Time.from_hms_micro(other.hour, other.minute, other.second, other.microsecond)
+            moment = date, time, UtcOffset.from_whole_seconds(60 * minutes)
+            self.assertEqual(read_rfc3339(other.isoformat()), moment)
+            text = other.isoformat()
+            if other.microsecond:
+                text = re.sub(r"(\.\d*?)0+(?=[+-]\d\d:\d\d$)", r"\1", text)
+            self.assertEqual(rfc3339_text(*moment), re.sub(r"\+00:00$", "Z", text))
+            since = (other - epoch) // datetime.timedelta(microseconds=1)
+            self.assertEqual(unix_duration(*moment), SignedDuration.microseconds(since))
+            self.assertEqual(unix_pair(SignedDuration.microseconds(since), moment[2]), moment[:2])
+            whole, part = divmod(abs(since), 10**6)
+            text = f"@{'-' if since < 0 else ''}{whole}" + (f".{part:06}".rstrip("0") if part else "")
+            self.assertEqual(unix_text(*moment), text)
+            self.assertEqual(read_unix(text), unix_pair(SignedDuration.microseconds(since), UtcOffset.UTC))
+
+    def test_unix_times(self):
+        rows = [
+            ("@0", span(0)), ("@1709164800.5", span(1709164800, 500000000)), ("@-0.000000001", span(0, -1)),
+            ("@-1.25", span(-1, -250000000)), ("@31494784780799.999999999", span(31494784780799, 999999999)),
+            ("@-31619087596800", span(-31619087596800)),
+        ]
+        for text, duration in rows:
+            pair = read_unix(text)
+            self.assertEqual(pair, unix_pair(duration, UtcOffset.UTC))
+            self.assertEqual((unix_text(*pair, UtcOffset.UTC), unix_duration(*pair, UtcOffset.UTC)), (text, duration))
+        self.assertEqual(read_unix("@1709164800.50"), (day(2024, 2, 29), Time.from_hms_milli(0, 0, 0, 500)))
+        self.assertEqual(unix_text(Date.MIN, Time.MIDNIGHT, UtcOffset.from_hms(1, 0, 0)), "@-31619087600400")
+        self.assertIsNone(unix_pair(span(31494784780800), UtcOffset.UTC))
+        self.assertIsNone(unix_pair(GREATEST, UtcOffset.UTC))
+        self.assertIsNone(unix_pair(LEAST, UtcOffset.from_hms(-1, 0, 0)))
+        for text in ("@31494784780800", "@-31619087596800.000000001", "@999999999999999999"):
+            self.refused("timestamp", False, read_unix, text)
+        for text, place in [("", 0), ("@", 1), ("@+1", 1), ("@01", 2), ("@-0", 3), ("@-0.0", 5), ("@1.", 3), ("@1.1234567890", 12)]:
+            self.unreadable(place, read_unix, text)
+
+    def test_wrong_kinds(self):
+        moment = day(2024, 2, 29), Time.MIDNIGHT, UtcOffset.UTC
+        for call in (Date.read, Date.read_julian_day, read_rfc3339, read_unix):
+            for wrong in (None, 1, 1.0, b"2024-02-29", ["2024-02-29"], *moment):
+                with self.assertRaises(TypeError):
+                    call(wrong)
+        for call in (rfc3339_text, unix_text, unix_duration):
+            for place, wrong in itertools.product(range(3), NO_NUMBERS + [1, "Z", span(1)]):
+                arguments = list(moment)
+                arguments[place] = wrong
+                with self.assertRaises(TypeError):
+                    call(*arguments)
+            with self.assertRaises(TypeError):
+                call(*reversed(moment))
+        for arguments in [(UtcOffset.UTC, span(1)), (1, UtcOffset.UTC), (span(1), 0), (span(1), None)]:
+            with self.assertRaises(TypeError):
+                unix_pair(*arguments)
+
+    def test_copies_of_the_error(self):
+        error = pickle.loads(pickle.dumps(Unreadable(4)))
+        self.assertEqual((error.place, str(error)), (4, "unexpected byte at 4"))
 
 
 class Offsets(Cases):
@@ -702,7 +886,8 @@ class Header(Cases):
     TEXT = (pathlib.Path(__file__).resolve().parents[2] / "include" / "fotsevindre.h").read_text(encoding="utf-8")
     NUMBERS = {
         "int32_t": ctypes.c_int32, "uint32_t": ctypes.c_uint32, "int64_t": ctypes.c_int64, "uint64_t": ctypes.c_uint64,
-        "size_t": ctypes.c_size_t, "fots_date": ctypes.c_int32, "fots_offset": ctypes.c_int32, "fots_time": ctypes.c_uint64,
+        "size_t": ctypes.c_size_t, "char": ctypes.c_char, "fots_date": ctypes.c_int32, "fots_offset": ctypes.c_int32,
+        "fots_time": ctypes.c_uint64,
     }
 
     def setUp(self):
@@ -716,7 +901,11 @@ class Header(Cases):
         """Whether the type that the client declares is that of the header with this name."""
         if name in self.NUMBERS:
             return declared is self.NUMBERS[name]
+        if name.endswith("]"):
+            name, length = name[:-1].split("[")
+            return declared._length_ == int(length) and self.is_of(declared._type_, name)
         fields = [field.strip().rsplit(" ", 1) for field in self.structs[name].split(";") if field.strip()]
+        fields = [(kind + field[field.index("["):], field.split("[")[0]) if "[" in field else (kind, field) for kind, field in fields]
         return len(fields) == len(declared._fields_) and all(
             field == own and self.is_of(kind, type_name) for (type_name, field), (own, kind) in zip(fields, declared._fields_))
 
@@ -729,6 +918,9 @@ class Header(Cases):
             self.assertEqual(len(parts), len(call.argtypes), name)
             for part, declared in zip(parts, call.argtypes):
                 type_name = re.sub(r"^const ", "", re.match(r"(.*[ *])\w+$", part)[1]).strip()
+                if declared is ctypes.c_char_p:
+                    self.assertEqual(type_name, "char *", (name, part))
+                    continue
                 if type_name.endswith("*"):
                     declared, type_name = declared._type_, type_name[:-1].strip()
                 self.assertTrue(self.is_of(declared, type_name), (name, part))
@@ -739,6 +931,7 @@ class Header(Cases):
         self.assertEqual(fotsevindre._FIRST_CONDITIONAL, self.statuses["FOTS_DAY"])
         self.assertEqual(fotsevindre._PAST_RANGE, self.statuses["FOTS_PAST_RANGE"])
         self.assertEqual(fotsevindre._BAD_COUNT, self.statuses["FOTS_BAD_COUNT"])
+        self.assertEqual(fotsevindre._UNREADABLE, self.statuses["FOTS_UNREADABLE"])
 
 
 class Documentation(Cases):

@@ -3,6 +3,7 @@
 #![allow(unexpected_cfgs)]
 
 use std::hint::black_box;
+use std::mem::MaybeUninit;
 use std::time::Instant;
 
 const DRAWN: usize = 4096;
@@ -56,6 +57,16 @@ fn over<'a, T, R>(values: &'a [T], call: impl Fn(&T) -> R + 'a) -> Box<dyn Fn() 
     })
 }
 
+/// The calendar dates of a column, each taken as one value would be.
+fn column_of_calendar_dates(dates: &[fotsevindre::Date]) -> Box<dyn Fn() + '_> {
+    Box::new(move || {
+        let mut room = [MaybeUninit::uninit(); DRAWN];
+        for row in fotsevindre::columns::dates_to_calendar_dates(black_box(dates), &mut room) {
+            black_box(row.get());
+        }
+    })
+}
+
 /// Times the calls in turn, and prints the median of each.
 fn compare(name: &str, calls: Vec<Timed>) {
     let mut times = vec![Vec::new(); calls.len()];
@@ -91,7 +102,21 @@ fn main() {
     #[cfg(has_chrono)]
     use chrono::Datelike;
 
+    let offsets: Vec<_> =
+        numbers.iter().map(|n| fotsevindre::UtcOffset::from_whole_seconds((n.days * 9) as i32).unwrap()).collect();
     println!("nanoseconds a call, median of {ROUNDS} rounds");
+    compare(
+        "a call at least",
+        vec![
+            ("no call", over(&offsets, |offset| offset.whole_seconds())),
+            ("a negated offset", over(&offsets, |offset| -*offset)),
+            ("the next day", over(&ours, |date| date.next_day())),
+        ],
+    );
+    compare(
+        "a row",
+        vec![("to_calendar_date", over(&ours, |date| date.to_calendar_date())), ("of a column", column_of_calendar_dates(&ours))],
+    );
     compare(
         "from_calendar_date",
         vec![

@@ -1,10 +1,11 @@
-use crate::error::ComponentRange;
+use crate::error::{ComponentRange, Unreadable};
 use crate::ffi::{self, certain, or_none, or_refused, Answer};
 use crate::iter::DateIter;
-use crate::text::Line;
+use crate::text::date::{self, CalendarText};
 use crate::{Month, SignedDuration, Weekday};
-use core::fmt::{self, Write};
+use core::fmt;
 use core::ops::{Add, AddAssign, Sub, SubAssign};
+use core::str::FromStr;
 
 /// A day of the proleptic Gregorian calendar, from -999999-01-01 to 999999-12-31.
 ///
@@ -12,6 +13,7 @@ use core::ops::{Add, AddAssign, Sub, SubAssign};
 /// with a sign before a negative year and before one of more than four digits. Under a width the whole text is padded. `Debug`
 /// prints the same.
 #[derive(Clone, Copy, PartialEq, Eq, PartialOrd, Ord, Hash)]
+#[repr(transparent)]
 pub struct Date {
     julian_day: i32,
 }
@@ -344,20 +346,22 @@ impl Sub for Date {
 
 impl fmt::Display for Date {
     fn fmt(&self, f: &mut fmt::Formatter<'_>) -> fmt::Result {
-        let (year, month, day) = self.to_calendar_date();
-        let sign = match year {
-            ..=-1 => "-",
-            0..=9999 => "",
-            _ => "+",
-        };
-        let mut line = Line::default();
-        write!(line, "{sign}{:04}-{:02}-{day:02}", year.unsigned_abs(), month as u8)?;
-        line.pad(f)
+        fmt::Display::fmt(&CalendarText(*self), f)
     }
 }
 
 impl fmt::Debug for Date {
     fn fmt(&self, f: &mut fmt::Formatter<'_>) -> fmt::Result {
         fmt::Display::fmt(self, f)
+    }
+}
+
+impl FromStr for Date {
+    type Err = Unreadable;
+
+    /// The day whose calendar date, ordinal date or ISO week date the text is, as `2024-02-29`, `2024-060` or `2024-W09-4`: what
+    /// [`text::date::read`](date::read) reads.
+    fn from_str(text: &str) -> Result<Self, Unreadable> {
+        date::read(text.as_bytes())
     }
 }

@@ -42,6 +42,7 @@ impl ComponentRange {
             26 => "offset minute",
             27 => "offset second",
             28 => "seconds",
+            29 => "timestamp",
             64 => "day",
             65 => "ordinal",
             66 => "week",
@@ -54,6 +55,9 @@ impl ComponentRange {
 
     /// The refusal of a number that is none of a month.
     pub(crate) const MONTH: Self = Self { name: "month", is_conditional: false };
+
+    /// The refusal of a number that is none of a weekday.
+    pub(crate) const WEEKDAY: Self = Self { name: "weekday", is_conditional: false };
 
     /// The name of the component, such as `day`.
     pub const fn name(self) -> &'static str {
@@ -73,6 +77,30 @@ impl fmt::Display for ComponentRange {
 }
 
 impl core::error::Error for ComponentRange {}
+
+/// A text is not one of those that a call reads.
+///
+/// It prints `unexpected byte at 4` where the form is wrong, and as the error of the component where a component is out of range:
+/// `day was not in range`.
+#[derive(Clone, Copy, Debug, PartialEq, Eq, Hash)]
+pub enum Unreadable {
+    /// The text has no form that is read. This is the place, from 0, of the first byte that no text of the forms has there, or the
+    /// length of a text that ends too early.
+    UnexpectedByte(usize),
+    /// The text has a form that is read, and this component of it is out of range.
+    OutOfRange(ComponentRange),
+}
+
+impl fmt::Display for Unreadable {
+    fn fmt(&self, f: &mut fmt::Formatter<'_>) -> fmt::Result {
+        match self {
+            Self::UnexpectedByte(place) => write!(f, "unexpected byte at {place}"),
+            Self::OutOfRange(error) => error.fmt(f),
+        }
+    }
+}
+
+impl core::error::Error for Unreadable {}
 
 /// A duration was outside the range of the type that it was to be converted to.
 ///

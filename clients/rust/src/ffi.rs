@@ -1,14 +1,24 @@
 //! The calls of the library, each declared as in `fotsevindre.h`, and each behind a safe function of the same name.
 //!
-//! A call takes numbers and returns numbers. It takes no pointer, answers for each argument whatever its bits, and keeps no state. So
-//! each is safe to call wherever the declaration here is that of the header.
+//! A call of one value takes numbers and returns numbers. It takes no pointer, answers for each argument whatever its bits, and keeps
+//! no state. A call that reads a text or columns takes slices, each of them passed on with its own length. So each is safe to call
+//! wherever the declaration here is that of the header.
 
-use crate::error::ComponentRange;
+use crate::columns::{CalendarDate, IsoWeekDate, MadeDate, MovedDate, OrdinalDate, WeekdayOfDate};
+use crate::error::{ComponentRange, Unreadable};
+use crate::Date;
+use core::mem::MaybeUninit;
 
 /// The status of a call that has an answer.
 const DONE: i32 = 0;
 /// The status of a call whose exact result is no value of its type.
 const PAST_RANGE: i32 = 1;
+/// The status of a call that was given a number that is none of a weekday.
+const BAD_WEEKDAY: i32 = 6;
+/// The status of a call that was given bytes of none of its forms.
+const UNREADABLE: i32 = 8;
+/// What a call over columns returns where these are not of one length.
+const UNLIKE: usize = usize::MAX;
 
 /// A duration as it crosses.
 #[repr(C)]
@@ -42,7 +52,10 @@ pub(crate) fn or_none<T>(answer: Answer<T>) -> Option<T> {
 
 /// The answer of a call, or the component that it refuses.
 pub(crate) fn or_refused<T>(answer: Answer<T>) -> Result<T, ComponentRange> {
-    answer.map_err(ComponentRange::of_status)
+    answer.map_err(|status| match status {
+        BAD_WEEKDAY => ComponentRange::WEEKDAY,
+        status => ComponentRange::of_status(status),
+    })
 }
 
 /// Structs that begin with a status, and the value that each has where that is [`DONE`].
@@ -92,6 +105,9 @@ results! {
     OffsetPartsResult { hours: i32, minutes: i32, seconds: i32 } => (i32, i32, i32);
     DurationResult { duration: CDuration } => CDuration;
     PairResult { date: i32, time: u64 } => (i32, u64);
+    TextResult { length: u32, bytes: [u8; 40] } => (u32, [u8; 40]);
+    ReadDateResult { date: i32, place: usize } => (i32, usize);
+    ReadMomentResult { date: i32, time: u64, offset: i32, place: usize } => (i32, u64, i32, usize);
 }
 
 /// Calls that return a struct with a status.
@@ -162,12 +178,18 @@ calls! {
     fots_time_replace_millisecond(time: u64, millisecond: u32) -> TimeResult;
     fots_time_replace_microsecond(time: u64, microsecond: u32) -> TimeResult;
     fots_time_replace_nanosecond(time: u64, nanosecond: u32) -> TimeResult;
+    fots_time_truncate_to_hour(time: u64) -> TimeResult;
+    fots_time_truncate_to_minute(time: u64) -> TimeResult;
+    fots_time_truncate_to_second(time: u64) -> TimeResult;
+    fots_time_truncate_to_millisecond(time: u64) -> TimeResult;
+    fots_time_truncate_to_microsecond(time: u64) -> TimeResult;
     fots_time_add(time: u64, duration: CDuration) -> TimeResult;
     fots_time_sub(time: u64, duration: CDuration) -> TimeResult;
     fots_time_adjusting_add(time: u64, duration: CDuration) -> AdjustedTimeResult;
     fots_time_adjusting_sub(time: u64, duration: CDuration) -> AdjustedTimeResult;
     fots_time_duration_until(time: u64, other: u64) -> DurationResult;
     fots_time_duration_since(time: u64, other: u64) -> DurationResult;
+    fots_time_difference(time: u64, other: u64) -> DurationResult;
     fots_offset_from_hms(hours: i32, minutes: i32, seconds: i32) -> OffsetResult;
     fots_offset_from_whole_seconds(seconds: i64) -> OffsetResult;
     fots_offset_as_hms(offset: i32) -> OffsetPartsResult;
@@ -208,6 +230,14 @@ calls! {
     fots_weekday_number_from_sunday(weekday: u32) -> NumberResult;
     fots_add_to_pair(date: i32, time: u64, duration: CDuration) -> PairResult;
     fots_sub_from_pair(date: i32, time: u64, duration: CDuration) -> PairResult;
+    fots_unix_time(date: i32, time: u64, offset: i32) -> DurationResult;
+    fots_unix_pair(duration: CDuration, offset: i32) -> PairResult;
+    fots_date_calendar_text(date: i32) -> TextResult;
+    fots_date_ordinal_text(date: i32) -> TextResult;
+    fots_date_week_text(date: i32) -> TextResult;
+    fots_date_julian_text(date: i32) -> TextResult;
+    fots_moment_text(date: i32, time: u64, offset: i32) -> TextResult;
+    fots_unix_text(date: i32, time: u64, offset: i32) -> TextResult;
 }
 
 /// Calls of years, which answer for each.
@@ -231,4 +261,74 @@ calls_of_years! {
     fots_is_leap_year;
     fots_days_in_year;
     fots_weeks_in_year;
+}
+
+/// Calls that read a text.
+macro_rules! calls_that_read {
+    ($($name:ident -> $result:ident;)*) => {
+        mod declared_reading {
+            use super::*;
+
+            extern "C" {
+                $(pub(super) fn $name(text: *const u8, length: usize) -> $result;)*
+            }
+        }
+
+        $(
+            pub(crate) fn $name(text: &[u8]) -> Result<<$result as Returned>::Value, Unreadable> {
+                let result = unsafe { declared_reading::$name(text.as_ptr(), text.len()) };
+                let place = result.place;
+                result.answer().map_err(|status| match status {
+                    UNREADABLE => Unreadable::UnexpectedByte(place),
+                    status => Unreadable::OutOfRange(ComponentRange::of_status(status)),
+                })
+            }
+        )*
+    };
+}
+
+calls_that_read! {
+    fots_date_read -> ReadDateResult;
+    fots_julian_day_read -> ReadDateResult;
+    fots_moment_read -> ReadMomentResult;
+    fots_unix_read -> ReadMomentResult;
+}
+
+/// Calls over columns: what each is called, its columns, and the rows that it writes.
+macro_rules! calls_over_columns {
+    ($($name:ident($($column:ident: $kind:ty),*) -> $row:ty;)*) => {
+        mod declared_over_columns {
+            use super::*;
+
+            extern "C" {
+                $(pub(super) fn $name($($column: *const $kind, _: usize,)* rows: *mut MaybeUninit<$row>, length: usize) -> usize;)*
+            }
+        }
+
+        $(
+            /// The rows, and how many of them have no answer.
+            #[track_caller]
+            pub(crate) fn $name<'r>($($column: &[$kind],)* rows: &'r mut [MaybeUninit<$row>]) -> (&'r mut [$row], usize) {
+                let refused = unsafe {
+                    declared_over_columns::$name($($column.as_ptr(), $column.len(),)* rows.as_mut_ptr(), rows.len())
+                };
+                assert!(refused != UNLIKE, "columns and rows are not of one length");
+                // The lengths are the same, so each row is written.
+                (unsafe { &mut *(rows as *mut [MaybeUninit<$row>] as *mut [$row]) }, refused)
+            }
+        )*
+    };
+}
+
+// A date is its Julian day alone, and a row the struct that the call of one value returns, so both cross as they are.
+calls_over_columns! {
+    fots_dates_from_julian_days(julian_days: i64) -> MadeDate;
+    fots_dates_from_calendar_dates(years: i32, months: u32, days: u32) -> MadeDate;
+    fots_dates_from_ordinal_dates(years: i32, ordinals: u32) -> MadeDate;
+    fots_dates_from_iso_week_dates(years: i32, weeks: u32, weekdays: u32) -> MadeDate;
+    fots_dates_to_calendar_dates(dates: Date) -> CalendarDate;
+    fots_dates_to_ordinal_dates(dates: Date) -> OrdinalDate;
+    fots_dates_to_iso_week_dates(dates: Date) -> IsoWeekDate;
+    fots_dates_weekdays(dates: Date) -> WeekdayOfDate;
+    fots_dates_add_days(dates: Date, days: i64) -> MovedDate;
 }

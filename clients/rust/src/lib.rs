@@ -19,6 +19,7 @@
 #![deny(missing_docs)]
 #![deny(unsafe_code)]
 
+pub mod columns;
 mod date;
 mod duration;
 pub mod error;
@@ -27,7 +28,8 @@ mod ffi;
 pub mod iter;
 mod month;
 mod pair;
-mod text;
+mod short_text;
+pub mod text;
 mod time;
 mod utc_offset;
 pub mod util;

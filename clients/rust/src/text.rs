@@ -1,28 +1,66 @@
-//! Short texts, which are put together before they are padded.
+//! Dates and moments in text, read and printed as the crate `cal_text` does, under the names that it has.
+//!
+//! Each text is the library's own: a type that prints one has a call `line` for its bytes in place, and under a width the whole
+//! text is padded. A call `read` takes the bytes of a text, and reads just what is printed, or what RFC 3339 allows.
+//!
+//! ```
+//! use fotsevindre::text::{date, rfc3339, unix};
+//! use fotsevindre::{Date, UtcOffset};
+//!
+//! let day: Date = "2024-060".parse()?;
+//! assert_eq!(date::WeekText(day).to_string(), "2024-W09-4");
+//!
+//! let (day, time, offset) = rfc3339::read(b"2024-02-29T23:59:59.25+01:00")?;
+//! assert_eq!(unix::Text::new(day, time, offset).to_string(), "@1709247599.25");
+//! let (day, time) = unix::read(b"@1709247599.25")?;
+//! assert_eq!(rfc3339::Text::new(day, time, UtcOffset::UTC).unwrap().to_string(), "2024-02-29T22:59:59.25Z");
+//! # Ok::<(), fotsevindre::error::Unreadable>(())
+//! ```
 
+use crate::ffi::{certain, Answer};
 use core::fmt;
+use core::str;
 
-/// A text of at most 18 bytes, as many as the longest time has.
-#[derive(Default)]
-pub(crate) struct Line {
-    bytes: [u8; 18],
-    length: usize,
+pub mod date;
+pub mod julian_day;
+pub mod rfc3339;
+pub mod unix;
+
+pub use crate::error::Unreadable;
+
+/// What a date or a moment prints, in bytes: ASCII, at most 38 of them, in place and without a formatter.
+///
+/// The types that print give it by their call `line`: `WeekText(date).line().as_str()` is `2024-W09-4`.
+#[derive(Clone, Copy, PartialEq, Eq)]
+pub struct Line {
+    length: u32,
+    bytes: [u8; 40],
 }
 
 impl Line {
-    /// Writes the text, padded as the formatter asks.
-    pub(crate) fn pad(&self, f: &mut fmt::Formatter<'_>) -> fmt::Result {
-        let text = core::str::from_utf8(&self.bytes[..self.length]).map_err(|_| fmt::Error)?;
-        f.pad(text)
+    /// The text that the library answered.
+    pub(crate) fn of_c((length, bytes): (u32, [u8; 40])) -> Self {
+        Self { length, bytes }
+    }
+
+    /// The text of a call that has one for each value of its types.
+    fn certain(answer: Answer<(u32, [u8; 40])>) -> Self {
+        Self::of_c(certain(answer))
+    }
+
+    /// The text.
+    pub fn as_str(&self) -> &str {
+        str::from_utf8(self.as_bytes()).expect("the texts of the library are ASCII")
+    }
+
+    /// The bytes of the text, at most 38.
+    pub fn as_bytes(&self) -> &[u8] {
+        &self.bytes[..self.length as usize]
     }
 }
 
-impl fmt::Write for Line {
-    fn write_str(&mut self, text: &str) -> fmt::Result {
-        let end = self.length + text.len();
-        let room = self.bytes.get_mut(self.length..end).ok_or(fmt::Error)?;
-        room.copy_from_slice(text.as_bytes());
-        self.length = end;
-        Ok(())
+impl fmt::Debug for Line {
+    fn fmt(&self, f: &mut fmt::Formatter<'_>) -> fmt::Result {
+        self.as_str().fmt(f)
     }
 }

@@ -1,6 +1,6 @@
 use crate::error::ComponentRange;
 use crate::ffi::{self, certain, or_refused, Answer};
-use crate::text::Line;
+use crate::short_text::ShortText;
 use crate::util::DateAdjustment;
 use crate::SignedDuration;
 use core::fmt::{self, Write};
@@ -192,34 +192,29 @@ impl Time {
         made(ffi::fots_time_replace_nanosecond(self.nanoseconds, nanosecond))
     }
 
-    /// The time with this much below its unit taken away, which it has.
-    fn less(self, nanoseconds: u64) -> Self {
-        Self { nanoseconds: self.nanoseconds - nanoseconds }
-    }
-
     /// The time with all that lies below its hour zero: 1:02:03.004005006 becomes 1:00:00.0.
     pub fn truncate_to_hour(self) -> Self {
-        self.less(self.nanoseconds % 3_600_000_000_000)
+        Self::of_c(certain(ffi::fots_time_truncate_to_hour(self.nanoseconds)))
     }
 
     /// The time with all that lies below its minute zero: 1:02:03.004005006 becomes 1:02:00.0.
     pub fn truncate_to_minute(self) -> Self {
-        self.less(self.nanoseconds % 60_000_000_000)
+        Self::of_c(certain(ffi::fots_time_truncate_to_minute(self.nanoseconds)))
     }
 
     /// The time with all that lies below its second zero: 1:02:03.004005006 becomes 1:02:03.0.
     pub fn truncate_to_second(self) -> Self {
-        self.less(self.nanoseconds % 1_000_000_000)
+        Self::of_c(certain(ffi::fots_time_truncate_to_second(self.nanoseconds)))
     }
 
     /// The time with all that lies below its millisecond zero: 1:02:03.004005006 becomes 1:02:03.004.
     pub fn truncate_to_millisecond(self) -> Self {
-        self.less(self.nanoseconds % 1_000_000)
+        Self::of_c(certain(ffi::fots_time_truncate_to_millisecond(self.nanoseconds)))
     }
 
     /// The time with all that lies below its microsecond zero: 1:02:03.004005006 becomes 1:02:03.004005.
     pub fn truncate_to_microsecond(self) -> Self {
-        self.less(self.nanoseconds % 1_000)
+        Self::of_c(certain(ffi::fots_time_truncate_to_microsecond(self.nanoseconds)))
     }
 
     /// The way forward to the other time, from zero to below a day: from 23:00 until 1:00 it is two hours.
@@ -284,7 +279,7 @@ impl Sub for Time {
 
     /// The plain difference, below zero where the other time is later: 0:00 less 23:00 is -23 hours.
     fn sub(self, other: Self) -> SignedDuration {
-        SignedDuration::nanoseconds(self.nanoseconds as i64 - other.nanoseconds as i64)
+        SignedDuration::of_c(certain(ffi::fots_time_difference(self.nanoseconds, other.nanoseconds)))
     }
 }
 
@@ -296,9 +291,9 @@ impl fmt::Display for Time {
             decimals /= 10;
             width -= 1;
         }
-        let mut line = Line::default();
-        write!(line, "{hour}:{minute:02}:{second:02}.{decimals:0width$}")?;
-        line.pad(f)
+        let mut text = ShortText::default();
+        write!(text, "{hour}:{minute:02}:{second:02}.{decimals:0width$}")?;
+        text.pad(f)
     }
 }
 

@@ -1,6 +1,6 @@
 use crate::error::ComponentRange;
 use crate::ffi::{self, certain, or_refused};
-use crate::text::Line;
+use crate::short_text::ShortText;
 use core::fmt::{self, Write};
 use core::ops::Neg;
 
@@ -19,6 +19,11 @@ impl UtcOffset {
     /// UTC itself, the offset zero.
     pub const UTC: Self = Self { seconds: 0 };
 
+    /// The offset that the library answered.
+    pub(crate) fn of_c(seconds: i32) -> Self {
+        Self { seconds }
+    }
+
     /// The offset of that many hours, minutes and seconds.
     ///
     /// The first of them that is not zero gives the sign, and the magnitudes are added up under it: `from_hms(1, -2, -3)` is one
@@ -30,7 +35,7 @@ impl UtcOffset {
     /// -59 to 59, else `offset second` outside -59 to 59.
     pub fn from_hms(hours: i8, minutes: i8, seconds: i8) -> Result<Self, ComponentRange> {
         let made = ffi::fots_offset_from_hms(hours.into(), minutes.into(), seconds.into());
-        or_refused(made).map(|seconds| Self { seconds })
+        or_refused(made).map(Self::of_c)
     }
 
     /// The offset of that many seconds: `from_whole_seconds(3723)` is +01:02:03.
@@ -39,7 +44,7 @@ impl UtcOffset {
     ///
     /// `seconds`, unconditional, outside -93599 to 93599.
     pub fn from_whole_seconds(seconds: i32) -> Result<Self, ComponentRange> {
-        or_refused(ffi::fots_offset_from_whole_seconds(seconds.into())).map(|seconds| Self { seconds })
+        or_refused(ffi::fots_offset_from_whole_seconds(seconds.into())).map(Self::of_c)
     }
 
     /// The whole hours, the minutes past them and the seconds past these, all of one sign: those of -01:30:00 are -1, -30
@@ -95,7 +100,7 @@ impl Neg for UtcOffset {
 
     /// The offset as far on the other side of UTC: that of -05:30:00 is +05:30:00.
     fn neg(self) -> Self {
-        Self { seconds: certain(ffi::fots_offset_negated(self.seconds)) }
+        Self::of_c(certain(ffi::fots_offset_negated(self.seconds)))
     }
 }
 
@@ -103,9 +108,9 @@ impl fmt::Display for UtcOffset {
     fn fmt(&self, f: &mut fmt::Formatter<'_>) -> fmt::Result {
         let (hours, minutes, seconds) = self.as_hms();
         let sign = if self.is_negative() { '-' } else { '+' };
-        let mut line = Line::default();
-        write!(line, "{sign}{:02}:{:02}:{:02}", hours.unsigned_abs(), minutes.unsigned_abs(), seconds.unsigned_abs())?;
-        line.pad(f)
+        let mut text = ShortText::default();
+        write!(text, "{sign}{:02}:{:02}:{:02}", hours.unsigned_abs(), minutes.unsigned_abs(), seconds.unsigned_abs())?;
+        text.pad(f)
     }
 }
 

@@ -5,6 +5,7 @@ use std::collections::HashMap;
 const HEADER: &str = include_str!("../../../include/fotsevindre.h");
 const DECLARED: &str = include_str!("../src/ffi.rs");
 const ERRORS: &str = include_str!("../src/error.rs");
+const COLUMNS: &str = include_str!("../src/columns.rs");
 
 /// The header without its comments, on one line.
 fn plain() -> String {
@@ -17,11 +18,19 @@ fn plain() -> String {
 
 /// The type of Rust for one of C.
 fn rust_type(name: &str) -> String {
+    if let Some(name) = name.strip_prefix('*') {
+        return match name.strip_prefix("const ") {
+            Some(name) => format!("*const {}", rust_type(name)),
+            None => format!("*mut {}", rust_type(name)),
+        };
+    }
     match name {
         "int32_t" | "fots_date" | "fots_offset" => "i32".into(),
         "uint32_t" => "u32".into(),
         "int64_t" => "i64".into(),
         "uint64_t" | "fots_time" => "u64".into(),
+        "size_t" => "usize".into(),
+        "char" => "u8".into(),
         "fots_duration" => "CDuration".into(),
         _ => {
             let words = name.strip_prefix("fots_").unwrap().split('_');
@@ -35,26 +44,34 @@ fn list(parts: &str, separator: char, with_names: bool) -> String {
     let parts = parts.split(separator).map(str::trim).filter(|part| !part.is_empty());
     let parts = parts.map(|part| {
         let (kind, name) = part.rsplit_once(' ').unwrap();
-        if with_names {
-            format!("{name}: {}", rust_type(kind))
-        } else {
-            rust_type(kind)
+        let kind = if name.starts_with('*') { format!("*{kind}") } else { kind.into() };
+        match name.split_once('[') {
+            Some((name, length)) => format!("{name}: [{}; {}", rust_type(&kind), length),
+            None if with_names => format!("{name}: {}", rust_type(&kind)),
+            None => rust_type(&kind),
         }
     });
     parts.collect::<Vec<_>>().join(", ")
 }
 
-/// Each call of the header that takes no pointer: its arguments and what it returns.
+/// Each call of the header: its arguments and what it returns.
 fn calls_of_header() -> HashMap<String, (String, String)> {
     let plain = plain();
     let calls = plain.split(';').filter_map(|line| {
         let (before, arguments) = line.trim().strip_suffix(')')?.split_once('(')?;
         let (result, name) = before.rsplit_once(' ')?;
         let result = result.rsplit_once(' ').map_or(result, |(_, last)| last);
-        let is_plain = name.starts_with("fots_") && !arguments.contains('*');
-        is_plain.then(|| (name.to_string(), (list(arguments, ',', false), rust_type(result))))
+        name.starts_with("fots_").then(|| (name.to_string(), (list(arguments, ',', false), rust_type(result))))
     });
     calls.collect()
+}
+
+/// What a call over columns takes, by its columns and its rows: each with its length, a date as its number, and a row as its struct.
+fn over_columns(columns: &[&str], row: &str) -> String {
+    let (_, rest) = COLUMNS.split_once(&format!("    {row} of ")).unwrap();
+    let columns = columns.iter().map(|kind| if *kind == "Date" { "i32" } else { kind });
+    let columns = columns.map(|kind| format!("*const {kind}, usize, ")).collect::<String>();
+    format!("{columns}*mut {}, usize", rest.split_once(':').unwrap().0)
 }
 
 #[test]
@@ -63,18 +80,26 @@ fn calls_are_those_of_the_header() {
     let mut count = 0;
     for line in DECLARED.lines().filter_map(|line| line.trim().strip_suffix(';')) {
         let Some((name, rest)) = line.split_once('(').filter(|(name, _)| name.starts_with("fots_")) else {
-            if line.starts_with("fots_") {
+            if let Some((name, result)) = line.split_once(" -> ").filter(|_| line.starts_with("fots_")) {
+                assert_eq!(header[name], ("*const u8, usize".into(), result.into()), "{name}");
+                count += 1;
+            } else if line.starts_with("fots_") {
                 assert_eq!(header[line], ("i32".into(), "u32".into()), "{line}");
                 count += 1;
             }
             continue;
         };
         let (arguments, result) = rest.split_once(") -> ").unwrap();
-        let kinds = arguments.split(", ").map(|argument| argument.split_once(": ").unwrap().1);
-        assert_eq!(header[name], (kinds.collect::<Vec<_>>().join(", "), result.into()), "{name}");
+        let kinds: Vec<_> = arguments.split(", ").map(|argument| argument.split_once(": ").unwrap().1).collect();
+        let declared = if name.starts_with("fots_dates_") {
+            (over_columns(&kinds, result), "usize".into())
+        } else {
+            (kinds.join(", "), result.into())
+        };
+        assert_eq!(header[name], declared, "{name}");
         count += 1;
     }
-    assert!(count > 90, "{count} calls were found");
+    assert!(count > 120, "{count} calls were found");
 }
 
 #[test]
@@ -94,7 +119,7 @@ fn structs_are_those_of_the_header() {
         assert!(DECLARED.contains(&declared), "{declared}");
         count += 1;
     }
-    assert_eq!(count, 14);
+    assert_eq!(count, 17);
 }
 
 #[test]

@@ -1,3 +1,6 @@
 pub mod Days
 pub mod Durations
 pub mod Rows
+pub mod TextBytes
+pub mod Equals
+pub mod Cases

@@ -2,3 +2,5 @@ pub mod Results
 pub mod Statuses
 pub mod Values
 pub mod Columns
+pub mod Texts
+pub mod Unread

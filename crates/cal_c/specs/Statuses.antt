@@ -28,6 +28,10 @@ bad_weekday = pos 6
 abbrev pub bad_count : ℤ
 bad_count = pos 7
 
+-- the bytes are no text that the call reads
+abbrev pub unreadable : ℤ
+unreadable = pos 8
+
 -- the refusals whose range depends on nothing, by their names
 abbrev pub year_refused : ℤ
 year_refused = pos 16
@@ -67,6 +71,9 @@ offset_second_refused = pos 27
 
 abbrev pub seconds_refused : ℤ
 seconds_refused = pos 28
+
+abbrev pub timestamp_refused : ℤ
+timestamp_refused = pos 29
 
 -- those whose range depends on the arguments before
 abbrev pub day_refused : ℤ

@@ -25,6 +25,9 @@ pub const BAD_WEEKDAY: i32 = 6;
 
 pub const BAD_COUNT: i32 = 7;
 
+/// The bytes are no text that the call reads.
+pub const UNREADABLE: i32 = 8;
+
 pub const YEAR: i32 = 16;
 
 pub const MONTH: i32 = 17;
@@ -50,6 +53,8 @@ pub const OFFSET_MINUTE: i32 = 26;
 pub const OFFSET_SECOND: i32 = 27;
 
 pub const SECONDS: i32 = 28;
+
+pub const TIMESTAMP: i32 = 29;
 
 pub const DAY: i32 = 64;
 

@@ -4,3 +4,4 @@ mod making;
 mod moves;
 mod parts;
 mod replacement;
+mod truncation;

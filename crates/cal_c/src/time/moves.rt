@@ -104,3 +104,18 @@ pub extern "C" fn fots_time_duration_since(time: u64, other: u64) -> DurationRes
         None => DurationResult::refused(BAD_TIME),
     }
 }
+
+/// The time between the other time and this one on the same day, below zero where the other comes later.
+#[unsafe(no_mangle)]
+pub extern "C" fn fots_time_difference(time: u64, other: u64) -> DurationResult
+    ensures bad_time { ¬ (IsTime time × IsTime other) → result ≡ duration_refused bad_time }
+    ensures value { IsTime time → IsTime other → result ≡ duration_done (pos time -ℤ pos other) }
+{
+    let Some(time) = time_of(time) else {
+        return DurationResult::refused(BAD_TIME);
+    };
+    match time_of(other) {
+        Some(other) => DurationResult::of(time - other),
+        None => DurationResult::refused(BAD_TIME),
+    }
+}

@@ -1,0 +1,150 @@
+/* The least that a call costs: the cheapest calls, and a row of a column, beside a loop over the same values with no call. It prints
+ * the median of the rounds, in nanoseconds a value. Nothing tests what it prints. */
+#include <stdio.h>
+#include <stdlib.h>
+#include <time.h>
+
+#include "fotsevindre.h"
+
+#define VALUES 4096
+#define PASSES 50
+#define ROUNDS 21
+
+static fots_date dates[VALUES];
+static fots_offset offsets[VALUES];
+static int64_t days[VALUES];
+static fots_date_result made[VALUES];
+static fots_number_result numbers[VALUES];
+static fots_calendar_date_result calendars[VALUES];
+
+/* The compiler can't tell what becomes of the number, nor that the memory stays as it is. */
+static void keep(int32_t number)
+{
+    __asm__ volatile("" : : "r"(number) : "memory");
+}
+
+static uint32_t drawn(void)
+{
+    static uint64_t state = 88172645463325252ULL;
+    state ^= state << 13;
+    state ^= state >> 7;
+    state ^= state << 17;
+    return (uint32_t)(state >> 32);
+}
+
+/* Dates of the years 1 to 9999, offsets, and moves of up to 10000 days. */
+static void draw(void)
+{
+    for (int k = 0; k < VALUES; k++) {
+        dates[k] = (fots_date)(1721426 + drawn() % 3652059);
+        offsets[k] = (fots_offset)(drawn() % 187199) - FOTS_MAX_OFFSET;
+        days[k] = (int64_t)(drawn() % 20001) - 10000;
+    }
+}
+
+static void no_call(void)
+{
+    for (int k = 0; k < VALUES; k++) {
+        keep(-offsets[k]);
+    }
+}
+
+static void one_offset_negated(void)
+{
+    for (int k = 0; k < VALUES; k++) {
+        keep(fots_offset_negated(offsets[k]).offset);
+    }
+}
+
+static void one_next_day(void)
+{
+    for (int k = 0; k < VALUES; k++) {
+        keep(fots_date_next_day(dates[k]).date);
+    }
+}
+
+static void one_weekday(void)
+{
+    for (int k = 0; k < VALUES; k++) {
+        numbers[k] = fots_date_weekday(dates[k]);
+    }
+    keep(numbers[0].number);
+}
+
+static void column_of_weekdays(void)
+{
+    fots_dates_weekdays(dates, VALUES, numbers, VALUES);
+    keep(numbers[0].number);
+}
+
+static void one_add_days(void)
+{
+    for (int k = 0; k < VALUES; k++) {
+        made[k] = fots_date_add_days(dates[k], days[k]);
+    }
+    keep(made[0].date);
+}
+
+static void column_of_added_days(void)
+{
+    fots_dates_add_days(dates, VALUES, days, VALUES, made, VALUES);
+    keep(made[0].date);
+}
+
+static void one_calendar_date(void)
+{
+    for (int k = 0; k < VALUES; k++) {
+        calendars[k] = fots_date_to_calendar_date(dates[k]);
+    }
+    keep(calendars[0].year);
+}
+
+static void column_of_calendar_dates(void)
+{
+    fots_dates_to_calendar_dates(dates, VALUES, calendars, VALUES);
+    keep(calendars[0].year);
+}
+
+static const struct {
+    const char *name;
+    void (*run)(void);
+} loops[] = {
+    {"no call", no_call},
+    {"fots_offset_negated", one_offset_negated},
+    {"fots_date_next_day", one_next_day},
+    {"fots_date_weekday", one_weekday},
+    {"fots_dates_weekdays, a row", column_of_weekdays},
+    {"fots_date_add_days", one_add_days},
+    {"fots_dates_add_days, a row", column_of_added_days},
+    {"fots_date_to_calendar_date", one_calendar_date},
+    {"fots_dates_to_calendar_dates, a row", column_of_calendar_dates},
+};
+
+#define LOOPS ((int)(sizeof(loops) / sizeof(loops)[0]))
+
+static int in_order(const void *one, const void *other)
+{
+    double a = *(const double *)one, b = *(const double *)other;
+    return (a > b) - (a < b);
+}
+
+int main(void)
+{
+    static double times[LOOPS][ROUNDS];
+    draw();
+    for (int round = 0; round < ROUNDS; round++) {
+        for (int loop = 0; loop < LOOPS; loop++) {
+            clock_t start = clock();
+            for (int pass = 0; pass < PASSES; pass++) {
+                loops[loop].run();
+            }
+            times[loop][round] = (double)(clock() - start) / CLOCKS_PER_SEC * 1e9 / VALUES / PASSES;
+        }
+    }
+    printf("nanoseconds a value, median of %d rounds\n", ROUNDS);
+    for (int loop = 0; loop < LOOPS; loop++) {
+        qsort(times[loop], ROUNDS, sizeof(times)[0][0], in_order);
+        printf("%-38s%6.2f\n", loops[loop].name, times[loop][ROUNDS / 2]);
+    }
+    return 0;
+}

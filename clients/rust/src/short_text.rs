@@ -1,0 +1,28 @@
+//! Texts of this crate's own, which are put together before they are padded.
+
+use core::fmt;
+
+/// A text of at most 18 bytes, as many as the longest time has.
+#[derive(Default)]
+pub(crate) struct ShortText {
+    bytes: [u8; 18],
+    length: usize,
+}
+
+impl ShortText {
+    /// Writes the text, padded as the formatter asks.
+    pub(crate) fn pad(&self, f: &mut fmt::Formatter<'_>) -> fmt::Result {
+        let text = core::str::from_utf8(&self.bytes[..self.length]).map_err(|_| fmt::Error)?;
+        f.pad(text)
+    }
+}
+
+impl fmt::Write for ShortText {
+    fn write_str(&mut self, text: &str) -> fmt::Result {
+        let end = self.length + text.len();
+        let room = self.bytes.get_mut(self.length..end).ok_or(fmt::Error)?;
+        room.copy_from_slice(text.as_bytes());
+        self.length = end;
+        Ok(())
+    }
+}

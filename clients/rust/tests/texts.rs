@@ -1,0 +1,288 @@
+//! Texts: worked rows, the examples of RFC 3339, what is refused and where, and days and moments printed and read back.
+
+use fotsevindre::error::Unreadable;
+use fotsevindre::text::date::{CalendarText, OrdinalText, WeekText};
+use fotsevindre::text::julian_day::JulianText;
+use fotsevindre::text::{date, julian_day, rfc3339, unix};
+use fotsevindre::{Date, Duration, Month, Time, UtcOffset};
+
+fn day(year: i32, month: u8, day: u8) -> Date {
+    Date::from_calendar_date(year, Month::try_from(month).unwrap(), day).unwrap()
+}
+
+/// Julian day, and the texts: by the calendar, by the ordinal, by the week and by the Julian day.
+const DAYS: [(i32, &str, &str, &str, &str); 9] = [
+    (2_460_370, "2024-02-29", "2024-060", "2024-W09-4", "J2460370"),
+    (2_459_216, "2021-01-01", "2021-001", "2020-W53-5", "J2459216"),
+    (2_458_484, "2018-12-31", "2018-365", "2019-W01-1", "J2458484"),
+    (1_721_060, "0000-01-01", "0000-001", "-0001-W52-6", "J1721060"),
+    (1_721_059, "-0001-12-31", "-0001-365", "-0001-W52-5", "J1721059"),
+    (5_373_485, "+10000-01-01", "+10000-001", "9999-W52-6", "J5373485"),
+    (-1, "-4713-11-23", "-4713-327", "-4713-W47-7", "J-1"),
+    (366_963_559, "+999999-12-31", "+999999-365", "+999999-W52-5", "J366963559"),
+    (-363_521_074, "-999999-01-01", "-999999-001", "-999999-W01-1", "J-363521074"),
+];
+
+#[test]
+fn days_in_text() {
+    for (number, calendar, ordinal, week, julian) in DAYS {
+        let date = Date::from_julian_day(number).unwrap();
+        let lines = [CalendarText(date).line(), OrdinalText(date).line(), WeekText(date).line(), JulianText(date).line()];
+        assert_eq!(lines.map(|line| line.as_str().to_string()), [calendar, ordinal, week, julian]);
+        assert_eq!(lines[2].as_bytes(), week.as_bytes());
+        assert_eq!((CalendarText(date).to_string(), OrdinalText(date).to_string()), (calendar.into(), ordinal.into()));
+        assert_eq!((WeekText(date).to_string(), JulianText(date).to_string()), (week.into(), julian.into()));
+        for text in [calendar, ordinal, week] {
+            assert_eq!((text.parse(), date::read(text.as_bytes())), (Ok(date), Ok(date)));
+        }
+        assert_eq!(julian_day::read(julian.as_bytes()), Ok(date));
+    }
+    assert_eq!(format!("{:>13}|{:*<14}|", OrdinalText(Date::MIN), WeekText(Date::MIN)), "  -999999-001|-999999-W01-1*|");
+    assert_eq!(format!("{:?}", WeekText(Date::MAX).line()), "\"+999999-W52-5\"");
+    assert_eq!("-12345-W01-1".parse(), Ok(day(-12_345, 1, 4)));
+}
+
+/// The error prints as said, is one of std, and has the name and the mark of the component.
+#[track_caller]
+fn is_out_of_range<T: std::fmt::Debug>(text: &str, read: Result<T, Unreadable>, name: &str, is_conditional: bool) {
+    let error = read.unwrap_err();
+    let _: &dyn std::error::Error = &error;
+    assert_eq!(error.to_string(), format!("{name} was not in range"), "{text}");
+    let Unreadable::OutOfRange(component) = error else { panic!("{text}: {error}") };
+    assert_eq!((component.name(), component.is_conditional()), (name, is_conditional), "{text}");
+}
+
+#[test]
+fn components_out_of_range() {
+    let dates = [
+        ("2024-13-01", "month", false),
+        ("2024-00-01", "month", false),
+        ("+1000000-13-01", "month", false),
+        ("+1000000-12-01", "year", false),
+        ("-999999999-001", "year", false),
+        ("+1000000-W01-1", "year", false),
+        ("2023-02-29", "day", true),
+        ("2024-01-00", "day", true),
+        ("2023-366", "ordinal", true),
+        ("2024-000", "ordinal", true),
+        ("2021-W53-1", "week", true),
+        ("2021-W00-1", "week", true),
+        ("+999999-W52-6", "weekday", true),
+    ];
+    for (text, name, is_conditional) in dates {
+        is_out_of_range(text, text.parse::<Date>(), name, is_conditional);
+    }
+    for text in ["J366963560", "J-363521075", "J999999999"] {
+        is_out_of_range(text, julian_day::read(text.as_bytes()), "julian_day", false);
+    }
+    // The leap seconds of the examples of the standard come first.
+    let moments = [
+        ("1990-12-31T23:59:60Z", "second", false),
+        ("1990-12-31T15:59:60-08:00", "second", false),
+        ("2024-00-99T99:99:99Z", "month", false),
+        ("2024-13-01T00:00:00Z", "month", false),
+        ("2023-02-29T24:00:00Z", "day", true),
+        ("2024-02-29T24:60:60Z", "hour", false),
+        ("2024-02-29T23:60:60+24:00", "minute", false),
+        ("2024-02-29T23:59:59+24:60", "offset hour", false),
+        ("2024-02-29T23:59:59-24:00", "offset hour", false),
+        ("2024-02-29T23:59:59-23:60", "offset minute", false),
+    ];
+    for (text, name, is_conditional) in moments {
+        is_out_of_range(text, rfc3339::read(text.as_bytes()), name, is_conditional);
+    }
+    for text in ["@31494784780800", "@-31619087596800.000000001", "@999999999999999999"] {
+        is_out_of_range(text, unix::read(text.as_bytes()), "timestamp", false);
+    }
+}
+
+#[test]
+fn first_wrong_bytes() {
+    let dates = [
+        ("", 0),
+        ("x024-02-29", 0),
+        ("202-02-29", 3),
+        ("2024x", 4),
+        ("2024", 4),
+        ("20240229", 4),
+        ("12345-01-01", 4),
+        ("+2024-01-01", 5),
+        ("+02024-01-01", 1),
+        ("-0000-01-01", 4),
+        ("-02024-01-01", 5),
+        ("-12345678901-001", 10),
+        ("2024-", 5),
+        ("2024-60", 7),
+        ("2024-0229", 8),
+        ("2024-02-2", 9),
+        ("2024-02-29 ", 10),
+        ("2024-02-29T", 10),
+        ("2024-060-", 8),
+        ("2024-w09-4", 5),
+        ("2024-W09-0", 9),
+        ("2024-W09-8", 9),
+        ("2024-W09-41", 10),
+        ("2024-02-2\u{661}", 9),
+    ];
+    for (text, place) in dates {
+        assert_eq!(text.parse::<Date>(), Err(Unreadable::UnexpectedByte(place)), "{text}");
+    }
+    assert_eq!("2024x".parse::<Date>().unwrap_err().to_string(), "unexpected byte at 4");
+    for (text, place) in [("", 0), ("2460370", 0), ("j2460370", 0), ("J", 1), ("J-", 2), ("J+1", 1), ("J-0", 2), ("J02", 2)] {
+        assert_eq!(julian_day::read(text.as_bytes()), Err(Unreadable::UnexpectedByte(place)), "{text}");
+    }
+    let moments = [
+        ("", 0),
+        ("24-02-29T00:00:00Z", 2),
+        ("-2024-02-29T00:00:00Z", 0),
+        ("2024-060T00:00:00Z", 7),
+        ("2024-02-29", 10),
+        ("2024-02-29  00:00:00Z", 11),
+        ("2024-02-29T0:00:00Z", 12),
+        ("2024-02-29T00:00Z", 16),
+        ("2024-02-29T00:00:00", 19),
+        ("2024-02-29T00:00:00.Z", 20),
+        ("2024-02-29T00:00:00.5", 21),
+        ("2024-02-29T00:00:00Z ", 20),
+        ("2024-02-29T00:00:00+0100", 22),
+        ("2024-02-29T00:00:00+01:00:00", 25),
+    ];
+    for (text, place) in moments {
+        assert_eq!(rfc3339::read(text.as_bytes()), Err(Unreadable::UnexpectedByte(place)), "{text}");
+    }
+    let unix_times = [
+        ("", 0),
+        ("1709164800", 0),
+        ("@", 1),
+        ("@+1", 1),
+        ("@01", 2),
+        ("@-0", 3),
+        ("@-0.0", 5),
+        ("@1.", 3),
+        ("@1.1234567890", 12),
+        ("@1709164800 ", 11),
+        ("@1000000000000000000", 19),
+    ];
+    for (text, place) in unix_times {
+        assert_eq!(unix::read(text.as_bytes()), Err(Unreadable::UnexpectedByte(place)), "{text}");
+    }
+}
+
+/// What a moment has: the calendar date, the clock, and the seconds of the offset.
+type Numbers = ((i32, u8, u8), (u8, u8, u8, u32), i32);
+
+fn moment(((year, month, day_of_month), (hour, minute, second, nanosecond), offset): Numbers) -> (Date, Time, UtcOffset) {
+    let time = Time::from_hms_nano(hour, minute, second, nanosecond).unwrap();
+    (day(year, month, day_of_month), time, UtcOffset::from_whole_seconds(offset).unwrap())
+}
+
+/// The examples of the standard come first.
+#[test]
+fn moments_in_text() {
+    let printed = [
+        ("1985-04-12T23:20:50.52Z", ((1985, 4, 12), (23, 20, 50, 520_000_000), 0)),
+        ("1996-12-19T16:39:57-08:00", ((1996, 12, 19), (16, 39, 57, 0), -28_800)),
+        ("1937-01-01T12:00:27.87+00:20", ((1937, 1, 1), (12, 0, 27, 870_000_000), 1_200)),
+        ("2024-02-29T23:59:59.25+01:00", ((2024, 2, 29), (23, 59, 59, 250_000_000), 3_600)),
+        ("0000-01-01T00:00:00Z", ((0, 1, 1), (0, 0, 0, 0), 0)),
+        ("9999-12-31T23:59:59.999999999-23:59", ((9999, 12, 31), (23, 59, 59, 999_999_999), -86_340)),
+        ("2024-02-29T09:05:07.000000001-00:30", ((2024, 2, 29), (9, 5, 7, 1), -1_800)),
+    ];
+    for (text, numbers) in printed {
+        let (date, time, offset) = moment(numbers);
+        let line = rfc3339::Text::new(date, time, offset).unwrap().line();
+        assert_eq!((line.as_str(), line.as_bytes()), (text, text.as_bytes()));
+        assert_eq!(rfc3339::read(text.as_bytes()), Ok((date, time, offset)), "{text}");
+    }
+    let read = [
+        ("0000-01-01t00:00:00z", ((0, 1, 1), (0, 0, 0, 0), 0)),
+        ("2024-02-29 00:00:00-00:00", ((2024, 2, 29), (0, 0, 0, 0), 0)),
+        ("2024-02-29T00:00:00.0Z", ((2024, 2, 29), (0, 0, 0, 0), 0)),
+        ("2024-02-29T00:00:00.9999999999999Z", ((2024, 2, 29), (0, 0, 0, 999_999_999), 0)),
+        ("2024-02-29T00:00:00.0000000019Z", ((2024, 2, 29), (0, 0, 0, 1), 0)),
+    ];
+    for (text, numbers) in read {
+        assert_eq!(rfc3339::read(text.as_bytes()), Ok(moment(numbers)), "{text}");
+    }
+    let (date, time, utc) = moment(((2024, 2, 29), (0, 0, 0, 0), 0));
+    let text = rfc3339::Text::new(date, time, utc).unwrap();
+    assert_eq!(format!("{text:>22}|{text:_<21}|{text:2}|"), "  2024-02-29T00:00:00Z|2024-02-29T00:00:00Z_|2024-02-29T00:00:00Z|");
+    for date in [day(10_000, 1, 1), day(-1, 12, 31)] {
+        assert_eq!(rfc3339::Text::new(date, time, utc), None);
+    }
+    for seconds in [86_400, -86_400, 1, -1, 3_601, 93_599] {
+        assert_eq!(rfc3339::Text::new(date, time, UtcOffset::from_whole_seconds(seconds).unwrap()), None);
+    }
+}
+
+#[test]
+fn unix_times() {
+    let rows = [
+        (((1970, 1, 1), (0, 0, 0, 0), 0), Duration::ZERO, "@0"),
+        (((2024, 2, 29), (0, 0, 0, 500_000_000), 0), Duration::new(1_709_164_800, 500_000_000), "@1709164800.5"),
+        (((2024, 2, 29), (1, 0, 0, 0), 3_600), Duration::seconds(1_709_164_800), "@1709164800"),
+        (((2024, 2, 28), (16, 0, 0, 0), -28_800), Duration::seconds(1_709_164_800), "@1709164800"),
+        (((1969, 12, 31), (23, 59, 59, 999_999_999), 0), Duration::nanoseconds(-1), "@-0.000000001"),
+        (((1969, 12, 31), (23, 59, 58, 750_000_000), 0), Duration::new(-1, -250_000_000), "@-1.25"),
+        (((2038, 1, 19), (3, 14, 7, 0), 0), Duration::seconds(2_147_483_647), "@2147483647"),
+        (
+            ((999_999, 12, 31), (23, 59, 59, 999_999_999), 0),
+            Duration::new(31_494_784_780_799, 999_999_999),
+            "@31494784780799.999999999",
+        ),
+        (((-999_999, 1, 1), (0, 0, 0, 0), 0), Duration::seconds(-31_619_087_596_800), "@-31619087596800"),
+        (((-999_999, 1, 1), (0, 0, 0, 0), 3_600), Duration::seconds(-31_619_087_600_400), "@-31619087600400"),
+    ];
+    for (numbers, duration, text) in rows {
+        let (date, time, offset) = moment(numbers);
+        assert_eq!(unix::duration_of(date, time, offset), duration);
+        assert_eq!(unix::pair_of(duration, offset), Some((date, time)));
+        let printed = unix::Text::new(date, time, offset);
+        assert_eq!((printed.to_string().as_str(), printed.line().as_str()), (text, text));
+        assert_eq!(unix::read(text.as_bytes()).ok(), unix::pair_of(duration, UtcOffset::UTC));
+    }
+    assert_eq!(unix::read(b"@1709164800.50"), unix::read(b"@1709164800.5"));
+    assert_eq!(format!("{:>14}", unix::Text::new(day(1970, 1, 2), Time::MIDNIGHT, UtcOffset::UTC)), "        @86400");
+    let last = unix::duration_of(Date::MAX, Time::MAX, UtcOffset::UTC);
+    assert_eq!(unix::pair_of(last + Duration::NANOSECOND, UtcOffset::UTC), None);
+    assert_eq!(unix::pair_of(Duration::MAX, UtcOffset::UTC), None);
+}
+
+/// Every day of four years at each end of the range, and of two at the years 0 and 9999, in all forms.
+#[test]
+fn days_printed_and_read() {
+    for first in [-363_521_074, 366_963_559 - 1_460, 1_721_060 - 730, 5_373_484 - 730] {
+        for number in first..=first + 1_460 {
+            let date = Date::from_julian_day(number).unwrap();
+            let (year, month, day) = date.to_calendar_date();
+            let (iso_year, week, weekday) = date.to_iso_week_date();
+            let sign = |year: i32| if year < 0 { "-" } else { &"+"[..usize::from(year > 9_999)] };
+            let years = [year, iso_year].map(|year| format!("{}{:04}", sign(year), year.unsigned_abs()));
+            let calendar = format!("{}-{:02}-{day:02}", years[0], month as u8);
+            let ordinal = format!("{}-{:03}", years[0], date.ordinal());
+            let week = format!("{}-W{week:02}-{}", years[1], weekday.number_from_monday());
+            assert_eq!((date.to_string(), CalendarText(date).to_string()), (calendar.clone(), calendar.clone()));
+            assert_eq!((OrdinalText(date).to_string(), WeekText(date).to_string()), (ordinal.clone(), week.clone()));
+            assert_eq!([calendar.parse(), ordinal.parse(), week.parse()], [Ok(date); 3]);
+            assert_eq!(JulianText(date).to_string(), format!("J{number}"));
+            assert_eq!(julian_day::read(format!("J{number}").as_bytes()), Ok(date));
+        }
+    }
+}
+
+/// At each offset of whole quarters of an hour, with fractions of several lengths.
+#[test]
+fn moments_printed_and_read() {
+    for quarters in -95i32..96 {
+        let offset = UtcOffset::from_whole_seconds(quarters * 900).unwrap();
+        for nanosecond in [0, 500_000_000, 250_000_000, 120_000_001, 1, 10, 999_999_990, 123_456_789] {
+            let time = Time::from_hms_nano((quarters.unsigned_abs() % 24) as u8, 59, 7, nanosecond).unwrap();
+            let date = Date::from_julian_day(2_460_370 + quarters * 300).unwrap();
+            let text = rfc3339::Text::new(date, time, offset).unwrap().to_string();
+            assert_eq!(rfc3339::read(text.as_bytes()), Ok((date, time, offset)), "{text}");
+            let unix_text = unix::Text::new(date, time, offset).to_string();
+            let (utc_date, utc_time) = unix::read(unix_text.as_bytes()).unwrap();
+            assert_eq!(unix::duration_of(utc_date, utc_time, UtcOffset::UTC), unix::duration_of(date, time, offset));
+        }
+    }
+}

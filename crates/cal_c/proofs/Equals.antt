@@ -1,0 +1,8 @@
+-- What equal results of a reading have in common.
+use Rattle.std.proofs.Common.{◌≡◌, Result, Ok, Err}
+
+pub same_value : {A E : Type 0} (a b : A) → ◌≡◌ {A = Result A E} (Ok a) (Ok b) → a ≡ b
+same_value a b h = cc
+
+pub no_value : {A E : Type 0} (e : E) (a : A) → ◌≡◌ {A = Result A E} (Err e) (Ok a) → ⊥
+no_value e a h = cc

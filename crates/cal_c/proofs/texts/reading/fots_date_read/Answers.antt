@@ -1,0 +1,10 @@
+use Rattle.std.proofs.Common.{ap, ◌∙◌}
+use Rattle.cal_c.specs.Texts.{read_date_done}
+use Rattle.cal_c.proofs.Equals.{no_value, same_value}
+use Rattle.cal_c.proofs.texts.reading.fots_date_read.Goals as goal
+
+pub returns-in-Ok-clause-date : goal.returns-in-Ok-clause-date
+returns-in-Ok-clause-date c = λ n in_range is_text. c.of.ensures ∙ ap read_date_done (same_value _ _ (c.in-Ok.ensures.every n in_range is_text))
+
+pub returns-in-Err-clause-date : goal.returns-in-Err-clause-date
+returns-in-Err-clause-date c = λ n in_range is_text. absurd (no_value _ _ (c.in-Err.ensures.every n in_range is_text))

@@ -1,0 +1,59 @@
+-- Texts, as they cross, and what a text reads as.
+use Rattle.std.specs.Prelude.{◌≡◌, ℕ, ◌-◌, ℤ, pos, List, ◌++◌, length, replicate, ⊤}
+use Rattle.cal_time.specs.Date.{julian_day_at}
+use Rattle.cal_time.specs.Month.{month_at, name}
+use Rattle.cal_time.specs.Weekday as weekdays
+use Rattle.cal_text.specs.Reading.{HasFormThat}
+use Rattle.cal_text.specs.Rfc3339Form.{HasMomentThat}
+use Rattle.cal_c.specs.Results.{nothing}
+use Rattle.cal_c.specs.Statuses.{done, unreadable}
+use Rattle.cal_c.specs.declared.texts.TextResult.{TextResult}
+use Rattle.cal_c.specs.declared.texts.ReadDateResult.{ReadDateResult}
+use Rattle.cal_c.specs.declared.texts.ReadMomentResult.{ReadMomentResult}
+
+-- ---- texts
+-- the bytes of the text, and zeros after them up to 40
+abbrev pub text_done : List ℕ → TextResult
+text_done text = record { status = done; length = length text; bytes = text ++ replicate (40 - length text) 0 }
+
+abbrev pub text_refused : ℤ → TextResult
+text_refused s = record { status = s; length = 0; bytes = replicate 40 0 }
+
+-- the English names, by the number from January and from Monday, 1
+abbrev pub month_name : ℕ → List ℕ
+month_name m = name (month_at (m - 1))
+
+abbrev pub weekday_name : ℕ → List ℕ
+weekday_name w = weekdays.name (weekdays.weekday_at (w - 1))
+
+-- ---- forms
+-- the bytes have one of the forms of a date, or that of a moment, whatever the numbers
+abbrev pub HasDateForm : List ℕ → Type 0
+HasDateForm bytes = HasFormThat (λ form. ⊤) bytes
+
+abbrev pub HasFormOfMoment : List ℕ → Type 0
+HasFormOfMoment bytes = HasMomentThat (λ form. ⊤) bytes
+
+-- ---- what is read: a place is the greatest number where no byte is wrong
+abbrev pub nowhere : ℕ
+nowhere = 18_446_744_073_709_551_615
+
+abbrev pub read_date_done : ℕ → ReadDateResult
+read_date_done n = record { status = done; date = julian_day_at n; place = nowhere }
+
+abbrev pub read_date_refused : ℤ → ReadDateResult
+read_date_refused s = record { status = s; date = nothing; place = nowhere }
+
+-- some byte is wrong
+abbrev pub IsUnreadableDate : ReadDateResult → Type 0
+IsUnreadableDate r = (at : ℕ) × (r ≡ record { status = unreadable; date = nothing; place = at })
+
+abbrev pub read_moment_done : ℕ → ℕ → ℤ → ReadMomentResult
+read_moment_done n t o = record { status = done; date = julian_day_at n; time = t; offset = o; place = nowhere }
+
+abbrev pub read_moment_refused : ℤ → ReadMomentResult
+read_moment_refused s = record { status = s; date = nothing; time = 18_446_744_073_709_551_615; offset = nothing; place = nowhere }
+
+abbrev pub IsUnreadableMoment : ReadMomentResult → Type 0
+IsUnreadableMoment r =
+    (at : ℕ) × (r ≡ record { status = unreadable; date = nothing; time = 18_446_744_073_709_551_615; offset = nothing; place = at })

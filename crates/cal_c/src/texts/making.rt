@@ -1,0 +1,158 @@
+//! Texts of dates and moments, and names.
+ghost use Rattle.std.specs.Prelude.{◌≡◌};
+ghost use Rattle.cal_time.specs.DateText.{text};
+ghost use Rattle.cal_time.specs.Time.{IsTime};
+ghost use Rattle.cal_time.specs.UtcOffset.{IsOffset};
+ghost use Rattle.cal_text.specs.DateForms.{ordinal_text, week_text};
+ghost use Rattle.cal_text.specs.JulianForm.{julian_text};
+ghost use Rattle.cal_text.specs.Rfc3339.{HasMomentText, moment_text};
+ghost use Rattle.cal_text.specs.Unix.{unix_time};
+ghost use Rattle.cal_text.specs.UnixText.{unix_text};
+ghost use Rattle.cal_c.specs.Statuses.{bad_date, bad_time, bad_offset, bad_weekday, month_refused, past_range};
+ghost use Rattle.cal_c.specs.Texts.{month_name, text_done, text_refused, weekday_name};
+ghost use Rattle.cal_c.specs.Values.{IsJulianDay, IsMonth, IsWeekday, day_of};
+
+use crate::status::{BAD_DATE, BAD_OFFSET, BAD_TIME, BAD_WEEKDAY, MONTH, PAST_RANGE};
+use crate::texts::TextResult;
+use crate::values::{date_of, offset_of, time_of};
+use cal_text::date::{CalendarText, OrdinalText, WeekText};
+use cal_text::julian_day::JulianText;
+use cal_text::{rfc3339, unix};
+
+/// The calendar date of a day, as `2024-02-29`.
+#[unsafe(no_mangle)]
+pub extern "C" fn fots_date_calendar_text(date: i32) -> TextResult
+    ensures bad_date { ¬ IsJulianDay date → result ≡ text_refused bad_date }
+    ensures value { IsJulianDay date → result ≡ text_done (text (day_of date)) }
+{
+    match date_of(date) {
+        Some(date) => TextResult::of(CalendarText(date).line().as_bytes()),
+        None => TextResult::refused(BAD_DATE),
+    }
+}
+
+/// The ordinal date of a day, as `2024-060`.
+#[unsafe(no_mangle)]
+pub extern "C" fn fots_date_ordinal_text(date: i32) -> TextResult
+    ensures bad_date { ¬ IsJulianDay date → result ≡ text_refused bad_date }
+    ensures value { IsJulianDay date → result ≡ text_done (ordinal_text (day_of date)) }
+{
+    match date_of(date) {
+        Some(date) => TextResult::of(OrdinalText(date).line().as_bytes()),
+        None => TextResult::refused(BAD_DATE),
+    }
+}
+
+/// The week date of a day, as `2024-W09-4`.
+#[unsafe(no_mangle)]
+pub extern "C" fn fots_date_week_text(date: i32) -> TextResult
+    ensures bad_date { ¬ IsJulianDay date → result ≡ text_refused bad_date }
+    ensures value { IsJulianDay date → result ≡ text_done (week_text (day_of date)) }
+{
+    match date_of(date) {
+        Some(date) => TextResult::of(WeekText(date).line().as_bytes()),
+        None => TextResult::refused(BAD_DATE),
+    }
+}
+
+/// The Julian day of a day after a letter J, as `J2460370`.
+#[unsafe(no_mangle)]
+pub extern "C" fn fots_date_julian_text(date: i32) -> TextResult
+    ensures bad_date { ¬ IsJulianDay date → result ≡ text_refused bad_date }
+    ensures value { IsJulianDay date → result ≡ text_done (julian_text (day_of date)) }
+{
+    match date_of(date) {
+        Some(date) => TextResult::of(JulianText(date).line().as_bytes()),
+        None => TextResult::refused(BAD_DATE),
+    }
+}
+
+/// The text of RFC 3339 of a date, a time and an offset, as `2024-02-29T23:59:59.25+01:00`.
+///
+/// Past the range where RFC 3339 has no text: a year outside 0 to 9999, an offset with seconds, or of a day and more.
+#[unsafe(no_mangle)]
+pub extern "C" fn fots_moment_text(date: i32, time: u64, offset: i32) -> TextResult
+    ensures bad_date { ¬ IsJulianDay date → result ≡ text_refused bad_date }
+    ensures bad_time { IsJulianDay date → ¬ IsTime time → result ≡ text_refused bad_time }
+    ensures bad_offset { IsJulianDay date → IsTime time → ¬ IsOffset offset → result ≡ text_refused bad_offset }
+    ensures past_range { IsJulianDay date → IsTime time → IsOffset offset → ¬ HasMomentText (day_of date) offset
+        → result ≡ text_refused past_range }
+    ensures value { IsJulianDay date → IsTime time → IsOffset offset → HasMomentText (day_of date) offset
+        → result ≡ text_done (moment_text (day_of date) time offset) }
+{
+    let Some(date) = date_of(date) else {
+        return TextResult::refused(BAD_DATE);
+    };
+    let Some(time) = time_of(time) else {
+        return TextResult::refused(BAD_TIME);
+    };
+    let Some(offset) = offset_of(offset) else {
+        return TextResult::refused(BAD_OFFSET);
+    };
+    match rfc3339::Text::new(date, time, offset) {
+        Some(text) => TextResult::of(text.line().as_bytes()),
+        None => TextResult::refused(PAST_RANGE),
+    }
+}
+
+/// The Unix time of a date and a time at an offset, as `@1709164800.5`.
+#[unsafe(no_mangle)]
+pub extern "C" fn fots_unix_text(date: i32, time: u64, offset: i32) -> TextResult
+    ensures bad_date { ¬ IsJulianDay date → result ≡ text_refused bad_date }
+    ensures bad_time { IsJulianDay date → ¬ IsTime time → result ≡ text_refused bad_time }
+    ensures bad_offset { IsJulianDay date → IsTime time → ¬ IsOffset offset → result ≡ text_refused bad_offset }
+    ensures value { IsJulianDay date → IsTime time → IsOffset offset
+        → result ≡ text_done (unix_text (unix_time (day_of date) time offset)) }
+{
+    let Some(date) = date_of(date) else {
+        return TextResult::refused(BAD_DATE);
+    };
+    let Some(time) = time_of(time) else {
+        return TextResult::refused(BAD_TIME);
+    };
+    match offset_of(offset) {
+        Some(offset) => TextResult::of(unix::Text::new(date, time, offset).line().as_bytes()),
+        None => TextResult::refused(BAD_OFFSET),
+    }
+}
+
+/// The English name of a month. Refused as `month`. That of 2 is February.
+#[unsafe(no_mangle)]
+pub extern "C" fn fots_month_name(month: u32) -> TextResult
+    ensures month { ¬ IsMonth month → result ≡ text_refused month_refused }
+    ensures value { IsMonth month → result ≡ text_done (month_name month) }
+{
+    TextResult::of(match month {
+        1 => b"January",
+        2 => b"February",
+        3 => b"March",
+        4 => b"April",
+        5 => b"May",
+        6 => b"June",
+        7 => b"July",
+        8 => b"August",
+        9 => b"September",
+        10 => b"October",
+        11 => b"November",
+        12 => b"December",
+        _ => return TextResult::refused(MONTH),
+    })
+}
+
+/// The English name of a weekday. That of 4 is Thursday.
+#[unsafe(no_mangle)]
+pub extern "C" fn fots_weekday_name(weekday: u32) -> TextResult
+    ensures bad_weekday { ¬ IsWeekday weekday → result ≡ text_refused bad_weekday }
+    ensures value { IsWeekday weekday → result ≡ text_done (weekday_name weekday) }
+{
+    TextResult::of(match weekday {
+        1 => b"Monday",
+        2 => b"Tuesday",
+        3 => b"Wednesday",
+        4 => b"Thursday",
+        5 => b"Friday",
+        6 => b"Saturday",
+        7 => b"Sunday",
+        _ => return TextResult::refused(BAD_WEEKDAY),
+    })
+}

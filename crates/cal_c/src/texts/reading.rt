@@ -1,0 +1,124 @@
+//! What texts read as.
+ghost use Rattle.std.specs.Prelude.{◌≡◌, ◌+ℤ◌, ◌*ℤ◌, ℕ, ℤ, pos};
+ghost use Rattle.cal_time.specs.Date.{IsDate};
+ghost use Rattle.cal_time.specs.SignedDuration.{second};
+ghost use Rattle.cal_time.specs.Time.{IsTime};
+ghost use Rattle.cal_time.specs.UtcOffset.{IsOffset};
+ghost use Rattle.cal_text.specs.DateForms.{IsDateText};
+ghost use Rattle.cal_text.specs.JulianForm.{julian_text, IsJulianForm, IsJulianFormOfNone};
+ghost use Rattle.cal_text.specs.Reading.{HasFormThat, LacksMonth, LacksYear, LacksDay, LacksOrdinal, LacksWeek, LacksWeekday};
+ghost use Rattle.cal_text.specs.Rfc3339Form as moments;
+ghost use Rattle.cal_text.specs.Rfc3339Form.{HasMomentThat, IsMomentText, LacksHour, LacksMinute, LacksSecond, LacksOffsetHour, LacksOffsetMinute};
+ghost use Rattle.cal_text.specs.Unix.{epoch, unix_time};
+ghost use Rattle.cal_text.specs.UnixText.{HasUnixForm, IsUnixText, IsUnixFormOfNone};
+ghost use Rattle.cal_c.specs.Results.{duration_done, duration_refused, pair_refused, IsPairAt};
+ghost use Rattle.cal_c.specs.Statuses.{bad_date, bad_time, bad_offset, bad_duration, year_refused, month_refused, julian_day_refused, day_refused, ordinal_refused, week_refused, weekday_refused, hour_refused, minute_refused, second_refused, offset_hour_refused, offset_minute_refused, timestamp_refused};
+ghost use Rattle.cal_c.specs.Texts.{read_date_done, read_date_refused, read_moment_done, read_moment_refused, HasDateForm, HasFormOfMoment, IsUnreadableDate, IsUnreadableMoment};
+ghost use Rattle.cal_c.specs.Values.{IsDurationPair, IsJulianDay, day_of, nanoseconds_in};
+
+use crate::results::{Duration, DurationResult, PairResult};
+use crate::status::{BAD_DATE, BAD_DURATION, BAD_OFFSET, BAD_TIME};
+use crate::texts::{ReadDateResult, ReadMomentResult};
+use crate::values::{date_of, duration_of, offset_of, time_of};
+use cal_text::{date, julian_day, rfc3339, unix};
+use cal_time::UtcOffset;
+
+/// The day whose calendar date, ordinal date or week date the text is, as `2024-02-29`, `2024-060` or `2024-W09-4`.
+#[unsafe(no_mangle)]
+pub extern "C" fn fots_date_read(text: &[u8]) -> ReadDateResult
+    ensures date { (n : ℕ) → IsDate n → IsDateText text.now n → result ≡ read_date_done n }
+    ensures form { ¬ HasDateForm text.now → IsUnreadableDate result }
+    ensures month { HasFormThat LacksMonth text.now → result ≡ read_date_refused month_refused }
+    ensures year { HasFormThat LacksYear text.now → result ≡ read_date_refused year_refused }
+    ensures day { HasFormThat LacksDay text.now → result ≡ read_date_refused day_refused }
+    ensures ordinal { HasFormThat LacksOrdinal text.now → result ≡ read_date_refused ordinal_refused }
+    ensures week { HasFormThat LacksWeek text.now → result ≡ read_date_refused week_refused }
+    ensures weekday { HasFormThat LacksWeekday text.now → result ≡ read_date_refused weekday_refused }
+{
+    match date::read(text) {
+        Ok(date) => ReadDateResult::of(date),
+        Err(error) => ReadDateResult::refused(error),
+    }
+}
+
+/// The day whose Julian day the text is, after a letter J, as `J2460370`.
+#[unsafe(no_mangle)]
+pub extern "C" fn fots_julian_day_read(text: &[u8]) -> ReadDateResult
+    ensures date { (n : ℕ) → IsDate n → text.now ≡ julian_text n → result ≡ read_date_done n }
+    ensures form { ((j : ℤ) → ¬ IsJulianForm text.now j) → IsUnreadableDate result }
+    ensures julian_day { IsJulianFormOfNone text.now → result ≡ read_date_refused julian_day_refused }
+{
+    match julian_day::read(text) {
+        Ok(date) => ReadDateResult::of(date),
+        Err(error) => ReadDateResult::refused(error),
+    }
+}
+
+/// The date, the time and the offset of a text of RFC 3339, as `2024-02-29T23:59:59.25+01:00`.
+#[unsafe(no_mangle)]
+pub extern "C" fn fots_moment_read(text: &[u8]) -> ReadMomentResult
+    ensures moment { (n t : ℕ) → (o : ℤ) → IsDate n → IsMomentText text.now n t o → result ≡ read_moment_done n t o }
+    ensures form { ¬ HasFormOfMoment text.now → IsUnreadableMoment result }
+    ensures month { HasMomentThat moments.LacksMonth text.now → result ≡ read_moment_refused month_refused }
+    ensures day { HasMomentThat moments.LacksDay text.now → result ≡ read_moment_refused day_refused }
+    ensures hour { HasMomentThat LacksHour text.now → result ≡ read_moment_refused hour_refused }
+    ensures minute { HasMomentThat LacksMinute text.now → result ≡ read_moment_refused minute_refused }
+    ensures second { HasMomentThat LacksSecond text.now → result ≡ read_moment_refused second_refused }
+    ensures offset_hour { HasMomentThat LacksOffsetHour text.now → result ≡ read_moment_refused offset_hour_refused }
+    ensures offset_minute { HasMomentThat LacksOffsetMinute text.now → result ≡ read_moment_refused offset_minute_refused }
+{
+    match rfc3339::read(text) {
+        Ok(parts) => ReadMomentResult::of(parts.0, parts.1, parts.2),
+        Err(error) => ReadMomentResult::refused(error),
+    }
+}
+
+/// The date and the time, at UTC, whose Unix time the text is, as `@1709164800.5`.
+#[unsafe(no_mangle)]
+pub extern "C" fn fots_unix_read(text: &[u8]) -> ReadMomentResult
+    ensures moment { (n t : ℕ) → IsUnixText text.now n t → result ≡ read_moment_done n t (pos 0) }
+    ensures form { ((v : ℤ) → ¬ HasUnixForm text.now v) → IsUnreadableMoment result }
+    ensures timestamp { IsUnixFormOfNone text.now → result ≡ read_moment_refused timestamp_refused }
+{
+    match unix::read(text) {
+        Ok(pair) => ReadMomentResult::of(pair.0, pair.1, UtcOffset::UTC),
+        Err(error) => ReadMomentResult::refused(error),
+    }
+}
+
+/// The Unix time of a date and a time, which a clock shows at that offset.
+#[unsafe(no_mangle)]
+pub extern "C" fn fots_unix_time(date: i32, time: u64, offset: i32) -> DurationResult
+    ensures bad_date { ¬ IsJulianDay date → result ≡ duration_refused bad_date }
+    ensures bad_time { IsJulianDay date → ¬ IsTime time → result ≡ duration_refused bad_time }
+    ensures bad_offset { IsJulianDay date → IsTime time → ¬ IsOffset offset → result ≡ duration_refused bad_offset }
+    ensures value { IsJulianDay date → IsTime time → IsOffset offset → result ≡ duration_done (unix_time (day_of date) time offset) }
+{
+    let Some(date) = date_of(date) else {
+        return DurationResult::refused(BAD_DATE);
+    };
+    let Some(time) = time_of(time) else {
+        return DurationResult::refused(BAD_TIME);
+    };
+    match offset_of(offset) {
+        Some(offset) => DurationResult::of(unix::duration_of(date, time, offset)),
+        None => DurationResult::refused(BAD_OFFSET),
+    }
+}
+
+/// The date and the time of a Unix time, as a clock shows them at that offset, or none where that date is past the range.
+#[unsafe(no_mangle)]
+pub extern "C" fn fots_unix_pair(duration: Duration, offset: i32) -> PairResult
+    ensures bad_duration { ¬ IsDurationPair duration → result ≡ pair_refused bad_duration }
+    ensures bad_offset { IsDurationPair duration → ¬ IsOffset offset → result ≡ pair_refused bad_offset }
+    ensures pair { IsDurationPair duration → IsOffset offset
+        → IsPairAt ((epoch +ℤ nanoseconds_in duration) +ℤ (offset *ℤ pos second)) result }
+{
+    let Some(duration) = duration_of(duration) else {
+        return PairResult::refused(BAD_DURATION);
+    };
+    match offset_of(offset) {
+        Some(offset) => PairResult::of_option(unix::pair_of(duration, offset)),
+        None => PairResult::refused(BAD_OFFSET),
+    }
+}

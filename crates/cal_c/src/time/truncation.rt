@@ -1,0 +1,69 @@
+//! Times cut to a whole unit.
+ghost use Rattle.std.specs.Prelude.{◌≡◌, ◌*◌};
+ghost use Rattle.cal_time.specs.Time.{IsTime, time_of, hour_of, minute_of, second_of, millisecond_of, microsecond_of};
+ghost use Rattle.cal_c.specs.Results.{time_done, time_refused};
+ghost use Rattle.cal_c.specs.Statuses.{bad_time};
+
+use crate::results::TimeResult;
+use crate::status::BAD_TIME;
+use crate::values::time_of;
+
+/// The time at the start of its hour.
+#[unsafe(no_mangle)]
+pub extern "C" fn fots_time_truncate_to_hour(time: u64) -> TimeResult
+    ensures bad_time { ¬ IsTime time → result ≡ time_refused bad_time }
+    ensures value { IsTime time → result ≡ time_done (time_of (hour_of time) 0 0 0) }
+{
+    match time_of(time) {
+        Some(time) => TimeResult::of(time.truncate_to_hour()),
+        None => TimeResult::refused(BAD_TIME),
+    }
+}
+
+/// The time at the start of its minute.
+#[unsafe(no_mangle)]
+pub extern "C" fn fots_time_truncate_to_minute(time: u64) -> TimeResult
+    ensures bad_time { ¬ IsTime time → result ≡ time_refused bad_time }
+    ensures value { IsTime time → result ≡ time_done (time_of (hour_of time) (minute_of time) 0 0) }
+{
+    match time_of(time) {
+        Some(time) => TimeResult::of(time.truncate_to_minute()),
+        None => TimeResult::refused(BAD_TIME),
+    }
+}
+
+/// The time at the start of its second.
+#[unsafe(no_mangle)]
+pub extern "C" fn fots_time_truncate_to_second(time: u64) -> TimeResult
+    ensures bad_time { ¬ IsTime time → result ≡ time_refused bad_time }
+    ensures value { IsTime time → result ≡ time_done (time_of (hour_of time) (minute_of time) (second_of time) 0) }
+{
+    match time_of(time) {
+        Some(time) => TimeResult::of(time.truncate_to_second()),
+        None => TimeResult::refused(BAD_TIME),
+    }
+}
+
+/// The time with nothing below its millisecond.
+#[unsafe(no_mangle)]
+pub extern "C" fn fots_time_truncate_to_millisecond(time: u64) -> TimeResult
+    ensures bad_time { ¬ IsTime time → result ≡ time_refused bad_time }
+    ensures value { IsTime time → result ≡ time_done (time_of (hour_of time) (minute_of time) (second_of time) (millisecond_of time * 1_000_000)) }
+{
+    match time_of(time) {
+        Some(time) => TimeResult::of(time.truncate_to_millisecond()),
+        None => TimeResult::refused(BAD_TIME),
+    }
+}
+
+/// The time with nothing below its microsecond.
+#[unsafe(no_mangle)]
+pub extern "C" fn fots_time_truncate_to_microsecond(time: u64) -> TimeResult
+    ensures bad_time { ¬ IsTime time → result ≡ time_refused bad_time }
+    ensures value { IsTime time → result ≡ time_done (time_of (hour_of time) (minute_of time) (second_of time) (microsecond_of time * 1_000)) }
+{
+    match time_of(time) {
+        Some(time) => TimeResult::of(time.truncate_to_microsecond()),
+        None => TimeResult::refused(BAD_TIME),
+    }
+}
