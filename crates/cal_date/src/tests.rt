@@ -9,9 +9,16 @@ use crate::laws::{cloned, cloned_kernel, final_day, first_day, is_same_kernel, w
 use crate::{Date, julian_kernel};
 use cal_span::SignedDuration;
 use cal_units::Weekday;
+use std::fmt::Debug;
+use std::process::Abort;
 use std::test::Fail;
 
 mod every_day;
+
+/// Stops the test unless the two are equal. One function for all is proved once, where `assert_eq!` is proved at each place.
+pub(crate) fn same<T: Copy + Debug + PartialEq>(rt: &impl Abort, found: T, wanted: T) {
+    assert!(rt; found == wanted, "{found:?} and not {wanted:?}");
+}
 
 fn later(date: Date, duration: SignedDuration) -> [Date; 2]
     requires { IsDateNumber (pos date +ℤ whole_days duration) }
@@ -49,22 +56,22 @@ fn moves_within_the_range(rt: HostRuntime) {
         let Some(moved) = Date::MIN.checked_add(duration) else {
             panic!(rt; "{duration}");
         };
-        assert_eq!(rt; later(Date::MIN, duration), [moved, moved]);
+        same(&rt, later(Date::MIN, duration), [moved, moved]);
         let Some(moved) = Date::MAX.checked_sub(duration) else {
             panic!(rt; "{duration}");
         };
-        assert_eq!(rt; earlier(Date::MAX, duration), [moved, moved]);
+        same(&rt, earlier(Date::MAX, duration), [moved, moved]);
     }
 }
 
 #[test]
 fn the_laws(rt: HostRuntime) -> Result<(), Fail> {
-    assert_eq!(rt; first_day().to_julian_day(), -363_521_074);
-    assert_eq!(rt; final_day().to_julian_day(), 366_963_559);
-    assert_eq!(rt; cloned(Date::MAX)?, Date::MAX);
+    same(&rt, first_day().to_julian_day(), -363_521_074);
+    same(&rt, final_day().to_julian_day(), 366_963_559);
+    same(&rt, cloned(Date::MAX)?, Date::MAX);
     let (kernel, next) = (julian_kernel(2_451_545), julian_kernel(2_451_546));
     assert!(rt; is_same_kernel(cloned_kernel(kernel)?, kernel));
     assert!(rt; !is_same_kernel(kernel, next));
-    assert_eq!(rt; (weeks_of(2020), weeks_of(999_999)), (53, 52));
+    same(&rt, (weeks_of(2020), weeks_of(999_999)), (53, 52));
     Ok(())
 }

@@ -1,5 +1,6 @@
 //! The packed values, which no call shows.
 use crate::date::Date;
+use crate::tests::same;
 
 #[test]
 fn packed_values(rt: HostRuntime) {
@@ -15,20 +16,20 @@ fn packed_values(rt: HostRuntime) {
         let Ok(date) = Date::from_ordinal_date(year, ordinal) else {
             panic!(rt; "{year} {ordinal} is refused");
         };
-        assert_eq!(rt; date.packed, packed);
-        assert_eq!(rt; date.to_ordinal_date(), (year, ordinal));
+        same(&rt, date.packed, packed);
+        same(&rt, date.to_ordinal_date(), (year, ordinal));
         let Some(day_after) = date.next_day() else {
             panic!(rt; "no day follows {date}");
         };
-        assert_eq!(rt; day_after.packed, next);
-        assert_eq!(rt; day_after.previous_day(), Some(date));
+        same(&rt, day_after.packed, next);
+        same(&rt, day_after.previous_day(), Some(date));
     }
 }
 
 #[test]
 fn packed_ends_of_the_range(rt: HostRuntime) {
-    assert_eq!(rt; Date::MIN.packed, -1_023_998_975);
-    assert_eq!(rt; Date::MAX.packed, 1_023_999_341);
-    assert_eq!(rt; Date::MIN.to_ordinal_date(), (-999_999, 1));
-    assert_eq!(rt; Date::MAX.to_ordinal_date(), (999_999, 365));
+    same(&rt, Date::MIN.packed, -1_023_998_975);
+    same(&rt, Date::MAX.packed, 1_023_999_341);
+    same(&rt, Date::MIN.to_ordinal_date(), (-999_999, 1));
+    same(&rt, Date::MAX.to_ordinal_date(), (999_999, 365));
 }

@@ -2,6 +2,7 @@
 ghost use Rattle.std.specs.Prelude.{◌≤◌};
 
 use crate::Date;
+use crate::tests::same;
 use std::alloc::Global;
 use std::process::Abort;
 use std::test::Fail;
@@ -106,21 +107,25 @@ fn check_days(
             panic!(rt; "{julian_day} is refused");
         };
         let (year, month, day) = date.to_calendar_date();
-        assert_eq!(rt;
+        same(
+            rt,
             (year, month as u8, day),
-            (running.year, running.month, running.day)
+            (running.year, running.month, running.day),
         );
-        assert_eq!(rt; date.to_julian_day(), julian_day);
+        same(rt, date.to_julian_day(), julian_day);
         let (year, week, weekday) = date.to_iso_week_date();
-        assert_eq!(rt; Date::from_iso_week_date(year, week, weekday), Ok(date));
+        let Ok(again) = Date::from_iso_week_date(year, week, weekday) else {
+            panic!(rt; "the ISO week date of {date} is refused");
+        };
+        same(rt, again, date);
         printed.clear();
         write!(printed, "{date}")?;
         let (text, start) = running.text();
-        assert_eq!(rt; printed.as_bytes(), &text[start..]);
+        same(rt, printed.as_bytes(), &text[start..]);
         running = running.after();
     }
-    assert_eq!(rt; (running.month, running.day), (1, 1));
-    assert_eq!(rt; running.year, years.1.wrapping_add(1));
+    same(rt, (running.month, running.day), (1, 1));
+    same(rt, running.year, years.1.wrapping_add(1));
     Ok(())
 }
 
