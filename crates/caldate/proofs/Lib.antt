@@ -8,3 +8,4 @@ pub mod Texts
 pub mod Numbers
 pub mod Replied
 pub mod Steps
+pub mod OneAnswer

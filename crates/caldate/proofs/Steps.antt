@@ -321,11 +321,10 @@ one_byte : (xs : List ℕ) → 0 < length xs → NoEnd xs → (first : ℕ) × (
 one_byte [] h n = absurd (omega arith)
 one_byte (x ∷ xs) h n = (x, xs, refl, All-head (λ byte. is_end byte ≡ false) x xs n)
 
-pub let_go : (Allowed : List ℕ → List ℕ → Type 0) (input : List ℕ) (start now : Option (List ℕ)) (gathered pending : List ℕ) (place place_now : Place)
-    → NoEnd pending → 4097 < length pending → place_now.is_long ≡ true → place_now.number ≡ place.number
-    → Stands Allowed input start now gathered pending place
-    → Stands Allowed input start now gathered (drop (length pending - 1) pending) place_now
-let_go Allowed input start now gathered pending place place_now n long is_long same s =
+pub let_go : (Allowed : List ℕ → List ℕ → Type 0) (input : List ℕ) (start now : Option (List ℕ)) (gathered pending pending_now : List ℕ) (place place_now : Place)
+    → NoEnd pending → 4097 < length pending → pending_now ≡ drop (length pending - 1) pending → place_now.is_long ≡ true → place_now.number ≡ place.number
+    → Stands Allowed input start now gathered pending place → Stands Allowed input start now gathered pending_now place_now
+let_go Allowed input start now gathered pending pending_now place place_now n long last_byte is_long same s =
     let k = length pending - 1 in
     let front : length (take k pending) ≡ k = length-take k pending ∙ min-eq_left (omega arith) in
     let last : length (drop k pending) ≡ 1 = omega (arith, length-drop k pending) in
@@ -339,7 +338,7 @@ let_go Allowed input start now gathered pending place place_now n long is_long s
       no_end_append s.kept (take k pending) (kept_no_end place.is_long s.kept pending s.held) n_front,
       one_byte (drop k pending) (omega (arith, last)) n_last,
     ) in
-    record {
+    subst (λ (p : List ℕ). Stands Allowed input start now gathered p place_now) (sym last_byte) (record {
       lines = s.lines;
       kept = s.kept ++ take k pending;
       out = s.out;
@@ -350,4 +349,4 @@ let_go Allowed input start now gathered pending place place_now n long is_long s
       taken = s.taken;
       held = subst (λ b. IsHeld b (s.kept ++ take k pending) (drop k pending)) (sym is_long) held;
       number = same ∙ s.number;
-    }
+    })

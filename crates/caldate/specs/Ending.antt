@@ -1,5 +1,6 @@
 -- What the program says on standard error after a run, and its status.
-use Rattle.std.specs.Prelude.{ℕ, List, [], ◌∷◌, ◌++◌, codes, decimal, Result, Ok, Err}
+use Rattle.std.specs.Prelude.{◌≡◌, ℕ, List, [], ◌∷◌, ◌++◌, codes, decimal, Option, Result, Ok, Err}
+use Rattle.caldate.specs.Runs.{AppendsUpTo}
 use Rattle.caldate.specs.declared.fault.Fault.{Fault}
 use Rattle.caldate.specs.declared.fault.Fault.TheVariants.{Read, Write, Closed, Unanswered}
 
@@ -18,3 +19,7 @@ status_of (Err Closed) = 0
 status_of (Err (Unanswered number)) = 1
 status_of (Err Read) = 2
 status_of (Err Write) = 2
+
+-- the status is that of the outcome, and standard error took its words, or a beginning of them
+abbrev pub Tells : Result Unit Fault → ℕ → Option (List ℕ) → Option (List ℕ) → Type 0
+Tells outcome status old new = (status ≡ status_of outcome) × AppendsUpTo old new (words_of_end outcome)

@@ -1,5 +1,5 @@
 //! What was read and not answered yet.
-ghost use Rattle.std.specs.Prelude.{◌≡◌, ℕ, ◌-◌, ◌<◌, ◌≤◌, List, [], ◌++◌, length, drop, OnOk, IfErr, IsOkAnd};
+ghost use Rattle.std.specs.Prelude.{◌≡◌, ℕ, ◌+◌, ◌-◌, ◌<◌, ◌≤◌, List, [], ◌++◌, length, drop, OnOk, IfOk, IfErr, IsOkAnd};
 ghost use Rattle.std.specs.Io.{ReadsAtMost};
 ghost use Rattle.std.specs.Io.KnownBytes.{ReadConsumes, Consumes, IsAtEnd, Keeps};
 ghost use Rattle.caldate.specs.Room.{capacity};
@@ -62,6 +62,7 @@ impl Input {
     pub fn read_more<R: Read>(&mut self, reader: &mut R) -> Result<usize, Fault>
         requires { length self.old < capacity }
         ensures given { OnOk result (HasRead (R.remaining reader.old) (R.remaining reader.new) self.old self.new) }
+        ensures count { IfOk result (λ n. length self.new ≡ length self.old + n) }
         ensures end { IsOkAnd result (λ n. n ≡ 0) → IsAtEnd (R.remaining reader.new) × (self.new ≡ self.old) }
         ensures err { IfErr result (λ fault. (fault ≡ Fault.Read) × Keeps (R.remaining reader.old) (R.remaining reader.new)) }
     {

@@ -9,6 +9,7 @@ mod fault;
 mod gathered;
 mod help;
 mod input;
+mod laws;
 mod lines;
 mod output;
 mod patience;

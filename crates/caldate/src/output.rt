@@ -1,6 +1,7 @@
 //! Bytes to a writer.
-ghost use Rattle.std.specs.Prelude.{◌≡◌, ◌⊎◌, OnOk, OnErr, IfErr};
+ghost use Rattle.std.specs.Prelude.{◌≡◌, ◌↔◌, ◌⊎◌, OnOk, OnErr, IfErr};
 ghost use Rattle.std.specs.Io.KnownBytes.{Appends};
+ghost use Rattle.std.specs.IoError.{error_kind};
 ghost use Rattle.caldate.specs.Runs.{AppendsFront};
 
 use crate::fault::Fault;
@@ -31,7 +32,8 @@ pub fn write_all<W: Write>(writer: &mut W, bytes: &[u8]) -> Result<(), Fault>
 
 /// What a failed write tells: that nobody reads, or that it failed.
 fn fault_of(error: &io::Error) -> Fault
-    ensures { (result ≡ Fault.Write) ⊎ (result ≡ Fault.Closed) }
+    ensures closed { result ≡ Fault.Closed ↔ error_kind error.now ≡ ErrorKind.BrokenPipe }
+    ensures either { (result ≡ Fault.Write) ⊎ (result ≡ Fault.Closed) }
 {
     if error.kind() == ErrorKind::BrokenPipe {
         Fault::Closed

@@ -1,5 +1,9 @@
 //! What the program does for its arguments.
-ghost use Rattle.std.specs.Prelude.{◌≡◌, None};
+ghost use Rattle.std.specs.Prelude.{◌≡◌, Result};
+ghost use Rattle.caldate.specs.Ending.{Tells};
+ghost use Rattle.caldate.specs.Runs.{AppendsUpTo, Ended, Shown};
+ghost use Rattle.caldate.specs.declared.fault.Fault.{Fault};
+ghost use Rattle.caldate.specs.declared.request.Filter.{Filter};
 
 use crate::ending::end;
 use crate::help::{HELP, USAGE, VERSION};
@@ -15,6 +19,14 @@ pub fn perform<R: Read, W: Write, E: Write>(
     writer: &mut W,
     errors: &mut E,
 ) -> u8
+    ensures lines { (filter : Filter) → asked ≡ Some (Asked.Lines filter) → (outcome : Result Unit Fault)
+        × Ended filter outcome (R.remaining reader.old) (R.remaining reader.new) (W.contents writer.old) (W.contents writer.new)
+        × Tells outcome result (E.contents errors.old) (E.contents errors.new) }
+    ensures help { asked ≡ Some Asked.Help → (reader.new ≡ reader.old) × ((outcome : Result Unit Fault)
+        × Shown HELP.now outcome (W.contents writer.old) (W.contents writer.new) × Tells outcome result (E.contents errors.old) (E.contents errors.new)) }
+    ensures version { asked ≡ Some Asked.Version → (reader.new ≡ reader.old) × ((outcome : Result Unit Fault)
+        × Shown VERSION.now outcome (W.contents writer.old) (W.contents writer.new) × Tells outcome result (E.contents errors.old) (E.contents errors.new)) }
+    ensures usage { asked ≡ None → AppendsUpTo (E.contents errors.old) (E.contents errors.new) USAGE.now }
     ensures senseless { asked ≡ None → (reader.new ≡ reader.old) × (writer.new ≡ writer.old) × (result ≡ 2) }
 {
     match asked {

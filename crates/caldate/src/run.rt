@@ -132,6 +132,7 @@ fn answer_last<W: Write>(
 }
 
 /// Lets go of a long line but for its last byte. Whether that is a carriage return tells how the line ends.
+#[tactic(auto, using(crate::proofs::Steps::let_go))]
 fn let_go(input: &mut Input, place: &mut Place)
     requires { NoEnd input.old }
     ensures few { length input.new ≤ longest_text + 1 }

@@ -1,0 +1,118 @@
+-- What is answered to a text is one, but for the place in an unreadable one.
+use Rattle.std.proofs.Common.{◌≡◌, ◌⊎◌, ℕ, ◌≤◌, ℤ, pos, List, length, codes, Some, None, Result, Ok, Err, inl, inr, refl, ap, sym, subst, ◌∙◌, arith}
+use Rattle.std.specs.Prelude.{◌↔◌}
+use Rattle.cal_time.specs.Refusal.{Refusal, refusal}
+use Rattle.cal_text.specs.AnyForm.{IsTextOf, IsFault, HasAnyForm}
+use Rattle.cal_text.specs.Reading.{IsRefusedFor, IsRefusedForForm}
+use Rattle.cal_text.specs.declared.any.DateOrMoment.{DateOrMoment}
+use Rattle.cal_text.specs.declared.any.DateOrMoment.TheVariants as read
+use Rattle.cal_text.specs.declared.error.Unreadable.{Unreadable}
+use Rattle.cal_text.specs.declared.error.Unreadable.TheVariants.{UnexpectedByte, OutOfRange}
+use Rattle.caldate.specs.Answers.{IsInForm, IsAlike, IsAnswerTo, IsAnswer, IsTooLong, IsUnreadable, refused_text, time_of}
+use Rattle.caldate.specs.declared.request.Form.{Form}
+use Rattle.caldate.specs.declared.request.Form.TheVariants.{Calendar, Ordinal, Week, JulianDay, Weekday, Rfc3339, Unix}
+use Rattle.caldate.specs.declared.request.Request.{Request}
+use Rattle.caldate.specs.declared.request.Request.TheVariants.{To, Add, Next, Last, Until}
+use Rattle.caldate.proofs.Laters.{one_later}
+
+-- ---- the answer to what was read
+in_form : (form : Form) (n t : ℕ) (o : ℤ) (a b : List ℕ) → IsInForm form n t o a → IsInForm form n t o b → a ≡ b
+in_form Calendar n t o a b h k = h ∙ sym k
+in_form Ordinal n t o a b h k = h ∙ sym k
+in_form Week n t o a b h k = h ∙ sym k
+in_form JulianDay n t o a b h k = h ∙ sym k
+in_form Weekday n t o a b h k = h ∙ sym k
+in_form Rfc3339 n t o a b h k = h.1 ∙ sym k.1
+in_form Unix n t o a b h k = h ∙ sym k
+
+alike : (found : DateOrMoment) (n t : ℕ) (a b : List ℕ) → IsAlike found n t a → IsAlike found n t b → a ≡ b
+alike (read.Calendar _) n t a b h k = in_form Calendar n t (pos 0) a b h k
+alike (read.Ordinal _) n t a b h k = in_form Ordinal n t (pos 0) a b h k
+alike (read.Week _) n t a b h k = in_form Week n t (pos 0) a b h k
+alike (read.JulianDay _) n t a b h k = in_form JulianDay n t (pos 0) a b h k
+alike (read.Rfc3339 _ _ o) n t a b h k = in_form Rfc3339 n t o a b h k
+alike (read.Unix _ _) n t a b h k = in_form Unix n t (pos 0) a b h k
+
+alike_at : (found : DateOrMoment) (n t m u : ℕ) (a b : List ℕ) → n ≡ m → t ≡ u → IsAlike found n t a → IsAlike found m u b → a ≡ b
+alike_at found n t m u a b e f h k =
+    alike found m u a b (subst (λ u. IsAlike found m u a) f (subst (λ m. IsAlike found m t a) e h)) k
+
+some_one : {A : Type 0} (a b : A) → Some a ≡ Some b → a ≡ b
+some_one a b e = cc
+
+one_answer_to : (q : Request) (found : DateOrMoment) (a b : List ℕ) → IsAnswerTo q found a → IsAnswerTo q found b → a ≡ b
+one_answer_to (To form) found a b h k = in_form form _ _ _ a b h k
+one_answer_to (Add d) found a b h k =
+    let same = one_later found d h.0 h.1 k.0 k.1 h.2 k.2 in
+    alike_at found h.0 h.1 k.0 k.1 a b same.0 same.1 h.3 k.3
+one_answer_to (Next w n) found a b h k =
+    alike_at found h.0 (time_of found) k.0 (time_of found) a b (some_one h.0 k.0 (sym h.1 ∙ k.1)) refl h.2 k.2
+one_answer_to (Last w n) found a b h k =
+    alike_at found h.0 (time_of found) k.0 (time_of found) a b (some_one h.0 k.0 (sym h.1 ∙ k.1)) refl h.2 k.2
+one_answer_to (Until target) found a b h k = h ∙ sym k
+
+-- ---- the words for what a reader says of the text
+abbrev Told : Request → List ℕ → Result DateOrMoment Unreadable → List ℕ → Type 0
+Told q text (Ok found) words = IsAnswerTo q found words ⊎ (words ≡ codes "none") × ((others : List ℕ) → ¬ IsAnswerTo q found others)
+Told q text (Err (OutOfRange e)) words = words ≡ refused_text (refusal e)
+Told q text (Err (UnexpectedByte at)) words = IsUnreadable text words
+
+one_told : (q : Request) (text : List ℕ) (r : Result DateOrMoment Unreadable) (a b : List ℕ) → Told q text r a → Told q text r b
+    → (a ≡ b) ⊎ IsUnreadable text a × IsUnreadable text b
+one_told q text (Ok found) a b (inl h) (inl k) = inl (one_answer_to q found a b h k)
+one_told q text (Ok found) a b (inl h) (inr k) = absurd (k.1 a h)
+one_told q text (Ok found) a b (inr h) (inl k) = absurd (h.1 b k)
+one_told q text (Ok found) a b (inr h) (inr k) = inl (h.0 ∙ sym k.0)
+one_told q text (Err (OutOfRange e)) a b h k = inl (h ∙ sym k)
+one_told q text (Err (UnexpectedByte at)) a b h k = inr (h, k)
+
+none_some : {A : Type 0} (a : A) → None ≡ Some a → ⊥
+none_some a e = cc
+
+refused_told : (q : Request) (text : List ℕ) (r : Result DateOrMoment Unreadable) (why : Refusal) (words : List ℕ)
+    → IsRefusedFor why r → words ≡ refused_text why → Told q text r words
+refused_told q text (Ok found) why words h e = absurd h
+refused_told q text (Err (OutOfRange o)) why words h e = e ∙ ap refused_text (sym (some_one (refusal o) why h))
+refused_told q text (Err (UnexpectedByte at)) why words h e = absurd (none_some why h)
+
+unreadable_told : (q : Request) (text : List ℕ) (r : Result DateOrMoment Unreadable) (words : List ℕ)
+    → IsRefusedForForm r → IsUnreadable text words → Told q text r words
+unreadable_told q text (Ok found) words h u = absurd h
+unreadable_told q text (Err (OutOfRange o)) words h u = absurd (none_some (refusal o) (sym h))
+unreadable_told q text (Err (UnexpectedByte at)) words h u = u
+
+found_told : (q : Request) (text : List ℕ) (r : Result DateOrMoment Unreadable) (found : DateOrMoment) (words : List ℕ)
+    → r ≡ Ok found → Told q text (Ok found) words → Told q text r words
+found_told q text r found words e h = subst (λ r. Told q text r words) (sym e) h
+
+told : (q : Request) (text : List ℕ) (r : Result DateOrMoment Unreadable) (words : List ℕ)
+    → ((found : DateOrMoment) → IsTextOf text found → r ≡ Ok found)
+    → (IsRefusedForForm r ↔ ¬ HasAnyForm text) → ((why : Refusal) → IsRefusedFor why r ↔ IsFault text why)
+    → IsAnswer q text words → IsTooLong text words ⊎ (length text ≤ 4096) × Told q text r words
+told q text r words every form component (inl h) = inr (h.0, found_told q text r h.1.0 words (every h.1.0 h.1.1) (inl h.1.2))
+told q text r words every form component (inr (inl h)) = inl h
+told q text r words every form component (inr (inr h)) = inr (
+  h.0,
+  elim h.1 [
+    | inl n ↦ found_told q text r n.1.0 words (every n.1.0 n.1.1) (inr (n.0, n.1.2))
+    | inr n ↦ elim n [
+      | inl f ↦ refused_told q text r f.0 words ((component f.0).1 f.1) f.2
+      | inr u ↦ unreadable_told q text r words (form.1 u.0) u
+    ]
+  ],
+)
+
+one_of : (q : Request) (text : List ℕ) (r : Result DateOrMoment Unreadable) (a b : List ℕ)
+    → IsTooLong text a ⊎ (length text ≤ 4096) × Told q text r a → IsTooLong text b ⊎ (length text ≤ 4096) × Told q text r b
+    → (a ≡ b) ⊎ IsUnreadable text a × IsUnreadable text b
+one_of q text r a b (inl h) (inl k) = inl (h.1 ∙ sym k.1)
+one_of q text r a b (inl h) (inr k) = absurd (omega (arith, h.0, k.0))
+one_of q text r a b (inr h) (inl k) = absurd (omega (arith, h.0, k.0))
+one_of q text r a b (inr h) (inr k) = one_told q text r a b h.1 k.1
+
+pub one_answer : (q : Request) (text : List ℕ) (r : Result DateOrMoment Unreadable) (a b : List ℕ)
+    → ((found : DateOrMoment) → IsTextOf text found → r ≡ Ok found)
+    → (IsRefusedForForm r ↔ ¬ HasAnyForm text) → ((why : Refusal) → IsRefusedFor why r ↔ IsFault text why)
+    → IsAnswer q text a → IsAnswer q text b → (a ≡ b) ⊎ IsUnreadable text a × IsUnreadable text b
+one_answer q text r a b every form component h k =
+    one_of q text r a b (told q text r a every form component h) (told q text r b every form component k)
