@@ -1,5 +1,5 @@
 -- What the result of a reading leaves open: the value, or one of the reasons why there is none.
-use Rattle.std.proofs.Common.{◌≡◌, ◌⊎◌, inl, inr, ℕ, Result, Ok, Err, IfOk, IfErr, None, Some}
+use Rattle.std.proofs.Common.{◌≡◌, ◌⊎◌, inl, inr, Result, Ok, Err, IfOk, IfErr, None, Some}
 use Rattle.std.proofs.Math.Logic.{⊎_map}
 use Rattle.cal_time.specs.Month.{month_out_of_range}
 use Rattle.cal_time.specs.Refusals.{year_out_of_range, day_out_of_range, ordinal_out_of_range, week_out_of_range, weekday_out_of_range}

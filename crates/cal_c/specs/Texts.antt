@@ -1,5 +1,5 @@
 -- Texts, as they cross, and what a text reads as.
-use Rattle.std.specs.Prelude.{◌≡◌, ℕ, ◌-◌, ℤ, pos, List, ◌++◌, length, replicate, ⊤}
+use Rattle.std.specs.Prelude.{◌≡◌, ℕ, ◌-◌, ℤ, List, ◌++◌, length, replicate, ⊤}
 use Rattle.cal_time.specs.Date.{julian_day_at}
 use Rattle.cal_time.specs.Month.{month_at, name}
 use Rattle.cal_time.specs.Weekday as weekdays
