@@ -1,6 +1,7 @@
-//! What no clause of a constant or of a derived trait can say: functions that give them back.
-ghost use Rattle.std.specs.Prelude.{◌≡◌, pos, Some, Ok, slice_get};
-ghost use Rattle.cal_span.specs.SignedDuration.{microsecond, millisecond, second, minute, hour, day, week, least, greatest};
+//! What no clause of a constant or of a derived trait can say: functions that give them back. And a caller that knows no more
+//! than the condition of a call, so a wrong body with a stronger one is refused without the tests.
+ghost use Rattle.std.specs.Prelude.{◌≡◌, pos, ◌*ℤ◌, Some, Ok, slice_get};
+ghost use Rattle.cal_span.specs.SignedDuration.{microsecond, millisecond, second, minute, hour, day, week, least, greatest, IsDuration};
 
 use crate::signed_duration::SignedDuration;
 use std::alloc::AllocError;
@@ -46,4 +47,11 @@ pub(crate) fn cloned(duration: SignedDuration) -> Result<SignedDuration, AllocEr
     ensures { result ≡ Ok duration }
 {
     duration.clone()
+}
+
+/// So many weeks, for a caller that knows no more than that they are a duration.
+pub(crate) fn of_weeks(weeks: i64) -> SignedDuration
+    requires { IsDuration (weeks *ℤ pos week) }
+{
+    SignedDuration::weeks(weeks)
 }
