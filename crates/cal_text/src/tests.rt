@@ -1,9 +1,10 @@
 //! Texts and their dates, from outside.
-use crate::date::{OrdinalText, WeekText, read};
+use crate::date::{CalendarText, OrdinalText, WeekText, read};
 use crate::julian_day::JulianText;
 use crate::{Unreadable, julian_day};
 use cal_time::{Date, Month, SignedDuration, Time, UtcOffset};
-use std::fmt::Debug;
+use std::alloc::Global;
+use std::fmt::{Debug, Display};
 use std::process::Abort;
 use std::test::Fail;
 
@@ -56,6 +57,24 @@ fn out_of_range<T: Copy + Debug>(
         }
         other => panic!(rt; "{text}: {other:?}"),
     }
+}
+
+/// Stops the test unless the value prints this.
+fn prints<T: Display>(rt: &impl Abort, alloc: Global, value: &T, wanted: &str) -> Result<(), Fail> {
+    same(rt, format!(in alloc; "{}", *value)?.as_str(), wanted);
+    Ok(())
+}
+
+/// Stops the test unless the value prints these at the right and at the left of sixteen places.
+fn prints_padded<T: Display>(
+    rt: &impl Abort,
+    alloc: Global,
+    value: &T,
+    [right, left]: [&str; 2],
+) -> Result<(), Fail> {
+    same(rt, format!(in alloc; "{:>16}", *value)?.as_str(), right);
+    same(rt, format!(in alloc; "{:*<16}", *value)?.as_str(), left);
+    Ok(())
 }
 
 #[test]
@@ -144,15 +163,27 @@ fn first_wrong_bytes(rt: HostRuntime) {
 #[test]
 fn texts_of_errors(rt: HostRuntime) -> Result<(), Fail> {
     for (text, error) in [
+        ("", "unexpected byte at 0"),
         ("2024x", "unexpected byte at 4"),
+        ("2024-02-29T", "unexpected byte at 10"),
+        ("2024-13-01", "month was not in range"),
+        ("+1000000-12-01", "year was not in range"),
         ("2023-02-29", "day was not in range"),
+        ("2023-366", "ordinal was not in range"),
+        ("2021-W53-1", "week was not in range"),
+        ("+999999-W52-6", "weekday was not in range"),
     ] {
         let Err(refused) = read(text.as_bytes()) else {
             return Err(Fail::from("a text that is read"));
         };
-        same(&rt, format!(in rt.alloc(); "{refused}")?.as_str(), error);
+        prints(&rt, rt.alloc(), &refused, error)?;
     }
-    Ok(())
+    prints(
+        &rt,
+        rt.alloc(),
+        &Unreadable::UnexpectedByte(usize::MAX),
+        "unexpected byte at 18446744073709551615",
+    )
 }
 
 /// A wrong byte is found at its place whatever comes after it, and none is found there before it.
@@ -180,48 +211,53 @@ fn each_byte_replaced(rt: HostRuntime) {
 
 #[test]
 fn texts_of_dates(rt: HostRuntime) -> Result<(), Fail> {
-    for (julian_day, ordinal, week) in [
-        (2_460_370, "2024-060", "2024-W09-4"),
-        (2_459_216, "2021-001", "2020-W53-5"),
-        (2_458_484, "2018-365", "2019-W01-1"),
-        (1_721_060, "0000-001", "-0001-W52-6"),
-        (1_721_059, "-0001-365", "-0001-W52-5"),
+    for (julian_day, calendar, ordinal, week) in [
+        (2_460_370, "2024-02-29", "2024-060", "2024-W09-4"),
+        (2_459_216, "2021-01-01", "2021-001", "2020-W53-5"),
+        (2_458_484, "2018-12-31", "2018-365", "2019-W01-1"),
+        (1_721_060, "0000-01-01", "0000-001", "-0001-W52-6"),
+        (1_721_059, "-0001-12-31", "-0001-365", "-0001-W52-5"),
+        (5_373_484, "9999-12-31", "9999-365", "9999-W52-5"),
+        (5_373_485, "+10000-01-01", "+10000-001", "9999-W52-6"),
+        (366_963_559, "+999999-12-31", "+999999-365", "+999999-W52-5"),
+        (
+            -363_521_074,
+            "-999999-01-01",
+            "-999999-001",
+            "-999999-W01-1",
+        ),
     ] {
         let Ok(date) = Date::from_julian_day(julian_day) else {
             return Err(Fail::from("a date"));
         };
-        same(
-            &rt,
-            format!(in rt.alloc(); "{}", OrdinalText(date))?.as_str(),
-            ordinal,
-        );
-        same(
-            &rt,
-            format!(in rt.alloc(); "{}", WeekText(date))?.as_str(),
-            week,
-        );
+        prints(&rt, rt.alloc(), &CalendarText(date), calendar)?;
+        prints(&rt, rt.alloc(), &OrdinalText(date), ordinal)?;
+        prints(&rt, rt.alloc(), &WeekText(date), week)?;
     }
-    same(
-        &rt,
-        format!(in rt.alloc(); "{}", OrdinalText(Date::MAX))?.as_str(),
-        "+999999-365",
-    );
-    same(
-        &rt,
-        format!(in rt.alloc(); "{}", WeekText(Date::MAX))?.as_str(),
-        "+999999-W52-5",
-    );
-    same(
-        &rt,
-        format!(in rt.alloc(); "{:>13}", OrdinalText(Date::MIN))?.as_str(),
-        "  -999999-001",
-    );
-    same(
-        &rt,
-        format!(in rt.alloc(); "{:*<14}", WeekText(Date::MIN))?.as_str(),
-        "-999999-W01-1*",
-    );
     Ok(())
+}
+
+#[test]
+fn texts_of_dates_in_fields(rt: HostRuntime) -> Result<(), Fail> {
+    let (first, last) = (Date::MIN, Date::MAX);
+    prints_padded(
+        &rt,
+        rt.alloc(),
+        &CalendarText(last),
+        ["   +999999-12-31", "+999999-12-31***"],
+    )?;
+    prints_padded(
+        &rt,
+        rt.alloc(),
+        &OrdinalText(first),
+        ["     -999999-001", "-999999-001*****"],
+    )?;
+    prints_padded(
+        &rt,
+        rt.alloc(),
+        &WeekText(first),
+        ["   -999999-W01-1", "-999999-W01-1***"],
+    )
 }
 
 /// Every day of four years at each end of the range, in all three forms.
@@ -233,7 +269,7 @@ fn days_printed_and_read(rt: HostRuntime) -> Result<(), Fail> {
                 return Err(Fail::from("a date"));
             };
             for text in [
-                format!(in rt.alloc(); "{date}")?,
+                format!(in rt.alloc(); "{}", CalendarText(date))?,
                 format!(in rt.alloc(); "{}", OrdinalText(date))?,
                 format!(in rt.alloc(); "{}", WeekText(date))?,
             ] {
@@ -257,11 +293,7 @@ fn julian_days(rt: HostRuntime) -> Result<(), Fail> {
             return Err(Fail::from("a date"));
         };
         reads(&rt, text, &julian_day::read(text.as_bytes()), &Ok(date));
-        same(
-            &rt,
-            format!(in rt.alloc(); "{}", JulianText(date))?.as_str(),
-            text,
-        );
+        prints(&rt, rt.alloc(), &JulianText(date), text)?;
     }
     for text in ["J366963560", "J-363521075", "J999999999"] {
         out_of_range(

@@ -1,5 +1,7 @@
 -- What the program says on standard error, and its status.
-use Rattle.std.specs.Prelude.{ℕ, List, [], ◌∷◌, ◌++◌, codes, Result, Ok, Err}
+use Rattle.std.specs.Prelude.{◌≡◌, ◌⊎◌, ℕ, List, [], ◌∷◌, ◌++◌, codes, Option, Result, Ok, Err}
+use Rattle.std.specs.Io.KnownBytes.{Appends}
+use Rattle.caltool.specs.Runs.{AppendsFront}
 use Rattle.caltool.specs.declared.fault.Fault.{Fault}
 use Rattle.caltool.specs.declared.fault.Fault.TheVariants.{TooLong, Read, Write}
 
@@ -18,3 +20,11 @@ words_of_end (Err fault) = fault_text fault ++ 10 ∷ []
 abbrev pub status_of : Result Unit Fault → ℕ
 status_of (Ok done) = 0
 status_of (Err fault) = 2
+
+-- the writer took the words, or, where it failed, a beginning of them that is not all
+abbrev pub Says : List ℕ → Option (List ℕ) → Option (List ℕ) → Type 0
+Says words old new = Appends old new words ⊎ AppendsFront old new words
+
+-- the status is that of the outcome, and standard error took its words
+abbrev pub Tells : Result Unit Fault → ℕ → Option (List ℕ) → Option (List ℕ) → Type 0
+Tells outcome status old new = (status ≡ status_of outcome) × Says (words_of_end outcome) old new

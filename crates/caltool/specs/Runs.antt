@@ -1,6 +1,9 @@
 -- What a run does to the bytes of its reader and its writer, where those are told.
-use Rattle.std.specs.Prelude.{◌≡◌, ℕ, ◌<◌, ◌≤◌, List, ◌++◌, length, Option}
-use Rattle.std.specs.Io.KnownBytes.{Appends, Consumes, IsAtEnd}
+use Rattle.std.specs.Prelude.{◌≡◌, ℕ, ◌<◌, ◌≤◌, List, ◌++◌, length, Option, Result, Ok, Err}
+use Rattle.std.specs.Io.KnownBytes.{Appends, Consumes, IsAtEnd, Keeps}
+use Rattle.caltool.specs.Answers.{out}
+use Rattle.caltool.specs.declared.fault.Fault.{Fault}
+use Rattle.caltool.specs.declared.fault.Fault.TheVariants.{TooLong, Read, Write}
 
 -- the most bytes that an input may have
 abbrev pub most_bytes : ℕ
@@ -26,9 +29,9 @@ pub record AppendsFront (old new : Option (List ℕ)) (bytes : List ℕ) : Type 
   pub left : 0 < length rest
   pub taken : Appends old new front
 
--- the writer took a beginning of the bytes, perhaps none of them or all
-pub record AppendsUpTo (old new : Option (List ℕ)) (bytes : List ℕ) : Type 0 where
-  pub front : List ℕ
-  pub rest : List ℕ
-  pub whole : bytes ≡ front ++ rest
-  pub taken : Appends old new front
+-- what a run with this outcome read and wrote
+abbrev pub Ended : Result Unit Fault → Option (List ℕ) → Option (List ℕ) → Option (List ℕ) → Option (List ℕ) → Type 0
+Ended (Ok done) r0 r w0 w = (input : List ℕ) × GivesAll r0 r input × Appends w0 w (out input)
+Ended (Err Write) r0 r w0 w = (input : List ℕ) × GivesAll r0 r input × AppendsFront w0 w (out input)
+Ended (Err Read) r0 r w0 w = Keeps w0 w
+Ended (Err TooLong) r0 r w0 w = GivesTooMany r0 r × Keeps w0 w

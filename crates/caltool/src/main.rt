@@ -12,6 +12,7 @@ mod lines;
 mod number;
 mod output;
 mod patience;
+mod program;
 mod run;
 #[cfg(test)]
 mod tests;
@@ -22,6 +23,5 @@ use std::process::ExitCode;
 
 /// Ends with status 0, or with 2 and the reason on standard error.
 fn main(rt: HostRuntime) -> ExitCode {
-    let outcome = run::run(&mut rt.reader(), &mut io::writer(&rt));
-    ExitCode::from(ending::end(outcome, &mut rt.stderr()))
+    ExitCode::from(program::perform(&mut rt.reader(), &mut io::writer(&rt), &mut rt.stderr()))
 }

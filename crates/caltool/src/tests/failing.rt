@@ -2,6 +2,7 @@
 
 use crate::ending::end;
 use crate::fault::Fault;
+use crate::program::perform;
 use crate::run::run;
 use crate::tests::{ANSWERS, INPUT};
 use std::alloc::Global;
@@ -265,4 +266,80 @@ fn the_status_and_the_words_of_each_end(rt: HostRuntime) -> Result<(), Fail> {
         assert_eq!(rt; told.as_slice(), words);
     }
     Ok(())
+}
+
+/// The status of the program over an output that takes so many bytes, and what it wrote and told.
+fn performed(alloc: Global, reader: &mut Dripping<'_>, taken: u32) -> (u8, Vec<u8>, Vec<u8>) {
+    let mut writer = Sipping {
+        taken: Vec::new(alloc),
+        calls: 0,
+        failing: Calls::From(taken.saturating_add(1)),
+        kind: Some(ErrorKind::Other),
+    };
+    let mut told = Vec::new(alloc);
+    let status = perform(reader, &mut writer, &mut told);
+    (status, writer.taken, told)
+}
+
+#[test]
+fn the_program_over_three_streams(rt: HostRuntime) {
+    let (all, answers) = (INPUT.len() as u32 + 1, ANSWERS.len() as u32);
+    for (input, given, taken, status, written, words) in [
+        (INPUT, all, answers, 0, ANSWERS, b"".as_slice()),
+        (b"".as_slice(), 1, 0, 0, b"".as_slice(), b"".as_slice()),
+        (
+            INPUT,
+            all,
+            12,
+            2,
+            b"2000 ordinal".as_slice(),
+            b"cannot write\n".as_slice(),
+        ),
+        (
+            INPUT,
+            8,
+            answers,
+            2,
+            b"".as_slice(),
+            b"cannot read\n".as_slice(),
+        ),
+        (
+            [b'\n'; 4097].as_slice(),
+            4097,
+            answers,
+            2,
+            b"".as_slice(),
+            b"input too long\n".as_slice(),
+        ),
+    ] {
+        let mut reader = Dripping {
+            rest: input,
+            calls: 0,
+            failing: Calls::From(given + 1),
+            kind: ErrorKind::Other,
+        };
+        let (found, out, told) = performed(rt.alloc(), &mut reader, taken);
+        assert_eq!(rt; found, status);
+        assert_eq!(rt; out.as_slice(), written);
+        assert_eq!(rt; told.as_slice(), words);
+    }
+}
+
+// Where standard error fails as well, the status is the same, and what was told is a beginning of the line.
+#[test]
+fn words_that_cannot_be_told(rt: HostRuntime) {
+    let words = b"input too long\n".as_slice();
+    for taken in 0..=words.len() {
+        let mut errors = Sipping {
+            taken: Vec::new(rt.alloc()),
+            calls: 0,
+            failing: Calls::From(taken as u32 + 1),
+            kind: Some(ErrorKind::Other),
+        };
+        let mut written = Vec::new(rt.alloc());
+        let mut reader = [b'x'; 4097].as_slice();
+        assert_eq!(rt; perform(&mut reader, &mut written, &mut errors), 2);
+        assert!(rt; written.is_empty());
+        assert_eq!(rt; errors.taken.as_slice(), &words[..taken]);
+    }
 }
