@@ -18,6 +18,8 @@ fn days_have_julian_days_calendar_and_ordinal_dates(rt: HostRuntime) {
         (2458849, (2019, 12, 31), 365, Weekday::Tuesday),
         (2459215, (2020, 12, 31), 366, Weekday::Thursday),
         (2459216, (2021, 1, 1), 1, Weekday::Friday),
+        (5373484, (9999, 12, 31), 365, Weekday::Friday),
+        (5373485, (10000, 1, 1), 1, Weekday::Saturday),
         (LAST_JULIAN_DAY, (LAST_YEAR, 12, 31), 365, Weekday::Friday),
     ] {
         let Ok(found) = Date::from_julian_day(julian_day) else {
@@ -46,16 +48,17 @@ fn the_ends_of_the_range(rt: HostRuntime) {
 
 #[test]
 fn parts(rt: HostRuntime) {
-    let leap_day = date(&rt, 2000, 2, 29);
-    same(&rt, leap_day.year(), 2000);
-    same(&rt, leap_day.month(), Month::February);
-    same(&rt, leap_day.day(), 29);
-    same(&rt, leap_day.ordinal(), 60);
-    same(
-        &rt,
-        leap_day.to_calendar_date(),
-        (2000, Month::February, 29),
-    );
+    for (year, (month, number), day, ordinal) in [
+        (2000, (Month::February, 2), 29, 60),
+        (9999, (Month::December, 12), 31, 365),
+        (10000, (Month::January, 1), 1, 1),
+        (10000, (Month::February, 2), 29, 60),
+    ] {
+        let date = date(&rt, year, number, day);
+        same(&rt, (date.year(), date.ordinal()), (year, ordinal));
+        same(&rt, (date.month(), date.day()), (month, day));
+        same(&rt, date.to_calendar_date(), (year, month, day));
+    }
 }
 
 #[test]
@@ -69,6 +72,8 @@ fn days_have_iso_week_dates(rt: HostRuntime) {
         ((2020, 1, 1), 1, (2020, 1, Weekday::Wednesday)),
         ((2020, 12, 31), 366, (2020, 53, Weekday::Thursday)),
         ((2021, 1, 1), 1, (2020, 53, Weekday::Friday)),
+        ((9999, 12, 31), 365, (9999, 52, Weekday::Friday)),
+        ((10000, 1, 1), 1, (9999, 52, Weekday::Saturday)),
         ((LAST_YEAR, 12, 31), 365, (LAST_YEAR, 52, Weekday::Friday)),
     ] {
         let date = date(&rt, year, month, day);
@@ -89,7 +94,11 @@ fn days_have_iso_week_dates(rt: HostRuntime) {
 
 #[test]
 fn weeks_of_the_year_from_sunday_and_from_monday_on(rt: HostRuntime) {
-    for ((year, month, day), weeks) in [((2019, 1, 1), (0, 0)), ((2020, 12, 31), (52, 52))] {
+    for ((year, month, day), weeks) in [
+        ((2019, 1, 1), (0, 0)),
+        ((2020, 12, 31), (52, 52)),
+        ((9999, 12, 31), (52, 52)),
+    ] {
         let date = date(&rt, year, month, day);
         same_at(
             &rt,
@@ -107,6 +116,7 @@ fn neighbours(rt: HostRuntime) {
         ((2019, 12, 31), (2020, 1, 1)),
         ((2020, 12, 30), (2020, 12, 31)),
         ((2020, 12, 31), (2021, 1, 1)),
+        ((9999, 12, 31), (10000, 1, 1)),
     ] {
         let day = date(&rt, year, month, day);
         let next = date(&rt, next_year, next_month, next_day);

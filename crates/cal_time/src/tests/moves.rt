@@ -162,6 +162,7 @@ fn replaced_years(rt: HostRuntime) {
         ((2022, 2, 18), 2019, 49),
         ((2024, 3, 1), 2023, 60),
         ((2023, 3, 1), 2024, 61),
+        ((2024, 2, 29), 10000, 60),
     ] {
         let old = date(&rt, year, month, day);
         let Ok(new) = old.replace_year(new_year) else {

@@ -78,13 +78,29 @@ fn opposite(a: SignedDuration) -> Option<SignedDuration> {
     Some(-a)
 }
 
+/// What `*` and `*=` give.
+macro_rules! multiplied {
+    ($a:expr, $k:expr) => {{
+        let mut product = $a;
+        product *= $k;
+        [$a * $k, product]
+    }};
+}
+
+/// What `/` and `/=` give.
+macro_rules! divided {
+    ($a:expr, $k:expr) => {{
+        let mut quotient = $a;
+        quotient /= $k;
+        [$a / $k, quotient]
+    }};
+}
+
 /// What `*` and `*=` give, where the product is a duration.
 macro_rules! products {
     ($a:expr, $k:expr) => {{
         $a.checked_mul(i32::from($k))?;
-        let mut product = $a;
-        product *= $k;
-        Some([$a * $k, product])
+        Some(multiplied!($a, $k))
     }};
 }
 
@@ -92,9 +108,7 @@ macro_rules! products {
 macro_rules! quotients {
     ($a:expr, $k:expr) => {{
         $a.checked_div(i32::from($k))?;
-        let mut quotient = $a;
-        quotient /= $k;
-        Some([$a / $k, quotient])
+        Some(divided!($a, $k))
     }};
 }
 
@@ -241,17 +255,18 @@ fn products_and_quotients_by_u32(rt: HostRuntime) {
     let (min, max) = (SignedDuration::MIN, SignedDuration::MAX);
     let (one, less_one) = (SignedDuration::NANOSECOND, SignedDuration::nanoseconds(-1));
     for (scaled, number) in [
-        (min * 0u32, 0),
-        (min * 1u32, LEAST),
-        (max * 1u32, GREATEST),
-        (one * u32::MAX, 4_294_967_295),
-        (less_one * u32::MAX, -4_294_967_295),
-        (min / 1u32, LEAST),
-        (max / 1u32, GREATEST),
-        (min / u32::MAX, LEAST / 4_294_967_295),
-        (max / u32::MAX, GREATEST / 4_294_967_295),
+        (multiplied!(min, 0u32), 0),
+        (multiplied!(max, 0u32), 0),
+        (multiplied!(min, 1u32), LEAST),
+        (multiplied!(max, 1u32), GREATEST),
+        (multiplied!(one, u32::MAX), 4_294_967_295),
+        (multiplied!(less_one, u32::MAX), -4_294_967_295),
+        (divided!(min, 1u32), LEAST),
+        (divided!(max, 1u32), GREATEST),
+        (divided!(min, u32::MAX), LEAST / 4_294_967_295),
+        (divided!(max, u32::MAX), GREATEST / 4_294_967_295),
     ] {
-        same(&rt, scaled.whole_nanoseconds(), number);
+        same(&rt, numbers(scaled), twice(number));
     }
 }
 
