@@ -115,32 +115,48 @@ macro_rules! compare_alike {
     }};
 }
 
+/// Whether the walk gives these three items, by name and through the bounds, and tells the same of what is left.
+macro_rules! gives {
+    ($walk:expr, $items:expr) => {{
+        let (mut by_name, mut by_bound) = ($walk, $walk);
+        let [first, second, third] = $items;
+        let items = [Some(first), Some(second), Some(third)];
+        [by_name.next(), by_name.next(), by_name.next()] == items
+            && [
+                next(&mut by_bound),
+                next(&mut by_bound),
+                next(&mut by_bound),
+            ] == items
+            && by_name.size_hint() == size_hint(&by_bound)
+            && by_name == by_bound
+    }};
+}
+
 #[test]
 fn walks(rt: HostRuntime) {
-    let (first, last) = (date(&rt, 2019, 12, 30), date(&rt, 2020, 1, 2));
+    let (first, last) = (date(&rt, 2019, 12, 30), date(&rt, 2020, 1, 1));
+    let between = date(&rt, 2019, 12, 31);
+    assert!(rt; gives!(DateIter::new(first, last), [first, between, last]));
     let (mut by_name, mut by_bound) = (DateIter::new(first, last), DateIter::new(first, last));
-    for _ in 0..3 {
-        same(&rt, by_name.size_hint(), size_hint(&by_bound));
-        same(&rt, by_name.next(), next(&mut by_bound));
-        same(&rt, by_name.next_back(), next_back(&mut by_bound));
+    for day in [Some(last), Some(between), Some(first), None] {
+        same(&rt, by_name.next_back(), day);
+        same(&rt, next_back(&mut by_bound), day);
         assert!(rt; by_name == by_bound);
     }
 }
 
 #[test]
-fn endless_walks(rt: HostRuntime) {
-    let (mut by_name, mut by_bound) = (MonthIter::new(Month::June), MonthIter::new(Month::June));
-    same(&rt, by_name.size_hint(), size_hint(&by_bound));
-    same(&rt, by_name.next(), next(&mut by_bound));
-    assert!(rt; by_name == by_bound);
-    let start = Weekday::Friday;
-    let (mut by_name, mut by_bound) = (
-        WeekdayIter::new(start).rev(),
-        WeekdayIter::new(start).rev(),
-    );
-    same(&rt, by_name.size_hint(), size_hint(&by_bound));
-    same(&rt, by_name.next(), next(&mut by_bound));
-    assert!(rt; by_name == by_bound);
+fn endless_months(rt: HostRuntime) {
+    let (november, december, january) = (Month::November, Month::December, Month::January);
+    assert!(rt; gives!(MonthIter::new(november), [november, december, january]));
+    assert!(rt; gives!(MonthIter::new(january).rev(), [january, december, november]));
+}
+
+#[test]
+fn endless_weekdays(rt: HostRuntime) {
+    let (saturday, sunday, monday) = (Weekday::Saturday, Weekday::Sunday, Weekday::Monday);
+    assert!(rt; gives!(WeekdayIter::new(saturday), [saturday, sunday, monday]));
+    assert!(rt; gives!(WeekdayIter::new(monday).rev(), [monday, sunday, saturday]));
 }
 
 #[test]
