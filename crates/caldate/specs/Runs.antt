@@ -1,12 +1,12 @@
 -- What a run does to the bytes of its reader and its writer, where those are told.
-use Rattle.std.specs.Prelude.{◌≡◌, ◌⊎◌, ℕ, ◌+◌, ◌<◌, Bool, true, false, List, [], ◌∷◌, ◌++◌, length, Option, Result, Ok, Err}
+use Rattle.std.specs.Prelude.{◌≡◌, ℕ, ⊤, ◌+◌, ◌<◌, Bool, true, false, List, [], ◌∷◌, ◌++◌, length, Option, Result, Ok, Err}
 use Rattle.std.specs.List.{slice_split}
 use Rattle.std.specs.Io.KnownBytes.{Appends, Consumes, IsAtEnd}
 use Rattle.caldate.specs.Answers.{HasAnswer, LacksAnswer, IsAnswer}
 use Rattle.caldate.specs.Lines.{is_end, lines_of, text_of}
 use Rattle.caldate.specs.Standing.{AreReplies, Stands, counted}
 use Rattle.caldate.specs.declared.fault.Fault.{Fault}
-use Rattle.caldate.specs.declared.fault.Fault.TheVariants.{Read, Write, Closed, Unanswered}
+use Rattle.caldate.specs.declared.fault.Fault.TheVariants.{Read, Write, Unanswered}
 use Rattle.caldate.specs.declared.place.Place.{Place}
 use Rattle.caldate.specs.declared.request.Filter.{Filter}
 use Rattle.caldate.specs.declared.request.Request.{Request}
@@ -22,6 +22,12 @@ IsAllowed filter = Allowed filter.is_strict filter.request
 -- new is old and words of this kind
 abbrev pub AppendsThat : (List ℕ → Type 0) → List ℕ → List ℕ → Type 0
 AppendsThat IsOne old new = (words : List ℕ) × (new ≡ old ++ words) × IsOne words
+
+-- it tells of a write that failed
+abbrev pub IsOfWrite : Fault → Type 0
+IsOfWrite Read = ⊥
+IsOfWrite (Write kind) = ⊤
+IsOfWrite (Unanswered number) = ⊥
 
 -- the reader gave some bytes, which come after the old ones
 abbrev pub HasRead : Option (List ℕ) → Option (List ℕ) → List ℕ → List ℕ → Type 0
@@ -87,15 +93,14 @@ Gives old new P = (input : List ℕ) × Consumes old new input × P input
 -- what a run with this outcome read and wrote
 abbrev pub Ended : Filter → Result Unit Fault → Option (List ℕ) → Option (List ℕ) → Option (List ℕ) → Option (List ℕ) → Type 0
 Ended filter (Ok done) r0 r w0 w = IsAtEnd r × Gives r0 r (λ input. AnswersAll filter input w0 w)
-Ended filter (Err Write) r0 r w0 w = Gives r0 r (λ input. AnswersFront filter input w0 w)
-Ended filter (Err Closed) r0 r w0 w = Gives r0 r (λ input. AnswersFront filter input w0 w)
+Ended filter (Err (Write kind)) r0 r w0 w = Gives r0 r (λ input. AnswersFront filter input w0 w)
 Ended filter (Err Read) r0 r w0 w = Gives r0 r (λ input. AnswersEnded filter input w0 w)
 Ended filter (Err (Unanswered number)) r0 r w0 w = Gives r0 r (λ input. StopsAt filter number input w0 w)
 
 -- what the writer took of a page with this outcome
 abbrev pub Shown : List ℕ → Result Unit Fault → Option (List ℕ) → Option (List ℕ) → Type 0
 Shown page (Ok done) old new = Appends old new page
-Shown page (Err fault) old new = ((fault ≡ Write) ⊎ (fault ≡ Closed)) × AppendsFront old new page
+Shown page (Err fault) old new = IsOfWrite fault × AppendsFront old new page
 
 -- ---- from where a run stands
 -- it ends as after a write that failed

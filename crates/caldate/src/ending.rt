@@ -3,7 +3,7 @@ ghost use Rattle.std.specs.Prelude.{◌≡◌, ◌++◌, [], codes};
 ghost use Rattle.caldate.specs.Ending.{status_of, words_of_end};
 ghost use Rattle.caldate.specs.Runs.{AppendsUpTo};
 
-use crate::fault::Fault;
+use crate::fault::{Fault, is_closed};
 use crate::gathered::Gathered;
 use crate::output::write_all;
 use crate::text::push_decimal;
@@ -22,7 +22,7 @@ pub fn end<W: Write>(outcome: Result<(), Fault>, writer: &mut W) -> u8
     let _ = write_all(writer, words.as_bytes());
     match outcome {
         Ok(()) => 0,
-        Err(Fault::Closed) => 0,
+        Err(Fault::Write(kind)) if is_closed(kind) => 0,
         Err(Fault::Unanswered(_)) => 1,
         Err(_) => 2,
     }
@@ -35,11 +35,11 @@ fn push_words(words: &mut Gathered, outcome: Result<(), Fault>)
 {
     match outcome {
         Ok(()) => {}
-        Err(Fault::Closed) => {}
-        Err(Fault::Read) => words.push(b"cannot read\n"),
-        Err(Fault::Write) => words.push(b"cannot write\n"),
+        Err(Fault::Write(kind)) if is_closed(kind) => {}
+        Err(Fault::Read) => words.push(b"caldate: cannot read\n"),
+        Err(Fault::Write(_)) => words.push(b"caldate: cannot write\n"),
         Err(Fault::Unanswered(number)) => {
-            words.push(b"line ");
+            words.push(b"caldate: line ");
             push_decimal(words, number);
             words.push(b" has no answer\n");
         }

@@ -1,14 +1,23 @@
 //! Why a run ends early.
+ghost use Rattle.std.specs.Prelude.{◌≡◌};
+ghost use Rattle.caldate.specs.Ending.{is_closed};
+
+use std::io::ErrorKind;
 
 /// Why a run ends early.
 #[derive(Clone, Copy, Debug, PartialEq, Eq)]
 pub enum Fault {
     /// A read failed.
     Read,
-    /// A write failed, or took nothing.
-    Write,
-    /// The output is closed, so nobody waits for the answers.
-    Closed,
+    /// A write failed like this. One that took nothing has the kind `WriteZero`.
+    Write(ErrorKind),
     /// The run is strict, and the line of this number, counted from 1, has no answer.
     Unanswered(u64),
+}
+
+/// Whether a write that failed like this says that nobody reads the output any more: a broken pipe, and nothing else.
+pub fn is_closed(kind: ErrorKind) -> bool
+    ensures { result ≡ is_closed kind }
+{
+    kind == ErrorKind::BrokenPipe
 }

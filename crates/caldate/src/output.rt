@@ -1,12 +1,11 @@
 //! Bytes to a writer.
-ghost use Rattle.std.specs.Prelude.{◌≡◌, ◌↔◌, ◌⊎◌, OnOk, OnErr, IfErr};
+ghost use Rattle.std.specs.Prelude.{OnOk, OnErr, IfErr};
 ghost use Rattle.std.specs.Io.KnownBytes.{Appends};
-ghost use Rattle.std.specs.IoError.{error_kind};
-ghost use Rattle.caldate.specs.Runs.{AppendsFront};
+ghost use Rattle.caldate.specs.Runs.{AppendsFront, IsOfWrite};
 
 use crate::fault::Fault;
 use crate::patience::Patience;
-use std::io::{self, ErrorKind, Write};
+use std::io::{ErrorKind, Write};
 
 /// Writes all the bytes. Where that fails, a beginning of them has gone out.
 ///
@@ -15,29 +14,17 @@ use std::io::{self, ErrorKind, Write};
 pub fn write_all<W: Write>(writer: &mut W, bytes: &[u8]) -> Result<(), Fault>
     ensures ok { OnOk result (Appends (W.contents writer.old) (W.contents writer.new) bytes.now) }
     ensures front { OnErr result (AppendsFront (W.contents writer.old) (W.contents writer.new) bytes.now) }
-    ensures err { IfErr result (λ fault. (fault ≡ Fault.Write) ⊎ (fault ≡ Fault.Closed)) }
+    ensures err { IfErr result IsOfWrite }
 {
     let mut patience = Patience::new();
     let mut rest = bytes;
     while !rest.is_empty() {
         match writer.write(rest) {
-            Ok(0) => return Err(Fault::Write),
+            Ok(0) => return Err(Fault::Write(ErrorKind::WriteZero)),
             Ok(count) => rest = &rest[count..],
             Err(e) if patience.bears(&e) => {}
-            Err(e) => return Err(fault_of(&e)),
+            Err(e) => return Err(Fault::Write(e.kind())),
         }
     }
     Ok(())
-}
-
-/// What a failed write tells: that nobody reads, or that it failed.
-fn fault_of(error: &io::Error) -> Fault
-    ensures closed { result ≡ Fault.Closed ↔ error_kind error.now ≡ ErrorKind.BrokenPipe }
-    ensures either { (result ≡ Fault.Write) ⊎ (result ≡ Fault.Closed) }
-{
-    if error.kind() == ErrorKind::BrokenPipe {
-        Fault::Closed
-    } else {
-        Fault::Write
-    }
 }

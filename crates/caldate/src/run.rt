@@ -1,8 +1,8 @@
 //! The run: the answers to the lines of an input of any length.
-ghost use Rattle.std.specs.Prelude.{◌≡◌, ◌⊎◌, ◌≤◌, ◌+◌, ◌-◌, ◌++◌, ℕ, List, [], length, drop, Option, OnOk, OnErr, IfOk, IfErr, IsErrOf};
+ghost use Rattle.std.specs.Prelude.{◌≡◌, ◌≤◌, ◌+◌, ◌-◌, ◌++◌, ℕ, List, [], length, drop, Option, OnOk, OnErr, IfOk, IfErr, IsErrAnd, IsErrOf};
 ghost use Rattle.std.specs.Io.KnownBytes.{Appends, Consumes, IsAtEnd, Keeps};
 ghost use Rattle.caldate.specs.Room.{HasRoom, longest_reply, longest_text};
-ghost use Rattle.caldate.specs.Runs.{AnswersAll, AnswersEnded, AnswersFront, AppendsFront, EndsFrom, FailsFrom, Gives, IsAllowed, StopsAt, StopsFrom};
+ghost use Rattle.caldate.specs.Runs.{AnswersAll, AnswersEnded, AnswersFront, AppendsFront, EndsFrom, FailsFrom, Gives, IsAllowed, IsOfWrite, StopsAt, StopsFrom};
 ghost use Rattle.caldate.specs.Standing.{Advances, NoEnd, Stands, counted};
 
 use crate::fault::Fault;
@@ -24,7 +24,7 @@ const MOST_KEPT: usize = 4097;
 pub fn run<R: Read, W: Write>(filter: Filter, reader: &mut R, writer: &mut W) -> Result<(), Fault>
     ensures ok { OnOk result (IsAtEnd (R.remaining reader.new) × Gives (R.remaining reader.old) (R.remaining reader.new)
         (λ input. AnswersAll filter input (W.contents writer.old) (W.contents writer.new))) }
-    ensures write { (IsErrOf result Fault.Write ⊎ IsErrOf result Fault.Closed) → Gives (R.remaining reader.old) (R.remaining reader.new)
+    ensures write { IsErrAnd result IsOfWrite → Gives (R.remaining reader.old) (R.remaining reader.new)
         (λ input. AnswersFront filter input (W.contents writer.old) (W.contents writer.new)) }
     ensures read { IsErrOf result Fault.Read → Gives (R.remaining reader.old) (R.remaining reader.new)
         (λ input. AnswersEnded filter input (W.contents writer.old) (W.contents writer.new)) }
@@ -72,7 +72,7 @@ fn answer_lines<W: Write>(
     ensures no_end { IfOk result (λ left. NoEnd (drop (length bytes.now - left) bytes.now)) }
     ensures ok { IfOk result (λ left. Advances (IsAllowed filter.now) (W.contents writer.old) (W.contents writer.new) gathered.old gathered.new
         bytes.now (drop (length bytes.now - left) bytes.now) place.old place.new) }
-    ensures write { (IsErrOf result Fault.Write ⊎ IsErrOf result Fault.Closed)
+    ensures write { IsErrAnd result IsOfWrite
         → FailsFrom filter.now (W.contents writer.old) (W.contents writer.new) gathered.old bytes.now place.old }
     ensures unanswered { (number : ℕ) → IsErrOf result (Fault.Unanswered number)
         → StopsFrom filter.now number (W.contents writer.old) (W.contents writer.new) gathered.old bytes.now place.old }
@@ -93,7 +93,7 @@ fn answer_lines<W: Write>(
 
 /// Lets what was answered before a line without an answer go out, and tells the number of this line.
 fn stop<W: Write>(place: &Place, gathered: &Gathered, writer: &mut W) -> Fault
-    ensures write { ((result ≡ Fault.Write) ⊎ (result ≡ Fault.Closed))
+    ensures write { IsOfWrite result
         → AppendsFront (W.contents writer.old) (W.contents writer.new) gathered.now }
     ensures unanswered { (number : ℕ) → result ≡ Fault.Unanswered number → (number ≡ counted (place.now.number + 1))
         × Appends (W.contents writer.old) (W.contents writer.new) gathered.now }
@@ -116,7 +116,7 @@ fn answer_last<W: Write>(
     requires no_end { NoEnd line.now }
     requires none { gathered.old ≡ [] }
     ensures ok { OnOk result (EndsFrom filter.now (W.contents writer.old) (W.contents writer.new) [] line.now place.old) }
-    ensures write { (IsErrOf result Fault.Write ⊎ IsErrOf result Fault.Closed)
+    ensures write { IsErrAnd result IsOfWrite
         → FailsFrom filter.now (W.contents writer.old) (W.contents writer.new) [] line.now place.old }
     ensures unanswered { (number : ℕ) → IsErrOf result (Fault.Unanswered number)
         → StopsFrom filter.now number (W.contents writer.old) (W.contents writer.new) [] line.now place.old }
@@ -152,7 +152,7 @@ fn make_room<W: Write>(gathered: &mut Gathered, writer: &mut W) -> Result<(), Fa
     ensures ok { OnOk result ((written : List ℕ) × (gathered.old ≡ written ++ gathered.new)
         × Appends (W.contents writer.old) (W.contents writer.new) written) }
     ensures front { OnErr result (AppendsFront (W.contents writer.old) (W.contents writer.new) gathered.old) }
-    ensures err { IfErr result (λ fault. (fault ≡ Fault.Write) ⊎ (fault ≡ Fault.Closed)) }
+    ensures err { IfErr result IsOfWrite }
 {
     if !gathered.has_room_for_a_reply() {
         flush(gathered, writer)?;
@@ -164,7 +164,7 @@ fn make_room<W: Write>(gathered: &mut Gathered, writer: &mut W) -> Result<(), Fa
 fn flush<W: Write>(gathered: &mut Gathered, writer: &mut W) -> Result<(), Fault>
     ensures ok { OnOk result (Appends (W.contents writer.old) (W.contents writer.new) gathered.old × (gathered.new ≡ [])) }
     ensures front { OnErr result (AppendsFront (W.contents writer.old) (W.contents writer.new) gathered.old) }
-    ensures err { IfErr result (λ fault. (fault ≡ Fault.Write) ⊎ (fault ≡ Fault.Closed)) }
+    ensures err { IfErr result IsOfWrite }
 {
     write_all(writer, gathered.as_bytes())?;
     gathered.clear();

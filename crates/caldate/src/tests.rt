@@ -243,12 +243,14 @@ fn strict_runs(rt: HostRuntime) {
 
 #[test]
 fn words_at_the_end(rt: HostRuntime) {
-    let cases: [(Result<(), Fault>, u8, &[u8]); 5] = [
+    let cases: [(Result<(), Fault>, u8, &[u8]); 3] = [
         (Ok(()), 0, b""),
-        (Err(Fault::Closed), 0, b""),
-        (Err(Fault::Unanswered(18)), 1, b"line 18 has no answer\n"),
-        (Err(Fault::Read), 2, b"cannot read\n"),
-        (Err(Fault::Write), 2, b"cannot write\n"),
+        (
+            Err(Fault::Unanswered(18)),
+            1,
+            b"caldate: line 18 has no answer\n",
+        ),
+        (Err(Fault::Read), 2, b"caldate: cannot read\n"),
     ];
     for (outcome, status, words) in cases {
         let mut told = Vec::new(rt.alloc());

@@ -1,4 +1,5 @@
 //! Runs over readers and writers that fail, and that give or take one byte a call.
+use crate::ending::end;
 use crate::fault::Fault;
 use crate::tests::run_by;
 use std::alloc::Global;
@@ -55,6 +56,22 @@ impl Write for Sipping {
             }
             None => Ok(0),
         }
+    }
+
+    fn flush(&mut self) -> io::Result<()> {
+        Ok(())
+    }
+}
+
+/// Fails at each call.
+#[derive(Drop)]
+struct Failing {
+    kind: ErrorKind,
+}
+
+impl Write for Failing {
+    fn write(&mut self, _bytes: &[u8]) -> io::Result<usize> {
+        Err(io::Error::from(self.kind))
     }
 
     fn flush(&mut self) -> io::Result<()> {
@@ -125,9 +142,15 @@ fn each_read_fails_in_turn(rt: HostRuntime) {
 fn each_write_fails_in_turn(rt: HostRuntime) {
     for call in 1..=ANSWERS.len() + 1 {
         for (kind, fault) in [
-            (Some(ErrorKind::Other), Some(Fault::Write)),
-            (None, Some(Fault::Write)),
-            (Some(ErrorKind::BrokenPipe), Some(Fault::Closed)),
+            (
+                Some(ErrorKind::StorageFull),
+                Some(Fault::Write(ErrorKind::StorageFull)),
+            ),
+            (None, Some(Fault::Write(ErrorKind::WriteZero))),
+            (
+                Some(ErrorKind::BrokenPipe),
+                Some(Fault::Write(ErrorKind::BrokenPipe)),
+            ),
             (Some(ErrorKind::Interrupted), None),
         ] {
             let (outcome, taken) = sip(rt.alloc(), call, kind);
@@ -141,6 +164,72 @@ fn each_write_fails_in_turn(rt: HostRuntime) {
                     "at call {call}"
                 ),
             }
+        }
+    }
+}
+
+/// Each kind of error.
+const KINDS: [ErrorKind; 42] = [
+    ErrorKind::NotFound,
+    ErrorKind::PermissionDenied,
+    ErrorKind::ConnectionRefused,
+    ErrorKind::ConnectionReset,
+    ErrorKind::HostUnreachable,
+    ErrorKind::NetworkUnreachable,
+    ErrorKind::ConnectionAborted,
+    ErrorKind::NotConnected,
+    ErrorKind::AddrInUse,
+    ErrorKind::AddrNotAvailable,
+    ErrorKind::NetworkDown,
+    ErrorKind::BrokenPipe,
+    ErrorKind::AlreadyExists,
+    ErrorKind::WouldBlock,
+    ErrorKind::NotADirectory,
+    ErrorKind::IsADirectory,
+    ErrorKind::DirectoryNotEmpty,
+    ErrorKind::ReadOnlyFilesystem,
+    ErrorKind::FilesystemLoop,
+    ErrorKind::StaleNetworkFileHandle,
+    ErrorKind::InvalidInput,
+    ErrorKind::InvalidData,
+    ErrorKind::TimedOut,
+    ErrorKind::WriteZero,
+    ErrorKind::StorageFull,
+    ErrorKind::NotSeekable,
+    ErrorKind::QuotaExceeded,
+    ErrorKind::FileTooLarge,
+    ErrorKind::ResourceBusy,
+    ErrorKind::ExecutableFileBusy,
+    ErrorKind::Deadlock,
+    ErrorKind::CrossesDevices,
+    ErrorKind::TooManyLinks,
+    ErrorKind::InvalidFilename,
+    ErrorKind::ArgumentListTooLong,
+    ErrorKind::Interrupted,
+    ErrorKind::Unsupported,
+    ErrorKind::UnexpectedEof,
+    ErrorKind::OutOfMemory,
+    ErrorKind::InProgress,
+    ErrorKind::Other,
+    ErrorKind::Uncategorized,
+];
+
+// A closed output is none but a broken pipe: any other failure is told, with status 2. An interruption is one where it goes on.
+#[test]
+fn a_write_fails_in_each_way(rt: HostRuntime) {
+    for kind in KINDS {
+        let mut writer = Failing { kind };
+        let outcome = run_by(b"to\0calendar", &mut INPUT, &mut writer);
+        let mut told = Vec::new(rt.alloc());
+        let status = end(outcome, &mut told);
+        if kind == ErrorKind::BrokenPipe {
+            assert!(rt; status == 0 && told.is_empty());
+        } else {
+            assert_eq!(rt; status, 2, "{kind:?}");
+            assert!(rt;
+                told.as_slice() == b"caldate: cannot write\n".as_slice(),
+                "{kind:?}"
+            );
         }
     }
 }

@@ -2,7 +2,7 @@ use Rattle.std.proofs.Common.{◌++◌, ◌∷◌, [], ◌∙◌, ap, sym, subst
 use Rattle.std.specs.Io.KnownBytes.{Appends}
 use Rattle.caldate.specs.Runs.{AppendsFront, IsAllowed}
 use Rattle.caldate.specs.declared.fault.Fault.TheVariants.{Unanswered}
-use Rattle.caldate.proofs.Ends.{same_fault, write_fault}
+use Rattle.caldate.proofs.Ends.{same_fault}
 use Rattle.caldate.proofs.Steps.{answered, gone, failed, stopped}
 use Rattle.caldate.proofs.run.answer_lines.Goals as goal
 
@@ -16,7 +16,7 @@ returns-then-not-push_reply-clause-write g c = λ h input start s.
     let no = c.push_reply.ensures.stopped c.if-not-push_reply.true in
     let s = gone (IsAllowed c.args.filter.now) input start _ _ c.loop-line.gathered c.make_room.new.gathered room.0 c.loop-line.rest.now c.loop-line.place room.1 room.2 (c.loop-line.invariant.1 input start s) in
     failed c.args.filter.now input start _ _ c.make_room.new.gathered c.loop-line.rest.now c.loop-line.place
-    (subst (AppendsFront (g.W.Write.contents c.make_room.new.writer) (g.W.Write.contents c.stop.new.writer)) no.1 (c.stop.ensures.write (write_fault c.stop.result h))) s
+    (subst (AppendsFront (g.W.Write.contents c.make_room.new.writer) (g.W.Write.contents c.stop.new.writer)) no.1 (c.stop.ensures.write h)) s
 
 pub returns-then-not-push_reply-clause-unanswered : goal.returns-then-not-push_reply-clause-unanswered
 returns-then-not-push_reply-clause-unanswered g c = λ number h input start s.

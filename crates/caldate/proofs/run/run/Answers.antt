@@ -1,4 +1,4 @@
-use Rattle.std.proofs.Common.{◌≡◌, ◌++◌, ◌∙◌, ◌-◌, ℕ, List, [], Option, length, drop, ap, sym, subst, arith, refl, Err, false, inl, inr}
+use Rattle.std.proofs.Common.{◌≡◌, ◌++◌, ◌∙◌, ◌-◌, ℕ, List, [], Option, length, drop, ap, sym, subst, arith, refl, Err, false}
 use Rattle.std.proofs.lemmas.List.{append-nil}
 use Rattle.std.specs.Io.KnownBytes.{Consumes, IsAtEnd}
 use Rattle.std.proofs.KnownBytes.{Consumes-nil, Consumes-trans, Consumes-kept}
@@ -8,7 +8,7 @@ use Rattle.caldate.specs.declared.request.Filter.{Filter}
 use Rattle.caldate.specs.Standing.{NoEnd, Stands}
 use Rattle.caldate.specs.declared.place.Place.{Place}
 use Rattle.caldate.specs.declared.fault.Fault.TheVariants.{Unanswered}
-use Rattle.caldate.proofs.Ends.{same_fault, write_fault}
+use Rattle.caldate.proofs.Ends.{same_fault}
 use Rattle.caldate.proofs.Steps.{begun, read, gone, failed, ended_answered}
 use Rattle.caldate.proofs.run.run.Goals as goal
 
@@ -73,7 +73,7 @@ pub returns-in-Err-clause-write : goal.returns-in-Err-clause-write
 returns-in-Err-clause-write g c = λ h.
     let s = stands_read c.args.filter _ _ _ _ _ c.loop-reads.gathered c.loop-reads.input c.as_bytes-in-loop-reads.result.now c.read_more.new.self c.loop-reads.place
     c.loop-reads.invariant.2 c.as_bytes-in-loop-reads.ensures.bytes c.loop-reads.invariant.0 c.in_ok-read_more.ensures.given in
-    (s.0, s.1, c.in-Err.ensures.write (elim (write_fault c.in-Err.fault h) [ inl e ↦ inl (ap Err e) | inr e ↦ inr (ap Err e) ]) s.0 _ s.2)
+    (s.0, s.1, c.in-Err.ensures.write h s.0 _ s.2)
 
 pub returns-in-Err-clause-unanswered : goal.returns-in-Err-clause-unanswered
 returns-in-Err-clause-unanswered g c = λ number h.
