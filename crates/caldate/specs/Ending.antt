@@ -1,8 +1,9 @@
 -- What the program says on standard error after a run, each line after its name, and its status.
-use Rattle.std.specs.Prelude.{◌≡◌, ℕ, Bool, true, false, List, [], ◌∷◌, ◌++◌, codes, decimal, Option, Result, Ok, Err, if◌then◌else◌}
+use Rattle.std.specs.Prelude.{◌≡◌, ◌⊎◌, ℕ, Bool, true, false, List, [], ◌∷◌, ◌++◌, codes, decimal, Option, Result, Ok, Err, if◌then◌else◌}
+use Rattle.std.specs.Io.KnownBytes.{Appends}
 use Rattle.std.specs.declared.io.ErrorKind.{ErrorKind}
 use Rattle.std.specs.declared.io.ErrorKind.TheVariants.{BrokenPipe}
-use Rattle.caldate.specs.Runs.{AppendsUpTo}
+use Rattle.caldate.specs.Runs.{AppendsFront}
 use Rattle.caldate.specs.declared.fault.Fault.{Fault}
 use Rattle.caldate.specs.declared.fault.Fault.TheVariants.{Read, Write, Unanswered}
 
@@ -25,6 +26,10 @@ status_of (Err (Unanswered number)) = 1
 status_of (Err Read) = 2
 status_of (Err (Write kind)) = if is_closed kind then 0 else 2
 
--- the status is that of the outcome, and standard error took its words, or a beginning of them
+-- the writer took the words, or, where it failed, a beginning of them that is not all
+abbrev pub Says : List ℕ → Option (List ℕ) → Option (List ℕ) → Type 0
+Says words old new = Appends old new words ⊎ AppendsFront old new words
+
+-- the status is that of the outcome, and standard error took its words
 abbrev pub Tells : Result Unit Fault → ℕ → Option (List ℕ) → Option (List ℕ) → Type 0
-Tells outcome status old new = (status ≡ status_of outcome) × AppendsUpTo old new (words_of_end outcome)
+Tells outcome status old new = (status ≡ status_of outcome) × Says (words_of_end outcome) old new

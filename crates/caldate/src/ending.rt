@@ -1,7 +1,6 @@
 //! How the program ends: its status, and its words on standard error.
 ghost use Rattle.std.specs.Prelude.{◌≡◌, ◌++◌, [], codes};
-ghost use Rattle.caldate.specs.Ending.{status_of, words_of_end};
-ghost use Rattle.caldate.specs.Runs.{AppendsUpTo};
+ghost use Rattle.caldate.specs.Ending.{Says, status_of, words_of_end};
 
 use crate::fault::{Fault, is_closed};
 use crate::gathered::Gathered;
@@ -12,10 +11,10 @@ use std::io::Write;
 /// Tells why the run ended early, in one line, and returns the status: 0 after a run that answered all of its input or whose output
 /// was closed, 1 where a line had no answer, else 2.
 ///
-/// Where not all of the line can be written, a beginning of it was, and the status alone tells the rest.
+/// Where the writer fails, a beginning of the line was written, and the status alone tells the rest.
 pub fn end<W: Write>(outcome: Result<(), Fault>, writer: &mut W) -> u8
     ensures status { result ≡ status_of outcome }
-    ensures told { AppendsUpTo (W.contents writer.old) (W.contents writer.new) (words_of_end outcome) }
+    ensures told { Says (words_of_end outcome) (W.contents writer.old) (W.contents writer.new) }
 {
     let mut words = Gathered::new();
     push_words(&mut words, outcome);

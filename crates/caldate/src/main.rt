@@ -28,10 +28,10 @@ use std::process::ExitCode;
 /// Ends with status 0, or with another one and the reason on standard error.
 fn main(rt: HostRuntime) -> ExitCode {
     let mut arguments = [0u8; arguments::MOST_BYTES];
-    let asked = match arguments::join(&rt, &mut arguments) {
-        Some(length) => asked::asked_of(&arguments[..length]),
+    let joined = match arguments::join(&rt, &mut arguments) {
+        Some(length) => Some(&arguments[..length]),
         None => None,
     };
     let mut reader = rt.reader();
-    ExitCode::from(program::perform(asked, &mut reader, &mut io::writer(&rt), &mut rt.stderr()))
+    ExitCode::from(program::perform(joined, &mut reader, &mut io::writer(&rt), &mut rt.stderr()))
 }

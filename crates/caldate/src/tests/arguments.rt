@@ -1,9 +1,8 @@
 //! The arguments: what they ask for, and how they are read.
 use crate::arguments::{MOST_BYTES, join};
 use crate::asked::asked_of;
-use crate::help::USAGE;
+use crate::help::{HELP, USAGE, VERSION};
 use crate::program::perform;
-use crate::request::Asked;
 use crate::tests::gives;
 use std::env::{Env, FillError};
 use std::test::Fail;
@@ -162,26 +161,32 @@ fn arguments_at_their_ends(rt: HostRuntime) {
 
 #[test]
 fn nothing_is_read_where_the_arguments_make_no_sense(rt: HostRuntime) {
-    let mut reader = b"2024-02-29\n".as_slice();
-    let mut written = Vec::new(rt.alloc());
-    let mut told = Vec::new(rt.alloc());
-    assert_eq!(rt; perform(None, &mut reader, &mut written, &mut told), 2);
-    assert_eq!(rt; reader.len(), 11);
-    assert!(rt; written.is_empty());
-    assert!(rt; told.as_slice() == USAGE);
+    for arguments in [None, Some(b"".as_slice()), Some(b"to\0month".as_slice())] {
+        let mut reader = b"2024-02-29\n".as_slice();
+        let mut written = Vec::new(rt.alloc());
+        let mut told = Vec::new(rt.alloc());
+        assert_eq!(rt; perform(arguments, &mut reader, &mut written, &mut told), 2);
+        assert_eq!(rt; reader.len(), 11);
+        assert!(rt; written.is_empty());
+        assert!(rt; told.as_slice() == USAGE);
+    }
 }
 
 #[test]
 fn help_and_version(rt: HostRuntime) {
-    for (asked, least) in [(Asked::Help, 1000), (Asked::Version, 10)] {
+    let cases = [
+        (b"--help".as_slice(), HELP),
+        (b"--version".as_slice(), VERSION),
+    ];
+    for (argument, wanted) in cases {
         let mut reader = b"2024-02-29\n".as_slice();
         let mut written = Vec::new(rt.alloc());
         let mut told = Vec::new(rt.alloc());
         assert_eq!(rt;
-            perform(Some(asked), &mut reader, &mut written, &mut told),
+            perform(Some(argument), &mut reader, &mut written, &mut told),
             0
         );
-        assert!(rt; written.len() > least && told.is_empty());
+        assert!(rt; written.as_slice() == wanted && told.is_empty());
         assert_eq!(rt; reader.len(), 11);
     }
 }
