@@ -1,7 +1,10 @@
 -- What a result tells of a run's end.
-use Rattle.std.proofs.Common.{◌≡◌, ℕ, List, [], ◌∷◌, length, ap, refl, arith, Result, Ok, Err}
-use Rattle.std.specs.Prelude.{IsErrAnd, IsErrOf, OnErr}
-use Rattle.caldate.specs.Runs.{IsOfWrite}
+use Rattle.std.proofs.Common.{◌≡◌, ℕ, List, [], ◌∷◌, length, ap, refl, sym, subst, arith, Option, Result, Ok, Err}
+use Rattle.std.specs.Prelude.{IsErrAnd, IsErrOf, OnErr, OnOk}
+use Rattle.std.specs.Io.KnownBytes.{IsAtEnd}
+use Rattle.caldate.specs.Lines.{ended_lines, lines_of}
+use Rattle.caldate.specs.Runs.{AnswersAll, AnswersFront, Ended, Gives, GivesLines, IsOfWrite, StopsAt}
+use Rattle.caldate.specs.declared.request.Filter.{Filter}
 use Rattle.caldate.specs.declared.fault.Fault.{Fault}
 use Rattle.caldate.specs.declared.fault.Fault.TheVariants.{Read, Write, Unanswered}
 
@@ -16,6 +19,31 @@ pub write_failed : {T : Type 0} (P : Type 0) (r : Result T Fault) → IsErrAnd r
 write_failed P (Ok x) h p = absurd h
 write_failed P (Err e) h p = p
 
+-- ---- what a run read and wrote
+pub ended : (filter : Filter) (r : Result Unit Fault) (r0 r1 w0 w1 : Option (List ℕ))
+    → OnOk r (IsAtEnd r1 × Gives r0 r1 (λ input. AnswersAll filter (lines_of input) w0 w1))
+    → (IsErrAnd r IsOfWrite → GivesLines r0 r1 (λ lines. AnswersFront filter lines w0 w1))
+    → (IsErrOf r Read → ⊥)
+    → ((number : ℕ) → IsErrOf r (Unanswered number) → GivesLines r0 r1 (λ lines. StopsAt filter number lines w0 w1))
+    → Ended filter r r0 r1 w0 w1
+ended filter (Ok done) r0 r1 w0 w1 ok write no_read unanswered = ok
+ended filter (Err Read) r0 r1 w0 w1 ok write no_read unanswered = absurd (no_read refl)
+ended filter (Err (Write kind)) r0 r1 w0 w1 ok write no_read unanswered = write tt
+ended filter (Err (Unanswered number)) r0 r1 w0 w1 ok write no_read unanswered = unanswered number refl
+
+pub read_ended : (filter : Filter) (r : Result Unit Fault) (r0 r1 w0 w1 : Option (List ℕ)) → IsErrAnd r (λ fault. fault ≡ Read)
+    → Gives r0 r1 (λ input. AnswersAll filter (ended_lines input) w0 w1) → Ended filter r r0 r1 w0 w1
+read_ended filter (Ok done) r0 r1 w0 w1 is h = absurd is
+read_ended filter (Err fault) r0 r1 w0 w1 is h = subst (λ f. Ended filter (Err f) r0 r1 w0 w1) (sym is) h
+
+pub write_ended : (filter : Filter) (r : Result Unit Fault) (r0 r1 w0 w1 : Option (List ℕ)) → IsErrAnd r IsOfWrite
+    → GivesLines r0 r1 (λ lines. AnswersFront filter lines w0 w1) → Ended filter r r0 r1 w0 w1
+write_ended filter (Ok done) r0 r1 w0 w1 is h = absurd is
+write_ended filter (Err Read) r0 r1 w0 w1 is h = absurd is
+write_ended filter (Err (Write kind)) r0 r1 w0 w1 is h = h
+write_ended filter (Err (Unanswered number)) r0 r1 w0 w1 is h = absurd is
+
+-- ---- numbers and lists
 abbrev number_in : Fault → ℕ
 number_in (Unanswered n) = n
 number_in Read = 0

@@ -9,8 +9,8 @@ use Rattle.std.proofs.lemmas.List.Elements.{All-append, All-head, All-take, All-
 use Rattle.std.proofs.lemmas.List.Splits.{slice_split_at, slice_split_none, length-slice_split}
 use Rattle.std.proofs.lemmas.Bool.{false≢true}
 use Rattle.caldate.specs.Answers.{LacksAnswer}
-use Rattle.caldate.specs.Lines.{is_end, lines_of, text_of, without_empty_last}
-use Rattle.caldate.specs.Runs.{AnswersAll, AnswersEnded, AnswersFront, AppendsFront, AppendsThat, IsAllowed, StopsAt}
+use Rattle.caldate.specs.Lines.{ended_lines, is_end, lines_of, text_of, without_empty_last, without_last}
+use Rattle.caldate.specs.Runs.{AnswersAll, AnswersFront, AppendsFront, AppendsThat, IsAllowed, StopsAt}
 use Rattle.caldate.specs.Standing.{AreReplies, IsReply, IsHeld, NoEnd, Stands, counted}
 use Rattle.caldate.specs.declared.place.Place.{Place}
 use Rattle.caldate.specs.declared.request.Filter.{Filter}
@@ -131,6 +131,21 @@ lines_of_are : (input kept pending : List ℕ) (lines : List (List ℕ))
 lines_of_are input kept pending lines cut =
     ap without_empty_last (lines_are input kept pending lines cut) ∙ lines_begin lines (slice_split is_end (kept ++ pending)) (split_some (kept ++ pending))
 
+-- those that have ended
+part_ended : (part : List ℕ) (parts : List (List ℕ)) → 0 < length parts → without_last (part ∷ parts) ≡ part ∷ without_last parts
+part_ended part [] h = absurd (omega arith)
+part_ended part (p ∷ parts) h = refl
+
+ended_begin : (lines : List (List ℕ)) (parts : List (List ℕ)) → 0 < length parts → without_last (lines ++ parts) ≡ lines ++ without_last parts
+ended_begin [] parts h = refl
+ended_begin (l ∷ lines) parts h = part_ended l (lines ++ parts) (some_parts lines parts h) ∙ ap (λ ls. l ∷ ls) (ended_begin lines parts h)
+
+ended_are : (input kept pending : List ℕ) (lines : List (List ℕ))
+    → ((more : List ℕ) → slice_split is_end (input ++ more) ≡ lines ++ slice_split is_end (kept ++ (pending ++ more)))
+    → ended_lines input ≡ lines ++ ended_lines (kept ++ pending)
+ended_are input kept pending lines cut =
+    ap without_last (lines_are input kept pending lines cut) ∙ ended_begin lines (slice_split is_end (kept ++ pending)) (split_some (kept ++ pending))
+
 -- a line that has a byte and no end
 one_line : (line : List ℕ) → NoEnd line → 0 < length line → lines_of line ≡ line ∷ []
 one_line [] n h = absurd (omega arith)
@@ -149,12 +164,12 @@ front_more start now new written gathered out e a f = record {
 
 pub failed : (filter : Filter) (input : List ℕ) (start now new : Option (List ℕ)) (gathered pending : List ℕ) (place : Place)
     → AppendsFront now new gathered
-    → Stands (IsAllowed filter) input start now gathered pending place → AnswersFront filter input start new
+    → Stands (IsAllowed filter) input start now gathered pending place → AnswersFront filter (ended_lines input) start new
 failed filter input start now new gathered pending place f s = record {
   lines = s.lines;
-  more = lines_of (s.kept ++ pending);
+  more = ended_lines (s.kept ++ pending);
   out = s.out;
-  cut = lines_of_are input s.kept pending s.lines s.cut;
+  cut = ended_are input s.kept pending s.lines s.cut;
   replies = s.replies;
   taken = front_more start now new s.written gathered s.out s.whole s.taken f;
 }
@@ -168,7 +183,7 @@ pub stopped : (filter : Filter) (input : List ℕ) (start now new : Option (List
     → NoEnd line → pending ≡ line ++ 10 ∷ after → filter.is_strict ≡ true
     → ((kept : List ℕ) → IsHeld place.is_long kept line → ((words : List ℕ) × LacksAnswer filter.request (text_of (kept ++ line)) words))
     → number ≡ counted (place.number + 1) → Appends now new gathered
-    → Stands (IsAllowed filter) input start now gathered pending place → StopsAt filter number input start new
+    → Stands (IsAllowed filter) input start now gathered pending place → StopsAt filter number (ended_lines input) start new
 stopped filter input start now new gathered pending line after place number n e strict lack number_is f s =
     let lacks = lack s.kept (held_line place.is_long s.kept pending line after s.held e) in
     let held = kept_no_end place.is_long s.kept pending s.held in
@@ -177,12 +192,12 @@ stopped filter input start now new gathered pending line after place number n e 
     record {
       lines = s.lines;
       line = s.kept ++ line;
-      more = lines_of after;
+      more = ended_lines after;
       words = lacks.0;
       out = s.out;
       strict = strict;
-      cut = lines_of_are input s.kept pending s.lines s.cut
-          ∙ ap (λ p. s.lines ++ without_empty_last p) parts ∙ ap (λ l. s.lines ++ l) (part_counts (s.kept ++ line) (slice_split is_end after) (split_some after));
+      cut = ended_are input s.kept pending s.lines s.cut
+          ∙ ap (λ p. s.lines ++ without_last p) parts ∙ ap (λ l. s.lines ++ l) (part_ended (s.kept ++ line) (slice_split is_end after) (split_some after));
       lacks = lacks.1;
       number_is = number_is ∙ counted_more (length s.lines) place.number s.number;
       replies = s.replies;
@@ -198,7 +213,7 @@ held_some : (b : Bool) (kept pending : List ℕ) → IsHeld b kept pending → 0
 held_some b kept pending h l = omega (arith, l, length-append kept pending)
 
 pub all_answered : (filter : Filter) (input : List ℕ) (start now : Option (List ℕ)) (place : Place)
-    → Stands (IsAllowed filter) input start now [] [] place → AnswersAll filter input start now
+    → Stands (IsAllowed filter) input start now [] [] place → AnswersAll filter (lines_of input) start now
 all_answered filter input start now place s =
     let none = kept_none place.is_long s.kept s.held in
     let lines : lines_of input ≡ s.lines =
@@ -221,7 +236,7 @@ pub last_answered : (filter : Filter) (input : List ℕ) (start now new : Option
     → NoEnd line → 0 < length line
     → ((kept : List ℕ) → IsHeld place.is_long kept line → AppendsThat (IsReply (IsAllowed filter) (kept ++ line)) [] gathered)
     → Appends now new gathered
-    → Stands (IsAllowed filter) input start now [] line place → AnswersAll filter input start new
+    → Stands (IsAllowed filter) input start now [] line place → AnswersAll filter (lines_of input) start new
 last_answered filter input start now new gathered line place n l reply f s =
     let r = reply s.kept s.held in
     record {
@@ -235,7 +250,7 @@ pub last_failed : (filter : Filter) (input : List ℕ) (start now new : Option (
     → NoEnd line → 0 < length line
     → ((kept : List ℕ) → IsHeld place.is_long kept line → AppendsThat (IsReply (IsAllowed filter) (kept ++ line)) [] gathered)
     → AppendsFront now new gathered
-    → Stands (IsAllowed filter) input start now [] line place → AnswersFront filter input start new
+    → Stands (IsAllowed filter) input start now [] line place → AnswersFront filter (lines_of input) start new
 last_failed filter input start now new gathered line place n l reply f s =
     let r = reply s.kept s.held in
     record {
@@ -251,7 +266,7 @@ pub last_stopped : (filter : Filter) (input : List ℕ) (start now : Option (Lis
     → NoEnd line → 0 < length line → filter.is_strict ≡ true
     → ((kept : List ℕ) → IsHeld place.is_long kept line → ((words : List ℕ) × LacksAnswer filter.request (text_of (kept ++ line)) words))
     → number ≡ counted (place.number + 1)
-    → Stands (IsAllowed filter) input start now [] line place → StopsAt filter number input start now
+    → Stands (IsAllowed filter) input start now [] line place → StopsAt filter number (lines_of input) start now
 last_stopped filter input start now line place number n l strict lack number_is s =
     let lacks = lack s.kept s.held in
     record {
@@ -305,16 +320,16 @@ read Allowed input given start now gathered pending place s = record {
 }
 
 pub ended_answered : (filter : Filter) (input : List ℕ) (start now : Option (List ℕ)) (pending : List ℕ) (place : Place) → NoEnd pending
-    → Stands (IsAllowed filter) input start now [] pending place → AnswersEnded filter input start now
-ended_answered filter input start now pending place n s = record {
-  lines = s.lines;
-  rest = s.kept ++ pending;
-  out = s.out;
-  cut = lines_are input s.kept pending s.lines s.cut
-      ∙ ap (λ parts. s.lines ++ parts) (slice_split_none is_end (s.kept ++ pending) (no_end_append s.kept pending (kept_no_end place.is_long s.kept pending s.held) n));
-  replies = s.replies;
-  taken = subst (Appends start now) (sym (s.whole ∙ append-nil s.written)) s.taken;
-}
+    → Stands (IsAllowed filter) input start now [] pending place → AnswersAll filter (ended_lines input) start now
+ended_answered filter input start now pending place n s =
+    let none = slice_split_none is_end (s.kept ++ pending) (no_end_append s.kept pending (kept_no_end place.is_long s.kept pending s.held) n) in
+    let lines : ended_lines input ≡ s.lines =
+    ended_are input s.kept pending s.lines s.cut ∙ ap (λ parts. s.lines ++ without_last parts) none ∙ append-nil s.lines in
+    record {
+      out = s.out;
+      replies = subst (λ ls. AreReplies (IsAllowed filter) ls s.out) (sym lines) s.replies;
+      taken = subst (Appends start now) (sym (s.whole ∙ append-nil s.written)) s.taken;
+    }
 
 -- ---- a long line is let go but for its last byte
 one_byte : (xs : List ℕ) → 0 < length xs → NoEnd xs → (first : ℕ) × (more : List ℕ) × (xs ≡ first ∷ more) × (is_end first ≡ false)

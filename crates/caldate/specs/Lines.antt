@@ -16,6 +16,16 @@ without_empty_last (part ∷ parts) = part ∷ without_empty_last parts
 abbrev pub lines_of : List ℕ → List (List ℕ)
 lines_of input = without_empty_last (slice_split is_end input)
 
+-- the parts, but for the last one
+abbrev pub without_last : List (List ℕ) → List (List ℕ)
+without_last [] = []
+without_last (part ∷ []) = []
+without_last (part ∷ parts) = part ∷ without_last parts
+
+-- those of its lines whose line feed has come
+abbrev pub ended_lines : List ℕ → List (List ℕ)
+ended_lines input = without_last (slice_split is_end input)
+
 -- the last byte of the line is a carriage return, which is the byte 13
 abbrev pub has_return : List ℕ → Bool
 has_return line = slice_index line (length line - 1) == 13

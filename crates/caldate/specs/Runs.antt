@@ -1,9 +1,8 @@
 -- What a run does to the bytes of its reader and its writer, where those are told.
-use Rattle.std.specs.Prelude.{◌≡◌, ℕ, ⊤, ◌+◌, ◌<◌, Bool, true, false, List, [], ◌∷◌, ◌++◌, length, Option, Result, Ok, Err}
-use Rattle.std.specs.List.{slice_split}
+use Rattle.std.specs.Prelude.{◌≡◌, ◌⊎◌, ℕ, ⊤, ◌+◌, ◌<◌, Bool, true, false, List, ◌∷◌, ◌++◌, length, Option, Result, Ok, Err}
 use Rattle.std.specs.Io.KnownBytes.{Appends, Consumes, IsAtEnd}
 use Rattle.caldate.specs.Answers.{HasAnswer, LacksAnswer, IsAnswer}
-use Rattle.caldate.specs.Lines.{is_end, lines_of, text_of}
+use Rattle.caldate.specs.Lines.{ended_lines, lines_of, text_of}
 use Rattle.caldate.specs.Standing.{AreReplies, Stands, counted}
 use Rattle.caldate.specs.declared.fault.Fault.{Fault}
 use Rattle.caldate.specs.declared.fault.Fault.TheVariants.{Read, Write, Unanswered}
@@ -41,39 +40,30 @@ pub record AppendsFront (old new : Option (List ℕ)) (bytes : List ℕ) : Type 
   pub left : 0 < length rest
   pub taken : Appends old new front
 
--- the writer took just the replies to all lines of the input
-pub record AnswersAll (filter : Filter) (input : List ℕ) (old new : Option (List ℕ)) : Type 0 where
+-- the writer took just the replies to these lines
+pub record AnswersAll (filter : Filter) (all : List (List ℕ)) (old new : Option (List ℕ)) : Type 0 where
   pub out : List ℕ
-  pub replies : AreReplies (IsAllowed filter) (lines_of input) out
+  pub replies : AreReplies (IsAllowed filter) all out
   pub taken : Appends old new out
 
--- it took just the replies to the lines of the input that have ended
-pub record AnswersEnded (filter : Filter) (input : List ℕ) (old new : Option (List ℕ)) : Type 0 where
-  pub lines : List (List ℕ)
-  pub rest : List ℕ
-  pub out : List ℕ
-  pub cut : slice_split is_end input ≡ lines ++ rest ∷ []
-  pub replies : AreReplies (IsAllowed filter) lines out
-  pub taken : Appends old new out
-
--- it took a beginning of the replies to the first lines of the input, and never all of them
-pub record AnswersFront (filter : Filter) (input : List ℕ) (old new : Option (List ℕ)) : Type 0 where
+-- it took a beginning of the replies to the first of these lines, and never all of them
+pub record AnswersFront (filter : Filter) (all : List (List ℕ)) (old new : Option (List ℕ)) : Type 0 where
   pub lines : List (List ℕ)
   pub more : List (List ℕ)
   pub out : List ℕ
-  pub cut : lines_of input ≡ lines ++ more
+  pub cut : all ≡ lines ++ more
   pub replies : AreReplies (IsAllowed filter) lines out
   pub taken : AppendsFront old new out
 
--- it took just the replies to the lines before the first that has no answer, which has this number, counted from 1
-pub record StopsAt (filter : Filter) (number : ℕ) (input : List ℕ) (old new : Option (List ℕ)) : Type 0 where
+-- it took just the replies to those of these lines before the first that has no answer, which has this number, counted from 1
+pub record StopsAt (filter : Filter) (number : ℕ) (all : List (List ℕ)) (old new : Option (List ℕ)) : Type 0 where
   pub lines : List (List ℕ)
   pub line : List ℕ
   pub more : List (List ℕ)
   pub words : List ℕ
   pub out : List ℕ
   pub strict : filter.is_strict ≡ true
-  pub cut : lines_of input ≡ lines ++ line ∷ more
+  pub cut : all ≡ lines ++ line ∷ more
   pub lacks : LacksAnswer filter.request (text_of line) words
   pub number_is : number ≡ counted (length lines + 1)
   pub replies : AreReplies (IsAllowed filter) lines out
@@ -83,30 +73,36 @@ pub record StopsAt (filter : Filter) (number : ℕ) (input : List ℕ) (old new 
 abbrev pub Gives : Option (List ℕ) → Option (List ℕ) → (List ℕ → Type 0) → Type 0
 Gives old new P = (input : List ℕ) × Consumes old new input × P input
 
+-- the reader gave an input, and this holds of those of its lines that have ended, or of all where there is no more to come
+pub record GivesLines (old new : Option (List ℕ)) (Holds : List (List ℕ) → Type 0) : Type 0 where
+  pub input : List ℕ
+  pub given : Consumes old new input
+  pub holds : Holds (ended_lines input) ⊎ IsAtEnd new × Holds (lines_of input)
+
 -- what a run with this outcome read and wrote
 abbrev pub Ended : Filter → Result Unit Fault → Option (List ℕ) → Option (List ℕ) → Option (List ℕ) → Option (List ℕ) → Type 0
-Ended filter (Ok done) r0 r w0 w = IsAtEnd r × Gives r0 r (λ input. AnswersAll filter input w0 w)
-Ended filter (Err (Write kind)) r0 r w0 w = Gives r0 r (λ input. AnswersFront filter input w0 w)
-Ended filter (Err Read) r0 r w0 w = Gives r0 r (λ input. AnswersEnded filter input w0 w)
-Ended filter (Err (Unanswered number)) r0 r w0 w = Gives r0 r (λ input. StopsAt filter number input w0 w)
+Ended filter (Ok done) r0 r w0 w = IsAtEnd r × Gives r0 r (λ input. AnswersAll filter (lines_of input) w0 w)
+Ended filter (Err (Write kind)) r0 r w0 w = GivesLines r0 r (λ lines. AnswersFront filter lines w0 w)
+Ended filter (Err Read) r0 r w0 w = Gives r0 r (λ input. AnswersAll filter (ended_lines input) w0 w)
+Ended filter (Err (Unanswered number)) r0 r w0 w = GivesLines r0 r (λ lines. StopsAt filter number lines w0 w)
 
 -- what the writer took of a page with this outcome
 abbrev pub Shown : List ℕ → Result Unit Fault → Option (List ℕ) → Option (List ℕ) → Type 0
 Shown page (Ok done) old new = Appends old new page
 Shown page (Err fault) old new = IsOfWrite fault × AppendsFront old new page
 
--- ---- from where a run stands
+-- ---- from where a run stands, of these lines of its input
 -- it ends as after a write that failed
-abbrev pub FailsFrom : Filter → Option (List ℕ) → Option (List ℕ) → List ℕ → List ℕ → Place → Type 0
-FailsFrom filter old new gathered pending place =
-    (input : List ℕ) (start : Option (List ℕ)) → Stands (IsAllowed filter) input start old gathered pending place → AnswersFront filter input start new
+abbrev pub FailsFrom : Filter → (List ℕ → List (List ℕ)) → Option (List ℕ) → Option (List ℕ) → List ℕ → List ℕ → Place → Type 0
+FailsFrom filter lines_in old new gathered pending place =
+    (input : List ℕ) (start : Option (List ℕ)) → Stands (IsAllowed filter) input start old gathered pending place → AnswersFront filter (lines_in input) start new
 
 -- it ends at the line of this number
-abbrev pub StopsFrom : Filter → ℕ → Option (List ℕ) → Option (List ℕ) → List ℕ → List ℕ → Place → Type 0
-StopsFrom filter number old new gathered pending place =
-    (input : List ℕ) (start : Option (List ℕ)) → Stands (IsAllowed filter) input start old gathered pending place → StopsAt filter number input start new
+abbrev pub StopsFrom : Filter → ℕ → (List ℕ → List (List ℕ)) → Option (List ℕ) → Option (List ℕ) → List ℕ → List ℕ → Place → Type 0
+StopsFrom filter number lines_in old new gathered pending place =
+    (input : List ℕ) (start : Option (List ℕ)) → Stands (IsAllowed filter) input start old gathered pending place → StopsAt filter number (lines_in input) start new
 
 -- it ends with all lines answered
 abbrev pub EndsFrom : Filter → Option (List ℕ) → Option (List ℕ) → List ℕ → List ℕ → Place → Type 0
 EndsFrom filter old new gathered pending place =
-    (input : List ℕ) (start : Option (List ℕ)) → Stands (IsAllowed filter) input start old gathered pending place → AnswersAll filter input start new
+    (input : List ℕ) (start : Option (List ℕ)) → Stands (IsAllowed filter) input start old gathered pending place → AnswersAll filter (lines_of input) start new

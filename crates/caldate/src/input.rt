@@ -2,12 +2,13 @@
 ghost use Rattle.std.specs.Prelude.{◌≡◌, ℕ, ◌+◌, ◌-◌, ◌<◌, ◌≤◌, List, [], ◌++◌, length, drop, OnOk, IfOk, IfErr, IsOkAnd};
 ghost use Rattle.std.specs.Io.{ReadsAtMost};
 ghost use Rattle.std.specs.Io.KnownBytes.{ReadConsumes, Consumes, IsAtEnd, Keeps};
+ghost use Rattle.std.specs.IoError.{error_kind};
 ghost use Rattle.caldate.specs.Room.{capacity};
 ghost use Rattle.caldate.specs.Runs.{HasRead};
 
 use crate::fault::Fault;
 use crate::patience::Patience;
-use std::io::Read;
+use std::io::{self, ErrorKind, Read};
 use std::marker::Model;
 
 /// The most bytes that are read and not answered yet.
@@ -66,9 +67,17 @@ impl Input {
         ensures end { IsOkAnd result (λ n. n ≡ 0) → IsAtEnd (R.remaining reader.new) × (self.new ≡ self.old) }
         ensures err { IfErr result (λ fault. (fault ≡ Fault.Read) × Keeps (R.remaining reader.old) (R.remaining reader.new)) }
     {
-        let count = read_some(reader, &mut self.bytes[self.filled..])?;
-        self.filled += count;
-        Ok(count)
+        match read_some(
+            reader,
+            &mut self.bytes[self.filled..],
+            &mut Patience::new(),
+        ) {
+            Ok(count) => {
+                self.filled += count;
+                Ok(count)
+            }
+            Err(_) => Err(Fault::Read),
+        }
     }
 
     /// Keeps the last bytes alone.
@@ -82,18 +91,20 @@ impl Input {
     }
 }
 
-/// One read, taken again where the patience bears an interruption.
-fn read_some<R: Read>(reader: &mut R, buffer: &mut [u8]) -> Result<usize, Fault>
+/// One read, taken again where the patience bears an interruption. So it is interrupted only where no patience is left.
+fn read_some<R: Read>(
+    reader: &mut R,
+    buffer: &mut [u8],
+    patience: &mut Patience,
+) -> io::Result<usize>
     ensures bound { ReadsAtMost result buffer.new }
     ensures bytes { ReadConsumes (R.remaining reader.old) (R.remaining reader.new) result buffer.new }
-    ensures err { IfErr result (λ fault. fault ≡ Fault.Read) }
+    ensures patient { IfErr result (λ error. error_kind error ≡ ErrorKind.Interrupted → patience.new ≡ 0) }
 {
-    let mut patience = Patience::new();
     loop {
         match reader.read(buffer) {
-            Ok(count) => return Ok(count),
-            Err(e) if patience.bears(&e) => {}
-            Err(_) => return Err(Fault::Read),
+            Err(error) if patience.bears(&error) => {}
+            other => return other,
         }
     }
 }

@@ -1,11 +1,13 @@
 //! Bytes to a writer.
-ghost use Rattle.std.specs.Prelude.{OnOk, OnErr, IfErr};
-ghost use Rattle.std.specs.Io.KnownBytes.{Appends};
+ghost use Rattle.std.specs.Prelude.{◌≡◌, OnOk, OnErr, IfErr};
+ghost use Rattle.std.specs.Io.{WritesAtMost};
+ghost use Rattle.std.specs.Io.KnownBytes.{Appends, WriteAppends};
+ghost use Rattle.std.specs.IoError.{error_kind};
 ghost use Rattle.caldate.specs.Runs.{AppendsFront, IsOfWrite};
 
 use crate::fault::Fault;
 use crate::patience::Patience;
-use std::io::{ErrorKind, Write};
+use std::io::{self, ErrorKind, Write};
 
 /// Writes all the bytes. Where that fails, a beginning of them has gone out.
 ///
@@ -19,12 +21,29 @@ pub fn write_all<W: Write>(writer: &mut W, bytes: &[u8]) -> Result<(), Fault>
     let mut patience = Patience::new();
     let mut rest = bytes;
     while !rest.is_empty() {
-        match writer.write(rest) {
+        match write_some(writer, rest, &mut patience) {
             Ok(0) => return Err(Fault::Write(ErrorKind::WriteZero)),
             Ok(count) => rest = &rest[count..],
-            Err(e) if patience.bears(&e) => {}
-            Err(e) => return Err(Fault::Write(e.kind())),
+            Err(error) => return Err(Fault::Write(error.kind())),
         }
     }
     Ok(())
+}
+
+/// One write, taken again where the patience bears an interruption. So it is interrupted only where no patience is left.
+fn write_some<W: Write>(
+    writer: &mut W,
+    bytes: &[u8],
+    patience: &mut Patience,
+) -> io::Result<usize>
+    ensures bound { WritesAtMost result bytes.now }
+    ensures bytes { WriteAppends (W.contents writer.old) (W.contents writer.new) result bytes.now }
+    ensures patient { IfErr result (λ error. error_kind error ≡ ErrorKind.Interrupted → patience.new ≡ 0) }
+{
+    loop {
+        match writer.write(bytes) {
+            Err(error) if patience.bears(&error) => {}
+            other => return other,
+        }
+    }
 }

@@ -1,8 +1,9 @@
 //! The run: the answers to the lines of an input of any length.
 ghost use Rattle.std.specs.Prelude.{◌≡◌, ◌≤◌, ◌+◌, ◌-◌, ◌++◌, ℕ, List, [], length, drop, Option, OnOk, OnErr, IfOk, IfErr, IsErrAnd, IsErrOf};
-ghost use Rattle.std.specs.Io.KnownBytes.{Appends, Consumes, IsAtEnd, Keeps};
+ghost use Rattle.std.specs.Io.KnownBytes.{Appends};
+ghost use Rattle.caldate.specs.Lines.{ended_lines, lines_of};
 ghost use Rattle.caldate.specs.Room.{HasRoom, longest_reply, longest_text};
-ghost use Rattle.caldate.specs.Runs.{AnswersAll, AnswersEnded, AnswersFront, AppendsFront, EndsFrom, FailsFrom, Gives, IsAllowed, IsOfWrite, StopsAt, StopsFrom};
+ghost use Rattle.caldate.specs.Runs.{AppendsFront, Ended, EndsFrom, FailsFrom, IsAllowed, IsOfWrite, StopsFrom};
 ghost use Rattle.caldate.specs.Standing.{Advances, NoEnd, Stands, counted};
 
 use crate::fault::Fault;
@@ -22,14 +23,7 @@ const MOST_KEPT: usize = 4097;
 ///
 /// The answers to what one read gave go out before the next read. It gives up as after a failed read once it has read 2^64 - 1 times.
 pub fn run<R: Read, W: Write>(filter: Filter, reader: &mut R, writer: &mut W) -> Result<(), Fault>
-    ensures ok { OnOk result (IsAtEnd (R.remaining reader.new) × Gives (R.remaining reader.old) (R.remaining reader.new)
-        (λ input. AnswersAll filter input (W.contents writer.old) (W.contents writer.new))) }
-    ensures write { IsErrAnd result IsOfWrite → Gives (R.remaining reader.old) (R.remaining reader.new)
-        (λ input. AnswersFront filter input (W.contents writer.old) (W.contents writer.new)) }
-    ensures read { IsErrOf result Fault.Read → Gives (R.remaining reader.old) (R.remaining reader.new)
-        (λ input. AnswersEnded filter input (W.contents writer.old) (W.contents writer.new)) }
-    ensures unanswered { (number : ℕ) → IsErrOf result (Fault.Unanswered number) → Gives (R.remaining reader.old) (R.remaining reader.new)
-        (λ input. StopsAt filter number input (W.contents writer.old) (W.contents writer.new)) }
+    ensures { Ended filter result (R.remaining reader.old) (R.remaining reader.new) (W.contents writer.old) (W.contents writer.new) }
 {
     let mut input = Input::new();
     let mut gathered = Gathered::new();
@@ -73,9 +67,9 @@ fn answer_lines<W: Write>(
     ensures ok { IfOk result (λ left. Advances (IsAllowed filter.now) (W.contents writer.old) (W.contents writer.new) gathered.old gathered.new
         bytes.now (drop (length bytes.now - left) bytes.now) place.old place.new) }
     ensures write { IsErrAnd result IsOfWrite
-        → FailsFrom filter.now (W.contents writer.old) (W.contents writer.new) gathered.old bytes.now place.old }
+        → FailsFrom filter.now ended_lines (W.contents writer.old) (W.contents writer.new) gathered.old bytes.now place.old }
     ensures unanswered { (number : ℕ) → IsErrOf result (Fault.Unanswered number)
-        → StopsFrom filter.now number (W.contents writer.old) (W.contents writer.new) gathered.old bytes.now place.old }
+        → StopsFrom filter.now number ended_lines (W.contents writer.old) (W.contents writer.new) gathered.old bytes.now place.old }
     ensures no_read { IsErrOf result Fault.Read → ⊥ }
 {
     let mut rest = bytes;
@@ -117,9 +111,9 @@ fn answer_last<W: Write>(
     requires none { gathered.old ≡ [] }
     ensures ok { OnOk result (EndsFrom filter.now (W.contents writer.old) (W.contents writer.new) [] line.now place.old) }
     ensures write { IsErrAnd result IsOfWrite
-        → FailsFrom filter.now (W.contents writer.old) (W.contents writer.new) [] line.now place.old }
+        → FailsFrom filter.now lines_of (W.contents writer.old) (W.contents writer.new) [] line.now place.old }
     ensures unanswered { (number : ℕ) → IsErrOf result (Fault.Unanswered number)
-        → StopsFrom filter.now number (W.contents writer.old) (W.contents writer.new) [] line.now place.old }
+        → StopsFrom filter.now number lines_of (W.contents writer.old) (W.contents writer.new) [] line.now place.old }
     ensures no_read { IsErrOf result Fault.Read → ⊥ }
 {
     if line.is_empty() {

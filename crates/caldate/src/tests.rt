@@ -10,6 +10,7 @@ use std::io::{Read, Write};
 mod arguments;
 mod failing;
 mod long;
+mod strict;
 
 /// A run by arguments with zero bytes between them.
 fn run_by<R: Read, W: Write>(
@@ -206,36 +207,6 @@ fn line_ends(rt: HostRuntime) {
     for (input, wanted) in cases {
         assert!(rt;
             gives(rt.alloc(), b"to\0calendar", input, wanted),
-            "{input:?}"
-        );
-    }
-}
-
-#[test]
-fn strict_runs(rt: HostRuntime) {
-    let cases: [(&[u8], &[u8], Result<(), Fault>); 5] = [
-        (b"2024-060\n2024-061\n", b"2024-02-29\n2024-03-01\n", Ok(())),
-        (
-            b"2024-060\n2024-367\n2024-061\n",
-            b"2024-02-29\n",
-            Err(Fault::Unanswered(2)),
-        ),
-        (b"x\n", b"", Err(Fault::Unanswered(1))),
-        (
-            b"2024-060\n2024-061\n2024-0",
-            b"2024-02-29\n2024-03-01\n",
-            Err(Fault::Unanswered(3)),
-        ),
-        (
-            b"2024-060\n+999999-12-31",
-            b"2024-02-29\n+999999-12-31\n",
-            Ok(()),
-        ),
-    ];
-    for (input, wanted, ending) in cases {
-        let (outcome, written) = answers(rt.alloc(), b"--strict\0to\0calendar", input);
-        assert!(rt;
-            outcome == ending && written.as_slice() == wanted,
             "{input:?}"
         );
     }

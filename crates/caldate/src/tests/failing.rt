@@ -5,45 +5,46 @@ use crate::tests::run_by;
 use std::alloc::Global;
 use std::io::{self, ErrorKind, Read, Write};
 
-/// Gives one byte a call, and fails at this call and from it on.
+/// Gives so many bytes a call at most, and fails at this call and at so many in all.
 #[derive(Drop)]
-struct Dripping<'a> {
-    rest: &'a [u8],
-    calls: usize,
-    failing: usize,
-    kind: ErrorKind,
+pub struct Dripping<'a> {
+    pub rest: &'a [u8],
+    pub most: usize,
+    pub calls: usize,
+    pub failing: usize,
+    pub failures: usize,
+    pub kind: ErrorKind,
 }
 
 impl Read for Dripping<'_> {
     fn read(&mut self, buffer: &mut [u8]) -> io::Result<usize> {
         self.calls = self.calls.saturating_add(1);
-        if self.calls >= self.failing {
+        if self.calls >= self.failing && self.failures > 0 {
+            self.failures -= 1;
             return Err(io::Error::from(self.kind));
         }
-        match self.rest.split_first() {
-            Some((byte, after)) if !buffer.is_empty() => {
-                buffer[0] = *byte;
-                self.rest = after;
-                Ok(1)
-            }
-            _ => Ok(0),
-        }
+        let count = self.most.min(self.rest.len()).min(buffer.len());
+        buffer[..count].copy_from_slice(&self.rest[..count]);
+        self.rest = &self.rest[count..];
+        Ok(count)
     }
 }
 
-/// Takes one byte a call, and at one call fails, or takes none where no kind of failure is named.
+/// Takes one byte a call, and at this call and at so many in all fails, or takes none where no kind of failure is named.
 #[derive(Drop)]
 struct Sipping {
     taken: Vec<u8>,
     calls: usize,
     failing: usize,
+    failures: usize,
     kind: Option<ErrorKind>,
 }
 
 impl Write for Sipping {
     fn write(&mut self, bytes: &[u8]) -> io::Result<usize> {
         self.calls = self.calls.saturating_add(1);
-        if self.calls == self.failing {
+        if self.calls >= self.failing && self.failures > 0 {
+            self.failures -= 1;
             return match self.kind {
                 Some(kind) => Err(io::Error::from(kind)),
                 None => Ok(0),
@@ -96,12 +97,19 @@ fn answered(read: usize) -> &'static [u8] {
     }
 }
 
-/// What comes of a run over a reader that fails from this call on, and what it wrote.
-fn drip(alloc: Global, failing: usize, kind: ErrorKind) -> (Result<(), Fault>, Vec<u8>) {
+/// What comes of a run over a reader that fails at this call and at so many in all, and what it wrote.
+fn drip(
+    alloc: Global,
+    failing: usize,
+    failures: usize,
+    kind: ErrorKind,
+) -> (Result<(), Fault>, Vec<u8>) {
     let mut reader = Dripping {
         rest: INPUT,
+        most: 1,
         calls: 0,
         failing,
+        failures,
         kind,
     };
     let mut written = Vec::new(alloc);
@@ -109,13 +117,19 @@ fn drip(alloc: Global, failing: usize, kind: ErrorKind) -> (Result<(), Fault>, V
     (outcome, written)
 }
 
-/// What comes of a run over a writer that fails at this call, and what it took.
-fn sip(alloc: Global, failing: usize, kind: Option<ErrorKind>) -> (Result<(), Fault>, Vec<u8>) {
+/// What comes of a run over a writer that fails at this call and at so many in all, and what it took.
+fn sip(
+    alloc: Global,
+    failing: usize,
+    failures: usize,
+    kind: Option<ErrorKind>,
+) -> (Result<(), Fault>, Vec<u8>) {
     let mut reader = INPUT;
     let mut writer = Sipping {
         taken: Vec::new(alloc),
         calls: 0,
         failing,
+        failures,
         kind,
     };
     let outcome = run_by(b"to\0calendar", &mut reader, &mut writer);
@@ -127,7 +141,7 @@ fn sip(alloc: Global, failing: usize, kind: Option<ErrorKind>) -> (Result<(), Fa
 fn each_read_fails_in_turn(rt: HostRuntime) {
     for call in 1..=INPUT.len() + 2 {
         for kind in [ErrorKind::Other, ErrorKind::Interrupted] {
-            let (outcome, written) = drip(rt.alloc(), call, kind);
+            let (outcome, written) = drip(rt.alloc(), call, usize::MAX, kind);
             if call <= INPUT.len() + 1 {
                 assert!(rt; outcome == Err(Fault::Read), "at call {call}");
                 assert!(rt; written.as_slice() == answered(call - 1), "at call {call}");
@@ -153,7 +167,7 @@ fn each_write_fails_in_turn(rt: HostRuntime) {
             ),
             (Some(ErrorKind::Interrupted), None),
         ] {
-            let (outcome, taken) = sip(rt.alloc(), call, kind);
+            let (outcome, taken) = sip(rt.alloc(), call, 1, kind);
             match fault {
                 Some(fault) if call <= ANSWERS.len() => {
                     assert!(rt; outcome == Err(fault), "at call {call}");
@@ -165,6 +179,24 @@ fn each_write_fails_in_turn(rt: HostRuntime) {
                 ),
             }
         }
+    }
+}
+
+// An interrupted read is taken again up to 4096 times, and so are the writes of what was gathered.
+#[test]
+fn interruptions_are_counted(rt: HostRuntime) {
+    for call in [1, 20, INPUT.len() + 1] {
+        let (outcome, written) = drip(rt.alloc(), call, 4096, ErrorKind::Interrupted);
+        assert!(rt; outcome == Ok(()) && written.as_slice() == ANSWERS);
+        let (outcome, written) = drip(rt.alloc(), call, 4097, ErrorKind::Interrupted);
+        assert!(rt; outcome == Err(Fault::Read) && written.as_slice() == answered(call - 1));
+    }
+    for call in [1, 20, ANSWERS.len()] {
+        let (outcome, taken) = sip(rt.alloc(), call, 4096, Some(ErrorKind::Interrupted));
+        assert!(rt; outcome == Ok(()) && taken.as_slice() == ANSWERS);
+        let (outcome, taken) = sip(rt.alloc(), call, 4097, Some(ErrorKind::Interrupted));
+        assert!(rt; outcome == Err(Fault::Write(ErrorKind::Interrupted)));
+        assert!(rt; taken.as_slice() == &ANSWERS[..call - 1]);
     }
 }
 

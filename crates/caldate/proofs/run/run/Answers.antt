@@ -1,14 +1,16 @@
-use Rattle.std.proofs.Common.{◌≡◌, ◌++◌, ◌∙◌, ◌-◌, ℕ, List, [], Option, length, drop, ap, sym, subst, arith, refl, Err, false}
+use Rattle.std.proofs.Common.{◌≡◌, ◌++◌, ◌∙◌, ◌-◌, ℕ, List, [], Option, length, drop, ap, sym, subst, arith, rules, refl, Err, false, inl, inr}
 use Rattle.std.proofs.lemmas.List.{append-nil}
+use Rattle.std.specs.Prelude.{IsErrAnd}
 use Rattle.std.specs.Io.KnownBytes.{Consumes, IsAtEnd}
 use Rattle.std.proofs.KnownBytes.{Consumes-nil, Consumes-trans, Consumes-kept}
 use Rattle.std.proofs.lemmas.Result.{on_ok_weaker}
-use Rattle.caldate.specs.Runs.{AnswersAll, EndsFrom, Gives, HasRead, IsAllowed}
+use Rattle.caldate.specs.Lines.{lines_of}
+use Rattle.caldate.specs.Runs.{AnswersAll, EndsFrom, Gives, HasRead, IsAllowed, IsOfWrite}
 use Rattle.caldate.specs.declared.request.Filter.{Filter}
 use Rattle.caldate.specs.Standing.{NoEnd, Stands}
 use Rattle.caldate.specs.declared.place.Place.{Place}
-use Rattle.caldate.specs.declared.fault.Fault.TheVariants.{Unanswered}
-use Rattle.caldate.proofs.Ends.{same_fault}
+use Rattle.caldate.specs.declared.fault.Fault.TheVariants.{Read, Unanswered}
+use Rattle.caldate.proofs.Ends.{ended, read_ended, same_fault, write_ended}
 use Rattle.caldate.proofs.Steps.{begun, read, gone, failed, ended_answered}
 use Rattle.caldate.proofs.run.run.Goals as goal
 
@@ -22,9 +24,11 @@ loop-reads-init g c =
       omega (arith, ap length c.new-input.ensures),
     )
 
-pub returns-in_err-read_more-clause-read : goal.returns-in_err-read_more-clause-read
-returns-in_err-read_more-clause-read g c = λ h.
+pub returns-in_err-read_more : goal.returns-in_err-read_more
+returns-in_err-read_more g c =
     let inv = c.loop-reads.invariant in
+    let is : IsErrAnd c.from_residual.result (λ fault. fault ≡ Read) = search rules in
+    read_ended c.args.filter _ _ _ _ _ is
     (inv.0.0, Consumes-kept _ _ _ _ inv.0.1 c.in_err-read_more.ensures.err.1, ended_answered c.args.filter inv.0.0 _ _ c.loop-reads.input c.loop-reads.place inv.1 inv.0.2)
 
 -- what stands once a read gave some bytes
@@ -47,48 +51,38 @@ stands_kept : (filter : Filter) (input : List ℕ) (w0 w : Option (List ℕ)) (g
 stands_kept filter input w0 w gathered bytes got kept left place same e s =
     subst (λ (p : List ℕ). Stands (IsAllowed filter) input w0 w gathered p place) (ap (λ b. drop (length b - left) b) same ∙ sym e) s
 
-pub returns-then-branch-eq0-clause-ok : goal.returns-then-branch-eq0-clause-ok
-returns-then-branch-eq0-clause-ok g c =
+pub returns-then-branch-eq0 : goal.returns-then-branch-eq0
+returns-then-branch-eq0 g c =
     let s = stands_read c.args.filter _ _ _ _ _ [] c.loop-reads.input c.as_bytes.result.now c.read_more.new.self c.loop-reads.place
     refl c.as_bytes.ensures.bytes c.loop-reads.invariant.0 c.in_ok-read_more.ensures.given in
     let end = c.in_ok-read_more.ensures.end c.if-branch-eq0.true in
     let all : EndsFrom c.args.filter (g.W.Write.contents c.loop-reads.writer) (g.W.Write.contents c.answer_last.new.writer) [] c.as_bytes.result.now c.loop-reads.place
-    → IsAtEnd (g.R.Read.remaining c.read_more.new.reader) × Gives (g.R.Read.remaining c.args.reader.now) (g.R.Read.remaining c.read_more.new.reader) (λ input. AnswersAll c.args.filter input (g.W.Write.contents c.args.writer.now) (g.W.Write.contents c.answer_last.new.writer))
+    → IsAtEnd (g.R.Read.remaining c.read_more.new.reader) × Gives (g.R.Read.remaining c.args.reader.now) (g.R.Read.remaining c.read_more.new.reader) (λ input. AnswersAll c.args.filter (lines_of input) (g.W.Write.contents c.args.writer.now) (g.W.Write.contents c.answer_last.new.writer))
     = λ ends. (end.0, (s.0, s.1, ends s.0 _ s.2)) in
-    on_ok_weaker _ all c.answer_last.ensures.ok
+    ended c.args.filter c.answer_last.result _ _ _ _ (on_ok_weaker _ all c.answer_last.ensures.ok)
+    (λ h. record { input = s.0; given = s.1; holds = inr (end.0, c.answer_last.ensures.write h s.0 _ s.2) })
+    c.answer_last.ensures.no_read
+    (λ number h. record { input = s.0; given = s.1; holds = inr (end.0, c.answer_last.ensures.unanswered number h s.0 _ s.2) })
 
-pub returns-then-branch-eq0-clause-write : goal.returns-then-branch-eq0-clause-write
-returns-then-branch-eq0-clause-write g c = λ h.
-    let s = stands_read c.args.filter _ _ _ _ _ [] c.loop-reads.input c.as_bytes.result.now c.read_more.new.self c.loop-reads.place
-    refl c.as_bytes.ensures.bytes c.loop-reads.invariant.0 c.in_ok-read_more.ensures.given in
-    (s.0, s.1, c.answer_last.ensures.write h s.0 _ s.2)
-
-pub returns-then-branch-eq0-clause-unanswered : goal.returns-then-branch-eq0-clause-unanswered
-returns-then-branch-eq0-clause-unanswered g c = λ number h.
-    let s = stands_read c.args.filter _ _ _ _ _ [] c.loop-reads.input c.as_bytes.result.now c.read_more.new.self c.loop-reads.place
-    refl c.as_bytes.ensures.bytes c.loop-reads.invariant.0 c.in_ok-read_more.ensures.given in
-    (s.0, s.1, c.answer_last.ensures.unanswered number h s.0 _ s.2)
-
-pub returns-in-Err-clause-write : goal.returns-in-Err-clause-write
-returns-in-Err-clause-write g c = λ h.
+pub returns-in-Err : goal.returns-in-Err
+returns-in-Err g c =
     let s = stands_read c.args.filter _ _ _ _ _ c.loop-reads.gathered c.loop-reads.input c.as_bytes-in-loop-reads.result.now c.read_more.new.self c.loop-reads.place
     c.loop-reads.invariant.2 c.as_bytes-in-loop-reads.ensures.bytes c.loop-reads.invariant.0 c.in_ok-read_more.ensures.given in
-    (s.0, s.1, c.in-Err.ensures.write h s.0 _ s.2)
+    ended c.args.filter (Err c.in-Err.fault) _ _ _ _ tt
+    (λ h. record { input = s.0; given = s.1; holds = inl (c.in-Err.ensures.write h s.0 _ s.2) })
+    (λ h. c.in-Err.ensures.no_read (ap Err (same_fault c.in-Err.fault Read h)))
+    (λ number h. record { input = s.0; given = s.1; holds = inl (c.in-Err.ensures.unanswered number (ap Err (same_fault c.in-Err.fault (Unanswered number) h)) s.0 _ s.2) })
 
-pub returns-in-Err-clause-unanswered : goal.returns-in-Err-clause-unanswered
-returns-in-Err-clause-unanswered g c = λ number h.
-    let s = stands_read c.args.filter _ _ _ _ _ c.loop-reads.gathered c.loop-reads.input c.as_bytes-in-loop-reads.result.now c.read_more.new.self c.loop-reads.place
-    c.loop-reads.invariant.2 c.as_bytes-in-loop-reads.ensures.bytes c.loop-reads.invariant.0 c.in_ok-read_more.ensures.given in
-    (s.0, s.1, c.in-Err.ensures.unanswered number (ap Err (same_fault c.in-Err.fault (Unanswered number) h)) s.0 _ s.2)
-
-pub returns-in_err-flush-clause-write : goal.returns-in_err-flush-clause-write
-returns-in_err-flush-clause-write g c = λ h.
+pub returns-in_err-flush : goal.returns-in_err-flush
+returns-in_err-flush g c =
     let s = stands_read c.args.filter _ _ _ _ _ c.loop-reads.gathered c.loop-reads.input c.as_bytes-in-loop-reads.result.now c.read_more.new.self c.loop-reads.place
     c.loop-reads.invariant.2 c.as_bytes-in-loop-reads.ensures.bytes c.loop-reads.invariant.0 c.in_ok-read_more.ensures.given in
     let kept = stands_kept c.args.filter s.0 _ _ c.answer_lines.new.gathered c.as_bytes-in-loop-reads.result.now c.read_more.new.self c.keep_last.new.self c.in-Ok.left c.answer_lines.new.place
     c.as_bytes-in-loop-reads.ensures.bytes c.keep_last.ensures (c.in-Ok.ensures.ok s.0 _ s.2) in
     let went = c.let_go.ensures.advances c.args.filter _ c.answer_lines.new.gathered s.0 _ kept in
-    (s.0, s.1, failed c.args.filter s.0 _ _ _ c.answer_lines.new.gathered c.let_go.new.input c.let_go.new.place c.in_err-flush.ensures.front went)
+    let is : IsErrAnd c.from_residual-in_err-flush.result IsOfWrite = search rules in
+    write_ended c.args.filter _ _ _ _ _ is
+    (record { input = s.0; given = s.1; holds = inl (failed c.args.filter s.0 _ _ _ c.answer_lines.new.gathered c.let_go.new.input c.let_go.new.place c.in_err-flush.ensures.front went) })
 
 pub loop-reads-preserved : goal.loop-reads-preserved
 loop-reads-preserved g c =
@@ -104,7 +98,7 @@ loop-reads-preserved g c =
       c.let_go.ensures.few,
     )
 
-pub returns-clause-read : goal.returns-clause-read
-returns-clause-read g c = λ h.
+pub returns : goal.returns
+returns g c =
     let inv = c.loop-reads.invariant in
     (inv.0.0, inv.0.1, ended_answered c.args.filter inv.0.0 _ _ c.loop-reads.input c.loop-reads.place inv.1 inv.0.2)
