@@ -1,3 +1,4 @@
+pub mod Days
 pub mod Laws
 pub mod Pair
 pub mod Parts
