@@ -40,8 +40,6 @@ iso_week_date-same n r s e f =
     let days : r.2 ≡ s.2 = place-one r.2 s.2 (sym e.2 ∙ f.2) in
     λ i. (years i, weeks i, days i)
 
-pub ruleset one_date = (calendar_date-same, iso_week_date-same)
-
 -- the order of two parts, and of three, by cases
 record InOrder (y z : ℤ) (m k d e : ℕ) : Type 0 where
   years : y ≤ℤ z
@@ -123,5 +121,3 @@ ordinals-apart m n e =
     let here = stands m in
     let there = stands n in
     omega (arith, here.number_is, there.number_is, ap days_before e, here.ordinal.0, there.ordinal.0)
-
-pub ruleset part_order = (ints, year_at-rises, ordinal_at-rises, month_at-rises, day_of_month_at-rises, iso_year_at-rises, iso_week_at-rises, weekday_at-rises)
