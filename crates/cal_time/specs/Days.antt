@@ -1,10 +1,10 @@
 -- Laws for callers: the days of the count as days of the calendar, how they follow one another, and when all comes back.
-use Rattle.std.proofs.Common.{◌≡◌, ℕ, zero, suc, ◌+◌, ◌-◌, ◌*◌, ◌%◌, ◌<◌, ◌≤◌, ◌↔◌, refl, sym, ap, ◌∙◌, subst, arith, ℤ, pos, ◌+ℤ◌, ◌≤ℤ◌}
+use Rattle.std.proofs.Common.{◌≡◌, ℕ, zero, suc, ◌+◌, ◌-◌, ◌%◌, ◌<◌, ◌≤◌, ◌↔◌, refl, sym, ap, ◌∙◌, subst, arith, ℤ, pos, ◌+ℤ◌}
 use Rattle.std.proofs.lemmas.Bool.Decides.{nat_tests}
 use Rattle.std.proofs.lemmas.Int.{ints}
-use Rattle.cal_units.specs.Lengths.{is_leap_year, days_in_year, days_in_month}
+use Rattle.cal_units.specs.Lengths.{is_leap_year, days_in_month}
 use Rattle.cal_date.specs.CalendarDay.{CalendarDay, calendar_day, day_after}
-use Rattle.cal_date.specs.CountLaws.{day_at-suc, days_of_years, days_of_years-closed, days_of_months, days_before, year_start, in_months}
+use Rattle.cal_date.specs.CountLaws.{day_at-suc, days_of_years, days_of_years-closed, year_start}
 use Rattle.cal_date.specs.Date.{first_year, last_year, last_day, day_at, year_at, month_at, day_of_month_at, ordinal_at, weekday_at, IsDate, IsYear, IsDayOfMonth, HasCalendarDate}
 use Rattle.cal_date.specs.Order.{IsBefore, calendar_date_at}
 use Rattle.cal_date.specs.PackedDate.{ordinal_number}

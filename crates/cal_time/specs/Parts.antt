@@ -1,5 +1,5 @@
 -- Laws for callers: what each day has, that it has one of each, and in which order.
-use Rattle.std.proofs.Common.{◌≡◌, ℕ, ◌+◌, ◌<◌, ◌≤◌, ◌⊎◌, inl, inr, refl, sym, ap, ◌∙◌, arith, ℤ, pos, ◌≤ℤ◌, List, [], ◌∷◌}
+use Rattle.std.proofs.Common.{◌≡◌, ℕ, ◌+◌, ◌<◌, ◌≤◌, inl, inr, refl, sym, ap, ◌∙◌, arith, ℤ, pos, ◌≤ℤ◌, [], ◌∷◌}
 use Rattle.std.proofs.lemmas.Bool.{cases_lt}
 use Rattle.std.proofs.lemmas.Int.{ints}
 use Rattle.cal_units.specs.declared.month.Month.{Month}
@@ -9,13 +9,12 @@ use Rattle.cal_units.specs.MonthCycle.{month_at-place}
 use Rattle.cal_units.specs.Weekday as weekday
 use Rattle.cal_units.specs.WeekdayCycle.{weekday_at-place}
 use Rattle.cal_date.specs.CountLaws.{days_before}
-use Rattle.cal_date.specs.Date.{year_at, month_at, day_of_month_at, ordinal_at, weekday_at, IsDate, IsYear, IsDayOfMonth, IsOrdinal, HasCalendarDate}
-use Rattle.cal_date.specs.IsoWeekDate.{iso_year_at, iso_week_at, HasIsoWeekDate, IsWeek}
+use Rattle.cal_date.specs.Date.{year_at, month_at, day_of_month_at, ordinal_at, weekday_at, HasCalendarDate}
+use Rattle.cal_date.specs.IsoWeekDate.{iso_year_at, iso_week_at, HasIsoWeekDate}
 use Rattle.cal_date.specs.Order.{IsBefore, ordinal_date_at, calendar_date_at, iso_week_date_at}
-use Rattle.cal_date.proofs.Calendar.{in_month_of, day_of_month-range}
-use Rattle.cal_date.proofs.Dates.{stands, in_range}
-use Rattle.cal_date.proofs.IsoWeeks.{iso_week_dates-rise, iso_week_at-range, IsYear-iso_year_at}
-use Rattle.cal_date.proofs.Order.{Rises, in_order}
+use Rattle.cal_date.proofs.Dates.{stands}
+use Rattle.cal_date.proofs.IsoWeeks.{iso_week_dates-rise}
+use Rattle.cal_date.proofs.Order.{in_order}
 use Rattle.cal_date.proofs.Rising.{Rises-calendar_date, Rises-ordinal_date}
 
 -- the number of a month tells the month, and the place of a weekday the weekday
