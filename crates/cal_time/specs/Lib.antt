@@ -1,5 +1,7 @@
+pub mod Days
 pub mod Laws
 pub mod Pair
+pub mod Parts
 -- what the contracts of the calls are said in, for the crates above
 pub use Rattle.cal_units.specs.Counted
 pub use Rattle.cal_units.specs.Lengths

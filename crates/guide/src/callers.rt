@@ -69,6 +69,16 @@ fn through_calendar_date(date: Date) -> Date
     }
 }
 
+/// The calendar date itself, by way of its day, if it has one.
+fn calendar_date_through(year: i32, month: Month, day: u8) -> Option<(i32, Month, u8)>
+    ensures { IfSome result (λ same. same ≡ (year, month, day)) }
+{
+    match Date::from_calendar_date(year, month, day) {
+        Ok(date) => Some(date.to_calendar_date()),
+        Err(_) => None,
+    }
+}
+
 /// The day itself, by way of its week date.
 fn through_iso_week_date(date: Date) -> Date
     ensures { result ≡ date }
@@ -77,6 +87,16 @@ fn through_iso_week_date(date: Date) -> Date
     match Date::from_iso_week_date(year, week, weekday) {
         Ok(same) => same,
         Err(_) => unreachable!(),
+    }
+}
+
+/// The week date itself, by way of its day, if it has one.
+fn iso_week_date_through(year: i32, week: u8, weekday: Weekday) -> Option<(i32, u8, Weekday)>
+    ensures { IfSome result (λ same. same ≡ (year, week, weekday)) }
+{
+    match Date::from_iso_week_date(year, week, weekday) {
+        Ok(date) => Some(date.to_iso_week_date()),
+        Err(_) => None,
     }
 }
 
@@ -92,6 +112,13 @@ fn days_left_in_month(date: Date) -> u8
     ensures { result + day_of_month_at date ≡ days_in_month (year_at date) (month_at date) }
 {
     date.month().length(date.year()) - date.day()
+}
+
+/// The days since 1 January.
+fn days_since_new_year(date: Date) -> u16
+    ensures { result + 1 ≡ ordinal_at date }
+{
+    date.ordinal() - 1
 }
 
 /// Whether the year has a week 53.
@@ -206,7 +233,10 @@ pub fn show(rt: &impl Print) -> io::Result<()> {
         julian_day_through(0),
         ordinal_date_through(2024, 366)
     )?;
+    println!(rt; "{:?}", calendar_date_through(2000, Month::February, 29))?;
+    println!(rt; "{:?}", iso_week_date_through(2020, 53, Weekday::Friday))?;
     println!(rt; "{} {}", days_left(day), days_left_in_month(day))?;
+    println!(rt; "{}", days_since_new_year(day))?;
     println!(rt; "{} {}", extra_weeks(2020), weeks_gone(day))?;
     println!(rt; "{:?}", last_friday(2024, Month::February))?;
     println!(rt; "{:?}", there_and_back_by(day, SignedDuration::DAY))?;

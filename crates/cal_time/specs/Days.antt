@@ -1,0 +1,136 @@
+-- Laws for callers: the days of the count as days of the calendar, how they follow one another, and when all comes back.
+use Rattle.std.proofs.Common.{◌≡◌, ℕ, zero, suc, ◌+◌, ◌-◌, ◌%◌, ◌<◌, ◌≤◌, ◌↔◌, refl, sym, ap, ◌∙◌, subst, arith, ℤ, pos, ◌+ℤ◌}
+use Rattle.std.proofs.lemmas.Bool.Decides.{nat_tests}
+use Rattle.std.proofs.lemmas.Int.{ints}
+use Rattle.cal_units.specs.Lengths.{is_leap_year, days_in_month}
+use Rattle.cal_date.specs.CalendarDay.{CalendarDay, calendar_day, day_after}
+use Rattle.cal_date.specs.CountLaws.{day_at-suc, days_of_years, days_of_years-closed, year_start}
+use Rattle.cal_date.specs.Date.{first_year, last_year, last_day, day_at, year_at, month_at, day_of_month_at, ordinal_at, weekday_at, IsDate, IsYear, IsDayOfMonth, HasCalendarDate}
+use Rattle.cal_date.specs.Order.{IsBefore, calendar_date_at}
+use Rattle.cal_date.specs.PackedDate.{ordinal_number}
+use Rattle.cal_date.proofs.Calendar.{ordinal_in, stands_at, in_month_of, day_of_month-range, IsOrdinal-ordinal_in}
+use Rattle.cal_date.proofs.Dates.{in_range, IsDate-ordinal_number}
+use Rattle.cal_date.proofs.Order.{in_order}
+use Rattle.cal_date.proofs.Rising.{Rises-calendar_date}
+use Rattle.cal_date.proofs.Weekdays.{weekday_at-is}
+use Rattle.cal_date.proofs.Years as years
+
+-- a month of the year, from January, 1, to December, 12
+abbrev pub IsMonth : ℕ → Type 0
+IsMonth m = (1 ≤ m) × (m ≤ 12)
+
+-- what each day has is a real month, and a day of that month
+pub month_at-range : (n : ℕ) → IsMonth (month_at n)
+month_at-range n = let at = in_month_of n in (omega (arith, at.month_is), omega (arith, at.month_is, at.stands.month))
+
+pub day_of_month_at-range : (n : ℕ) → IsDayOfMonth (year_at n) (month_at n) (day_of_month_at n)
+day_of_month_at-range n = day_of_month-range n
+
+-- a day of the range has a year of the range
+pub year_at-range : (n : ℕ) → IsDate n → IsYear (year_at n)
+year_at-range n h = (in_range n (year_at n) (ordinal_at n) h (refl, refl)).year
+
+-- the first day of the range is 1 January of its first year, and the last one 31 December of its last year
+pub day_at-first : HasCalendarDate first_year 1 1 0
+unfolding day_at
+day_at-first = refl
+
+pub day_at-last : HasCalendarDate last_year 12 31 last_day
+day_at-last = years.day_at-last_day
+
+-- each calendar date of the range has its day
+pub record IsDayWith (y : ℤ) (m d : ℕ) : Type 0 where
+  pub day : ℕ
+  pub date : IsDate day
+  pub has : HasCalendarDate y m d day
+
+pub day_with : (y : ℤ) (m d : ℕ) → IsYear y → IsMonth m → IsDayOfMonth y m d → IsDayWith y m d
+day_with y m d h f g =
+    let i = m - 1 in
+    let same : i + 1 ≡ m = omega (arith, f.0) in
+    let low : i < 12 = omega (arith, f.0, f.1) in
+    let day : IsDayOfMonth y (i + 1) d = subst (λ k. IsDayOfMonth y k d) (sym same) g in
+    record {
+      day = ordinal_number y (ordinal_in y i d);
+      date = IsDate-ordinal_number y (ordinal_in y i d) h (IsOrdinal-ordinal_in y i d h.0 low day);
+      has = (stands_at y i d h.0 low day).has ∙ ap (λ k. calendar_day y k d) same;
+    }
+
+-- the three days that may come after a day
+in_month : (y : ℤ) (m d : ℕ) → d < days_in_month y m → day_after (calendar_day y m d) ≡ calendar_day y m (d + 1)
+unfolding day_after
+in_month y m d h = grind (arith, nat_tests)
+
+past_month : (y : ℤ) (m d : ℕ) → days_in_month y m ≤ d → m < 12 → day_after (calendar_day y m d) ≡ calendar_day y (m + 1) 1
+unfolding day_after
+past_month y m d h low = grind (arith, nat_tests)
+
+past_year : (y : ℤ) (m d : ℕ) → days_in_month y m ≤ d → 12 ≤ m → day_after (calendar_day y m d) ≡ calendar_day (y +ℤ pos 1) 1 1
+unfolding day_after
+past_year y m d h high = grind (arith, nat_tests)
+
+-- a month has its days, one after the other, from the first one on
+pub days-follow : (y : ℤ) (m n j : ℕ) → HasCalendarDate y m 1 n → j < days_in_month y m → HasCalendarDate y m (j + 1) (n + j)
+days-follow y m n zero e h = let same : n ≡ n + 0 = omega arith in ap day_at (sym same) ∙ e
+days-follow y m n (suc j) e h =
+    let sums : suc (n + j) ≡ n + suc j = omega arith in
+    let days : j + 1 + 1 ≡ suc j + 1 = omega arith in
+    ap day_at (sym sums) ∙ day_at-suc (n + j) ∙ ap day_after (days-follow y m n j e (omega arith)) ∙ in_month y m (j + 1) (omega arith) ∙ ap (calendar_day y m) days
+
+-- and ends with the day before the next one
+days_in_month-least : (y : ℤ) (m : ℕ) → 28 ≤ days_in_month y m
+unfolding days_in_month
+days_in_month-least y m = grind (arith, nat_tests)
+
+last_of : (y : ℤ) (m n : ℕ) → HasCalendarDate y m 1 n → HasCalendarDate y m (days_in_month y m) (n + (days_in_month y m - 1))
+last_of y m n e =
+    let some = days_in_month-least y m in
+    let same : days_in_month y m - 1 + 1 ≡ days_in_month y m = omega arith in
+    days-follow y m n (days_in_month y m - 1) e (omega arith) ∙ ap (calendar_day y m) same
+
+-- so the next month of the year begins after the days of this one, and the next year after those of December
+pub month-next : (y : ℤ) (m n : ℕ) → m < 12 → HasCalendarDate y m 1 n → HasCalendarDate y (m + 1) 1 (n + days_in_month y m)
+month-next y m n low e =
+    let some = days_in_month-least y m in
+    let sums : suc (n + (days_in_month y m - 1)) ≡ n + days_in_month y m = omega arith in
+    ap day_at (sym sums) ∙ day_at-suc _ ∙ ap day_after (last_of y m n e) ∙ past_month y m (days_in_month y m) (omega arith) low
+
+pub year-next : (y : ℤ) (n : ℕ) → HasCalendarDate y 12 1 n → HasCalendarDate (y +ℤ pos 1) 1 1 (n + days_in_month y 12)
+year-next y n e =
+    let some = days_in_month-least y 12 in
+    let sums : suc (n + (days_in_month y 12 - 1)) ≡ n + days_in_month y 12 = omega arith in
+    ap day_at (sym sums) ∙ day_at-suc _ ∙ ap day_after (last_of y 12 n e) ∙ past_year y 12 (days_in_month y 12) (omega arith) (omega arith)
+
+-- days are in the order of their calendar dates
+pub calendar_dates-in_order : (m n : ℕ) → (m < n) ↔ IsBefore (calendar_date_at m) (calendar_date_at n)
+calendar_dates-in_order m n = in_order calendar_date_at Rises-calendar_date m n
+
+-- 400 years have 146,097 days, which are whole weeks: the day so much later has the same month, day and weekday
+leap-period : (y : ℤ) → is_leap_year (y +ℤ pos 400) ≡ is_leap_year y
+leap-period y = grind (arith, ints, nat_tests)
+
+pub days_in_month-period : (y : ℤ) (m : ℕ) → days_in_month (y +ℤ pos 400) m ≡ days_in_month y m
+unfolding days_in_month
+days_in_month-period y m = rw (leap-period y) refl
+
+abbrev later : CalendarDay → CalendarDay
+later d = calendar_day (d.year +ℤ pos 400) d.month d.day
+
+after-later : (d : CalendarDay) → day_after (later d) ≡ later (day_after d)
+unfolding day_after
+after-later d =
+    let next : (d.year +ℤ pos 400) +ℤ pos 1 ≡ (d.year +ℤ pos 1) +ℤ pos 400 = omega (arith, ints) in
+    rw (days_in_month-period d.year d.month, next) (grind (arith, nat_tests))
+
+pub day_at-period : (n : ℕ) → HasCalendarDate (year_at n +ℤ pos 400) (month_at n) (day_of_month_at n) (n + 146097)
+day_at-period zero =
+    let days : days_of_years 400 ≡ 146097 = omega (arith, days_of_years-closed 400) in
+    ap day_at (sym days) ∙ (year_start 400).day_is ∙ ap later (sym day_at-first)
+day_at-period (suc n) =
+    let e : suc (n + 146097) ≡ suc n + 146097 = omega arith in
+    ap day_at (sym e) ∙ day_at-suc (n + 146097) ∙ ap day_after (day_at-period n) ∙ after-later (day_at n) ∙ ap later (sym (day_at-suc n))
+
+pub weekday_at-period : (n : ℕ) → weekday_at (n + 146097) ≡ weekday_at n
+weekday_at-period n =
+    let same : (n + 146097) % 7 ≡ n % 7 = omega arith in
+    weekday_at-is (n + 146097) ∙ same ∙ sym (weekday_at-is n)
