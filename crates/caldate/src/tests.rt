@@ -10,6 +10,7 @@ use std::io::{Read, Write};
 mod arguments;
 mod failing;
 mod long;
+mod shown;
 
 /// A run by arguments with zero bytes between them.
 fn run_by<R: Read, W: Write>(
