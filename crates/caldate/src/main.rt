@@ -4,6 +4,7 @@
 mod answer;
 mod arguments;
 mod asked;
+mod complaint;
 mod ending;
 mod fault;
 mod gathered;
@@ -18,7 +19,9 @@ mod program;
 mod reply;
 mod request;
 mod run;
+mod senseless;
 mod shown;
+mod spelling;
 #[cfg(test)]
 mod tests;
 mod text;
@@ -29,10 +32,10 @@ use std::process::ExitCode;
 /// Ends with status 0, or with another one and the reason on standard error.
 fn main(rt: HostRuntime) -> ExitCode {
     let mut arguments = [0u8; arguments::MOST_BYTES];
-    let asked = match arguments::join(&rt, &mut arguments) {
-        Some(length) => asked::asked_of(&arguments[..length]),
+    let joined = match arguments::join(&rt, &mut arguments) {
+        Some(length) => Some(&arguments[..length]),
         None => None,
     };
     let mut reader = rt.reader();
-    ExitCode::from(program::perform(asked, &mut reader, &mut io::writer(&rt), &mut rt.stderr()))
+    ExitCode::from(program::perform(joined, &mut reader, &mut io::writer(&rt), &mut rt.stderr()))
 }

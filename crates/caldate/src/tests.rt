@@ -19,7 +19,7 @@ fn run_by<R: Read, W: Write>(
     writer: &mut W,
 ) -> Result<(), Fault> {
     match asked_of(arguments) {
-        Some(Asked::Lines(filter)) => run(filter, reader, writer),
+        Ok(Asked::Lines(filter)) => run(filter, reader, writer),
         _ => Err(Fault::Unanswered(0)),
     }
 }
