@@ -1,23 +1,28 @@
 -- What arguments ask for, by their first word and the others.
-use Rattle.std.proofs.Common.{◌≡◌, ℕ, Bool, true, false, cond, eqb, List, [], ◌∷◌, Option, None, Some, refl, sym, ap, ◌∙◌, arith, length, ◌<◌, ℤ, pos, ◌*ℤ◌}
-use Rattle.std.specs.Prelude.{FitsSigned, bytes_eq, codes}
+use Rattle.std.proofs.Common.{◌≡◌, ℕ, true, false, cond, eqb, List, [], ◌∷◌, Option, None, Some, refl, sym, ap, ◌∙◌, arith, length, ◌+◌, ◌<◌, ℤ, pos, ◌*ℤ◌}
+use Rattle.std.specs.Prelude.{FitsSigned, bytes_eq, codes, option_and_then}
 use Rattle.std.specs.Int.{w64}
 use Rattle.std.proofs.lemmas.List.Splits.{length-slice_split}
 use Rattle.cal_text.specs.declared.any.DateOrMoment.{DateOrMoment}
 use Rattle.cal_time.specs.SignedDuration.{second}
-use Rattle.caldate.specs.Requests.{arguments_of, asked_of, filter_of, request_of, seconds_in}
+use Rattle.caldate.specs.Requests.{arguments_of, meaning_of, filter_of, request_after, request_of, seconds_in, verb_of}
 use Rattle.caldate.proofs.Numbers.{fits, guard_yes}
-use Rattle.caldate.specs.declared.request.Request.{Request}
+use Rattle.caldate.specs.Senseless.{senseless_at, senseless_end}
+use Rattle.caldate.specs.declared.senseless.Wanted.TheVariants.{End}
+use Rattle.caldate.specs.declared.request.Verb.{Verb}
+use Rattle.caldate.specs.declared.request.Verb.TheVariants.{To, Add, Next, Last, Until}
 
 -- one word is no request
-none_either : {A : Type 0} (b : Bool) (x : Option A) → x ≡ None → cond b None x ≡ None
-none_either true x e = refl
-none_either false x e = e
+none_after : (reading : List ℕ → Option DateOrMoment) (found : Option Verb) → option_and_then (request_after reading []) found ≡ None
+none_after reading None = refl
+none_after reading (Some To) = refl
+none_after reading (Some Add) = refl
+none_after reading (Some Next) = refl
+none_after reading (Some Last) = refl
+none_after reading (Some Until) = refl
 
 pub one_word : (reading : List ℕ → Option DateOrMoment) (verb : List ℕ) → request_of reading (verb ∷ []) ≡ None
-one_word reading verb =
-    none_either {A = Request} (bytes_eq verb (codes "to")) _ (none_either {A = Request} (bytes_eq verb (codes "add")) _ (none_either {A = Request} (bytes_eq verb (codes "next")) _
-    (none_either {A = Request} (bytes_eq verb (codes "last")) _ (none_either {A = Request} (bytes_eq verb (codes "until")) None refl))))
+one_word reading verb = none_after reading (verb_of verb)
 
 -- there is a first word
 first_of : (parts : List (List ℕ)) → 0 < length parts → (first : List ℕ) × (more : List (List ℕ)) × (parts ≡ first ∷ more)
@@ -27,14 +32,18 @@ first_of (part ∷ parts) h = (part, parts, refl)
 pub some_word : (bytes : List ℕ) → (first : List ℕ) × (more : List (List ℕ)) × (arguments_of bytes ≡ first ∷ more)
 some_word bytes = first_of (arguments_of bytes) (omega (arith, length-slice_split (λ byte. eqb byte 0) bytes))
 
+-- so after the words that make sense one is too many
+pub one_too_many : (at : ℕ) (bytes : List ℕ) → senseless_end at (arguments_of bytes) ≡ senseless_at (at + 2) End
+one_too_many at bytes = let parts = some_word bytes in ap (senseless_end at) parts.2
+
 -- ---- the first of two words and more
 pub strict : (reading : List ℕ → Option DateOrMoment) (first second : List ℕ) (words : List (List ℕ)) → bytes_eq first (codes "--strict") ≡ true
-    → asked_of reading (first ∷ second ∷ words) ≡ filter_of true (request_of reading (second ∷ words))
+    → meaning_of reading (first ∷ second ∷ words) ≡ filter_of true (request_of reading (second ∷ words))
 strict reading first second words e =
     ap (λ b. cond b (filter_of true (request_of reading (second ∷ words))) (filter_of false (request_of reading (first ∷ second ∷ words)))) e
 
 pub lenient : (reading : List ℕ → Option DateOrMoment) (first second : List ℕ) (words : List (List ℕ)) → bytes_eq first (codes "--strict") ≡ false
-    → asked_of reading (first ∷ second ∷ words) ≡ filter_of false (request_of reading (first ∷ second ∷ words))
+    → meaning_of reading (first ∷ second ∷ words) ≡ filter_of false (request_of reading (first ∷ second ∷ words))
 lenient reading first second words e =
     ap (λ b. cond b (filter_of true (request_of reading (second ∷ words))) (filter_of false (request_of reading (first ∷ second ∷ words)))) e
 

@@ -1,7 +1,10 @@
 pub mod Answers
 pub mod Ending
 pub mod Lines
+pub mod Program
 pub mod Requests
 pub mod Room
 pub mod Runs
+pub mod Senseless
+pub mod Shown
 pub mod Standing

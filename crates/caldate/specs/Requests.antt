@@ -1,8 +1,8 @@
--- What the arguments ask for.
-use Rattle.std.specs.Prelude.{ℕ, nat_lt, ◌&&◌, Bool, true, false, ℤ, pos, neg_ℤ, ◌*ℤ◌, int_le, nat_abs, List, [], ◌∷◌, ◌==◌, length, Option, Some, None, MatchOption, option_map, option_and_then, bytes_eq, codes, if◌then◌else◌}
+-- What the arguments ask for, where they make sense.
+use Rattle.std.specs.Prelude.{ℕ, nat_lt, ◌&&◌, ◌||◌, Bool, true, false, ℤ, pos, neg_ℤ, ◌*ℤ◌, int_le, nat_abs, List, [], ◌∷◌, ◌==◌, length, take, Option, Some, None, MatchOption, option_map, option_and_then, bytes_eq, codes, if◌then◌else◌}
 use Rattle.std.specs.List.{slice_split}
 use Rattle.std.specs.Option.{option_zip}
-use Rattle.std.specs.Str.{all_ascii_digits}
+use Rattle.std.specs.Str.{all_ascii_digits, str_eq_ignore_ascii_case}
 use Rattle.std.specs.Str.Parse.{signed_digits_value, without_leading_sign}
 use Rattle.cal_time.specs.SignedDuration.{second}
 use Rattle.cal_time.specs.declared.Weekday.{Weekday}
@@ -11,6 +11,8 @@ use Rattle.cal_text.specs.AnyForm.{IsTextOf}
 use Rattle.cal_text.specs.declared.any.DateOrMoment.{DateOrMoment}
 use Rattle.caldate.specs.declared.request.Form.{Form}
 use Rattle.caldate.specs.declared.request.Form.TheVariants.{Calendar, Ordinal, Week, JulianDay, Weekday as WeekdayName, Rfc3339, Unix}
+use Rattle.caldate.specs.declared.request.Verb.{Verb}
+use Rattle.caldate.specs.declared.request.Verb.TheVariants as verb
 use Rattle.caldate.specs.declared.request.Request.{Request}
 use Rattle.caldate.specs.declared.request.Request.TheVariants.{To, Add, Next, Last, Until}
 use Rattle.caldate.specs.declared.request.Asked.{Asked}
@@ -41,6 +43,15 @@ count_in z = if int_le (pos 1) z && int_le z (pos 255) then Some (nat_abs z) els
 abbrev pub count_of : List ℕ → Option ℕ
 count_of word = option_and_then count_in (number_of word)
 
+abbrev pub verb_of : List ℕ → Option Verb
+verb_of word =
+    if bytes_eq word (codes "to") then Some verb.To else
+    if bytes_eq word (codes "add") then Some verb.Add else
+    if bytes_eq word (codes "next") then Some verb.Next else
+    if bytes_eq word (codes "last") then Some verb.Last else
+    if bytes_eq word (codes "until") then Some verb.Until else
+    None
+
 abbrev pub form_of : List ℕ → Option Form
 form_of word =
     if bytes_eq word (codes "calendar") then Some Calendar else
@@ -52,15 +63,23 @@ form_of word =
     if bytes_eq word (codes "unix") then Some Unix else
     None
 
+-- a name in any case of its letters, or its first three letters so
+unfoldable pub spells : List ℕ → List ℕ → Bool
+spells word name = str_eq_ignore_ascii_case word name || str_eq_ignore_ascii_case word (take 3 name)
+
+-- a unit likewise, as one or as many
+unfoldable pub spells_unit : List ℕ → List ℕ → List ℕ → Bool
+spells_unit word one many = spells word one || str_eq_ignore_ascii_case word many
+
 abbrev pub weekday_of : List ℕ → Option Weekday
 weekday_of word =
-    if bytes_eq word (codes "Monday") then Some weekday.Monday else
-    if bytes_eq word (codes "Tuesday") then Some weekday.Tuesday else
-    if bytes_eq word (codes "Wednesday") then Some weekday.Wednesday else
-    if bytes_eq word (codes "Thursday") then Some weekday.Thursday else
-    if bytes_eq word (codes "Friday") then Some weekday.Friday else
-    if bytes_eq word (codes "Saturday") then Some weekday.Saturday else
-    if bytes_eq word (codes "Sunday") then Some weekday.Sunday else
+    if spells word (codes "Monday") then Some weekday.Monday else
+    if spells word (codes "Tuesday") then Some weekday.Tuesday else
+    if spells word (codes "Wednesday") then Some weekday.Wednesday else
+    if spells word (codes "Thursday") then Some weekday.Thursday else
+    if spells word (codes "Friday") then Some weekday.Friday else
+    if spells word (codes "Saturday") then Some weekday.Saturday else
+    if spells word (codes "Sunday") then Some weekday.Sunday else
     None
 
 -- so many seconds as a duration, where they are one
@@ -72,11 +91,11 @@ seconds_in unit amount =
 -- the seconds of a unit
 abbrev pub unit_of : List ℕ → Option ℕ
 unit_of word =
-    if bytes_eq word (codes "days") then Some 86400 else
-    if bytes_eq word (codes "weeks") then Some 604800 else
-    if bytes_eq word (codes "hours") then Some 3600 else
-    if bytes_eq word (codes "minutes") then Some 60 else
-    if bytes_eq word (codes "seconds") then Some 1 else
+    if spells_unit word (codes "day") (codes "days") then Some 86400 else
+    if spells_unit word (codes "week") (codes "weeks") then Some 604800 else
+    if spells_unit word (codes "hour") (codes "hours") then Some 3600 else
+    if spells_unit word (codes "minute") (codes "minutes") then Some 60 else
+    if spells_unit word (codes "second") (codes "seconds") then Some 1 else
     None
 
 -- ---- requests
@@ -109,26 +128,34 @@ abbrev pub until_request : (List ℕ → Option DateOrMoment) → List (List ℕ
 until_request reading (text ∷ []) = option_map Until (reading text)
 until_request reading words = None
 
+abbrev pub request_after : (List ℕ → Option DateOrMoment) → List (List ℕ) → Verb → Option Request
+request_after reading words verb.To = to_request words
+request_after reading words verb.Add = add_request words
+request_after reading words verb.Next = occurrence_request Next words
+request_after reading words verb.Last = occurrence_request Last words
+request_after reading words verb.Until = until_request reading words
+
 abbrev pub request_of : (List ℕ → Option DateOrMoment) → List (List ℕ) → Option Request
 request_of reading [] = None
-request_of reading (verb ∷ words) =
-    if bytes_eq verb (codes "to") then to_request words else
-    if bytes_eq verb (codes "add") then add_request words else
-    if bytes_eq verb (codes "next") then occurrence_request Next words else
-    if bytes_eq verb (codes "last") then occurrence_request Last words else
-    if bytes_eq verb (codes "until") then until_request reading words else
-    None
+request_of reading (verb ∷ words) = option_and_then (request_after reading words) (verb_of verb)
 
 -- ---- the whole: `--help`, `--version`, or a request, perhaps after `--strict`
+abbrev pub asks_for_help : List ℕ → Bool
+asks_for_help word = bytes_eq word (codes "--help") || bytes_eq word (codes "-h") || bytes_eq word (codes "help")
+
+-- an option that stands alone
+abbrev pub stands_alone : List ℕ → Bool
+stands_alone word = asks_for_help word || bytes_eq word (codes "--version")
+
 abbrev pub filter_of : Bool → Option Request → Option Asked
 filter_of is_strict request = option_map (λ q. Lines (record { request = q; is_strict = is_strict })) request
 
-abbrev pub asked_of : (List ℕ → Option DateOrMoment) → List (List ℕ) → Option Asked
-asked_of reading [] = None
-asked_of reading (first ∷ []) =
-    if bytes_eq first (codes "--help") then Some Help else
+abbrev pub meaning_of : (List ℕ → Option DateOrMoment) → List (List ℕ) → Option Asked
+meaning_of reading [] = None
+meaning_of reading (first ∷ []) =
+    if asks_for_help first then Some Help else
     if bytes_eq first (codes "--version") then Some Version else
     None
-asked_of reading (first ∷ second ∷ words) =
+meaning_of reading (first ∷ second ∷ words) =
     if bytes_eq first (codes "--strict") then filter_of true (request_of reading (second ∷ words))
     else filter_of false (request_of reading (first ∷ second ∷ words))

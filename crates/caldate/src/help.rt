@@ -3,9 +3,6 @@
 /// The version.
 pub const VERSION: &[u8] = b"caldate 0.1.0\n";
 
-/// What is said where the arguments make no sense.
-pub const USAGE: &[u8] = b"caldate: the arguments make no sense; caldate --help shows them\n";
-
 /// The page of examples.
 pub const HELP: &[u8] = b"caldate answers each line of its input, a date or a moment, with one line.
 

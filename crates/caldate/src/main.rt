@@ -4,6 +4,7 @@
 mod answer;
 mod arguments;
 mod asked;
+mod complaint;
 mod ending;
 mod fault;
 mod gathered;
@@ -18,6 +19,9 @@ mod program;
 mod reply;
 mod request;
 mod run;
+mod senseless;
+mod shown;
+mod spelling;
 #[cfg(test)]
 mod tests;
 mod text;

@@ -1,61 +1,67 @@
 //! What the program does for its arguments.
-ghost use Rattle.std.specs.Prelude.{◌≡◌, ℕ, List, Option, option_and_then, Result};
+ghost use Rattle.std.specs.Prelude.{◌≡◌, ℕ, List, Option, Some, None, Result, Ok, Err};
 ghost use Rattle.cal_text.specs.declared.any.DateOrMoment.{DateOrMoment};
 ghost use Rattle.caldate.specs.Ending.{Says, Tells};
-ghost use Rattle.caldate.specs.Requests.{IsReading, arguments_of, asked_of};
+ghost use Rattle.caldate.specs.Program.{Asks, HasComplaint};
+ghost use Rattle.caldate.specs.Requests.{IsReading};
 ghost use Rattle.caldate.specs.Runs.{Ended, Shown};
 ghost use Rattle.caldate.specs.declared.fault.Fault.{Fault};
 ghost use Rattle.caldate.specs.declared.request.Filter.{Filter};
+ghost use Rattle.caldate.specs.declared.senseless.Senseless.{Senseless};
 
 use crate::asked::asked_of;
+use crate::complaint::{TOO_LONG, push_complaint};
 use crate::ending::end;
-use crate::help::{HELP, USAGE, VERSION};
+use crate::gathered::Gathered;
+use crate::help::{HELP, VERSION};
 use crate::output::write_all;
 use crate::request::Asked;
 use crate::run::run;
 use std::io::{Read, Write};
 
-/// Does what the arguments ask for, and returns the status. Between the arguments stands a zero byte, and there are none where they
-/// have no room. Where they make no sense nothing is read, one line on `errors` says so, and the status is 2.
+/// Does what the arguments ask for, between which stands a zero byte, and returns the status. Where they make no sense, or are `None`
+/// since they have too many bytes, nothing is read, one line goes to standard error, and the status is 2.
 pub fn perform<R: Read, W: Write, E: Write>(
     arguments: Option<&[u8]>,
     reader: &mut R,
     writer: &mut W,
     errors: &mut E,
 ) -> u8
-    ensures lines { (reading : List ℕ → Option DateOrMoment) (filter : Filter) → IsReading reading
-        → option_and_then (λ bytes. asked_of reading (arguments_of bytes.now)) arguments.entry ≡ Some (Asked.Lines filter) → (outcome : Result Unit Fault)
+    ensures lines { (reading : List ℕ → Option DateOrMoment) (filter : Filter) → IsReading reading → Asks reading arguments.entry (Asked.Lines filter)
+        → (outcome : Result Unit Fault)
         × Ended filter outcome (R.remaining reader.old) (R.remaining reader.new) (W.contents writer.old) (W.contents writer.new)
         × Tells outcome result (E.contents errors.old) (E.contents errors.new) }
-    ensures help { (reading : List ℕ → Option DateOrMoment) → IsReading reading
-        → option_and_then (λ bytes. asked_of reading (arguments_of bytes.now)) arguments.entry ≡ Some Asked.Help → (reader.new ≡ reader.old) × ((outcome : Result Unit Fault)
+    ensures help { (reading : List ℕ → Option DateOrMoment) → IsReading reading → Asks reading arguments.entry Asked.Help
+        → (reader.new ≡ reader.old) × ((outcome : Result Unit Fault)
         × Shown HELP.now outcome (W.contents writer.old) (W.contents writer.new) × Tells outcome result (E.contents errors.old) (E.contents errors.new)) }
-    ensures version { (reading : List ℕ → Option DateOrMoment) → IsReading reading
-        → option_and_then (λ bytes. asked_of reading (arguments_of bytes.now)) arguments.entry ≡ Some Asked.Version → (reader.new ≡ reader.old) × ((outcome : Result Unit Fault)
+    ensures version { (reading : List ℕ → Option DateOrMoment) → IsReading reading → Asks reading arguments.entry Asked.Version
+        → (reader.new ≡ reader.old) × ((outcome : Result Unit Fault)
         × Shown VERSION.now outcome (W.contents writer.old) (W.contents writer.new) × Tells outcome result (E.contents errors.old) (E.contents errors.new)) }
-    ensures senseless { (reading : List ℕ → Option DateOrMoment) → IsReading reading
-        → option_and_then (λ bytes. asked_of reading (arguments_of bytes.now)) arguments.entry ≡ None → (reader.new ≡ reader.old) × (writer.new ≡ writer.old)
-        × (result ≡ 2) × Says USAGE.now (E.contents errors.old) (E.contents errors.new) }
+    ensures senseless { (reading : List ℕ → Option DateOrMoment) (words : List ℕ) → IsReading reading → HasComplaint reading arguments.entry words
+        → (reader.new ≡ reader.old) × (writer.new ≡ writer.old) × (result ≡ 2)
+        × Says words (E.contents errors.old) (E.contents errors.new) }
 {
-    let asked = match arguments {
-        Some(bytes) => asked_of(bytes),
-        None => None,
+    let Some(arguments) = arguments else {
+        let _ = write_all(errors, TOO_LONG);
+        return 2;
     };
-    match asked {
-        Some(Asked::Lines(filter)) => {
+    match asked_of(arguments) {
+        Ok(Asked::Lines(filter)) => {
             let outcome = run(filter, reader, writer);
             end(outcome, errors)
         }
-        Some(Asked::Help) => {
+        Ok(Asked::Help) => {
             let outcome = write_all(writer, HELP);
             end(outcome, errors)
         }
-        Some(Asked::Version) => {
+        Ok(Asked::Version) => {
             let outcome = write_all(writer, VERSION);
             end(outcome, errors)
         }
-        None => {
-            let _ = write_all(errors, USAGE);
+        Err(senseless) => {
+            let mut line = Gathered::new();
+            push_complaint(&mut line, arguments, senseless);
+            let _ = write_all(errors, line.as_bytes());
             2
         }
     }

@@ -21,6 +21,21 @@ pub enum Form {
     Unix,
 }
 
+/// What is done to each line.
+#[derive(Clone, Copy)]
+pub enum Verb {
+    /// `to FORM`.
+    To,
+    /// `add N`, `add N UNIT`.
+    Add,
+    /// `next WEEKDAY`, `next WEEKDAY N`.
+    Next,
+    /// `last WEEKDAY`, `last WEEKDAY N`.
+    Last,
+    /// `until TEXT`.
+    Until,
+}
+
 /// What each line is answered.
 #[derive(Clone, Copy)]
 pub enum Request {
@@ -46,7 +61,7 @@ pub struct Filter {
 /// What the arguments ask for.
 #[derive(Clone, Copy)]
 pub enum Asked {
-    /// `--help`: the page of examples.
+    /// `--help`, `-h` or `help`: the page of examples.
     Help,
     /// `--version`: the version.
     Version,

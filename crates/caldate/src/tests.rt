@@ -10,6 +10,7 @@ use std::io::{Read, Write};
 mod arguments;
 mod failing;
 mod long;
+mod shown;
 mod strict;
 
 /// A run by arguments with zero bytes between them.
@@ -19,7 +20,7 @@ fn run_by<R: Read, W: Write>(
     writer: &mut W,
 ) -> Result<(), Fault> {
     match asked_of(arguments) {
-        Some(Asked::Lines(filter)) => run(filter, reader, writer),
+        Ok(Asked::Lines(filter)) => run(filter, reader, writer),
         _ => Err(Fault::Unanswered(0)),
     }
 }

@@ -1,9 +1,9 @@
 //! The arguments: what they ask for, and how they are read.
 use crate::arguments::{MOST_BYTES, join};
-use crate::asked::asked_of;
-use crate::help::{HELP, USAGE, VERSION};
+use crate::help::{HELP, VERSION};
 use crate::program::perform;
 use crate::tests::gives;
+use std::alloc::Global;
 use std::env::{Env, FillError};
 use std::test::Fail;
 
@@ -98,44 +98,192 @@ fn arguments_without_room(rt: HostRuntime) -> Result<(), Fail> {
     Ok(())
 }
 
+/// What the program says on standard error for these arguments, after it has read and written nothing and ended with status 2.
+fn complaint(alloc: Global, arguments: Option<&[u8]>) -> Option<Vec<u8>> {
+    let mut reader = b"2024-02-29\n".as_slice();
+    let mut written = Vec::new(alloc);
+    let mut told = Vec::new(alloc);
+    let status = perform(arguments, &mut reader, &mut written, &mut told);
+    if status == 2 && reader.len() == 11 && written.is_empty() {
+        Some(told)
+    } else {
+        None
+    }
+}
+
 #[test]
 fn arguments_that_make_no_sense(rt: HostRuntime) {
-    let cases: [&[u8]; 32] = [
-        b"",
-        b"\0to\0week",
-        b"to",
-        b"to\0",
-        b"to\0Week",
-        b"to\0week\0",
-        b"to\0week\0week",
-        b"add",
-        b"add\0",
-        b"add\0x",
-        b"add\0 1",
-        b"add\01\0day",
-        b"add\01\0days\0days",
-        b"add\0-",
-        b"add\09223372036854775808\0seconds",
-        b"add\09223372036854775807\0minutes",
-        b"add\0106751991167301",
-        b"next",
-        b"next\0friday",
-        b"next\0Fri",
-        b"next\0Friday\00",
-        b"next\0Friday\0256",
-        b"next\0Friday\0-1",
-        b"last\0Friday\01\01",
-        b"until",
-        b"until\02023-02-29",
-        b"until\02024-02-29\0",
-        b"--strict",
-        b"--help\0to",
-        b"--strict\0--help",
-        b"--strict\0--strict\0to\0week",
-        b"-h",
+    let cases: [(&[u8], &[u8]); 40] = [
+        (
+            b"",
+            b"nothing to do; caldate --help shows what can be asked",
+        ),
+        (
+            b"\0to\0week",
+            b"'' is no verb (to, add, next, last, until) and no option (--strict, --help, --version)",
+        ),
+        (
+            b"week",
+            b"'week' is no verb (to, add, next, last, until) and no option (--strict, --help, --version)",
+        ),
+        (
+            b"To\0week",
+            b"'To' is no verb (to, add, next, last, until) and no option (--strict, --help, --version)",
+        ),
+        (
+            b"--strict",
+            b"there is no verb (to, add, next, last, until)",
+        ),
+        (
+            b"--strict\0--help",
+            b"'--help' is no verb (to, add, next, last, until)",
+        ),
+        (
+            b"--strict\0--strict\0to\0week",
+            b"'--strict' is no verb (to, add, next, last, until)",
+        ),
+        (b"--help\0to", b"'to' is one word too many"),
+        (b"help\0\0", b"'' is one word too many"),
+        (b"--version\0-h", b"'-h' is one word too many"),
+        (
+            b"to",
+            b"there is no form (calendar, ordinal, week, julian, weekday, rfc3339, unix)",
+        ),
+        (
+            b"to\0",
+            b"'' is no form (calendar, ordinal, week, julian, weekday, rfc3339, unix)",
+        ),
+        (
+            b"to\0Week\0x",
+            b"'Week' is no form (calendar, ordinal, week, julian, weekday, rfc3339, unix)",
+        ),
+        (b"to\0week\0week", b"'week' is one word too many"),
+        (b"--strict\0to\0week\0", b"'' is one word too many"),
+        (
+            b"add",
+            b"there is no number (-9223372036854775808 .. 9223372036854775807)",
+        ),
+        (
+            b"add\0",
+            b"'' is no number (-9223372036854775808 .. 9223372036854775807)",
+        ),
+        (
+            b"add\0days\030",
+            b"'days' is no number (-9223372036854775808 .. 9223372036854775807)",
+        ),
+        (
+            b"add\0 1",
+            b"' 1' is no number (-9223372036854775808 .. 9223372036854775807)",
+        ),
+        (
+            b"add\09223372036854775808\0seconds",
+            b"'9223372036854775808' is no number (-9223372036854775808 .. 9223372036854775807)",
+        ),
+        (
+            b"add\09223372036854775807\0minutes",
+            b"'9223372036854775807' is too much (at most 9223372036854775807 seconds)",
+        ),
+        (
+            b"add\0106751991167301",
+            b"'106751991167301' is too much (at most 9223372036854775807 seconds)",
+        ),
+        (
+            b"--strict\0add\0-153722867280912931\0min",
+            b"'-153722867280912931' is too much (at most 9223372036854775807 seconds)",
+        ),
+        (
+            b"add\02\0fortnights",
+            b"'fortnights' is no unit (days, weeks, hours, minutes, seconds)",
+        ),
+        (
+            b"--strict\0add\01\0da",
+            b"'da' is no unit (days, weeks, hours, minutes, seconds)",
+        ),
+        (
+            b"add\01\0mins",
+            b"'mins' is no unit (days, weeks, hours, minutes, seconds)",
+        ),
+        (
+            b"add\09223372036854775807\0days\0days",
+            b"'days' is one word too many",
+        ),
+        (b"next", b"there is no weekday (Monday .. Sunday)"),
+        (b"next\0frday", b"'frday' is no weekday (Monday .. Sunday)"),
+        (b"last\0fr", b"'fr' is no weekday (Monday .. Sunday)"),
+        (b"last\0Frid\00", b"'Frid' is no weekday (Monday .. Sunday)"),
+        (
+            b"next\0Fri\tday",
+            b"'Fri?day' is no weekday (Monday .. Sunday)",
+        ),
+        (b"next\0Friday\00", b"'0' is no count (1 .. 255)"),
+        (b"next\0Friday\0256\0x", b"'256' is no count (1 .. 255)"),
+        (b"last\0Friday\0-1", b"'-1' is no count (1 .. 255)"),
+        (b"last\0Friday\01\01", b"'1' is one word too many"),
+        (
+            b"until",
+            b"there is no date and no moment (as 2024-02-29, 2024-02-29T23:59:59Z)",
+        ),
+        (
+            b"until\02023-02-29",
+            b"'2023-02-29' is no date and no moment (as 2024-02-29, 2024-02-29T23:59:59Z)",
+        ),
+        (b"until\02024-02-29\0", b"'' is one word too many"),
+        (
+            b"to\0xxxxxxxxxxxxxxxxxxxxxxxxxxxxxxxxxxxxxxxxxxxxxxxxxxxxxxxxxxxxxxxxxxxxxxxxxxxxxxxxy",
+            b"'xxxxxxxxxxxxxxxxxxxxxxxxxxxxxxxxxxxxxxxxxxxxxxxxxxxxxxxxxxxxxxxxxxxxxxxxxxxxxxxx' is no form (calendar, ordinal, week, julian, weekday, rfc3339, unix)",
+        ),
     ];
-    for arguments in cases {
-        assert!(rt; asked_of(arguments).is_none(), "{arguments:?}");
+    for (arguments, wanted) in cases {
+        let told = complaint(rt.alloc(), Some(arguments)).unwrap_or(Vec::new(rt.alloc()));
+        assert!(rt; is_line(&told, wanted), "{arguments:?}");
+    }
+    let told = complaint(rt.alloc(), None).unwrap_or(Vec::new(rt.alloc()));
+    assert!(rt; is_line(&told, b"the arguments have more than 4096 bytes"));
+}
+
+/// Whether the bytes are these after the name of the program, in one line.
+fn is_line(told: &[u8], wanted: &[u8]) -> bool {
+    let Some(after) = told.strip_prefix(b"caldate: ") else {
+        return false;
+    };
+    after.strip_suffix(b"\n") == Some(wanted)
+}
+
+#[test]
+fn names_in_each_spelling(rt: HostRuntime) {
+    let cases: [(&[u8], &[u8]); 26] = [
+        (b"next\0Monday", b"2024-03-04\n"),
+        (b"next\0mon", b"2024-03-04\n"),
+        (b"next\0TUESDAY", b"2024-03-05\n"),
+        (b"next\0tUE", b"2024-03-05\n"),
+        (b"next\0wednesday", b"2024-03-06\n"),
+        (b"next\0WED", b"2024-03-06\n"),
+        (b"next\0thursDay", b"2024-03-07\n"),
+        (b"next\0Thu", b"2024-03-07\n"),
+        (b"next\0friday", b"2024-03-01\n"),
+        (b"next\0fri", b"2024-03-01\n"),
+        (b"next\0sATURDAY", b"2024-03-02\n"),
+        (b"next\0Sat", b"2024-03-02\n"),
+        (b"last\0SunDay", b"2024-02-25\n"),
+        (b"last\0sun\02", b"2024-02-18\n"),
+        (b"add\01\0day", b"2024-03-01\n"),
+        (b"add\01\0DAYS", b"2024-03-01\n"),
+        (b"add\01\0week", b"2024-03-07\n"),
+        (b"add\01\0Wee", b"2024-03-07\n"),
+        (b"add\01\0wEEKS", b"2024-03-07\n"),
+        (b"add\024\0hour", b"2024-03-01\n"),
+        (b"add\048\0HOU", b"2024-03-02\n"),
+        (b"add\02880\0minute", b"2024-03-02\n"),
+        (b"add\02880\0min", b"2024-03-02\n"),
+        (b"add\086400\0Second", b"2024-03-01\n"),
+        (b"add\086400\0sec", b"2024-03-01\n"),
+        (b"add\086400\0SECONDS", b"2024-03-01\n"),
+    ];
+    for (arguments, wanted) in cases {
+        assert!(rt;
+            gives(rt.alloc(), arguments, b"2024-02-29\n", wanted),
+            "{arguments:?}"
+        );
     }
 }
 
@@ -160,30 +308,19 @@ fn arguments_at_their_ends(rt: HostRuntime) {
 }
 
 #[test]
-fn nothing_is_read_where_the_arguments_make_no_sense(rt: HostRuntime) {
-    for arguments in [None, Some(b"".as_slice()), Some(b"to\0month".as_slice())] {
-        let mut reader = b"2024-02-29\n".as_slice();
-        let mut written = Vec::new(rt.alloc());
-        let mut told = Vec::new(rt.alloc());
-        assert_eq!(rt; perform(arguments, &mut reader, &mut written, &mut told), 2);
-        assert_eq!(rt; reader.len(), 11);
-        assert!(rt; written.is_empty());
-        assert!(rt; told.as_slice() == USAGE);
-    }
-}
-
-#[test]
 fn help_and_version(rt: HostRuntime) {
-    let cases = [
-        (b"--help".as_slice(), HELP),
-        (b"--version".as_slice(), VERSION),
+    let cases: [(&[u8], &[u8]); 4] = [
+        (b"--help", HELP),
+        (b"-h", HELP),
+        (b"help", HELP),
+        (b"--version", VERSION),
     ];
-    for (argument, wanted) in cases {
+    for (arguments, wanted) in cases {
         let mut reader = b"2024-02-29\n".as_slice();
         let mut written = Vec::new(rt.alloc());
         let mut told = Vec::new(rt.alloc());
         assert_eq!(rt;
-            perform(Some(argument), &mut reader, &mut written, &mut told),
+            perform(Some(arguments), &mut reader, &mut written, &mut told),
             0
         );
         assert!(rt; written.as_slice() == wanted && told.is_empty());

@@ -1,6 +1,6 @@
 use Rattle.std.proofs.Common.{◌∙◌}
 use Rattle.caldate.proofs.Numbers.{parsed, not_text}
-use Rattle.caldate.proofs.asked.number_of.Goals as goal
+use Rattle.caldate.proofs.spelling.number_of.Goals as goal
 
 pub returns-in_default : goal.returns-in_default
 returns-in_default c = not_text c.args.word.now c.in_default.ensures.cases.0

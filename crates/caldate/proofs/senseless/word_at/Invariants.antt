@@ -1,0 +1,8 @@
+use Rattle.std.proofs.Common.{◌≡◌, ◌-◌, slice_get}
+use Rattle.caldate.specs.Requests.{arguments_of}
+use Rattle.caldate.specs.Senseless.{words_left}
+use Rattle.caldate.proofs.senseless.word_at.Given as goal
+
+-- the word is as far on among those that are left
+abbrev pub invariant-loop : goal.invariant-loop
+invariant-loop l = slice_get (arguments_of l.arguments) l.place ≡ slice_get (words_left l.words) (l.place - l.counter)

@@ -1,0 +1,110 @@
+-- What is said of arguments that make no sense: the first word that makes none, and what may stand there.
+use denote.Ref.{Bor}
+use Rattle.std.specs.Prelude.{ℕ, ◌+◌, Bool, true, false, List, [], ◌∷◌, ◌++◌, Option, Some, None, is_some, ok_or, Result, bytes_eq, codes, slice_get, if◌then◌else◌}
+use Rattle.std.specs.Option.{option_map_or}
+use Rattle.cal_text.specs.declared.any.DateOrMoment.{DateOrMoment}
+use Rattle.caldate.specs.Requests.{arguments_of, count_of, form_of, is_number, meaning_of, stands_alone, unit_of, verb_of, weekday_of}
+use Rattle.caldate.specs.Shown.{shown}
+use Rattle.caldate.specs.declared.request.Asked.{Asked}
+use Rattle.caldate.specs.declared.request.Verb.{Verb}
+use Rattle.caldate.specs.declared.request.Verb.TheVariants.{To, Add, Next, Last, Until}
+use Rattle.caldate.specs.declared.senseless.Senseless.{Senseless}
+use Rattle.caldate.specs.declared.senseless.Wanted.{Wanted}
+use Rattle.caldate.specs.declared.senseless.Wanted.TheVariants as wanted
+
+-- the words that come, if any do
+abbrev pub words_left : Option (Bor (List ℕ)) → List (List ℕ)
+words_left None = []
+words_left (Some words) = arguments_of words.now
+
+abbrev pub senseless_at : ℕ → Wanted → Senseless
+senseless_at at what = record { place = at; wanted = what }
+
+-- ---- what may stand where
+-- what each verb needs, and what may come after that
+abbrev pub needed_by : Verb → Wanted
+needed_by To = wanted.Form
+needed_by Add = wanted.Number
+needed_by Next = wanted.Weekday
+needed_by Last = wanted.Weekday
+needed_by Until = wanted.Target
+
+abbrev pub further_to : Verb → Wanted
+further_to To = wanted.End
+further_to Add = wanted.UnitOfTime
+further_to Next = wanted.Count
+further_to Last = wanted.Count
+further_to Until = wanted.End
+
+-- the word may stand where this is wanted
+abbrev pub is_wanted : (List ℕ → Option DateOrMoment) → List ℕ → Wanted → Bool
+is_wanted reading word wanted.Form = is_some (form_of word)
+is_wanted reading word wanted.Number = is_number word
+is_wanted reading word wanted.UnitOfTime = is_some (unit_of word)
+is_wanted reading word wanted.Weekday = is_some (weekday_of word)
+is_wanted reading word wanted.Count = is_some (count_of word)
+is_wanted reading word wanted.Target = is_some (reading word)
+is_wanted reading word what = false
+
+-- ---- the first word that makes no sense, by its place among the arguments, counted from 0
+-- each word is what is wanted, so the number is too large for its unit, or a word too many comes after them
+abbrev pub senseless_end : ℕ → List (List ℕ) → Senseless
+senseless_end at [] = senseless_at at wanted.Amount
+senseless_end at (word ∷ words) = senseless_at (at + 2) wanted.End
+
+abbrev pub senseless_further : (List ℕ → Option DateOrMoment) → ℕ → Wanted → List (List ℕ) → Senseless
+senseless_further reading at further [] = senseless_end at []
+senseless_further reading at further (word ∷ words) =
+    if is_wanted reading word further then senseless_end at words else senseless_at (at + 1) further
+
+-- after a verb, from this place on
+abbrev pub senseless_after : (List ℕ → Option DateOrMoment) → ℕ → List (List ℕ) → Verb → Senseless
+senseless_after reading at [] verb = senseless_at at (needed_by verb)
+senseless_after reading at (word ∷ words) verb =
+    if is_wanted reading word (needed_by verb) then senseless_further reading at (further_to verb) words else senseless_at at (needed_by verb)
+
+-- from the verb on, which has this place, where this is wanted
+abbrev pub senseless_request : (List ℕ → Option DateOrMoment) → ℕ → Wanted → List (List ℕ) → Senseless
+senseless_request reading at what [] = senseless_at at what
+senseless_request reading at what (word ∷ words) = option_map_or (senseless_after reading (at + 1) words) (verb_of word) (senseless_at at what)
+
+-- from the start; an argument alone that is empty is as none, and after an option that stands alone each word is one too many
+abbrev pub senseless_of : (List ℕ → Option DateOrMoment) → List (List ℕ) → Senseless
+senseless_of reading [] = senseless_at 0 wanted.Something
+senseless_of reading ([] ∷ []) = senseless_at 0 wanted.Something
+senseless_of reading (word ∷ words) =
+    if bytes_eq word (codes "--strict") then senseless_request reading 1 wanted.Verb words else
+    if stands_alone word then senseless_at 1 wanted.End else
+    senseless_request reading 0 wanted.Start (word ∷ words)
+
+-- what the arguments ask for, or else that word
+abbrev pub asked_of : (List ℕ → Option DateOrMoment) → List (List ℕ) → Result Asked Senseless
+asked_of reading words = ok_or (meaning_of reading words) (senseless_of reading words)
+
+-- ---- the line that says so
+abbrev pub wanted_words : Wanted → List ℕ
+wanted_words wanted.Something = codes "nothing to do; caldate --help shows what can be asked"
+wanted_words wanted.Start = codes "no verb (to, add, next, last, until) and no option (--strict, --help, --version)"
+wanted_words wanted.Verb = codes "no verb (to, add, next, last, until)"
+wanted_words wanted.Form = codes "no form (calendar, ordinal, week, julian, weekday, rfc3339, unix)"
+wanted_words wanted.Number = codes "no number (-9223372036854775808 .. 9223372036854775807)"
+wanted_words wanted.Amount = codes "too much (at most 9223372036854775807 seconds)"
+wanted_words wanted.UnitOfTime = codes "no unit (days, weeks, hours, minutes, seconds)"
+wanted_words wanted.Weekday = codes "no weekday (Monday .. Sunday)"
+wanted_words wanted.Count = codes "no count (1 .. 255)"
+wanted_words wanted.Target = codes "no date and no moment (as 2024-02-29, 2024-02-29T23:59:59Z)"
+wanted_words wanted.End = codes "one word too many"
+
+abbrev pub is_something : Wanted → Bool
+is_something wanted.Something = true
+is_something what = false
+
+-- the word itself, or that it is missing
+abbrev pub word_words : Option (List ℕ) → List ℕ
+word_words None = codes "there is "
+word_words (Some word) = codes "'" ++ shown word ++ codes "' is "
+
+abbrev pub complaint : List (List ℕ) → Senseless → List ℕ
+complaint words senseless =
+    codes "caldate: " ++ (if is_something senseless.wanted then [] else word_words (slice_get words senseless.place))
+    ++ wanted_words senseless.wanted ++ 10 ∷ []

@@ -1,0 +1,66 @@
+//! The line on arguments that make no sense.
+ghost use Rattle.std.specs.Prelude.{◌≡◌, ◌+◌, ◌≤◌, ◌++◌, [], length};
+ghost use Rattle.caldate.specs.Requests.{arguments_of};
+ghost use Rattle.std.specs.Option.{option_copied};
+ghost use Rattle.caldate.specs.Senseless.{complaint, wanted_words, word_words};
+
+use crate::gathered::Gathered;
+use crate::senseless::{Senseless, Wanted, word_at};
+use crate::shown::ShownText;
+
+/// What is said of arguments that have too many bytes.
+pub const TOO_LONG: &[u8] = b"caldate: the arguments have more than 4096 bytes\n";
+
+/// Gathers the line on the first word that makes no sense: `caldate: 'fortnights' is no unit (days, weeks, hours, minutes, seconds)`.
+pub fn push_complaint(line: &mut Gathered, arguments: &[u8], senseless: Senseless)
+    requires { line.old ≡ [] }
+    ensures { line.new ≡ complaint (arguments_of arguments.now) senseless }
+{
+    line.push(b"caldate: ");
+    if senseless.wanted != Wanted::Something {
+        push_word(line, word_at(arguments, senseless.place));
+    }
+    line.push(wanted_words(senseless.wanted));
+    line.push(b"\n");
+}
+
+/// The word itself, or that it is missing.
+fn push_word(line: &mut Gathered, word: Option<&[u8]>)
+    requires { length line.old ≤ 9 }
+    ensures text { line.new ≡ line.old ++ word_words (option_copied word.entry) }
+    ensures short { length line.new ≤ length line.old + 90 }
+{
+    let Some(word) = word else {
+        line.push(b"there is ");
+        return;
+    };
+    line.push(b"'");
+    line.push(ShownText::new(word).as_bytes());
+    line.push(b"' is ");
+}
+
+/// What may stand at the place.
+fn wanted_words(wanted: Wanted) -> &'static [u8]
+    ensures words { result.now ≡ wanted_words wanted }
+    ensures short { length result.now ≤ 90 }
+{
+    match wanted {
+        Wanted::Something => b"nothing to do; caldate --help shows what can be asked".as_slice(),
+        Wanted::Start => {
+            b"no verb (to, add, next, last, until) and no option (--strict, --help, --version)".as_slice()
+        }
+        Wanted::Verb => b"no verb (to, add, next, last, until)".as_slice(),
+        Wanted::Form => {
+            b"no form (calendar, ordinal, week, julian, weekday, rfc3339, unix)".as_slice()
+        }
+        Wanted::Number => b"no number (-9223372036854775808 .. 9223372036854775807)".as_slice(),
+        Wanted::Amount => b"too much (at most 9223372036854775807 seconds)".as_slice(),
+        Wanted::UnitOfTime => b"no unit (days, weeks, hours, minutes, seconds)".as_slice(),
+        Wanted::Weekday => b"no weekday (Monday .. Sunday)".as_slice(),
+        Wanted::Count => b"no count (1 .. 255)".as_slice(),
+        Wanted::Target => {
+            b"no date and no moment (as 2024-02-29, 2024-02-29T23:59:59Z)".as_slice()
+        }
+        Wanted::End => b"one word too many".as_slice(),
+    }
+}

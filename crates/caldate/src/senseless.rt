@@ -1,0 +1,189 @@
+//! The first word of the arguments that makes no sense.
+ghost use Rattle.std.specs.Prelude.{◌≡◌, ◌≤◌, ℕ, List, [], ◌∷◌, Option, MatchOption, slice_get};
+ghost use Rattle.cal_text.specs.declared.any.DateOrMoment.{DateOrMoment};
+ghost use Rattle.caldate.specs.Requests.{IsReading, arguments_of, stands_alone};
+ghost use Rattle.caldate.specs.Senseless.{further_to, is_wanted, needed_by, senseless_after, senseless_at, senseless_further, senseless_of, senseless_request, words_left};
+
+use crate::request::Verb;
+use crate::spelling::{
+    asks_for_help, count_of, first_word, form_of, number_of, unit_of, verb_of, weekday_of,
+};
+use cal_text::read_any;
+
+/// What may stand at a place of the arguments.
+#[derive(Clone, Copy, Debug, PartialEq, Eq)]
+pub enum Wanted {
+    /// Something to do: there are no arguments.
+    Something,
+    /// A verb, or an option, as `--strict`.
+    Start,
+    /// `to`, `add`, `next`, `last` or `until`.
+    Verb,
+    /// A form, as `week`.
+    Form,
+    /// A number.
+    Number,
+    /// A number that is no more than a duration has of its unit.
+    Amount,
+    /// A unit of time, as `hours`.
+    UnitOfTime,
+    /// A weekday, as `Friday`.
+    Weekday,
+    /// A number from 1 to 255.
+    Count,
+    /// A date or a moment.
+    Target,
+    /// No word.
+    End,
+}
+
+/// The first word that makes no sense.
+#[derive(Clone, Copy, Debug, PartialEq, Eq)]
+pub struct Senseless {
+    /// Its place among the arguments, counted from 0. A word that is missing has the place that it would have.
+    pub place: usize,
+    /// What may stand there.
+    pub wanted: Wanted,
+}
+
+/// The first word that makes no sense, of arguments that make none: of `next frday` that at place 1, where a weekday may stand.
+pub fn senseless_of(arguments: &[u8]) -> Senseless
+    ensures { (reading : List ℕ → Option DateOrMoment) → IsReading reading → result ≡ senseless_of reading (arguments_of arguments.now) }
+{
+    if arguments.is_empty() {
+        return senseless_at(0, Wanted::Something);
+    }
+    let (first, rest) = cut(arguments);
+    if first == b"--strict".as_slice() {
+        senseless_request(1, Wanted::Verb, rest)
+    } else if stands_alone(first) {
+        senseless_at(1, Wanted::End)
+    } else {
+        senseless_request(0, Wanted::Start, Some(arguments))
+    }
+}
+
+/// The word at a place, if there is one.
+pub fn word_at(arguments: &[u8], place: usize) -> Option<&[u8]>
+    ensures { MatchOption result (slice_get (arguments_of arguments.now) place ≡ None)
+        (λ word. slice_get (arguments_of arguments.now) place ≡ Some word.now) }
+{
+    let mut words = Some(arguments);
+    for _ in 0..place {
+        words = cut(words?).1;
+    }
+    Some(cut(words?).0)
+}
+
+/// From the verb on, which has this place, where this is wanted.
+fn senseless_request(place: usize, wanted: Wanted, words: Option<&[u8]>) -> Senseless
+    requires { place ≤ 1 }
+    ensures { (reading : List ℕ → Option DateOrMoment) → IsReading reading → result ≡ senseless_request reading place wanted (words_left words.entry) }
+{
+    let Some(words) = words else {
+        return senseless_at(place, wanted);
+    };
+    let (word, rest) = cut(words);
+    match verb_of(word) {
+        Some(verb) => senseless_after(place + 1, rest, verb),
+        None => senseless_at(place, wanted),
+    }
+}
+
+/// After a verb, from this place on.
+fn senseless_after(place: usize, words: Option<&[u8]>, verb: Verb) -> Senseless
+    requires { place ≤ 2 }
+    ensures { (reading : List ℕ → Option DateOrMoment) → IsReading reading → result ≡ senseless_after reading place (words_left words.entry) verb }
+{
+    let needed = needed_by(verb);
+    let Some(words) = words else {
+        return senseless_at(place, needed);
+    };
+    let (word, rest) = cut(words);
+    if is_wanted(word, needed) {
+        senseless_further(place, further_to(verb), rest)
+    } else {
+        senseless_at(place, needed)
+    }
+}
+
+/// After the word that the verb needs, which has this place.
+#[tactic(auto, using(crate::proofs::Words::one_too_many))]
+fn senseless_further(place: usize, further: Wanted, words: Option<&[u8]>) -> Senseless
+    requires { place ≤ 2 }
+    ensures { (reading : List ℕ → Option DateOrMoment) → IsReading reading → result ≡ senseless_further reading place further (words_left words.entry) }
+{
+    let Some(words) = words else {
+        return senseless_at(place, Wanted::Amount);
+    };
+    let (word, rest) = cut(words);
+    if !is_wanted(word, further) {
+        return senseless_at(place + 1, further);
+    }
+    match rest {
+        Some(_) => senseless_at(place + 2, Wanted::End),
+        None => senseless_at(place, Wanted::Amount),
+    }
+}
+
+fn senseless_at(place: usize, wanted: Wanted) -> Senseless
+    ensures { result ≡ senseless_at place wanted }
+{
+    Senseless { place, wanted }
+}
+
+/// What a verb needs.
+fn needed_by(verb: Verb) -> Wanted
+    ensures { result ≡ needed_by verb }
+{
+    match verb {
+        Verb::To => Wanted::Form,
+        Verb::Add => Wanted::Number,
+        Verb::Next | Verb::Last => Wanted::Weekday,
+        Verb::Until => Wanted::Target,
+    }
+}
+
+/// What may come after that.
+fn further_to(verb: Verb) -> Wanted
+    ensures { result ≡ further_to verb }
+{
+    match verb {
+        Verb::Add => Wanted::UnitOfTime,
+        Verb::Next | Verb::Last => Wanted::Count,
+        Verb::To | Verb::Until => Wanted::End,
+    }
+}
+
+/// Whether the word may stand where this is wanted.
+fn is_wanted(word: &[u8], wanted: Wanted) -> bool
+    ensures { (reading : List ℕ → Option DateOrMoment) → IsReading reading → result ≡ is_wanted reading word.now wanted }
+{
+    match wanted {
+        Wanted::Form => form_of(word).is_some(),
+        Wanted::Number => number_of(word).is_some(),
+        Wanted::UnitOfTime => unit_of(word).is_some(),
+        Wanted::Weekday => weekday_of(word).is_some(),
+        Wanted::Count => count_of(word).is_some(),
+        Wanted::Target => read_any(word).is_ok(),
+        _ => false,
+    }
+}
+
+/// Whether the word is an option that stands alone.
+fn stands_alone(word: &[u8]) -> bool
+    ensures { result ≡ stands_alone word.now }
+{
+    asks_for_help(word) || word == b"--version".as_slice()
+}
+
+/// The first word, and those after it, where there are any.
+fn cut(words: &[u8]) -> (&[u8], Option<&[u8]>)
+    ensures parts { arguments_of words.now ≡ result.0.now ∷ words_left result.1 }
+    ensures whole { result.1 ≡ None → result.0.now ≡ words.now }
+{
+    match first_word(words) {
+        Some((word, rest)) => (word, Some(rest)),
+        None => (words, None),
+    }
+}

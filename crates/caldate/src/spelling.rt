@@ -1,0 +1,172 @@
+//! What single words of the arguments spell, and how the arguments are cut into words.
+ghost use Rattle.std.specs.Prelude.{◌≡◌, ◌≤◌, ℕ, List, [], ◌∷◌, length, MatchOption};
+ghost use Rattle.std.specs.Str.{str_eq_ignore_ascii_case};
+ghost use Rattle.caldate.specs.Requests.{arguments_of, asks_for_help, verb_of, number_of, count_of, form_of, weekday_of, unit_of, spells, spells_unit};
+
+use crate::lines::place_of;
+use crate::request::{Form, Verb};
+use cal_time::Weekday;
+use std::str;
+
+/// The seconds of the unit that is meant where none is named.
+pub const SECONDS_PER_DAY: u32 = 86_400;
+
+/// The verb that a word is.
+pub fn verb_of(word: &[u8]) -> Option<Verb>
+    ensures { result ≡ verb_of word.now }
+{
+    if word == b"to".as_slice() {
+        Some(Verb::To)
+    } else if word == b"add".as_slice() {
+        Some(Verb::Add)
+    } else if word == b"next".as_slice() {
+        Some(Verb::Next)
+    } else if word == b"last".as_slice() {
+        Some(Verb::Last)
+    } else if word == b"until".as_slice() {
+        Some(Verb::Until)
+    } else {
+        None
+    }
+}
+
+/// Whether the word asks for the page of examples.
+pub fn asks_for_help(word: &[u8]) -> bool
+    ensures { result ≡ asks_for_help word.now }
+{
+    word == b"--help".as_slice() || word == b"-h".as_slice() || word == b"help".as_slice()
+}
+
+/// The number that a word spells, from -9223372036854775808 to 9223372036854775807.
+pub fn number_of(word: &[u8]) -> Option<i64>
+    ensures { result ≡ number_of word.now }
+{
+    let Ok(text) = str::from_utf8(word) else {
+        return None;
+    };
+    text.parse().ok()
+}
+
+/// The number from 1 to 255 that a word spells.
+pub fn count_of(word: &[u8]) -> Option<u8>
+    ensures { result ≡ count_of word.now }
+{
+    let number = number_of(word)?;
+    if number < 1 || number > 255 {
+        return None;
+    }
+    Some(number as u8)
+}
+
+/// The form that a word names.
+pub fn form_of(word: &[u8]) -> Option<Form>
+    ensures { result ≡ form_of word.now }
+{
+    if word == b"calendar".as_slice() {
+        Some(Form::Calendar)
+    } else if word == b"ordinal".as_slice() {
+        Some(Form::Ordinal)
+    } else if word == b"week".as_slice() {
+        Some(Form::Week)
+    } else if word == b"julian".as_slice() {
+        Some(Form::JulianDay)
+    } else if word == b"weekday".as_slice() {
+        Some(Form::Weekday)
+    } else if word == b"rfc3339".as_slice() {
+        Some(Form::Rfc3339)
+    } else if word == b"unix".as_slice() {
+        Some(Form::Unix)
+    } else {
+        None
+    }
+}
+
+/// The weekday whose name a word spells: `Friday`, `FRIDAY` and `fri` are one.
+pub fn weekday_of(word: &[u8]) -> Option<Weekday>
+    ensures { result ≡ weekday_of word.now }
+{
+    if spells(word, b"Monday") {
+        Some(Weekday::Monday)
+    } else if spells(word, b"Tuesday") {
+        Some(Weekday::Tuesday)
+    } else if spells(word, b"Wednesday") {
+        Some(Weekday::Wednesday)
+    } else if spells(word, b"Thursday") {
+        Some(Weekday::Thursday)
+    } else if spells(word, b"Friday") {
+        Some(Weekday::Friday)
+    } else if spells(word, b"Saturday") {
+        Some(Weekday::Saturday)
+    } else if spells(word, b"Sunday") {
+        Some(Weekday::Sunday)
+    } else {
+        None
+    }
+}
+
+/// The seconds of the unit of time that a word spells: `day`, `Days` and `DAY` are one.
+pub fn unit_of(word: &[u8]) -> Option<u32>
+    ensures { result ≡ unit_of word.now }
+{
+    if spells_unit(word, b"day", b"days") {
+        Some(SECONDS_PER_DAY)
+    } else if spells_unit(word, b"week", b"weeks") {
+        Some(604_800)
+    } else if spells_unit(word, b"hour", b"hours") {
+        Some(3_600)
+    } else if spells_unit(word, b"minute", b"minutes") {
+        Some(60)
+    } else if spells_unit(word, b"second", b"seconds") {
+        Some(1)
+    } else {
+        None
+    }
+}
+
+/// Whether the word is the name in any case of its letters, or its first three letters so.
+#[tactic(auto, unfolding(crate::specs::Requests::spells))]
+fn spells(word: &[u8], name: &[u8]) -> bool
+    requires { 3 ≤ length name.now }
+    ensures { result ≡ spells word.now name.now }
+{
+    is_alike(word, name) || is_alike(word, &name[..3])
+}
+
+/// Whether the word spells the unit, as one or as many.
+#[tactic(auto, unfolding(crate::specs::Requests::spells_unit))]
+fn spells_unit(word: &[u8], one: &[u8], many: &[u8]) -> bool
+    requires { 3 ≤ length one.now }
+    ensures { result ≡ spells_unit word.now one.now many.now }
+{
+    spells(word, one) || is_alike(word, many)
+}
+
+/// Whether the two differ at most in the case of ASCII letters.
+fn is_alike(word: &[u8], name: &[u8]) -> bool
+    ensures { result ≡ str_eq_ignore_ascii_case word.now name.now }
+{
+    word.eq_ignore_ascii_case(name)
+}
+
+/// The first word, and what comes after the zero byte that ends it. There is none if the bytes are one word.
+#[tactic(auto, using(crate::proofs::Parts::arguments_of_some, crate::proofs::Parts::arguments_of_none, std::proofs::lemmas::List::take_rest))]
+pub fn first_word(bytes: &[u8]) -> Option<(&[u8], &[u8])>
+    ensures { MatchOption result (arguments_of bytes.now ≡ bytes.now ∷ [])
+        (λ parts. arguments_of bytes.now ≡ parts.0.now ∷ arguments_of parts.1.now) }
+{
+    let at = place_of(0, bytes)?;
+    Some((&bytes[..at], &bytes[at + 1..]))
+}
+
+/// The bytes, if they are one word.
+#[tactic(auto, using(crate::proofs::Parts::two_arguments, crate::proofs::Parts::arguments_of_none))]
+pub fn only_word(bytes: &[u8]) -> Option<&[u8]>
+    ensures { MatchOption result
+        ((first second : List ℕ) × (more : List (List ℕ)) × (arguments_of bytes.now ≡ first ∷ second ∷ more))
+        (λ word. arguments_of bytes.now ≡ word.now ∷ []) }
+{
+    match place_of(0, bytes) {
+        Some(_) => None,
+        None => Some(bytes),
+    }
+}
