@@ -1,7 +1,7 @@
 //! What the program does for its arguments.
 ghost use Rattle.std.specs.Prelude.{◌≡◌, ℕ, List, Option, Some, None, Result, Ok, Err};
 ghost use Rattle.cal_text.specs.declared.any.DateOrMoment.{DateOrMoment};
-ghost use Rattle.caldate.specs.Ending.{Says, Tells};
+ghost use Rattle.caldate.specs.Ending.{Tells};
 ghost use Rattle.caldate.specs.Program.{Asks, HasComplaint};
 ghost use Rattle.caldate.specs.Requests.{IsReading};
 ghost use Rattle.caldate.specs.Runs.{Ended, Shown};
@@ -39,7 +39,7 @@ pub fn perform<R: Read, W: Write, E: Write>(
         × Shown VERSION.now outcome (W.contents writer.old) (W.contents writer.new) × Tells outcome result (E.contents errors.old) (E.contents errors.new)) }
     ensures senseless { (reading : List ℕ → Option DateOrMoment) (words : List ℕ) → IsReading reading → HasComplaint reading arguments.entry words
         → (reader.new ≡ reader.old) × (writer.new ≡ writer.old) × (result ≡ 2)
-        × Says words (E.contents errors.old) (E.contents errors.new) }
+        × ((outcome : Result Unit Fault) × Shown words outcome (E.contents errors.old) (E.contents errors.new)) }
 {
     let Some(arguments) = arguments else {
         let _ = write_all(errors, TOO_LONG);
