@@ -1,18 +1,36 @@
 //! The line on arguments that make no sense.
 ghost use Rattle.std.specs.Prelude.{◌≡◌, ◌+◌, ◌≤◌, ◌++◌, [], length};
 ghost use Rattle.caldate.specs.Requests.{arguments_of};
+ghost use Rattle.caldate.specs.Runs.{Shown};
 ghost use Rattle.std.specs.Option.{option_copied};
 ghost use Rattle.caldate.specs.Senseless.{complaint, wanted_words, word_words};
 
+use crate::fault::Fault;
 use crate::gathered::Gathered;
+use crate::output::write_all;
 use crate::senseless::{Senseless, Wanted, word_at};
 use crate::shown::ShownText;
+use std::io::Write;
 
 /// What is said of arguments that have too many bytes.
 pub const TOO_LONG: &[u8] = b"caldate: the arguments have more than 4096 bytes\n";
 
-/// Gathers the line on the first word that makes no sense: `caldate: 'fortnights' is no unit (days, weeks, hours, minutes, seconds)`.
-pub fn push_complaint(line: &mut Gathered, arguments: &[u8], senseless: Senseless)
+/// Tells the first word that makes no sense, and what may stand there, in one line, as
+/// `caldate: 'fortnights' is no unit (days, weeks, hours, minutes, seconds)`, and returns what came of the write.
+pub fn complain<W: Write>(
+    arguments: &[u8],
+    senseless: Senseless,
+    writer: &mut W,
+) -> Result<(), Fault>
+    ensures { Shown (complaint (arguments_of arguments.now) senseless) result (W.contents writer.old) (W.contents writer.new) }
+{
+    let mut line = Gathered::new();
+    push_complaint(&mut line, arguments, senseless);
+    write_all(writer, line.as_bytes())
+}
+
+/// Gathers that line.
+fn push_complaint(line: &mut Gathered, arguments: &[u8], senseless: Senseless)
     requires { line.old ≡ [] }
     ensures { line.new ≡ complaint (arguments_of arguments.now) senseless }
 {
@@ -28,7 +46,7 @@ pub fn push_complaint(line: &mut Gathered, arguments: &[u8], senseless: Senseles
 fn push_word(line: &mut Gathered, word: Option<&[u8]>)
     requires { length line.old ≤ 9 }
     ensures text { line.new ≡ line.old ++ word_words (option_copied word.entry) }
-    ensures short { length line.new ≤ length line.old + 90 }
+    ensures short { length line.new ≤ length line.old + 86 }
 {
     let Some(word) = word else {
         line.push(b"there is ");

@@ -10,14 +10,16 @@ ghost use Rattle.caldate.specs.declared.request.Filter.{Filter};
 ghost use Rattle.caldate.specs.declared.senseless.Senseless.{Senseless};
 
 use crate::asked::asked_of;
-use crate::complaint::{TOO_LONG, push_complaint};
+use crate::complaint::{TOO_LONG, complain};
 use crate::ending::end;
-use crate::gathered::Gathered;
 use crate::help::{HELP, VERSION};
 use crate::output::write_all;
 use crate::request::Asked;
 use crate::run::run;
 use std::io::{Read, Write};
+
+/// The status where the arguments make no sense.
+const SENSELESS: u8 = 2;
 
 /// Does what the arguments ask for, between which stands a zero byte, and returns the status. Where they make no sense, or are `None`
 /// since they have too many bytes, nothing is read, one line goes to standard error, and the status is 2.
@@ -43,7 +45,7 @@ pub fn perform<R: Read, W: Write, E: Write>(
 {
     let Some(arguments) = arguments else {
         let _ = write_all(errors, TOO_LONG);
-        return 2;
+        return SENSELESS;
     };
     match asked_of(arguments) {
         Ok(Asked::Lines(filter)) => {
@@ -59,10 +61,8 @@ pub fn perform<R: Read, W: Write, E: Write>(
             end(outcome, errors)
         }
         Err(senseless) => {
-            let mut line = Gathered::new();
-            push_complaint(&mut line, arguments, senseless);
-            let _ = write_all(errors, line.as_bytes());
-            2
+            let _ = complain(arguments, senseless, errors);
+            SENSELESS
         }
     }
 }
