@@ -4,4 +4,5 @@ pub mod Lines
 pub mod Requests
 pub mod Room
 pub mod Runs
+pub mod Shown
 pub mod Standing

@@ -18,6 +18,7 @@ mod program;
 mod reply;
 mod request;
 mod run;
+mod shown;
 #[cfg(test)]
 mod tests;
 mod text;

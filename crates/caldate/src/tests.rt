@@ -10,6 +10,7 @@ use std::io::{Read, Write};
 mod arguments;
 mod failing;
 mod long;
+mod shown;
 mod strict;
 
 /// A run by arguments with zero bytes between them.
