@@ -6,3 +6,4 @@ pub mod Room
 pub mod Runs
 pub mod Shown
 pub mod Standing
+pub mod Unanswered

@@ -22,6 +22,7 @@ mod shown;
 #[cfg(test)]
 mod tests;
 mod text;
+mod unanswered;
 
 use std::io;
 use std::process::ExitCode;
