@@ -1,12 +1,16 @@
 -- The reply to a line, from the words for its text.
-use Rattle.std.proofs.Common.{◌≡◌, ℕ, ◌+◌, ◌-◌, ◌<◌, Bool, true, false, cond, eqb, List, [], ◌∷◌, ◌++◌, length, take, get_or, codes, refl, sym, ap, ◌∙◌, subst, arith, inl, inr, length-append, length-take, append_assoc}
+use Rattle.std.proofs.Common.{◌≡◌, ℕ, ◌+◌, ◌-◌, ◌<◌, ◌≤◌, Bool, true, false, cond, eqb, List, [], ◌∷◌, ◌++◌, length, take, drop, get_or, codes, refl, sym, ap, ◌∙◌, subst, arith, inl, inr, length-append, length-take, append_assoc}
+use Rattle.std.proofs.Math.Seq.{drop-append_seam, take-append-add}
 use Rattle.std.proofs.lemmas.List.{get_or-append-add}
 use Rattle.caldate.specs.Answers.{HasAnswer, LacksAnswer}
 use Rattle.caldate.specs.Lines.{has_return, text_of, end_of}
 use Rattle.caldate.specs.Runs.{Allowed, AppendsThat, IsAllowed}
-use Rattle.caldate.specs.Standing.{IsHeld, IsReply}
+use Rattle.caldate.specs.Standing.{IsHeld, IsReply, IsShown}
+use Rattle.caldate.specs.Shown.{shown, words_shown}
 use Rattle.caldate.specs.declared.request.Filter.{Filter}
 use Rattle.caldate.specs.declared.request.Request.{Request}
+use Rattle.caldate.specs.declared.shown.ShownText.{ShownText}
+use Rattle.caldate.proofs.Steps.{shown_front}
 
 -- ---- a line of which a front was let go
 same_return : (kept line : List ℕ) → 0 < length line → has_return (kept ++ line) ≡ has_return line
@@ -63,10 +67,23 @@ replied filter b kept line old mid new end h a e f = (
   (a.0, a.2, refl),
 )
 
--- ---- what was gathered before
-take_front : (xs ys : List ℕ) → take (length xs) (xs ++ ys) ≡ xs
-take_front [] ys = refl
-take_front (x ∷ xs) ys = ap (λ l. x ∷ l) (take_front xs ys)
+-- ---- what was gathered after a place
+pub after_is : (old mid words : List ℕ) (n : ℕ) → n ≡ length old → mid ≡ old ++ words → drop n mid ≡ words
+after_is old mid words n e f = ap (λ k. drop k mid) e ∙ ap (drop (length old)) f ∙ drop-append_seam old words
 
-pub taken_back : (old mid new words : List ℕ) (n : ℕ) → n ≡ length old → mid ≡ old ++ words → new ≡ take n mid → new ≡ old
-taken_back old mid new words n e f g = g ∙ ap (λ k. take k mid) e ∙ ap (λ l. take (length old) l) f ∙ take_front old words
+-- ---- what is shown of the text of a line
+shown_cut : (kept line : List ℕ) → 80 ≤ length kept → 0 < length line → shown (take (length (kept ++ line) - 1) (kept ++ line)) ≡ shown kept
+shown_cut kept line h some =
+    let at : length (kept ++ line) - 1 ≡ length kept + (length line - 1) = omega (arith, some, length-append kept line) in
+    ap (λ k. shown (take k (kept ++ line))) at ∙ ap shown (take-append-add kept line (length line - 1)) ∙ shown_front kept (take (length line - 1) line) h
+
+shown_long : (b : Bool) (kept line : List ℕ) → 80 ≤ length kept → 0 < length line
+    → shown (cond b (take (length (kept ++ line) - 1) (kept ++ line)) (kept ++ line)) ≡ shown kept
+shown_long true kept line h some = shown_cut kept line h some
+shown_long false kept line h some = shown_front kept line h
+
+pub text_shown : (b : Bool) (front : ShownText) (kept line text : List ℕ) (told : ShownText) → IsHeld b kept line → IsShown b front kept → text ≡ text_of line
+    → (b ≡ false → words_shown told ≡ shown text) → (b ≡ true → told ≡ front) → words_shown told ≡ shown (text_of (kept ++ line))
+text_shown false front kept line text told held is e whole long = whole refl ∙ ap shown (e ∙ ap (λ k. text_of (k ++ line)) (sym held))
+text_shown true front kept line text told held is e whole long =
+    ap words_shown (long refl) ∙ is ∙ sym (shown_long (has_return (kept ++ line)) kept line (omega (arith, held.0)) (omega (arith, ap length held.2.2)))

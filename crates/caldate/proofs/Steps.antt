@@ -1,19 +1,24 @@
 -- How far a run is after each of its steps.
-use Rattle.std.proofs.Common.{◌≡◌, ℕ, ◌+◌, ◌-◌, ◌<◌, Bool, true, false, List, [], ◌∷◌, ◌++◌, length, take, drop, Option, refl, sym, ap, ◌∙◌, subst, arith, append_assoc, length-append, length-take, length-drop, take-append-drop}
+use Rattle.std.proofs.Common.{◌≡◌, ℕ, ◌+◌, ◌-◌, ◌<◌, ◌≤◌, Bool, true, false, List, [], ◌∷◌, ◌++◌, length, take, drop, Option, refl, sym, ap, ◌∙◌, subst, arith, append_assoc, length-append, length-take, length-drop, take-append-drop}
 use Rattle.std.specs.List.{slice_split}
 use Rattle.std.specs.Io.KnownBytes.{Appends}
 use Rattle.std.proofs.KnownBytes.{Appends-trans, Appends-nil}
 use Rattle.std.proofs.Math.Nat.{min-eq_left}
-use Rattle.std.proofs.lemmas.List.{append-nil}
+use Rattle.std.specs.Prelude.{map}
+use Rattle.std.proofs.lemmas.List.{append-nil, take-append-le}
 use Rattle.std.proofs.lemmas.List.Elements.{All-append, All-head, All-take, All-drop}
 use Rattle.std.proofs.lemmas.List.Splits.{slice_split_at, slice_split_none, length-slice_split}
 use Rattle.std.proofs.lemmas.Bool.{false≢true}
-use Rattle.caldate.specs.Answers.{LacksAnswer}
-use Rattle.caldate.specs.Lines.{ended_lines, is_end, lines_of, text_of, without_empty_last, without_last}
+use Rattle.caldate.specs.Lines.{ended_lines, is_end, lines_of, without_empty_last, without_last}
 use Rattle.caldate.specs.Runs.{AnswersAll, AnswersFront, AppendsFront, AppendsThat, IsAllowed, StopsAt}
-use Rattle.caldate.specs.Standing.{AreReplies, IsReply, IsHeld, NoEnd, Stands, counted}
+use Rattle.caldate.specs.Standing.{AreReplies, IsReply, IsHeld, IsShown, NoEnd, Stands, counted}
+use Rattle.caldate.specs.Shown.{printed, shown, words_shown}
+use Rattle.caldate.specs.Unanswered.{IsUnanswered}
 use Rattle.caldate.specs.declared.place.Place.{Place}
 use Rattle.caldate.specs.declared.request.Filter.{Filter}
+use Rattle.caldate.specs.declared.request.Request.{Request}
+use Rattle.caldate.specs.declared.shown.ShownText.{ShownText}
+use Rattle.caldate.specs.declared.unanswered.UnansweredLine.{UnansweredLine}
 
 -- ---- replies
 pub one_reply : (Allowed : List ℕ → List ℕ → Type 0) (lines : List (List ℕ)) (line out reply : List ℕ)
@@ -79,6 +84,7 @@ answered Allowed input start now gathered gathered_now pending line after place 
       whole = ap (λ o. o ++ r.0) s.whole ∙ append_assoc s.written gathered r.0 ∙ ap (λ l. s.written ++ l) (sym r.1);
       taken = s.taken;
       held = subst (λ b. IsHeld b [] after) (sym short) refl;
+      front = subst (λ b. IsShown b place_now.front []) (sym short) tt;
       number = number ∙ counted_more (length s.lines) place.number s.number ∙ ap counted (sym (length-append s.lines ((s.kept ++ line) ∷ [])));
     }
 
@@ -96,6 +102,7 @@ gone Allowed input start now new gathered left written pending place e a s = rec
   whole = s.whole ∙ ap (λ l. s.written ++ l) e ∙ sym (append_assoc s.written written left);
   taken = Appends-trans start now new _ _ s.taken a;
   held = s.held;
+  front = s.front;
   number = s.number;
 }
 
@@ -175,17 +182,22 @@ failed filter input start now new gathered pending place f s = record {
 }
 
 -- ---- a line without an answer
+abbrev Tells : Filter → Place → List ℕ → UnansweredLine → Type 0
+Tells filter place line told = (kept : List ℕ) → IsHeld place.is_long kept line → IsShown place.is_long place.front kept
+    → IsUnanswered filter.request (counted (place.number + 1)) (kept ++ line) told
+
+numbered : (q : Request) (m n : ℕ) (line : List ℕ) (told : UnansweredLine) → m ≡ counted n → IsUnanswered q (counted (m + 1)) line told
+    → IsUnanswered q (counted (n + 1)) line told
+numbered q m n line told e u = subst (λ k. IsUnanswered q k line told) (counted_more n m e) u
+
 all_more : (start now new : Option (List ℕ)) (written gathered out : List ℕ) → out ≡ written ++ gathered → Appends start now written
     → Appends now new gathered → Appends start new out
 all_more start now new written gathered out e a f = subst (Appends start new) (sym e) (Appends-trans start now new _ _ a f)
 
-pub stopped : (filter : Filter) (input : List ℕ) (start now new : Option (List ℕ)) (gathered pending line after : List ℕ) (place : Place) (number : ℕ)
-    → NoEnd line → pending ≡ line ++ 10 ∷ after → filter.is_strict ≡ true
-    → ((kept : List ℕ) → IsHeld place.is_long kept line → ((words : List ℕ) × LacksAnswer filter.request (text_of (kept ++ line)) words))
-    → number ≡ counted (place.number + 1) → Appends now new gathered
-    → Stands (IsAllowed filter) input start now gathered pending place → StopsAt filter number (ended_lines input) start new
-stopped filter input start now new gathered pending line after place number n e strict lack number_is f s =
-    let lacks = lack s.kept (held_line place.is_long s.kept pending line after s.held e) in
+pub stopped : (filter : Filter) (input : List ℕ) (start now new : Option (List ℕ)) (gathered pending line after : List ℕ) (place : Place) (told : UnansweredLine)
+    → NoEnd line → pending ≡ line ++ 10 ∷ after → filter.is_strict ≡ true → Tells filter place line told → Appends now new gathered
+    → Stands (IsAllowed filter) input start now gathered pending place → StopsAt filter told (ended_lines input) start new
+stopped filter input start now new gathered pending line after place told n e strict tells f s =
     let held = kept_no_end place.is_long s.kept pending s.held in
     let parts = cut_line s.kept line after [] pending held n e in
     let parts = ap (λ p. slice_split is_end (s.kept ++ p)) (sym (append-nil pending)) ∙ parts ∙ ap (λ a. (s.kept ++ line) ∷ slice_split is_end a) (append-nil after) in
@@ -193,13 +205,11 @@ stopped filter input start now new gathered pending line after place number n e 
       lines = s.lines;
       line = s.kept ++ line;
       more = ended_lines after;
-      words = lacks.0;
       out = s.out;
       strict = strict;
       cut = ended_are input s.kept pending s.lines s.cut
           ∙ ap (λ p. s.lines ++ without_last p) parts ∙ ap (λ l. s.lines ++ l) (part_ended (s.kept ++ line) (slice_split is_end after) (split_some after));
-      lacks = lacks.1;
-      number_is = number_is ∙ counted_more (length s.lines) place.number s.number;
+      unanswered = numbered filter.request place.number (length s.lines) (s.kept ++ line) told s.number (tells s.kept (held_line place.is_long s.kept pending line after s.held e) s.front);
       replies = s.replies;
       taken = all_more start now new s.written gathered s.out s.whole s.taken f;
     }
@@ -262,23 +272,18 @@ last_failed filter input start now new gathered line place n l reply f s =
       taken = front_more start now new s.written gathered (s.out ++ r.0) (ap (λ o. o ++ r.0) (s.whole ∙ append-nil s.written) ∙ ap (λ g. s.written ++ g) (sym r.1)) s.taken f;
     }
 
-pub last_stopped : (filter : Filter) (input : List ℕ) (start now : Option (List ℕ)) (line : List ℕ) (place : Place) (number : ℕ)
-    → NoEnd line → 0 < length line → filter.is_strict ≡ true
-    → ((kept : List ℕ) → IsHeld place.is_long kept line → ((words : List ℕ) × LacksAnswer filter.request (text_of (kept ++ line)) words))
-    → number ≡ counted (place.number + 1)
-    → Stands (IsAllowed filter) input start now [] line place → StopsAt filter number (lines_of input) start now
-last_stopped filter input start now line place number n l strict lack number_is s =
-    let lacks = lack s.kept s.held in
+pub last_stopped : (filter : Filter) (input : List ℕ) (start now : Option (List ℕ)) (line : List ℕ) (place : Place) (told : UnansweredLine)
+    → NoEnd line → 0 < length line → filter.is_strict ≡ true → Tells filter place line told
+    → Stands (IsAllowed filter) input start now [] line place → StopsAt filter told (lines_of input) start now
+last_stopped filter input start now line place told n l strict tells s =
     record {
       lines = s.lines;
       line = s.kept ++ line;
       more = [];
-      words = lacks.0;
       out = s.out;
       strict = strict;
       cut = with_last filter input start now [] line place n l s;
-      lacks = lacks.1;
-      number_is = number_is ∙ counted_more (length s.lines) place.number s.number;
+      unanswered = numbered filter.request place.number (length s.lines) (s.kept ++ line) told s.number (tells s.kept s.held s.front);
       replies = s.replies;
       taken = subst (Appends start now) (sym (s.whole ∙ append-nil s.written)) s.taken;
     }
@@ -296,6 +301,7 @@ begun Allowed start place short zero = record {
   whole = refl;
   taken = Appends-nil start;
   held = subst (λ b. IsHeld b [] []) (sym short) refl;
+  front = subst (λ b. IsShown b place.front []) (sym short) tt;
   number = zero;
 }
 
@@ -316,6 +322,7 @@ read Allowed input given start now gathered pending place s = record {
   whole = s.whole;
   taken = s.taken;
   held = held_more place.is_long s.kept pending given s.held;
+  front = s.front;
   number = s.number;
 }
 
@@ -336,10 +343,23 @@ one_byte : (xs : List ℕ) → 0 < length xs → NoEnd xs → (first : ℕ) × (
 one_byte [] h n = absurd (omega arith)
 one_byte (x ∷ xs) h n = (x, xs, refl, All-head (λ byte. is_end byte ≡ false) x xs n)
 
+-- what is shown of a line is what is shown of its front
+pub shown_front : (xs ys : List ℕ) → 80 ≤ length xs → shown (xs ++ ys) ≡ shown xs
+unfolding shown
+shown_front xs ys h = ap (map printed) (take-append-le 80 xs ys h)
+
+front_shown : (b : Bool) (front front_now : ShownText) (kept pending : List ℕ) (k : ℕ) → 80 ≤ length (take k pending) → IsHeld b kept pending → IsShown b front kept
+    → (b ≡ false → words_shown front_now ≡ shown pending) → (b ≡ true → front_now ≡ front) → words_shown front_now ≡ shown (kept ++ take k pending)
+front_shown false front front_now kept pending k h held is whole same =
+    whole refl ∙ ap shown (sym (take-append-drop k pending)) ∙ shown_front (take k pending) (drop k pending) h ∙ ap (λ l. shown (l ++ take k pending)) (sym held)
+front_shown true front front_now kept pending k h held is whole same =
+    ap words_shown (same refl) ∙ is ∙ sym (shown_front kept (take k pending) (omega (arith, held.0)))
+
 pub let_go : (Allowed : List ℕ → List ℕ → Type 0) (input : List ℕ) (start now : Option (List ℕ)) (gathered pending pending_now : List ℕ) (place place_now : Place)
-    → NoEnd pending → 4097 < length pending → pending_now ≡ drop (length pending - 1) pending → place_now.is_long ≡ true → place_now.number ≡ place.number
+    → NoEnd pending → 4097 < length pending → pending_now ≡ drop (length pending - 1) pending → (place.is_long ≡ false → words_shown place_now.front ≡ shown pending)
+    → (place.is_long ≡ true → place_now.front ≡ place.front) → place_now.is_long ≡ true → place_now.number ≡ place.number
     → Stands Allowed input start now gathered pending place → Stands Allowed input start now gathered pending_now place_now
-let_go Allowed input start now gathered pending pending_now place place_now n long last_byte is_long same s =
+let_go Allowed input start now gathered pending pending_now place place_now n long last_byte whole_front same_front is_long same s =
     let k = length pending - 1 in
     let front : length (take k pending) ≡ k = length-take k pending ∙ min-eq_left (omega arith) in
     let last : length (drop k pending) ≡ 1 = omega (arith, length-drop k pending) in
@@ -363,5 +383,7 @@ let_go Allowed input start now gathered pending pending_now place place_now n lo
       whole = s.whole;
       taken = s.taken;
       held = subst (λ b. IsHeld b (s.kept ++ take k pending) (drop k pending)) (sym is_long) held;
+      front = subst (λ b. IsShown b place_now.front (s.kept ++ take k pending)) (sym is_long)
+          (front_shown place.is_long place.front place_now.front s.kept pending k (omega arith) s.held s.front whole_front same_front);
       number = same ∙ s.number;
     })

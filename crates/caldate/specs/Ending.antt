@@ -1,9 +1,9 @@
 -- What the program says on standard error after a run, each line after its name, and its status.
-use Rattle.std.specs.Prelude.{◌≡◌, ◌⊎◌, ℕ, Bool, true, false, List, [], ◌∷◌, ◌++◌, codes, decimal, Option, Result, Ok, Err, if◌then◌else◌}
-use Rattle.std.specs.Io.KnownBytes.{Appends}
+use Rattle.std.specs.Prelude.{◌≡◌, ℕ, Bool, true, false, List, [], ◌∷◌, ◌++◌, codes, decimal, Option, Result, Ok, Err, if◌then◌else◌}
 use Rattle.std.specs.declared.io.ErrorKind.{ErrorKind}
 use Rattle.std.specs.declared.io.ErrorKind.TheVariants.{BrokenPipe}
-use Rattle.caldate.specs.Runs.{AppendsFront}
+use Rattle.caldate.specs.Runs.{Shown}
+use Rattle.caldate.specs.Shown.{words_shown}
 use Rattle.caldate.specs.declared.fault.Fault.{Fault}
 use Rattle.caldate.specs.declared.fault.Fault.TheVariants.{Read, Write, Unanswered}
 
@@ -17,19 +17,16 @@ abbrev pub words_of_end : Result Unit Fault → List ℕ
 words_of_end (Ok done) = []
 words_of_end (Err Read) = codes "caldate: cannot read" ++ 10 ∷ []
 words_of_end (Err (Write kind)) = if is_closed kind then [] else codes "caldate: cannot write" ++ 10 ∷ []
-words_of_end (Err (Unanswered number)) = codes "caldate: line " ++ decimal number ++ codes " has no answer" ++ 10 ∷ []
+words_of_end (Err (Unanswered line)) =
+    codes "caldate: line " ++ decimal line.number ++ codes ": " ++ words_shown line.reason ++ codes ": " ++ words_shown line.text ++ 10 ∷ []
 
 -- 0 after a run that answered all of its input or whose output was closed, 1 where a line had no answer, else 2
 abbrev pub status_of : Result Unit Fault → ℕ
 status_of (Ok done) = 0
-status_of (Err (Unanswered number)) = 1
+status_of (Err (Unanswered line)) = 1
 status_of (Err Read) = 2
 status_of (Err (Write kind)) = if is_closed kind then 0 else 2
 
--- the writer took the words, or, where it failed, a beginning of them that is not all
-abbrev pub Says : List ℕ → Option (List ℕ) → Option (List ℕ) → Type 0
-Says words old new = Appends old new words ⊎ AppendsFront old new words
-
--- the status is that of the outcome, and standard error took its words
+-- the status is that of the outcome, and standard error took just its words, or failed and took a beginning of them that is not all
 abbrev pub Tells : Result Unit Fault → ℕ → Option (List ℕ) → Option (List ℕ) → Type 0
-Tells outcome status old new = (status ≡ status_of outcome) × Says (words_of_end outcome) old new
+Tells outcome status old new = (status ≡ status_of outcome) × ((told : Result Unit Fault) × Shown (words_of_end outcome) told old new)

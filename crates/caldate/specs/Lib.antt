@@ -8,3 +8,4 @@ pub mod Runs
 pub mod Senseless
 pub mod Shown
 pub mod Standing
+pub mod Unanswered

@@ -1,14 +1,16 @@
 -- What a run does to the bytes of its reader and its writer, where those are told.
 use Rattle.std.specs.Prelude.{◌≡◌, ◌⊎◌, ℕ, ⊤, ◌+◌, ◌<◌, Bool, true, false, List, ◌∷◌, ◌++◌, length, Option, Result, Ok, Err}
 use Rattle.std.specs.Io.KnownBytes.{Appends, Consumes, IsAtEnd}
-use Rattle.caldate.specs.Answers.{HasAnswer, LacksAnswer, IsAnswer}
-use Rattle.caldate.specs.Lines.{ended_lines, lines_of, text_of}
+use Rattle.caldate.specs.Answers.{HasAnswer, IsAnswer}
+use Rattle.caldate.specs.Lines.{ended_lines, lines_of}
 use Rattle.caldate.specs.Standing.{AreReplies, Stands, counted}
+use Rattle.caldate.specs.Unanswered.{IsUnanswered}
 use Rattle.caldate.specs.declared.fault.Fault.{Fault}
 use Rattle.caldate.specs.declared.fault.Fault.TheVariants.{Read, Write, Unanswered}
 use Rattle.caldate.specs.declared.place.Place.{Place}
 use Rattle.caldate.specs.declared.request.Filter.{Filter}
 use Rattle.caldate.specs.declared.request.Request.{Request}
+use Rattle.caldate.specs.declared.unanswered.UnansweredLine.{UnansweredLine}
 
 -- what may be written for a text: any answer, or in a strict run one that the text has
 abbrev pub Allowed : Bool → Request → List ℕ → List ℕ → Type 0
@@ -26,7 +28,7 @@ AppendsThat IsOne old new = (words : List ℕ) × (new ≡ old ++ words) × IsOn
 abbrev pub IsOfWrite : Fault → Type 0
 IsOfWrite Read = ⊥
 IsOfWrite (Write kind) = ⊤
-IsOfWrite (Unanswered number) = ⊥
+IsOfWrite (Unanswered line) = ⊥
 
 -- the reader gave some bytes, which come after the old ones
 abbrev pub HasRead : Option (List ℕ) → Option (List ℕ) → List ℕ → List ℕ → Type 0
@@ -55,17 +57,15 @@ pub record AnswersFront (filter : Filter) (all : List (List ℕ)) (old new : Opt
   pub replies : AreReplies (IsAllowed filter) lines out
   pub taken : AppendsFront old new out
 
--- it took just the replies to those of these lines before the first that has no answer, which has this number, counted from 1
-pub record StopsAt (filter : Filter) (number : ℕ) (all : List (List ℕ)) (old new : Option (List ℕ)) : Type 0 where
+-- it took just the replies to those of these lines before the first that has no answer, which is the one that is told, counted from 1
+pub record StopsAt (filter : Filter) (told : UnansweredLine) (all : List (List ℕ)) (old new : Option (List ℕ)) : Type 0 where
   pub lines : List (List ℕ)
   pub line : List ℕ
   pub more : List (List ℕ)
-  pub words : List ℕ
   pub out : List ℕ
   pub strict : filter.is_strict ≡ true
   pub cut : all ≡ lines ++ line ∷ more
-  pub lacks : LacksAnswer filter.request (text_of line) words
-  pub number_is : number ≡ counted (length lines + 1)
+  pub unanswered : IsUnanswered filter.request (counted (length lines + 1)) line told
   pub replies : AreReplies (IsAllowed filter) lines out
   pub taken : Appends old new out
 
@@ -84,7 +84,7 @@ abbrev pub Ended : Filter → Result Unit Fault → Option (List ℕ) → Option
 Ended filter (Ok done) r0 r w0 w = IsAtEnd r × Gives r0 r (λ input. AnswersAll filter (lines_of input) w0 w)
 Ended filter (Err (Write kind)) r0 r w0 w = GivesLines r0 r (λ lines. AnswersFront filter lines w0 w)
 Ended filter (Err Read) r0 r w0 w = Gives r0 r (λ input. AnswersAll filter (ended_lines input) w0 w)
-Ended filter (Err (Unanswered number)) r0 r w0 w = GivesLines r0 r (λ lines. StopsAt filter number lines w0 w)
+Ended filter (Err (Unanswered told)) r0 r w0 w = GivesLines r0 r (λ lines. StopsAt filter told lines w0 w)
 
 -- what the writer took of a page with this outcome
 abbrev pub Shown : List ℕ → Result Unit Fault → Option (List ℕ) → Option (List ℕ) → Type 0
@@ -97,10 +97,10 @@ abbrev pub FailsFrom : Filter → (List ℕ → List (List ℕ)) → Option (Lis
 FailsFrom filter lines_in old new gathered pending place =
     (input : List ℕ) (start : Option (List ℕ)) → Stands (IsAllowed filter) input start old gathered pending place → AnswersFront filter (lines_in input) start new
 
--- it ends at the line of this number
-abbrev pub StopsFrom : Filter → ℕ → (List ℕ → List (List ℕ)) → Option (List ℕ) → Option (List ℕ) → List ℕ → List ℕ → Place → Type 0
-StopsFrom filter number lines_in old new gathered pending place =
-    (input : List ℕ) (start : Option (List ℕ)) → Stands (IsAllowed filter) input start old gathered pending place → StopsAt filter number (lines_in input) start new
+-- it ends at the line that is told
+abbrev pub StopsFrom : Filter → UnansweredLine → (List ℕ → List (List ℕ)) → Option (List ℕ) → Option (List ℕ) → List ℕ → List ℕ → Place → Type 0
+StopsFrom filter told lines_in old new gathered pending place =
+    (input : List ℕ) (start : Option (List ℕ)) → Stands (IsAllowed filter) input start old gathered pending place → StopsAt filter told (lines_in input) start new
 
 -- it ends with all lines answered
 abbrev pub EndsFrom : Filter → Option (List ℕ) → Option (List ℕ) → List ℕ → List ℕ → Place → Type 0

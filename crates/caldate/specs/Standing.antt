@@ -1,10 +1,12 @@
 -- How far a run is.
-use Rattle.std.specs.Prelude.{◌≡◌, ℕ, ◌-◌, ◌^◌, ◌<◌, min, Bool, true, false, List, [], ◌∷◌, ◌++◌, length, All, Option}
+use Rattle.std.specs.Prelude.{◌≡◌, ℕ, ⊤, ◌-◌, ◌^◌, ◌<◌, min, Bool, true, false, List, [], ◌∷◌, ◌++◌, length, All, Option}
 use Rattle.std.specs.List.{slice_split}
 use Rattle.std.specs.Io.KnownBytes.{Appends}
 use Rattle.caldate.specs.Lines.{is_end, text_of, end_of}
 use Rattle.caldate.specs.Room.{longest_text}
+use Rattle.caldate.specs.Shown.{shown, words_shown}
 use Rattle.caldate.specs.declared.place.Place.{Place}
+use Rattle.caldate.specs.declared.shown.ShownText.{ShownText}
 
 -- the reply to a line: the words that are allowed for its text, and the end that it has
 abbrev pub IsReply : (List ℕ → List ℕ → Type 0) → List ℕ → List ℕ → Type 0
@@ -26,6 +28,11 @@ IsHeld false kept pending = kept ≡ []
 IsHeld true kept pending =
     (longest_text < length kept) × NoEnd kept × ((first : ℕ) × (more : List ℕ) × (pending ≡ first ∷ more) × (is_end first ≡ false))
 
+-- what is shown of a line of which a front was let go
+abbrev pub IsShown : Bool → ShownText → List ℕ → Type 0
+IsShown false front kept = ⊤
+IsShown true front kept = words_shown front ≡ shown kept
+
 -- the number of a line, as it is counted in 64 bits
 abbrev pub counted : ℕ → ℕ
 counted n = min n (2 ^ 64 - 1)
@@ -42,6 +49,7 @@ pub record Stands (Allowed : List ℕ → List ℕ → Type 0) (input : List ℕ
   pub whole : out ≡ written ++ gathered
   pub taken : Appends start now written
   pub held : IsHeld place.is_long kept pending
+  pub front : IsShown place.is_long place.front kept
   pub number : place.number ≡ counted (length lines)
 
 -- whatever the input was, and what the writer held at the start

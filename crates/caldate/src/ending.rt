@@ -1,6 +1,7 @@
 //! How the program ends: its status, and its words on standard error.
 ghost use Rattle.std.specs.Prelude.{◌≡◌, ◌++◌, [], codes};
-ghost use Rattle.caldate.specs.Ending.{Says, status_of, words_of_end};
+ghost use Rattle.caldate.specs.Ending.{Tells, status_of, words_of_end};
+ghost use Rattle.caldate.specs.Runs.{Shown};
 
 use crate::fault::{Fault, is_closed};
 use crate::gathered::Gathered;
@@ -8,17 +9,29 @@ use crate::output::write_all;
 use crate::text::push_decimal;
 use std::io::Write;
 
-/// Tells why the run ended early, in one line, and returns the status: 0 after a run that answered all of its input or whose output
-/// was closed, 1 where a line had no answer, else 2.
-///
-/// Where the writer fails, a beginning of the line was written, and the status alone tells the rest.
+/// Tells why the run ended early, and returns the status: 0 after a run that answered all of its input or whose output was closed,
+/// 1 where a line had no answer, else 2.
 pub fn end<W: Write>(outcome: Result<(), Fault>, writer: &mut W) -> u8
-    ensures status { result ≡ status_of outcome }
-    ensures told { Says (words_of_end outcome) (W.contents writer.old) (W.contents writer.new) }
+    ensures { Tells outcome result (W.contents writer.old) (W.contents writer.new) }
+{
+    let _ = tell(outcome, writer);
+    status_of(outcome)
+}
+
+/// Tells why the run ended early, in one line, and returns what came of that: where it fails, a beginning of the line was written, and
+/// never all of it.
+fn tell<W: Write>(outcome: Result<(), Fault>, writer: &mut W) -> Result<(), Fault>
+    ensures { Shown (words_of_end outcome) result (W.contents writer.old) (W.contents writer.new) }
 {
     let mut words = Gathered::new();
     push_words(&mut words, outcome);
-    let _ = write_all(writer, words.as_bytes());
+    write_all(writer, words.as_bytes())
+}
+
+/// The status after a run.
+fn status_of(outcome: Result<(), Fault>) -> u8
+    ensures { result ≡ status_of outcome }
+{
     match outcome {
         Ok(()) => 0,
         Err(Fault::Write(kind)) if is_closed(kind) => 0,
@@ -37,10 +50,14 @@ fn push_words(words: &mut Gathered, outcome: Result<(), Fault>)
         Err(Fault::Write(kind)) if is_closed(kind) => {}
         Err(Fault::Read) => words.push(b"caldate: cannot read\n"),
         Err(Fault::Write(_)) => words.push(b"caldate: cannot write\n"),
-        Err(Fault::Unanswered(number)) => {
+        Err(Fault::Unanswered(line)) => {
             words.push(b"caldate: line ");
-            push_decimal(words, number);
-            words.push(b" has no answer\n");
+            push_decimal(words, line.number);
+            words.push(b": ");
+            words.push(line.reason.as_bytes());
+            words.push(b": ");
+            words.push(line.text.as_bytes());
+            words.push(b"\n");
         }
     }
 }

@@ -2,6 +2,7 @@
 ghost use Rattle.std.specs.Prelude.{◌≡◌};
 ghost use Rattle.caldate.specs.Ending.{is_closed};
 
+use crate::unanswered::UnansweredLine;
 use std::io::ErrorKind;
 
 /// Why a run ends early.
@@ -11,8 +12,8 @@ pub enum Fault {
     Read,
     /// A write failed like this. One that took nothing has the kind `WriteZero`.
     Write(ErrorKind),
-    /// The run is strict, and the line of this number, counted from 1, has no answer.
-    Unanswered(u64),
+    /// The run is strict, and this line has no answer.
+    Unanswered(UnansweredLine),
 }
 
 /// Whether a write that failed like this says that nobody reads the output any more: a broken pipe, and nothing else.

@@ -1,5 +1,5 @@
 //! Replies that go out in one write.
-ghost use Rattle.std.specs.Prelude.{◌≡◌, ◌↔◌, ◌+◌, ◌≤◌, ◌++◌, [], length, take, IsTrue};
+ghost use Rattle.std.specs.Prelude.{◌≡◌, ◌↔◌, ◌+◌, ◌≤◌, ◌++◌, [], length, drop, take, IsTrue};
 ghost use Rattle.caldate.specs.Room.{HasRoom, longest_reply};
 
 use std::marker::Model;
@@ -51,6 +51,14 @@ impl Gathered {
         ensures { result ≡ length self.now }
     {
         self.filled
+    }
+
+    /// Those that come after so many.
+    pub fn after(&self, count: usize) -> &[u8]
+        requires { count ≤ length self.now }
+        ensures { result.now ≡ drop count self.now }
+    {
+        &self.buffer[count..self.filled]
     }
 
     /// Whether there is room for a reply.

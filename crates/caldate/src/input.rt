@@ -67,11 +67,7 @@ impl Input {
         ensures end { IsOkAnd result (λ n. n ≡ 0) → IsAtEnd (R.remaining reader.new) × (self.new ≡ self.old) }
         ensures err { IfErr result (λ fault. (fault ≡ Fault.Read) × Keeps (R.remaining reader.old) (R.remaining reader.new)) }
     {
-        match read_some(
-            reader,
-            &mut self.bytes[self.filled..],
-            &mut Patience::new(),
-        ) {
+        match read_some(reader, &mut self.bytes[self.filled..], &mut Patience::new()) {
             Ok(count) => {
                 self.filled += count;
                 Ok(count)

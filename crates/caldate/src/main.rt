@@ -25,6 +25,7 @@ mod spelling;
 #[cfg(test)]
 mod tests;
 mod text;
+mod unanswered;
 
 use std::io;
 use std::process::ExitCode;

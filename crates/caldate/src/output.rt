@@ -31,11 +31,7 @@ pub fn write_all<W: Write>(writer: &mut W, bytes: &[u8]) -> Result<(), Fault>
 }
 
 /// One write, taken again where the patience bears an interruption. So it is interrupted only where no patience is left.
-fn write_some<W: Write>(
-    writer: &mut W,
-    bytes: &[u8],
-    patience: &mut Patience,
-) -> io::Result<usize>
+fn write_some<W: Write>(writer: &mut W, bytes: &[u8], patience: &mut Patience) -> io::Result<usize>
     ensures bound { WritesAtMost result bytes.now }
     ensures bytes { WriteAppends (W.contents writer.old) (W.contents writer.new) result bytes.now }
     ensures patient { IfErr result (λ error. error_kind error ≡ ErrorKind.Interrupted → patience.new ≡ 0) }

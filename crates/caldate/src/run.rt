@@ -4,7 +4,8 @@ ghost use Rattle.std.specs.Io.KnownBytes.{Appends};
 ghost use Rattle.caldate.specs.Lines.{ended_lines, lines_of};
 ghost use Rattle.caldate.specs.Room.{HasRoom, longest_reply, longest_text};
 ghost use Rattle.caldate.specs.Runs.{AppendsFront, Ended, EndsFrom, FailsFrom, IsAllowed, IsOfWrite, StopsFrom};
-ghost use Rattle.caldate.specs.Standing.{Advances, NoEnd, Stands, counted};
+ghost use Rattle.caldate.specs.Standing.{Advances, NoEnd};
+ghost use Rattle.caldate.specs.declared.unanswered.UnansweredLine.{UnansweredLine};
 
 use crate::fault::Fault;
 use crate::gathered::Gathered;
@@ -14,6 +15,8 @@ use crate::output::write_all;
 use crate::place::Place;
 use crate::reply::push_reply;
 use crate::request::Filter;
+use crate::shown::ShownText;
+use crate::unanswered::UnansweredLine;
 use std::io::{Read, Write};
 
 /// The most bytes of a line that are kept where it has not ended: those of a text, and a carriage return.
@@ -30,6 +33,7 @@ pub fn run<R: Read, W: Write>(filter: Filter, reader: &mut R, writer: &mut W) ->
     let mut place = Place {
         number: 0,
         is_long: false,
+        front: ShownText::new(b""),
     };
     let mut reads = u64::MAX;
     while reads > 0 {
@@ -68,15 +72,16 @@ fn answer_lines<W: Write>(
         bytes.now (drop (length bytes.now - left) bytes.now) place.old place.new) }
     ensures write { IsErrAnd result IsOfWrite
         → FailsFrom filter.now ended_lines (W.contents writer.old) (W.contents writer.new) gathered.old bytes.now place.old }
-    ensures unanswered { (number : ℕ) → IsErrOf result (Fault.Unanswered number)
-        → StopsFrom filter.now number ended_lines (W.contents writer.old) (W.contents writer.new) gathered.old bytes.now place.old }
+    ensures unanswered { (told : UnansweredLine) → IsErrOf result (Fault.Unanswered told)
+        → StopsFrom filter.now told ended_lines (W.contents writer.old) (W.contents writer.new) gathered.old bytes.now place.old }
     ensures no_read { IsErrOf result Fault.Read → ⊥ }
 {
     let mut rest = bytes;
     while let Some((line, after)) = first_line(rest) {
         make_room(gathered, writer)?;
-        if !push_reply(gathered, filter, place.is_long, line) {
-            return Err(stop(place, gathered, writer));
+        match push_reply(gathered, filter, place, line) {
+            Ok(()) => {}
+            Err(told) => return Err(stop(told, gathered, writer)),
         }
         place.number = place.number.saturating_add(1);
         place.is_long = false;
@@ -85,16 +90,16 @@ fn answer_lines<W: Write>(
     Ok(rest.len())
 }
 
-/// Lets what was answered before a line without an answer go out, and tells the number of this line.
-fn stop<W: Write>(place: &Place, gathered: &Gathered, writer: &mut W) -> Fault
+/// Lets what was answered before a line without an answer go out, and tells that line.
+fn stop<W: Write>(told: UnansweredLine, gathered: &Gathered, writer: &mut W) -> Fault
     ensures write { IsOfWrite result
         → AppendsFront (W.contents writer.old) (W.contents writer.new) gathered.now }
-    ensures unanswered { (number : ℕ) → result ≡ Fault.Unanswered number → (number ≡ counted (place.now.number + 1))
+    ensures unanswered { (line : UnansweredLine) → result ≡ Fault.Unanswered line → (line ≡ told)
         × Appends (W.contents writer.old) (W.contents writer.new) gathered.now }
     ensures no_read { result ≡ Fault.Read → ⊥ }
 {
     match write_all(writer, gathered.as_bytes()) {
-        Ok(()) => Fault::Unanswered(place.number.saturating_add(1)),
+        Ok(()) => Fault::Unanswered(told),
         Err(fault) => fault,
     }
 }
@@ -112,17 +117,17 @@ fn answer_last<W: Write>(
     ensures ok { OnOk result (EndsFrom filter.now (W.contents writer.old) (W.contents writer.new) [] line.now place.old) }
     ensures write { IsErrAnd result IsOfWrite
         → FailsFrom filter.now lines_of (W.contents writer.old) (W.contents writer.new) [] line.now place.old }
-    ensures unanswered { (number : ℕ) → IsErrOf result (Fault.Unanswered number)
-        → StopsFrom filter.now number lines_of (W.contents writer.old) (W.contents writer.new) [] line.now place.old }
+    ensures unanswered { (told : UnansweredLine) → IsErrOf result (Fault.Unanswered told)
+        → StopsFrom filter.now told lines_of (W.contents writer.old) (W.contents writer.new) [] line.now place.old }
     ensures no_read { IsErrOf result Fault.Read → ⊥ }
 {
     if line.is_empty() {
         return Ok(());
     }
-    if !push_reply(gathered, filter, place.is_long, line) {
-        return Err(Fault::Unanswered(place.number.saturating_add(1)));
+    match push_reply(gathered, filter, place, line) {
+        Ok(()) => write_all(writer, gathered.as_bytes()),
+        Err(told) => Err(Fault::Unanswered(told)),
     }
-    write_all(writer, gathered.as_bytes())
 }
 
 /// Lets go of a long line but for its last byte. Whether that is a carriage return tells how the line ends.
@@ -135,6 +140,7 @@ fn let_go(input: &mut Input, place: &mut Place)
         → Advances (IsAllowed filter) now now gathered gathered input.old input.new place.old place.new }
 {
     if input.len() > MOST_KEPT {
+        place.front = place.shown(input.as_bytes());
         input.keep_last(1);
         place.is_long = true;
     }

@@ -4,8 +4,10 @@ use crate::ending::end;
 use crate::fault::Fault;
 use crate::request::Asked;
 use crate::run::run;
+use crate::shown::ShownText;
+use crate::unanswered::UnansweredLine;
 use std::alloc::Global;
-use std::io::{Read, Write};
+use std::io::{ErrorKind, Read, Write};
 
 mod arguments;
 mod failing;
@@ -21,7 +23,7 @@ fn run_by<R: Read, W: Write>(
 ) -> Result<(), Fault> {
     match asked_of(arguments) {
         Ok(Asked::Lines(filter)) => run(filter, reader, writer),
-        _ => Err(Fault::Unanswered(0)),
+        _ => Err(Fault::Write(ErrorKind::InvalidInput)),
     }
 }
 
@@ -218,9 +220,13 @@ fn words_at_the_end(rt: HostRuntime) {
     let cases: [(Result<(), Fault>, u8, &[u8]); 3] = [
         (Ok(()), 0, b""),
         (
-            Err(Fault::Unanswered(18)),
+            Err(Fault::Unanswered(UnansweredLine {
+                number: u64::MAX,
+                reason: ShownText::new(b"none"),
+                text: ShownText::new(b"+999999-12-31"),
+            })),
             1,
-            b"caldate: line 18 has no answer\n",
+            b"caldate: line 18446744073709551615: none: +999999-12-31\n",
         ),
         (Err(Fault::Read), 2, b"caldate: cannot read\n"),
     ];

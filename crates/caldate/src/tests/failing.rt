@@ -182,6 +182,25 @@ fn each_write_fails_in_turn(rt: HostRuntime) {
     }
 }
 
+// The status is the same where it can't be told, and what is told stops where the write failed.
+#[test]
+fn standard_error_fails(rt: HostRuntime) {
+    let words = b"caldate: cannot read\n".as_slice();
+    for call in 1..=words.len() + 1 {
+        for kind in [Some(ErrorKind::StorageFull), None] {
+            let mut writer = Sipping {
+                taken: Vec::new(rt.alloc()),
+                calls: 0,
+                failing: call,
+                failures: 1,
+                kind,
+            };
+            assert_eq!(rt; end(Err(Fault::Read), &mut writer), 2);
+            assert!(rt; writer.taken.as_slice() == &words[..call - 1]);
+        }
+    }
+}
+
 // An interrupted read is taken again up to 4096 times, and so are the writes of what was gathered.
 #[test]
 fn interruptions_are_counted(rt: HostRuntime) {

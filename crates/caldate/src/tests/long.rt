@@ -1,4 +1,5 @@
 //! Lines of every length, in reads of every length.
+use crate::ending::end;
 use crate::fault::Fault;
 use crate::tests::run_by;
 use std::alloc::{AllocError, Global};
@@ -136,6 +137,47 @@ fn reads_of_each_length(rt: HostRuntime) -> Result<(), Fail> {
                 == b"2024-02-29\r\nunreadable at 0\n2024-02-29\n2024-02-29\n".as_slice(),
             "by {most}"
         );
+    }
+    Ok(())
+}
+
+// Of a line that was let go its first bytes are shown all the same.
+#[test]
+fn a_long_line_ends_a_strict_run(rt: HostRuntime) -> Result<(), Fail> {
+    for length in [79, 80, 81, 4096, 4097, 4098, 65_536, 200_000] {
+        for most in [1000, 4097, 65_536] {
+            for end_of_line in [b"\n".as_slice(), b"\r\n".as_slice(), b"".as_slice()] {
+                let mut line = vec![in rt.alloc(); b'~'; length]?;
+                line[1] = b'\t';
+                line[2] = 0xc3;
+                let mut input = Vec::new(rt.alloc());
+                input.extend_from_slice(b"2024-060\n")?;
+                input.extend_from_slice(&line)?;
+                input.extend_from_slice(end_of_line)?;
+                let mut reader = Chunks { rest: &input, most };
+                let mut written = Vec::new(rt.alloc());
+                let outcome = run_by(b"--strict\0to\0calendar", &mut reader, &mut written);
+                let mut told = Vec::new(rt.alloc());
+                let status = end(outcome, &mut told);
+                let mut wanted = Vec::new(rt.alloc());
+                wanted.extend_from_slice(b"caldate: line 2: ")?;
+                wanted.extend_from_slice(if length > 4096 {
+                    b"line too long".as_slice()
+                } else {
+                    b"unreadable at 0".as_slice()
+                })?;
+                wanted.extend_from_slice(b": ~??")?;
+                for _ in 3..length.min(80) {
+                    wanted.push(b'~')?;
+                }
+                wanted.push(b'\n')?;
+                assert!(rt;
+                    status == 1 && told.as_slice() == wanted.as_slice(),
+                    "{length} by {most}"
+                );
+                assert!(rt; written.as_slice() == b"2024-02-29\n".as_slice());
+            }
+        }
     }
     Ok(())
 }

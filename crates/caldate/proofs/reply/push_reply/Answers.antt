@@ -1,20 +1,21 @@
-use Rattle.std.proofs.Common.{◌≡◌, ◌∙◌, ◌++◌, List, ℕ, true, sym, subst, inl, inr}
+use Rattle.std.proofs.Common.{◌≡◌, ◌∙◌, ◌++◌, true, ap, arith, sym, subst, inl, inr}
 use Rattle.std.proofs.lemmas.Bool.{cases_Bool, false≢true}
 use Rattle.caldate.specs.Answers.{LacksAnswer}
 use Rattle.caldate.specs.Lines.{text_of}
 use Rattle.caldate.specs.Runs.{AppendsThat, IsAllowed}
 use Rattle.caldate.specs.Standing.{IsHeld}
-use Rattle.caldate.proofs.Replied.{lacks_long, of_whole, has_allowed, lacks_allowed, replied, taken_back}
+use Rattle.caldate.specs.Shown.{shown}
+use Rattle.caldate.proofs.Replied.{after_is, lacks_long, of_whole, has_allowed, lacks_allowed, replied, text_shown}
 use Rattle.caldate.proofs.reply.push_reply.Goals as goal
 use Rattle.caldate.proofs.reply.push_reply.Goals.{then-is_long, else-is_long, else-filter-via-then-filter+else-not-has_answer, else-filter-via-else-filter}
 
-pub returns-then-not-has_answer-clause-stopped : goal.returns-then-not-has_answer-clause-stopped
-returns-then-not-has_answer-clause-stopped c = λ no.
+pub returns-then-not-has_answer-clause-told : goal.returns-then-not-has_answer-clause-told
+returns-then-not-has_answer-clause-told c = λ kept held front.
     let q = c.args.filter.now.request in
     let line = c.args.line.now in
     let old = c.args.gathered.now in
     let mid = c.if-is_long.gathered in
-    let lacks : (kept : List ℕ) → IsHeld c.args.is_long kept line → AppendsThat (LacksAnswer q (text_of (kept ++ line))) old mid = λ kept held.
+    let lacks : AppendsThat (LacksAnswer q (text_of (kept ++ line))) old mid =
     elim c.if-is_long.branch as (λ _. AppendsThat (LacksAnswer q (text_of (kept ++ line))) old mid) [
       | then-is_long w ↦
           lacks_long q kept line old mid (subst (λ b. IsHeld b kept line) w.if-is_long.true held) (w.gathered-is ∙ w.push.ensures.appended)
@@ -23,16 +24,16 @@ returns-then-not-has_answer-clause-stopped c = λ no.
           (subst (AppendsThat (LacksAnswer q c.text_and_end.result.0.now) old) (sym w.gathered-is)
           (w.push_answer-has_answer.ensures.lacks (sym w.has_answer-is ∙ c.if-not-has_answer.true)))
     ] in
-    let back : c.truncate.new.self ≡ old = elim c.if-is_long.branch as (λ _. c.truncate.new.self ≡ old) [
-      | then-is_long w ↦ taken_back old mid _ _ _ c.len-before.ensures (w.gathered-is ∙ w.push.ensures.appended) c.truncate.ensures
-      | else-is_long w ↦
-          let words = w.push_answer-has_answer.ensures.lacks (sym w.has_answer-is ∙ c.if-not-has_answer.true) in
-          taken_back old mid _ words.0 _ c.len-before.ensures (w.gathered-is ∙ words.1) c.truncate.ensures
-    ] in
-    (c.if-filter.true, back, λ kept held. let words = lacks kept held in (words.0, words.2))
+    record {
+      words = lacks.0;
+      lacks = lacks.2;
+      number_is = omega (arith, c.saturating_add.ensures);
+      reason_is = c.new.ensures ∙ ap shown (c.after.ensures ∙ after_is old mid lacks.0 _ c.len-before.ensures lacks.1);
+      text_is = text_shown c.args.place.now.is_long c.args.place.now.front kept line _ _ held front c.text_and_end.ensures.text c.shown.ensures.whole c.shown.ensures.long;
+    }
 
 pub returns-clause-replied : goal.returns-clause-replied
-returns-clause-replied c = λ yes kept held.
+returns-clause-replied c = λ kept held.
     let filter = c.args.filter.now in
     let q = filter.request in
     let line = c.args.line.now in
@@ -62,4 +63,4 @@ returns-clause-replied c = λ yes kept held.
             ]
           ]
     ] in
-    replied filter c.args.is_long kept line old mid _ _ held said c.text_and_end.ensures.end c.push-2.ensures.appended
+    replied filter c.args.place.now.is_long kept line old mid _ _ held said c.text_and_end.ensures.end c.push-2.ensures.appended

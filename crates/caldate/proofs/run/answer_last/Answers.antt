@@ -1,9 +1,10 @@
-use Rattle.std.proofs.Common.{◌≡◌, ◌<◌, ◌++◌, [], length, arith, rules, subst}
+use Rattle.std.proofs.Common.{◌≡◌, ◌+◌, ◌<◌, ◌++◌, [], length, rules, subst}
 use Rattle.std.specs.Io.KnownBytes.{Appends}
 use Rattle.std.proofs.lemmas.Result.{on_ok_weaker}
 use Rattle.caldate.specs.Runs.{AppendsFront, AppendsThat, EndsFrom, IsAllowed}
-use Rattle.caldate.specs.Standing.{IsReply, Stands}
-use Rattle.caldate.proofs.Ends.{empty, same_number, write_failed}
+use Rattle.caldate.specs.Standing.{IsReply, Stands, counted}
+use Rattle.caldate.specs.Unanswered.{IsUnanswered}
+use Rattle.caldate.proofs.Ends.{empty, same_line, write_failed}
 use Rattle.caldate.proofs.Steps.{all_answered, last_answered, last_failed, last_stopped}
 use Rattle.caldate.proofs.run.answer_last.Goals as goal
 
@@ -13,17 +14,16 @@ returns-then-is_empty-clause-ok g c = λ input start s.
     all_answered c.args.filter.now input start _ c.args.place.now
     (subst (λ line. Stands (IsAllowed c.args.filter.now) input start (g.W.Write.contents c.args.writer.now) [] line c.args.place.now) (empty c.args.line.now zero) s)
 
-pub returns-then-not-push_reply-clause-unanswered : goal.returns-then-not-push_reply-clause-unanswered
-returns-then-not-push_reply-clause-unanswered g c = λ number e input start s.
+pub returns-in-Err-clause-unanswered : goal.returns-in-Err-clause-unanswered
+returns-in-Err-clause-unanswered g c = λ told e input start s.
     let some : 0 < length c.args.line.now = search rules in
-    let no = c.push_reply.ensures.stopped c.if-not-push_reply.true in
-    last_stopped c.args.filter.now input start _ c.args.line.now c.args.place.now number c.requires.no_end some no.0 no.2
-    (omega (arith, same_number c.saturating_add.result number e, c.saturating_add.ensures)) s
+    last_stopped c.args.filter.now input start _ c.args.line.now c.args.place.now told c.requires.no_end some c.in-Err.ensures.strict.0
+    (λ kept held shown. subst (λ t. IsUnanswered c.args.filter.now.request (counted (c.args.place.now.number + 1)) (kept ++ c.args.line.now) t) (same_line c.in-Err.told told e) (c.in-Err.ensures.told kept held shown)) s
 
-pub returns-clause-ok : goal.returns-clause-ok
-returns-clause-ok g c =
+pub returns-in-Ok-clause-ok : goal.returns-in-Ok-clause-ok
+returns-in-Ok-clause-ok g c =
     let some : 0 < length c.args.line.now = search rules in
-    let reply = c.push_reply.ensures.replied c.if-not-push_reply.false in
+    let reply = c.in-Ok.ensures.replied in
     let ends : Appends (g.W.Write.contents c.args.writer.now) (g.W.Write.contents c.write_all.new.writer) c.as_bytes.result.now
     → EndsFrom c.args.filter.now (g.W.Write.contents c.args.writer.now) (g.W.Write.contents c.write_all.new.writer) [] c.args.line.now c.args.place.now = λ gone input start s.
     last_answered c.args.filter.now input start _ _ c.push_reply.new.gathered c.args.line.now c.args.place.now c.requires.no_end some
@@ -31,10 +31,10 @@ returns-clause-ok g c =
     (subst (Appends (g.W.Write.contents c.args.writer.now) (g.W.Write.contents c.write_all.new.writer)) c.as_bytes.ensures gone) s in
     on_ok_weaker _ ends c.write_all.ensures.ok
 
-pub returns-clause-write : goal.returns-clause-write
-returns-clause-write g c = λ h input start s.
+pub returns-in-Ok-clause-write : goal.returns-in-Ok-clause-write
+returns-in-Ok-clause-write g c = λ h input start s.
     let some : 0 < length c.args.line.now = search rules in
-    let reply = c.push_reply.ensures.replied c.if-not-push_reply.false in
+    let reply = c.in-Ok.ensures.replied in
     let front = write_failed _ c.write_all.result h c.write_all.ensures.front in
     last_failed c.args.filter.now input start _ _ c.push_reply.new.gathered c.args.line.now c.args.place.now c.requires.no_end some
     (λ kept held. subst (λ old. AppendsThat (IsReply (IsAllowed c.args.filter.now) (kept ++ c.args.line.now)) old c.push_reply.new.gathered) c.requires.none (reply kept held))

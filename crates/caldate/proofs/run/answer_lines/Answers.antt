@@ -1,6 +1,8 @@
-use Rattle.std.proofs.Common.{◌++◌, ◌∷◌, [], ◌∙◌, ap, sym, subst, arith, refl, append_assoc}
+use Rattle.std.proofs.Common.{◌+◌, ◌++◌, ◌∷◌, [], ◌∙◌, ap, sym, subst, arith, refl, append_assoc}
 use Rattle.std.specs.Io.KnownBytes.{Appends}
 use Rattle.caldate.specs.Runs.{AppendsFront, IsAllowed}
+use Rattle.caldate.specs.Standing.{counted}
+use Rattle.caldate.specs.Unanswered.{IsUnanswered}
 use Rattle.caldate.specs.declared.fault.Fault.TheVariants.{Unanswered}
 use Rattle.caldate.proofs.Ends.{same_fault}
 use Rattle.caldate.proofs.Steps.{answered, gone, failed, stopped}
@@ -10,23 +12,24 @@ pub returns-in_err-make_room-clause-write : goal.returns-in_err-make_room-clause
 returns-in_err-make_room-clause-write g c = λ h input start s.
     failed c.args.filter.now input start _ _ c.loop-line.gathered c.loop-line.rest.now c.loop-line.place c.in_err-make_room.ensures.front (c.loop-line.invariant.1 input start s)
 
-pub returns-then-not-push_reply-clause-write : goal.returns-then-not-push_reply-clause-write
-returns-then-not-push_reply-clause-write g c = λ h input start s.
+pub returns-in-Err-clause-write : goal.returns-in-Err-clause-write
+returns-in-Err-clause-write g c = λ h input start s.
     let room = c.in_ok-make_room.ensures.ok in
-    let no = c.push_reply.ensures.stopped c.if-not-push_reply.true in
+    let same = c.in-Err.ensures.strict.1 in
     let s = gone (IsAllowed c.args.filter.now) input start _ _ c.loop-line.gathered c.make_room.new.gathered room.0 c.loop-line.rest.now c.loop-line.place room.1 room.2 (c.loop-line.invariant.1 input start s) in
     failed c.args.filter.now input start _ _ c.make_room.new.gathered c.loop-line.rest.now c.loop-line.place
-    (subst (AppendsFront (g.W.Write.contents c.make_room.new.writer) (g.W.Write.contents c.stop.new.writer)) no.1 (c.stop.ensures.write h)) s
+    (subst (AppendsFront (g.W.Write.contents c.make_room.new.writer) (g.W.Write.contents c.stop.new.writer)) same (c.stop.ensures.write h)) s
 
-pub returns-then-not-push_reply-clause-unanswered : goal.returns-then-not-push_reply-clause-unanswered
-returns-then-not-push_reply-clause-unanswered g c = λ number h input start s.
+pub returns-in-Err-clause-unanswered : goal.returns-in-Err-clause-unanswered
+returns-in-Err-clause-unanswered g c = λ told h input start s.
     let room = c.in_ok-make_room.ensures.ok in
-    let no = c.push_reply.ensures.stopped c.if-not-push_reply.true in
-    let told = c.stop.ensures.unanswered number (same_fault c.stop.result (Unanswered number) h) in
+    let no = c.in-Err.ensures.strict in
+    let went = c.stop.ensures.unanswered told (same_fault c.stop.result (Unanswered told) h) in
     let s = gone (IsAllowed c.args.filter.now) input start _ _ c.loop-line.gathered c.make_room.new.gathered room.0 c.loop-line.rest.now c.loop-line.place room.1 room.2 (c.loop-line.invariant.1 input start s) in
-    stopped c.args.filter.now input start _ _ c.make_room.new.gathered c.loop-line.rest.now c.in-Some.line.now c.in-Some.after.now c.loop-line.place number
-    c.in-Some.ensures.parts.0 c.in-Some.ensures.parts.1 no.0 no.2 told.0
-    (subst (Appends (g.W.Write.contents c.make_room.new.writer) (g.W.Write.contents c.stop.new.writer)) no.1 told.1) s
+    stopped c.args.filter.now input start _ _ c.make_room.new.gathered c.loop-line.rest.now c.in-Some.line.now c.in-Some.after.now c.loop-line.place told
+    c.in-Some.ensures.parts.0 c.in-Some.ensures.parts.1 no.0
+    (λ kept held shown. subst (λ t. IsUnanswered c.args.filter.now.request (counted (c.loop-line.place.number + 1)) (kept ++ c.in-Some.line.now) t) (sym went.0) (c.in-Err.ensures.told kept held shown))
+    (subst (Appends (g.W.Write.contents c.make_room.new.writer) (g.W.Write.contents c.stop.new.writer)) no.1 went.1) s
 
 pub loop-line-preserved : goal.loop-line-preserved
 loop-line-preserved g c =
@@ -35,7 +38,7 @@ loop-line-preserved g c =
     let after = c.in-Some.after.now in
     let parts = c.in-Some.ensures.parts in
     let room = c.in_ok-make_room.ensures.ok in
-    let reply = c.push_reply.ensures.replied c.if-not-push_reply.false in (
+    let reply = c.in-Ok.ensures.replied in (
       (front ++ (line ++ 10 ∷ []), c.loop-line.invariant.0.1 ∙ ap (λ rest. front ++ rest) (parts.1 ∙ sym (append_assoc line (10 ∷ []) after)) ∙ sym (append_assoc front (line ++ 10 ∷ []) after)),
       λ input start s.
           answered (IsAllowed c.args.filter.now) input start _ c.make_room.new.gathered c.push_reply.new.gathered c.loop-line.rest.now line after c.loop-line.place _ parts.0 parts.1 reply refl

@@ -16,7 +16,7 @@ use Rattle.caldate.proofs.run.run.Goals as goal
 
 pub loop-reads-init : goal.loop-reads-init
 loop-reads-init g c =
-    let place : Place = record { number = 0; is_long = false } in
+    let place : Place = record { number = 0; is_long = false; front = c.new.result } in
     let start = g.W.Write.contents c.args.writer.now in (
       ([], Consumes-nil _, subst (λ (p : List ℕ). Stands (IsAllowed c.args.filter) [] start start [] p place) (sym c.new-input.ensures) (begun (IsAllowed c.args.filter) start place refl refl)),
       subst NoEnd (sym c.new-input.ensures) (λ k d l. absurd (omega arith)),
