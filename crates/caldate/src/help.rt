@@ -12,8 +12,10 @@ pub const HELP: &[u8] = b"caldate answers each line of its input, a date or a mo
   caldate last WEEKDAY [N]        the N-th such day before it
   caldate until DATE              the days to that date, or the duration to that moment
   caldate --strict ...            the same, but it ends at the first line without an answer, with status 1
-  caldate --help, --version       this page, the version
+  caldate --help, -h, help        this page
+  caldate --version               the version
 
+A weekday or a unit is named in any case of its letters, also by its first three, as fri or min. A unit may be singular, as day.
 A line is a date, as 2024-02-29, 2024-060, 2024-W09-4 or J2460370, or a moment, as 2024-02-29T23:59:59.25+01:00 or @1709164800.5.
 
   echo 2024-02-29 | caldate to week                        2024-W09-4
