@@ -42,13 +42,6 @@ pub record AppendsFront (old new : Option (List ℕ)) (bytes : List ℕ) : Type 
   pub left : 0 < length rest
   pub taken : Appends old new front
 
--- the writer took a beginning of the bytes, perhaps none of them or all
-pub record AppendsUpTo (old new : Option (List ℕ)) (bytes : List ℕ) : Type 0 where
-  pub front : List ℕ
-  pub rest : List ℕ
-  pub whole : bytes ≡ front ++ rest
-  pub taken : Appends old new front
-
 -- the writer took just the replies to these lines
 pub record AnswersAll (filter : Filter) (all : List (List ℕ)) (old new : Option (List ℕ)) : Type 0 where
   pub out : List ℕ

@@ -35,5 +35,7 @@ fn main(rt: HostRuntime) -> ExitCode {
         None => None,
     };
     let mut reader = rt.reader();
-    ExitCode::from(program::perform(asked, &mut reader, &mut io::writer(&rt), &mut rt.stderr()))
+    ExitCode::from(
+        program::perform(asked, &mut reader, &mut io::writer(&rt), &mut rt.stderr()).status,
+    )
 }

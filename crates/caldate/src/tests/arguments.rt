@@ -165,7 +165,10 @@ fn nothing_is_read_where_the_arguments_make_no_sense(rt: HostRuntime) {
     let mut reader = b"2024-02-29\n".as_slice();
     let mut written = Vec::new(rt.alloc());
     let mut told = Vec::new(rt.alloc());
-    assert_eq!(rt; perform(None, &mut reader, &mut written, &mut told), 2);
+    assert_eq!(rt;
+        perform(None, &mut reader, &mut written, &mut told).status,
+        2
+    );
     assert_eq!(rt; reader.len(), 11);
     assert!(rt; written.is_empty());
     assert!(rt; told.as_slice() == USAGE);
@@ -178,7 +181,7 @@ fn help_and_version(rt: HostRuntime) {
         let mut written = Vec::new(rt.alloc());
         let mut told = Vec::new(rt.alloc());
         assert_eq!(rt;
-            perform(Some(asked), &mut reader, &mut written, &mut told),
+            perform(Some(asked), &mut reader, &mut written, &mut told).status,
             0
         );
         assert!(rt; written.len() > least && told.is_empty());

@@ -87,7 +87,7 @@ fn strict<R: Read>(alloc: Global, reader: &mut R) -> (Vec<u8>, u8, Vec<u8>) {
     let mut written = Vec::new(alloc);
     let outcome = run_by(b"--strict\0to\0calendar", reader, &mut written);
     let mut told = Vec::new(alloc);
-    let status = end(outcome, &mut told);
+    let status = end(outcome, &mut told).status;
     (written, status, told)
 }
 
