@@ -4,6 +4,7 @@ use Rattle.std.specs.declared.io.ErrorKind.{ErrorKind}
 use Rattle.std.specs.declared.io.ErrorKind.TheVariants.{BrokenPipe}
 use Rattle.caldate.specs.Runs.{Shown}
 use Rattle.caldate.specs.Shown.{words_shown}
+use Rattle.caldate.specs.declared.ending.Ending.{Ending}
 use Rattle.caldate.specs.declared.fault.Fault.{Fault}
 use Rattle.caldate.specs.declared.fault.Fault.TheVariants.{Read, Write, Unanswered}
 
@@ -28,5 +29,5 @@ status_of (Err Read) = 2
 status_of (Err (Write kind)) = if is_closed kind then 0 else 2
 
 -- the status is that of the outcome, and standard error took just its words, or failed and took a beginning of them that is not all
-abbrev pub Tells : Result Unit Fault → ℕ → Option (List ℕ) → Option (List ℕ) → Type 0
-Tells outcome status old new = (status ≡ status_of outcome) × ((told : Result Unit Fault) × Shown (words_of_end outcome) told old new)
+abbrev pub Tells : Result Unit Fault → Ending → Option (List ℕ) → Option (List ℕ) → Type 0
+Tells outcome ending old new = (ending.status ≡ status_of outcome) × Shown (words_of_end outcome) ending.told old new

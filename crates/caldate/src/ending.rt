@@ -9,13 +9,24 @@ use crate::output::write_all;
 use crate::text::push_decimal;
 use std::io::Write;
 
+/// How the program ends.
+#[derive(Clone, Copy, Debug, PartialEq, Eq)]
+pub struct Ending {
+    /// The status.
+    pub status: u8,
+    /// What came of the words on standard error.
+    pub told: Result<(), Fault>,
+}
+
 /// Tells why the run ended early, and returns the status: 0 after a run that answered all of its input or whose output was closed,
 /// 1 where a line had no answer, else 2.
-pub fn end<W: Write>(outcome: Result<(), Fault>, writer: &mut W) -> u8
+pub fn end<W: Write>(outcome: Result<(), Fault>, writer: &mut W) -> Ending
     ensures { Tells outcome result (W.contents writer.old) (W.contents writer.new) }
 {
-    let _ = tell(outcome, writer);
-    status_of(outcome)
+    Ending {
+        status: status_of(outcome),
+        told: tell(outcome, writer),
+    }
 }
 
 /// Tells why the run ended early, in one line, and returns what came of that: where it fails, a beginning of the line was written, and

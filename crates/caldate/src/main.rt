@@ -38,5 +38,7 @@ fn main(rt: HostRuntime) -> ExitCode {
         None => None,
     };
     let mut reader = rt.reader();
-    ExitCode::from(program::perform(joined, &mut reader, &mut io::writer(&rt), &mut rt.stderr()))
+    ExitCode::from(
+        program::perform(joined, &mut reader, &mut io::writer(&rt), &mut rt.stderr()).status,
+    )
 }

@@ -11,7 +11,7 @@ ghost use Rattle.caldate.specs.declared.senseless.Senseless.{Senseless};
 
 use crate::asked::asked_of;
 use crate::complaint::{TOO_LONG, complain};
-use crate::ending::end;
+use crate::ending::{Ending, end};
 use crate::help::{HELP, VERSION};
 use crate::output::write_all;
 use crate::request::Asked;
@@ -21,14 +21,15 @@ use std::io::{Read, Write};
 /// The status where the arguments make no sense.
 const SENSELESS: u8 = 2;
 
-/// Does what the arguments ask for, between which stands a zero byte, and returns the status. Where they make no sense, or are `None`
-/// since they have too many bytes, nothing is read, one line goes to standard error, and the status is 2.
+/// Does what the arguments ask for, between which stands a zero byte, and returns the status and what came of the words on
+/// standard error. Where they make no sense, or are `None` since they have too many bytes, nothing is read, one line goes to standard
+/// error, and the status is 2.
 pub fn perform<R: Read, W: Write, E: Write>(
     arguments: Option<&[u8]>,
     reader: &mut R,
     writer: &mut W,
     errors: &mut E,
-) -> u8
+) -> Ending
     ensures lines { (reading : List ℕ → Option DateOrMoment) (filter : Filter) → IsReading reading → Asks reading arguments.entry (Asked.Lines filter)
         → (outcome : Result Unit Fault)
         × Ended filter outcome (R.remaining reader.old) (R.remaining reader.new) (W.contents writer.old) (W.contents writer.new)
@@ -40,12 +41,14 @@ pub fn perform<R: Read, W: Write, E: Write>(
         → (reader.new ≡ reader.old) × ((outcome : Result Unit Fault)
         × Shown VERSION.now outcome (W.contents writer.old) (W.contents writer.new) × Tells outcome result (E.contents errors.old) (E.contents errors.new)) }
     ensures senseless { (reading : List ℕ → Option DateOrMoment) (words : List ℕ) → IsReading reading → HasComplaint reading arguments.entry words
-        → (reader.new ≡ reader.old) × (writer.new ≡ writer.old) × (result ≡ 2)
-        × ((outcome : Result Unit Fault) × Shown words outcome (E.contents errors.old) (E.contents errors.new)) }
+        → (reader.new ≡ reader.old) × (writer.new ≡ writer.old) × (result.status ≡ 2)
+        × Shown words result.told (E.contents errors.old) (E.contents errors.new) }
 {
     let Some(arguments) = arguments else {
-        let _ = write_all(errors, TOO_LONG);
-        return SENSELESS;
+        return Ending {
+            status: SENSELESS,
+            told: write_all(errors, TOO_LONG),
+        };
     };
     match asked_of(arguments) {
         Ok(Asked::Lines(filter)) => {
@@ -60,9 +63,9 @@ pub fn perform<R: Read, W: Write, E: Write>(
             let outcome = write_all(writer, VERSION);
             end(outcome, errors)
         }
-        Err(senseless) => {
-            let _ = complain(arguments, senseless, errors);
-            SENSELESS
-        }
+        Err(senseless) => Ending {
+            status: SENSELESS,
+            told: complain(arguments, senseless, errors),
+        },
     }
 }

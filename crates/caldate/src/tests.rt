@@ -1,6 +1,6 @@
 //! Runs over inputs in memory: rows from the manual, and lines of every length.
 use crate::asked::asked_of;
-use crate::ending::end;
+use crate::ending::{Ending, end};
 use crate::fault::Fault;
 use crate::request::Asked;
 use crate::run::run;
@@ -232,7 +232,14 @@ fn words_at_the_end(rt: HostRuntime) {
     ];
     for (outcome, status, words) in cases {
         let mut told = Vec::new(rt.alloc());
-        assert_eq!(rt; end(outcome, &mut told), status, "{outcome:?}");
+        assert_eq!(rt;
+            end(outcome, &mut told),
+            Ending {
+                status,
+                told: Ok(())
+            },
+            "{outcome:?}"
+        );
         assert!(rt; told.as_slice() == words, "{outcome:?}");
     }
 }

@@ -103,7 +103,7 @@ fn complaint(alloc: Global, arguments: Option<&[u8]>) -> Option<Vec<u8>> {
     let mut reader = b"2024-02-29\n".as_slice();
     let mut written = Vec::new(alloc);
     let mut told = Vec::new(alloc);
-    let status = perform(arguments, &mut reader, &mut written, &mut told);
+    let status = perform(arguments, &mut reader, &mut written, &mut told).status;
     if status == 2 && reader.len() == 11 && written.is_empty() {
         Some(told)
     } else {
@@ -320,7 +320,7 @@ fn help_and_version(rt: HostRuntime) {
         let mut written = Vec::new(rt.alloc());
         let mut told = Vec::new(rt.alloc());
         assert_eq!(rt;
-            perform(Some(arguments), &mut reader, &mut written, &mut told),
+            perform(Some(arguments), &mut reader, &mut written, &mut told).status,
             0
         );
         assert!(rt; written.as_slice() == wanted && told.is_empty());

@@ -195,7 +195,9 @@ fn standard_error_fails(rt: HostRuntime) {
                 failures: 1,
                 kind,
             };
-            assert_eq!(rt; end(Err(Fault::Read), &mut writer), 2);
+            let ending = end(Err(Fault::Read), &mut writer);
+            assert_eq!(rt; ending.status, 2);
+            assert_eq!(rt; ending.told.is_ok(), call > words.len());
             assert!(rt; writer.taken.as_slice() == &words[..call - 1]);
         }
     }
@@ -272,7 +274,7 @@ fn a_write_fails_in_each_way(rt: HostRuntime) {
         let mut writer = Failing { kind };
         let outcome = run_by(b"to\0calendar", &mut INPUT, &mut writer);
         let mut told = Vec::new(rt.alloc());
-        let status = end(outcome, &mut told);
+        let status = end(outcome, &mut told).status;
         if kind == ErrorKind::BrokenPipe {
             assert!(rt; status == 0 && told.is_empty());
         } else {

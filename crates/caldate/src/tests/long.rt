@@ -158,7 +158,7 @@ fn a_long_line_ends_a_strict_run(rt: HostRuntime) -> Result<(), Fail> {
                 let mut written = Vec::new(rt.alloc());
                 let outcome = run_by(b"--strict\0to\0calendar", &mut reader, &mut written);
                 let mut told = Vec::new(rt.alloc());
-                let status = end(outcome, &mut told);
+                let status = end(outcome, &mut told).status;
                 let mut wanted = Vec::new(rt.alloc());
                 wanted.extend_from_slice(b"caldate: line 2: ")?;
                 wanted.extend_from_slice(if length > 4096 {
