@@ -1,6 +1,7 @@
-# Proves and builds the program of tools/program.sh, whose names it uses.
+# Proves and builds a program or the static library. Its caller sets top, the folder of the repository; name, that of the crate; crate,
+# its folder; make, which is run for a program and lib for the library; and the functions say and fail. It sets crates to the crates
+# that this one is made of, each after those that it uses.
 
-# Sets crates to those that a crate is made of, each after those that it uses.
 add_crate() {
     for used in $(sed -n "s/^$1\( [^:]*\)*://p" "$top/crates.txt"); do
         add_crate "$used"
@@ -11,15 +12,19 @@ add_crate() {
     esac
 }
 
-# Each crate that is not proved yet in its turn, lowest first, and then the program. The kit runs a program that it has built: its
-# words, and its status, say nothing of the build.
+# Each library that is not proved yet in its turn, lowest first, and then the crate itself. The kit runs a program that it has built:
+# its words, and its status, say nothing of the build.
 prove_and_build() {
     for one in $crates; do
         if [ "$one" != "$name" ] && [ ! -d "$top/crates/$one/out" ]; then
             (cd -- "$top/crates/$one" && rt lib 2>&1) || return
         fi
     done
-    (cd -- "$crate" && rt run 2>&1 >/dev/null)
+    cd -- "$crate" || return
+    case $make in
+    run) rt run 2>&1 >/dev/null ;;
+    lib) rt lib 2>&1 && echo "rt: built $name" ;;
+    esac
 }
 
 # Says which crate has its turn, and where another build is in the way.
@@ -53,20 +58,18 @@ count=0
 for one in $crates; do
     count=$((count + 1))
 done
-what='not built yet'
-[ ! -x "$program" ] || what='not built from the present sources'
-command -v rt >/dev/null || fail "it is $what, and the kit's rt is not on the path"
-mkdir -p -- "$crate/out" 2>/dev/null && : 2>/dev/null >"$crate/out/build.$$" || fail "it is $what, and this checkout cannot be written to"
-log=$crate/out/build.log
-# A source that changes from here on is newer than the marker.
-echo "$crates" >"$marker.$$"
-trap 'rm -f -- "$marker.$$" "$crate/out/build.$$"' EXIT
-say "it is $what: proving and building, which takes some minutes the first time"
 unset CDPATH
-prove_and_build </dev/null | tee -- "$crate/out/build.$$" | progress
-mv -f -- "$crate/out/build.$$" "$log"
-if grep -q "^rt: running out/$name" "$log"; then
-    mv -f -- "$marker.$$" "$marker"
+log=$crate/out/build.log
+# It names the crates, and bears the time before the build, so that a source that changes from here on is newer.
+begun=$crate/out/begun.$$
+command -v rt >/dev/null || fail "the kit's rt is not on the path, so nothing is built"
+mkdir -p -- "$crate/out" 2>/dev/null && echo "$crates" 2>/dev/null >"$begun" || fail 'this checkout cannot be written to, so nothing is built'
+trap 'rm -f -- "$begun" "$log.$$"' EXIT
+say 'proving and building, which takes some minutes the first time'
+prove_and_build </dev/null | tee -- "$log.$$" | progress || true
+mv -f -- "$log.$$" "$log"
+if grep -q -e "^rt: running out/$name;" -e "^rt: built $name\$" "$log"; then
+    mv -f -- "$begun" "$crate/out/$name.built"
     trap - EXIT
 else
     # What is not proved or not understood, and where; a function that only calls such a one is left out.

@@ -29,7 +29,10 @@ is_built() {
         '(' -type d -o -name crates.txt -o -name '*.rt' -o -name '*.antt' ')' -cnewer "$marker" -print -quit) && [ -z "$changed" ]
 }
 
-is_built || . "$top/tools/build.sh"
+if ! is_built; then
+    make=run
+    . "$top/tools/build.sh"
+fi
 if [ -n "$hint" ] && [ -t 0 ]; then
     say "$hint"
 fi
