@@ -2,7 +2,7 @@
 use Rattle.std.proofs.Common.{◌≡◌, ℕ, refl, sym, ap, ◌∙◌, arith, ℤ, Option, Some, None, Result, Ok, Err, SomeIff}
 use Rattle.std.specs.Prelude.{IfOk, IfErr, ◌↔◌}
 use Rattle.std.proofs.lemmas.Int.{ints}
-use Rattle.cal_units.specs.Refusal.{Refusal, refusal, IsRefused}
+use Rattle.cal_units.specs.Refusal.{IsRefused}
 use Rattle.cal_units.specs.declared.error.ComponentRange.{ComponentRange}
 use Rattle.cal_date.specs.Date.{IsDate}
 use Rattle.cal_time.specs.Pair.{HasMoment, PairAt}
@@ -16,18 +16,18 @@ some_iff-one P x (Some y) (Some z) h k = ap Some (h.1 ∙ sym k.1)
 
 -- The clauses of a constructor and of a replaced component: the day that has what was asked for, or one of some refusals, each
 -- exactly where its clause says.
-pub record Constructs (Has : ℕ → Type 0) (IsReason Says : Refusal → Type 0) (r : Result ℕ ComponentRange) : Type 0 where
+pub record Constructs (Has : ℕ → Type 0) (IsReason Says : ComponentRange → Type 0) (r : Result ℕ ComponentRange) : Type 0 where
   pub every : (n : ℕ) → IsDate n → Has n → r ≡ Ok n
   pub has : IfOk r (λ n. IsDate n × Has n)
-  pub reason : IfErr r (λ e. IsReason (refusal e))
-  pub exactly : (why : Refusal) → IsReason why → (IsRefused why r ↔ Says why)
+  pub reason : IfErr r (λ e. IsReason e)
+  pub exactly : (why : ComponentRange) → IsReason why → (IsRefused why r ↔ Says why)
 
 -- the same day, or the same refusal
 abbrev pub Same : Result ℕ ComponentRange → Result ℕ ComponentRange → Type 0
 Same (Ok n) (Ok m) = n ≡ m
 Same (Ok n) (Err f) = ⊥
 Same (Err e) (Ok m) = ⊥
-Same (Err e) (Err f) = refusal e ≡ refusal f
+Same (Err e) (Err f) = e ≡ refusal f
 
 ok-ok : (n m : ℕ) (r s : Result ℕ ComponentRange) → r ≡ Ok m → s ≡ Ok n → r ≡ s → n ≡ m
 ok-ok n m r s p q e = cc
@@ -35,11 +35,11 @@ ok-ok n m r s p q e = cc
 ok-err : (n : ℕ) (f : ComponentRange) (r : Result ℕ ComponentRange) → r ≡ Err f → r ≡ Ok n → ⊥
 ok-err n f r p q = cc
 
-pub constructs-one : (Has : ℕ → Type 0) (IsReason Says : Refusal → Type 0) (r s : Result ℕ ComponentRange) → Constructs Has IsReason Says r → Constructs Has IsReason Says s → Same r s
+pub constructs-one : (Has : ℕ → Type 0) (IsReason Says : ComponentRange → Type 0) (r s : Result ℕ ComponentRange) → Constructs Has IsReason Says r → Constructs Has IsReason Says s → Same r s
 constructs-one Has R S (Ok n) (Ok m) h k = ok-ok n m (Ok m) (Ok n) refl refl (k.every n h.has.0 h.has.1)
 constructs-one Has R S (Ok n) (Err f) h k = ok-err n f (Err f) refl (k.every n h.has.0 h.has.1)
 constructs-one Has R S (Err e) (Ok m) h k = ok-err m e (Err e) refl (h.every m k.has.0 k.has.1)
-constructs-one Has R S (Err e) (Err f) h k = sym ((k.exactly (refusal e) h.reason).1 ((h.exactly (refusal e) h.reason).0 refl))
+constructs-one Has R S (Err e) (Err f) h k = sym ((k.exactly e h.reason).1 ((h.exactly e h.reason).0 refl))
 
 -- the pair that has a moment, or none
 same_date : (z : ℤ) (n t m u : ℕ) → HasMoment z n t → HasMoment z m u → n ≡ m
