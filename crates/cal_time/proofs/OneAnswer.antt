@@ -22,24 +22,14 @@ pub record Constructs (Has : ℕ → Type 0) (IsReason Says : ComponentRange →
   pub reason : IfErr r (λ e. IsReason e)
   pub exactly : (why : ComponentRange) → IsReason why → (IsRefused why r ↔ Says why)
 
--- the same day, or the same refusal
-abbrev pub Same : Result ℕ ComponentRange → Result ℕ ComponentRange → Type 0
-Same (Ok n) (Ok m) = n ≡ m
-Same (Ok n) (Err f) = ⊥
-Same (Err e) (Ok m) = ⊥
-Same (Err e) (Err f) = e ≡ refusal f
-
-ok-ok : (n m : ℕ) (r s : Result ℕ ComponentRange) → r ≡ Ok m → s ≡ Ok n → r ≡ s → n ≡ m
-ok-ok n m r s p q e = cc
-
 ok-err : (n : ℕ) (f : ComponentRange) (r : Result ℕ ComponentRange) → r ≡ Err f → r ≡ Ok n → ⊥
 ok-err n f r p q = cc
 
-pub constructs-one : (Has : ℕ → Type 0) (IsReason Says : ComponentRange → Type 0) (r s : Result ℕ ComponentRange) → Constructs Has IsReason Says r → Constructs Has IsReason Says s → Same r s
-constructs-one Has R S (Ok n) (Ok m) h k = ok-ok n m (Ok m) (Ok n) refl refl (k.every n h.has.0 h.has.1)
-constructs-one Has R S (Ok n) (Err f) h k = ok-err n f (Err f) refl (k.every n h.has.0 h.has.1)
-constructs-one Has R S (Err e) (Ok m) h k = ok-err m e (Err e) refl (h.every m k.has.0 k.has.1)
-constructs-one Has R S (Err e) (Err f) h k = sym ((k.exactly e h.reason).1 ((h.exactly e h.reason).0 refl))
+pub constructs-one : (Has : ℕ → Type 0) (IsReason Says : ComponentRange → Type 0) (r s : Result ℕ ComponentRange) → Constructs Has IsReason Says r → Constructs Has IsReason Says s → r ≡ s
+constructs-one Has R S (Ok n) (Ok m) h k = sym (k.every n h.has.0 h.has.1)
+constructs-one Has R S (Ok n) (Err f) h k = absurd (ok-err n f (Err f) refl (k.every n h.has.0 h.has.1))
+constructs-one Has R S (Err e) (Ok m) h k = absurd (ok-err m e (Err e) refl (h.every m k.has.0 k.has.1))
+constructs-one Has R S (Err e) (Err f) h k = ap Err (sym ((k.exactly e h.reason).1 ((h.exactly e h.reason).0 refl)))
 
 -- the pair that has a moment, or none
 same_date : (z : ℤ) (n t m u : ℕ) → HasMoment z n t → HasMoment z m u → n ≡ m
