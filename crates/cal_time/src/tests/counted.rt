@@ -9,13 +9,15 @@ use crate::{Counted, extent, is_rising};
 struct Floor(i8);
 
 impl Counted for Floor {
-    ghost use Rattle.std.proofs.Common.{rules, refl};
+    ghost use Rattle.std.proofs.Common.{rules, refl, ap};
 
     ghost number_of = { λ floor. floor.0 };
 
     ghost ordered = { λ x y. Prim.search rules };
 
     ghost alike = { λ x y. Prim.search rules };
+
+    ghost apart = { λ x y e. ap (λ number. record { '0 = number }) e };
 
     ghost hashed = { λ x y e. Prim.search rules };
 
