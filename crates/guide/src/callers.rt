@@ -135,9 +135,7 @@ fn weeks_gone(date: Date) -> u8 {
 fn last_friday(year: i32, month: Month) -> Option<Date>
     ensures { IfSome result (λ day. weekday_at day ≡ 4) }
 {
-    let Ok(last) = Date::from_calendar_date(year, month, days_in_month(month, year)) else {
-        return None;
-    };
+    let last = Date::from_calendar_date(year, month, days_in_month(month, year)).ok()?;
     if last.weekday() == Weekday::Friday {
         Some(last)
     } else {
