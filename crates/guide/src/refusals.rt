@@ -1,9 +1,8 @@
 //! What a constructor refuses, why, and how a refusal is handed on.
-ghost use Rattle.std.specs.Prelude.{◌≡◌, ◌≤◌, ℕ, IfOk, IfErr, IfSome, Ok, Some};
-ghost use Rattle.cal_time.specs.Date.{last_day, weekday_at, HasCalendarDate, HasJulianDay, HasOrdinalDate, IsDate};
+ghost use Rattle.std.specs.Prelude.{◌≡◌, ℕ, IfOk, IfErr, IfSome, IsNone};
+ghost use Rattle.cal_time.specs.Date.{weekday_at, HasCalendarDate, HasJulianDay, HasOrdinalDate, IsDate};
 ghost use Rattle.cal_time.specs.Month.{number};
 ghost use Rattle.cal_time.specs.Refusals.{julian_day_out_of_range};
-ghost use Rattle.cal_time.specs.Time.{time_of};
 ghost use Rattle.cal_time.specs.Weekday.{place};
 
 use cal_time::error::ComponentRange;
@@ -64,7 +63,9 @@ fn booking(year: i32, month: Month, day: u8, hour: u8) -> Result<(Date, Time), N
 }
 
 /// The name of the component that has no such value, or nothing where the date is one.
-fn component_at_fault(year: i32, month: Month, day: u8) -> Option<&'static str> {
+fn component_at_fault(year: i32, month: Month, day: u8) -> Option<&'static str>
+    ensures { (n : ℕ) → IsDate n → HasCalendarDate year (number month) day n → IsNone result }
+{
     match Date::from_calendar_date(year, month, day) {
         Ok(_) => None,
         Err(error) => Some(error.name()),
