@@ -1,6 +1,6 @@
 -- Laws for callers: the first of the days from one on that passes a test, as a filter of them begins.
-use Rattle.std.proofs.Common.{◌≡◌, ℕ, zero, suc, ◌+◌, ◌-◌, ◌<◌, ◌≤◌, ◌⊎◌, inl, inr, refl, sym, ap, ◌∙◌, arith, List, [], ◌∷◌, filter, slice_get, Bool, true, false}
-use Rattle.std.specs.Prelude.{MatchOption}
+use Rattle.std.proofs.Common.{◌≡◌, ℕ, zero, suc, ◌+◌, ◌-◌, ◌<◌, ◌≤◌, ◌⊎◌, inl, inr, refl, sym, ap, ◌∙◌, arith, List, [], ◌∷◌, filter, slice_get, Option, None, Bool, true, false}
+use Rattle.std.specs.Prelude.{IfSome}
 use Rattle.std.proofs.lemmas.Bool.{cases_lt, cases_Bool, false≢true}
 use Rattle.cal_date.specs.Occurrence.{days_from}
 
@@ -94,12 +94,19 @@ one_first test n count x y h k =
       ]
     ]
 
--- the first of the filtered days is the first that passes, and there is none exactly where none passes
-pub first_passing : (test : ℕ → Bool) (n count : ℕ) → MatchOption (slice_get (filter test (days_from n count)) 0) (NonePasses test n count) (IsFirst test n count)
-first_passing test n count =
+-- the first of the filtered days is the first that passes, and where there is none, none passes
+pub first_passing : (test : ℕ → Bool) (n count : ℕ) (r : Option ℕ) → r ≡ slice_get (filter test (days_from n count)) 0 → IfSome r (IsFirst test n count)
+first_passing test n count r e =
     elim (begins test n count) [
-      | inl h ↦ rw h.days h.none
-      | inr h ↦ rw h.days h.first
+      | inl h ↦ rw (e, h.days) tt
+      | inr h ↦ rw (e, h.days) h.first
+    ]
+
+pub none_passing : (test : ℕ → Bool) (n count : ℕ) → slice_get (filter test (days_from n count)) 0 ≡ None → NonePasses test n count
+none_passing test n count e =
+    elim (begins test n count) [
+      | inl h ↦ h.none
+      | inr h ↦ let some = rw h.days at e in absurd (cc)
     ]
 
 -- so the filter begins with it, and goes on as that of the days after it

@@ -1,9 +1,11 @@
 //! Callers that know the clauses and the laws of `cal_time`: the order of days, and how many lie between.
-ghost use Rattle.std.specs.Prelude.{◌≡◌, ◌+◌, ◌≤◌, ◌<ℤ◌, ◌≤ℤ◌, ◌==◌, pos, IsTrue, ◌↔◌, Some};
-ghost use Rattle.cal_time.specs.Date.{first_year, last_year, year_at, month_at, IsYear, HasCalendarDate, HasOrdinalDate};
+ghost use Rattle.std.specs.Prelude.{◌≡◌, ◌+◌, ◌-◌, ◌≤◌, ◌<ℤ◌, ◌≤ℤ◌, ◌==◌, pos, IfSome, IsTrue, ◌↔◌, Some};
+ghost use Rattle.cal_time.specs.Date.{first_year, last_year, last_day, year_at, month_at, IsYear, HasCalendarDate, HasOrdinalDate};
+ghost use Rattle.cal_time.specs.Filters.{IsFirst};
 ghost use Rattle.cal_time.specs.Lengths.{days_in_year};
+ghost use Rattle.cal_time.specs.Occurrence.{is_on};
 
-use cal_time::{Date, Month, SignedDuration};
+use cal_time::{Date, Month, SignedDuration, Weekday};
 use std::io;
 
 /// Whether the two are one day.
@@ -79,6 +81,14 @@ fn first_of_walk(from: Date, to: Date) -> Option<Date>
     from.iter_to(to).next()
 }
 
+/// The next Friday: no day between is one.
+#[tactic(auto, using(cal_time::specs::Filters::first_passing))]
+fn next_friday(date: Date) -> Option<Date>
+    ensures { IfSome result (IsFirst (is_on 4) (date + 1) (last_day - date)) }
+{
+    date.checked_next_occurrence(Weekday::Friday)
+}
+
 pub fn show(rt: &impl Print) -> io::Result<()> {
     let Ok(from) = Date::from_calendar_date(2024, Month::February, 28) else {
         return Ok(());
@@ -88,7 +98,7 @@ pub fn show(rt: &impl Print) -> io::Result<()> {
     };
     println!(rt; "{} {}", is_same(from, to), stays_in_its_year(from))?;
     println!(rt; "{} {}", later_year(from, 365), days_to_next_new_year(2024))?;
-    println!(rt; "{}", first_of_its_month(from))?;
+    println!(rt; "{} {:?}", first_of_its_month(from), next_friday(from))?;
     if from <= to {
         println!(rt; "{:?}", first_of_walk(from, to))?;
         if from.year() == to.year() {
