@@ -5,11 +5,11 @@ use Rattle.std.proofs.lemmas.Bool.{cases_lt, cases_Bool, false≢true}
 use Rattle.cal_date.specs.Occurrence.{days_from}
 
 -- none of so many days from day n on passes
-abbrev pub NonePasses : (ℕ → Bool) → ℕ → ℕ → Type 0
-NonePasses test n count = (k : ℕ) → n ≤ k → k < n + count → test k ≡ false
+abbrev pub NoDayPasses : (ℕ → Bool) → ℕ → ℕ → Type 0
+NoDayPasses test n count = (k : ℕ) → n ≤ k → k < n + count → test k ≡ false
 
 -- x is the first of them that passes
-pub record IsFirst (test : ℕ → Bool) (n count x : ℕ) : Type 0 where
+pub record IsFirstDay (test : ℕ → Bool) (n count x : ℕ) : Type 0 where
   pub not_before : n ≤ x
   pub within : x < n + count
   pub passes : test x ≡ true
@@ -33,24 +33,24 @@ unfolding days_from
 passing-false test n count h = rw h refl
 
 -- how it begins: with no day, as none passes, or with the first that does
-record IsNone (test : ℕ → Bool) (n count : ℕ) : Type 0 where
-  none : NonePasses test n count
+record BeginsEmpty (test : ℕ → Bool) (n count : ℕ) : Type 0 where
+  none : NoDayPasses test n count
   days : passing test n count ≡ []
 
-record IsSome (test : ℕ → Bool) (n count : ℕ) : Type 0 where
+record BeginsWithDay (test : ℕ → Bool) (n count : ℕ) : Type 0 where
   day : ℕ
-  first : IsFirst test n count day
+  first : IsFirstDay test n count day
   days : passing test n count ≡ day ∷ passing test (day + 1) (n + count - (day + 1))
 
 -- where the first of the days does not pass, it begins as that of the others
-none_after : (test : ℕ → Bool) (n count : ℕ) → test n ≡ false → NonePasses test (n + 1) count → NonePasses test n (suc count)
+none_after : (test : ℕ → Bool) (n count : ℕ) → test n ≡ false → NoDayPasses test (n + 1) count → NoDayPasses test n (suc count)
 none_after test n count off none k low high =
     elim (cases_lt n k) [
       | inl later ↦ none k (omega arith) (omega arith)
       | inr same ↦ let e : n ≡ k = omega arith in ap test (sym e) ∙ off
     ]
 
-first_after : (test : ℕ → Bool) (n count x : ℕ) → test n ≡ false → IsFirst test (n + 1) count x → IsFirst test n (suc count) x
+first_after : (test : ℕ → Bool) (n count x : ℕ) → test n ≡ false → IsFirstDay test (n + 1) count x → IsFirstDay test n (suc count) x
 first_after test n count x off h = record {
   not_before = omega (arith, h.not_before);
   within = omega (arith, h.within);
@@ -61,10 +61,10 @@ first_after test n count x off h = record {
   ];
 }
 
-begins : (test : ℕ → Bool) (n count : ℕ) → IsNone test n count ⊎ IsSome test n count
+begins : (test : ℕ → Bool) (n count : ℕ) → BeginsEmpty test n count ⊎ BeginsWithDay test n count
 begins test n zero = inl (record { none = λ k low high. absurd (omega arith); days = passing-none test n })
 begins test n (suc count) =
-    elim (cases_Bool (test n)) as (λ _. IsNone test n (suc count) ⊎ IsSome test n (suc count)) [
+    elim (cases_Bool (test n)) as (λ _. BeginsEmpty test n (suc count) ⊎ BeginsWithDay test n (suc count)) [
       | inl on ↦
           let left : count ≡ n + suc count - (n + 1) = omega arith in
           inr (record {
@@ -72,7 +72,7 @@ begins test n (suc count) =
             first = record { not_before = omega arith; within = omega arith; passes = on; none_before = λ k low high. absurd (omega arith) };
             days = passing-true test n count on ∙ ap (λ c. n ∷ passing test (n + 1) c) left;
           })
-      | inr off ↦ elim (begins test (n + 1) count) as (λ _. IsNone test n (suc count) ⊎ IsSome test n (suc count)) [
+      | inr off ↦ elim (begins test (n + 1) count) as (λ _. BeginsEmpty test n (suc count) ⊎ BeginsWithDay test n (suc count)) [
         | inl h ↦ inl (record { none = none_after test n count off h.none; days = passing-false test n count off ∙ h.days })
         | inr h ↦
             let left : n + 1 + count ≡ n + suc count = omega arith in
@@ -84,7 +84,7 @@ begins test n (suc count) =
       ]
     ]
 
-one_first : (test : ℕ → Bool) (n count x y : ℕ) → IsFirst test n count x → IsFirst test n count y → x ≡ y
+one_first : (test : ℕ → Bool) (n count x y : ℕ) → IsFirstDay test n count x → IsFirstDay test n count y → x ≡ y
 one_first test n count x y h k =
     elim (cases_lt x y) [
       | inl less ↦ absurd (false≢true (sym (k.none_before x h.not_before less) ∙ h.passes))
@@ -95,14 +95,14 @@ one_first test n count x y h k =
     ]
 
 -- the first of the filtered days is the first that passes, and where there is none, none passes
-pub first_passing : (test : ℕ → Bool) (n count : ℕ) (r : Option ℕ) → r ≡ slice_get (filter test (days_from n count)) 0 → IfSome r (IsFirst test n count)
+pub first_passing : (test : ℕ → Bool) (n count : ℕ) (r : Option ℕ) → r ≡ slice_get (filter test (days_from n count)) 0 → IfSome r (IsFirstDay test n count)
 first_passing test n count r e =
     elim (begins test n count) [
       | inl h ↦ rw (e, h.days) tt
       | inr h ↦ rw (e, h.days) h.first
     ]
 
-pub none_passing : (test : ℕ → Bool) (n count : ℕ) → slice_get (filter test (days_from n count)) 0 ≡ None → NonePasses test n count
+pub none_passing : (test : ℕ → Bool) (n count : ℕ) → slice_get (filter test (days_from n count)) 0 ≡ None → NoDayPasses test n count
 none_passing test n count e =
     elim (begins test n count) [
       | inl h ↦ h.none
@@ -110,7 +110,7 @@ none_passing test n count e =
     ]
 
 -- so the filter begins with it, and goes on as that of the days after it
-pub filter-first : (test : ℕ → Bool) (n count x : ℕ) → IsFirst test n count x
+pub filter-first : (test : ℕ → Bool) (n count x : ℕ) → IsFirstDay test n count x
     → filter test (days_from n count) ≡ x ∷ filter test (days_from (x + 1) (n + count - (x + 1)))
 filter-first test n count x h =
     elim (begins test n count) [
@@ -118,7 +118,7 @@ filter-first test n count x h =
       | inr k ↦ let e = one_first test n count k.day x k.first h in k.days ∙ ap (λ m. m ∷ passing test (m + 1) (n + count - (m + 1))) e
     ]
 
-pub filter-none : (test : ℕ → Bool) (n count : ℕ) → NonePasses test n count → filter test (days_from n count) ≡ []
+pub filter-none : (test : ℕ → Bool) (n count : ℕ) → NoDayPasses test n count → filter test (days_from n count) ≡ []
 filter-none test n count h =
     elim (begins test n count) [
       | inl k ↦ k.days

@@ -24,15 +24,15 @@ slice_get-walk_between m n k =
 pub ruleset days_of_walks = (slice_get-walk_between, length-walk_between, nat_tests)
 
 -- one call of `next`
-abbrev pub Gives : Walk → Option ℕ → Walk → Type 0
-Gives old day new = YieldsFirst days_of old day new × TakesFirst old day new
+abbrev pub GivesDay : Walk → Option ℕ → Walk → Type 0
+GivesDay old day new = YieldsFirst days_of old day new × TakesFirst old day new
 
-pub yields-days : (w : Walk) → YieldsList Gives (λ n. n) w (days_of w)
-yields-days w = YieldsList-from_shown Gives (λ n. n) days_of (λ s t h. ap length h.0.0) (λ s x t h. h.0) w
+pub yields-days : (w : Walk) → YieldsList GivesDay (λ n. n) w (days_of w)
+yields-days w = YieldsList-from_shown GivesDay (λ n. n) days_of (λ s t h. ap length h.0.0) (λ s x t h. h.0) w
 
 -- In a loop over the walk from a day to another each day comes as many days after the first one as there were turns before. At the
 -- end there was a turn for each day.
-pub turn-day : (m n : ℕ) (w t u : Walk) (before : List ℕ) (day : Option ℕ) (x : ℕ) → w ≡ walk_between m n → Yields Gives w before t → day ≡ Some x → Gives t day u
+pub turn-day : (m n : ℕ) (w t u : Walk) (before : List ℕ) (day : Option ℕ) (x : ℕ) → w ≡ walk_between m n → Yields GivesDay w before t → day ≡ Some x → GivesDay t day u
     → (x ≡ m + length before) × (x ≤ n)
 turn-day m n w t u before day x e run some gives =
     let turn = YieldsList-turn (yields-days (walk_between m n)) before t (rw e at run) day u x some gives in
@@ -41,7 +41,7 @@ turn-day m n w t u before day x e run some gives =
     let here = get_or_from_slice_get (days_of (walk_between m n)) (length before) (m + length before) x place in
     (turn.1 ∙ here, omega (arith, turn.0, turn.1 ∙ here))
 
-pub end-turns : (m n : ℕ) (w t u : Walk) (before : List ℕ) (day : Option ℕ) → w ≡ walk_between m n → Yields Gives w before t → day ≡ None → Gives t day u
+pub end-turns : (m n : ℕ) (w t u : Walk) (before : List ℕ) (day : Option ℕ) → w ≡ walk_between m n → Yields GivesDay w before t → day ≡ None → GivesDay t day u
     → length before ≡ n + 1 - m
 end-turns m n w t u before day e run none gives =
     (YieldsList-end (yields-days (walk_between m n)) before t (rw e at run) day u none gives).1 ∙ length-walk_between m n

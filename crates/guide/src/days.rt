@@ -1,7 +1,7 @@
 //! Callers that know the clauses and the laws of `cal_time`: the order of days, and how many lie between.
 ghost use Rattle.std.specs.Prelude.{◌≡◌, ◌+◌, ◌-◌, ◌≤◌, ◌<ℤ◌, ◌≤ℤ◌, ◌==◌, pos, IfSome, IsTrue, ◌↔◌, Some};
 ghost use Rattle.cal_time.specs.Date.{first_year, last_year, last_day, year_at, month_at, IsYear, HasCalendarDate, HasOrdinalDate};
-ghost use Rattle.cal_time.specs.Filters.{IsFirst};
+ghost use Rattle.cal_time.specs.Filters.{IsFirstDay};
 ghost use Rattle.cal_time.specs.Lengths.{days_in_year};
 ghost use Rattle.cal_time.specs.Occurrence.{is_on};
 
@@ -84,7 +84,7 @@ fn first_of_walk(from: Date, to: Date) -> Option<Date>
 /// The next Friday: no day between is one.
 #[tactic(auto, using(cal_time::specs::Filters::first_passing))]
 fn next_friday(date: Date) -> Option<Date>
-    ensures { IfSome result (IsFirst (is_on 4) (date + 1) (last_day - date)) }
+    ensures { IfSome result (IsFirstDay (is_on 4) (date + 1) (last_day - date)) }
 {
     date.checked_next_occurrence(Weekday::Friday)
 }
