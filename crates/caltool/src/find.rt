@@ -10,21 +10,21 @@ use cal_time::{Date, Month, Weekday};
 
 /// The day of this Julian day.
 pub fn find_julian_day(julian_day: i32) -> Result<Date, ComponentRange>
-    ensures found { Finds (day_of_julian_day julian_day) julian_day_out_of_range result }
+    ensures { Finds (day_of_julian_day julian_day) julian_day_out_of_range result }
 {
     Date::from_julian_day(julian_day)
 }
 
 /// The day of this year and ordinal.
 pub fn find_ordinal_date(year: i32, ordinal: u16) -> Result<Date, ComponentRange>
-    ensures found { Finds (day_of_ordinal_date year ordinal) (why_no_ordinal_date year) result }
+    ensures { Finds (day_of_ordinal_date year ordinal) (why_no_ordinal_date year) result }
 {
     Date::from_ordinal_date(year, ordinal)
 }
 
 /// The day of this year, number of a month and day of the month.
 pub fn find_calendar_date(year: i32, month: u8, day: u8) -> Result<Date, ComponentRange>
-    ensures found { Finds (day_of_calendar_date year month day) (why_no_calendar_date year month) result }
+    ensures { Finds (day_of_calendar_date year month day) (why_no_calendar_date year month) result }
 {
     match Month::try_from(month) {
         Ok(month) => find_date_of_month(year, month, day),
@@ -33,14 +33,14 @@ pub fn find_calendar_date(year: i32, month: u8, day: u8) -> Result<Date, Compone
 }
 
 fn find_date_of_month(year: i32, month: Month, day: u8) -> Result<Date, ComponentRange>
-    ensures found { Finds (day_of_calendar_date year (number month) day) (why_no_calendar_date year (number month)) result }
+    ensures { Finds (day_of_calendar_date year (number month) day) (why_no_calendar_date year (number month)) result }
 {
     Date::from_calendar_date(year, month, day)
 }
 
 /// The day of this ISO year, week and weekday.
 pub fn find_iso_week_date(year: i32, week: u8, weekday: Weekday) -> Result<Date, ComponentRange>
-    ensures found { Finds (day_of_iso_date year week (place weekday)) (why_no_iso_date year week) result }
+    ensures { Finds (day_of_iso_date year week (place weekday)) (why_no_iso_date year week) result }
 {
     Date::from_iso_week_date(year, week, weekday)
 }
