@@ -62,7 +62,9 @@ pub fn read(text: &[u8]) -> Result<(Date, Time), Unreadable>
     match unix_of(text) {
         Some(duration) => match pair_of(duration, UtcOffset::UTC) {
             Some(pair) => Ok(pair),
-            None => Err(Unreadable::OutOfRange(ComponentRange::unconditional(Component::Timestamp))),
+            None => Err(Unreadable::OutOfRange(ComponentRange::unconditional(
+                Component::Timestamp,
+            ))),
         },
         None => Err(Unreadable::UnexpectedByte(first_wrong_byte(text))),
     }

@@ -167,7 +167,10 @@ fn styled_texts_for_debugging(rt: HostRuntime) -> Result<(), Fail> {
 #[test]
 fn texts_of_errors(rt: HostRuntime) -> Result<(), Fail> {
     for (error, text) in [
-        (ComponentRange::conditional(Component::Day), "day was not in range"),
+        (
+            ComponentRange::conditional(Component::Day),
+            "day was not in range",
+        ),
         (
             ComponentRange::unconditional(Component::OffsetHour),
             "offset hour was not in range",
