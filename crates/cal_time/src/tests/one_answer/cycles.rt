@@ -1,9 +1,9 @@
 //! Steps, walks and questions along a cycle.
 ghost use Rattle.std.specs.Prelude.{◌≡◌, Bool};
 
-use crate::Cycle;
 use crate::iter::{CycleIter, Rev};
 use crate::tests::one_answer::Twice;
+use crate::{Cycle, Month};
 
 fn nth_in<C: Cycle>(start: C, n: usize) -> Twice<C>
     ensures { result.0 ≡ result.1 }
@@ -77,4 +77,11 @@ fn back_any_once<C: Cycle, F: FnMut(C) -> bool + Copy>(start: C, f: F) -> Twice<
     ensures { result.0 ≡ result.1 }
 {
     twice!(CycleIter::new(start).rev().any_once(f))
+}
+
+/// A closure that changes nothing meets the condition.
+fn all_once_of_places_below(start: Month, end: u8) -> Twice<bool>
+    ensures { result.0 ≡ result.1 }
+{
+    all_once(start, move |month: Month| month.place() < end)
 }
