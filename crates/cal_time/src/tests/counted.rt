@@ -9,7 +9,7 @@ use crate::{Counted, extent, is_rising};
 struct Floor(i8);
 
 impl Counted for Floor {
-    ghost use Rattle.std.proofs.Common.{rules, refl, ap};
+    ghost use Rattle.std.proofs.Common.{rules, refl};
 
     ghost number_of = { λ floor. floor.0 };
 
@@ -17,7 +17,7 @@ impl Counted for Floor {
 
     ghost alike = { λ x y. Prim.search rules };
 
-    ghost apart = { λ x y e. ap (λ number. record { '0 = number }) e };
+    ghost apart = { λ x y e. Prim.search rules };
 
     ghost hashed = { λ x y e. Prim.search rules };
 
