@@ -7,12 +7,8 @@ use std::io;
 /// When a flight of two hours that leaves at 23:00 on that day of December 2020 arrives.
 fn arrival(day: u8) -> Option<(Date, Time)> {
     let flight = SignedDuration::hours(2);
-    let Ok(time) = Time::from_hms(23, 0, 0) else {
-        return None;
-    };
-    let Ok(date) = Date::from_calendar_date(2020, Month::December, day) else {
-        return None;
-    };
+    let time = Time::from_hms(23, 0, 0).ok()?;
+    let date = Date::from_calendar_date(2020, Month::December, day).ok()?;
     add_to_pair(date, time, flight)
 }
 

@@ -1,7 +1,7 @@
 -- The status of a text that is not read.
 use Rattle.std.specs.Prelude.{◌≡◌, ℤ, Option, Some, None}
 use Rattle.cal_time.specs.Month.{month_out_of_range}
-use Rattle.cal_time.specs.Refusal.{Refusal}
+use Rattle.cal_time.specs.declared.error.ComponentRange.{ComponentRange}
 use Rattle.cal_time.specs.Refusals.{year_out_of_range, julian_day_out_of_range, day_out_of_range, ordinal_out_of_range, week_out_of_range, weekday_out_of_range}
 use Rattle.cal_time.specs.Time.{hour_out_of_range, minute_out_of_range, second_out_of_range}
 use Rattle.cal_time.specs.UtcOffset.{offset_hour_out_of_range, offset_minute_out_of_range}
@@ -9,7 +9,7 @@ use Rattle.cal_text.specs.UnixText.{timestamp_out_of_range}
 use Rattle.cal_c.specs.Statuses.{unreadable, year_refused, month_refused, julian_day_refused, day_refused, ordinal_refused, week_refused, weekday_refused, hour_refused, minute_refused, second_refused, offset_hour_refused, offset_minute_refused, timestamp_refused}
 
 -- for the component at fault, or for its form where there is none
-pub record IsStatusOf (why : Option Refusal) (s : ℤ) : Type 0 where
+pub record IsStatusOf (why : Option ComponentRange) (s : ℤ) : Type 0 where
   pub form : why ≡ None → s ≡ unreadable
   pub year : why ≡ Some year_out_of_range → s ≡ year_refused
   pub month : why ≡ Some month_out_of_range → s ≡ month_refused

@@ -1,8 +1,8 @@
 //! What crosses of texts: the bytes of one, and what one reads as.
 ghost use Rattle.std.specs.Prelude.{◌≡◌, ◌≤◌, length, None, Some};
-ghost use Rattle.cal_time.specs.Refusal.{Refusal, refusal};
 ghost use Rattle.cal_text.specs.Reading.{component_of};
 ghost use Rattle.cal_c.specs.Texts.{IsUnreadableDate, IsUnreadableMoment, nowhere, read_date_done, read_date_refused, read_moment_done, read_moment_refused, text_done, text_refused};
+ghost use Rattle.cal_time.specs.declared.error.ComponentRange.{ComponentRange};
 ghost use Rattle.cal_c.specs.Unread.{IsStatusOf};
 
 use crate::status::{
@@ -11,7 +11,7 @@ use crate::status::{
 };
 use crate::values::nanoseconds_of;
 use cal_text::Unreadable;
-use cal_time::error::ComponentRange;
+use cal_time::error::{Component, ComponentRange};
 use cal_time::{Date, Time, UtcOffset};
 
 mod making;
@@ -87,7 +87,7 @@ impl ReadDateResult {
 
     pub fn refused(error: Unreadable) -> Self
         ensures form { component_of error ≡ None → IsUnreadableDate result }
-        ensures component { (why : Refusal) → component_of error ≡ Some why → result ≡ read_date_refused result.status }
+        ensures component { (why : ComponentRange) → component_of error ≡ Some why → result ≡ read_date_refused result.status }
         ensures status { IsStatusOf (component_of error) result.status }
     {
         ReadDateResult {
@@ -113,7 +113,7 @@ impl ReadMomentResult {
 
     pub fn refused(error: Unreadable) -> Self
         ensures form { component_of error ≡ None → IsUnreadableMoment result }
-        ensures component { (why : Refusal) → component_of error ≡ Some why → result ≡ read_moment_refused result.status }
+        ensures component { (why : ComponentRange) → component_of error ≡ Some why → result ≡ read_moment_refused result.status }
         ensures status { IsStatusOf (component_of error) result.status }
     {
         ReadMomentResult {
@@ -128,7 +128,7 @@ impl ReadMomentResult {
 
 /// The place of the first byte that is wrong, or the greatest number where none is.
 fn place_of(error: Unreadable) -> usize
-    ensures { (why : Refusal) → component_of error ≡ Some why → result ≡ nowhere }
+    ensures { (why : ComponentRange) → component_of error ≡ Some why → result ≡ nowhere }
 {
     match error {
         Unreadable::UnexpectedByte(place) => place,
@@ -148,21 +148,21 @@ fn status_of(error: Unreadable) -> i32
 
 /// The status of a refusal by a component of a text.
 fn component_status(error: ComponentRange) -> i32
-    ensures { IsStatusOf (Some (refusal error)) result }
+    ensures { IsStatusOf (Some error) result }
 {
-    match error.name() {
-        "year" => YEAR,
-        "month" => MONTH,
-        "julian_day" => JULIAN_DAY,
-        "day" => DAY,
-        "ordinal" => ORDINAL,
-        "week" => WEEK,
-        "weekday" => WEEKDAY,
-        "hour" => HOUR,
-        "minute" => MINUTE,
-        "second" => SECOND,
-        "offset hour" => OFFSET_HOUR,
-        "offset minute" => OFFSET_MINUTE,
+    match error.component() {
+        Component::Year => YEAR,
+        Component::Month => MONTH,
+        Component::JulianDay => JULIAN_DAY,
+        Component::Day => DAY,
+        Component::Ordinal => ORDINAL,
+        Component::Week => WEEK,
+        Component::Weekday => WEEKDAY,
+        Component::Hour => HOUR,
+        Component::Minute => MINUTE,
+        Component::Second => SECOND,
+        Component::OffsetHour => OFFSET_HOUR,
+        Component::OffsetMinute => OFFSET_MINUTE,
         _ => TIMESTAMP,
     }
 }

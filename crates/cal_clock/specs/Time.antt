@@ -3,8 +3,9 @@
 use Rattle.std.specs.Prelude.{◌≡◌, ℕ, ◌+◌, ◌*◌, ◌/◌, ◌%◌, ◌<◌, ◌≤◌, ◌↔◌, ℤ, pos, negsuc, ◌+ℤ◌, ◌*ℤ◌, ◌≤ℤ◌, unsigned_abs, List, ◌++◌, codes, Result}
 use Rattle.std.specs.Int.{int_rem_euclid}
 use Rattle.std.specs.Fmt.{decimal}
+use Rattle.cal_units.specs.declared.error.Component.TheVariants as component
 use Rattle.cal_units.specs.declared.error.ComponentRange.{ComponentRange}
-use Rattle.cal_units.specs.Refusal.{Refusal, unconditional, IsRefused}
+use Rattle.cal_units.specs.Refusal.{unconditional, IsRefused}
 use Rattle.cal_units.specs.declared.util.date_adjustment.DateAdjustment.{DateAdjustment}
 use Rattle.cal_units.specs.declared.util.date_adjustment.DateAdjustment.TheVariants.{Previous, Next, None}
 use Rattle.cal_span.specs.SignedDuration.{microsecond, millisecond, second, minute, hour, day, whole_days}
@@ -16,23 +17,23 @@ pub record IsTime (t : ℕ) : Type 0 where
   pub below_day : t < day
 
 -- ---- refusals
-abbrev pub hour_out_of_range : Refusal
-hour_out_of_range = unconditional (codes "hour")
+abbrev pub hour_out_of_range : ComponentRange
+hour_out_of_range = unconditional component.Hour
 
-abbrev pub minute_out_of_range : Refusal
-minute_out_of_range = unconditional (codes "minute")
+abbrev pub minute_out_of_range : ComponentRange
+minute_out_of_range = unconditional component.Minute
 
-abbrev pub second_out_of_range : Refusal
-second_out_of_range = unconditional (codes "second")
+abbrev pub second_out_of_range : ComponentRange
+second_out_of_range = unconditional component.Second
 
-abbrev pub millisecond_out_of_range : Refusal
-millisecond_out_of_range = unconditional (codes "millisecond")
+abbrev pub millisecond_out_of_range : ComponentRange
+millisecond_out_of_range = unconditional component.Millisecond
 
-abbrev pub microsecond_out_of_range : Refusal
-microsecond_out_of_range = unconditional (codes "microsecond")
+abbrev pub microsecond_out_of_range : ComponentRange
+microsecond_out_of_range = unconditional component.Microsecond
 
-abbrev pub nanosecond_out_of_range : Refusal
-nanosecond_out_of_range = unconditional (codes "nanosecond")
+abbrev pub nanosecond_out_of_range : ComponentRange
+nanosecond_out_of_range = unconditional component.Nanosecond
 
 -- an hour, a minute and a second are refused for the first of them that is out of range
 pub record IsRefusedByClock {T : Type 0} (h m s : ℕ) (result : Result T ComponentRange) : Type 0 where

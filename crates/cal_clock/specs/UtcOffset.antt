@@ -2,7 +2,9 @@
 -- its calls answer, as functions of that number.
 use Rattle.std.specs.Prelude.{ℕ, zero, suc, ◌+◌, ◌*◌, ◌/◌, ◌%◌, ◌≤◌, ℤ, pos, negsuc, neg_ℤ, ◌-ℤ◌, ◌*ℤ◌, unsigned_abs, List, ◌++◌, codes}
 use Rattle.cal_span.specs.SignedDuration.{cut}
-use Rattle.cal_units.specs.Refusal.{Refusal, unconditional}
+use Rattle.cal_units.specs.declared.error.Component.TheVariants as component
+use Rattle.cal_units.specs.declared.error.ComponentRange.{ComponentRange}
+use Rattle.cal_units.specs.Refusal.{unconditional}
 use Rattle.cal_units.specs.Digits.{two_digits}
 
 -- 25 hours, 59 minutes and 59 seconds
@@ -14,17 +16,17 @@ pub record IsOffset (seconds : ℤ) : Type 0 where
   pub magnitude : unsigned_abs seconds ≤ greatest
 
 -- ---- refusals
-abbrev pub offset_hour_out_of_range : Refusal
-offset_hour_out_of_range = unconditional (codes "offset hour")
+abbrev pub offset_hour_out_of_range : ComponentRange
+offset_hour_out_of_range = unconditional component.OffsetHour
 
-abbrev pub offset_minute_out_of_range : Refusal
-offset_minute_out_of_range = unconditional (codes "offset minute")
+abbrev pub offset_minute_out_of_range : ComponentRange
+offset_minute_out_of_range = unconditional component.OffsetMinute
 
-abbrev pub offset_second_out_of_range : Refusal
-offset_second_out_of_range = unconditional (codes "offset second")
+abbrev pub offset_second_out_of_range : ComponentRange
+offset_second_out_of_range = unconditional component.OffsetSecond
 
-abbrev pub seconds_out_of_range : Refusal
-seconds_out_of_range = unconditional (codes "seconds")
+abbrev pub seconds_out_of_range : ComponentRange
+seconds_out_of_range = unconditional component.Seconds
 
 -- ---- the offset of hours, minutes and seconds
 -- the first number, or the second one where the first is 0

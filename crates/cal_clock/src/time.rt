@@ -4,7 +4,7 @@ ghost use Rattle.cal_units.specs.Refusal.{IsRefused};
 ghost use Rattle.cal_clock.specs.Time.{millisecond_out_of_range, microsecond_out_of_range, nanosecond_out_of_range, time_of, IsRefusedByClock};
 
 use crate::units::{NANOSECONDS_PER_HOUR, NANOSECONDS_PER_MINUTE, NANOSECONDS_PER_SECOND};
-use cal_units::error::ComponentRange;
+use cal_units::error::{Component, ComponentRange};
 use std::marker::Model;
 
 mod arithmetic;
@@ -53,13 +53,13 @@ impl Time {
         ensures value { hour ≤ 23 → minute ≤ 59 → second ≤ 59 → result ≡ Ok (time_of hour minute second 0) }
     {
         if hour > 23 {
-            return Err(ComponentRange::unconditional("hour"));
+            return Err(ComponentRange::unconditional(Component::Hour));
         }
         if minute > 59 {
-            return Err(ComponentRange::unconditional("minute"));
+            return Err(ComponentRange::unconditional(Component::Minute));
         }
         if second > 59 {
-            return Err(ComponentRange::unconditional("second"));
+            return Err(ComponentRange::unconditional(Component::Second));
         }
         Ok(Self {
             nanoseconds: u64::from(hour) * NANOSECONDS_PER_HOUR

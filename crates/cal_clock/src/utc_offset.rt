@@ -7,7 +7,7 @@ ghost use Rattle.cal_clock.specs.UtcOffset.{IsOffset, greatest, offset_hour_out_
 use crate::units::{SECONDS_PER_HOUR, SECONDS_PER_MINUTE};
 use cal_units::Counted;
 use cal_units::digits::{ascii_text, two_digits};
-use cal_units::error::ComponentRange;
+use cal_units::error::{Component, ComponentRange};
 use std::fmt;
 use std::marker::Model;
 use std::ops::Neg;
@@ -60,13 +60,13 @@ impl UtcOffset {
             → result ≡ Ok (offset_of hours minutes seconds) }
     {
         if hours.unsigned_abs() > 25 {
-            return Err(ComponentRange::unconditional("offset hour"));
+            return Err(ComponentRange::unconditional(Component::OffsetHour));
         }
         if minutes.unsigned_abs() > 59 {
-            return Err(ComponentRange::unconditional("offset minute"));
+            return Err(ComponentRange::unconditional(Component::OffsetMinute));
         }
         if seconds.unsigned_abs() > 59 {
-            return Err(ComponentRange::unconditional("offset second"));
+            return Err(ComponentRange::unconditional(Component::OffsetSecond));
         }
         Ok(Self::of_components(hours, minutes, seconds))
     }
@@ -99,7 +99,7 @@ impl UtcOffset {
         ensures value { unsigned_abs seconds ≤ greatest → result ≡ Ok seconds }
     {
         if seconds.unsigned_abs() > 93_599 {
-            return Err(ComponentRange::unconditional("seconds"));
+            return Err(ComponentRange::unconditional(Component::Seconds));
         }
         Ok(Self { seconds })
     }
@@ -212,6 +212,8 @@ impl Counted for UtcOffset {
     ghost ordered = { λ x y. refl };
 
     ghost alike = { λ x y. Prim.search rules };
+
+    ghost apart = { λ x y e. e };
 
     ghost hashed = { λ x y e. ap fed.i32 e };
 

@@ -1,21 +1,22 @@
 -- Why the constructors of dates refuse: each by the name of its parameter.
-use Rattle.std.specs.Prelude.{codes}
-use Rattle.cal_units.specs.Refusal.{Refusal, unconditional, conditional}
+use Rattle.cal_units.specs.declared.error.Component.TheVariants as component
+use Rattle.cal_units.specs.declared.error.ComponentRange.{ComponentRange}
+use Rattle.cal_units.specs.Refusal.{unconditional, conditional}
 
-abbrev pub year_out_of_range : Refusal
-year_out_of_range = unconditional (codes "year")
+abbrev pub year_out_of_range : ComponentRange
+year_out_of_range = unconditional component.Year
 
-abbrev pub day_out_of_range : Refusal
-day_out_of_range = conditional (codes "day")
+abbrev pub day_out_of_range : ComponentRange
+day_out_of_range = conditional component.Day
 
-abbrev pub week_out_of_range : Refusal
-week_out_of_range = conditional (codes "week")
+abbrev pub week_out_of_range : ComponentRange
+week_out_of_range = conditional component.Week
 
-abbrev pub weekday_out_of_range : Refusal
-weekday_out_of_range = conditional (codes "weekday")
+abbrev pub weekday_out_of_range : ComponentRange
+weekday_out_of_range = conditional component.Weekday
 
-abbrev pub ordinal_out_of_range : Refusal
-ordinal_out_of_range = conditional (codes "ordinal")
+abbrev pub ordinal_out_of_range : ComponentRange
+ordinal_out_of_range = conditional component.Ordinal
 
-abbrev pub julian_day_out_of_range : Refusal
-julian_day_out_of_range = unconditional (codes "julian_day")
+abbrev pub julian_day_out_of_range : ComponentRange
+julian_day_out_of_range = unconditional component.JulianDay

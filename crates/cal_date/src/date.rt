@@ -5,10 +5,10 @@ ghost use Rattle.cal_date.specs.Order.{IsBefore, ordinal_date_at};
 ghost use Rattle.cal_date.specs.ClosedForms.{julian_day_of, kernel_of, year_of_kernel, ordinal_of_kernel};
 ghost use Rattle.cal_date.specs.PackedDate.{leap_mark, ordinal_number};
 ghost use Rattle.cal_units.specs.Lengths.{days_in_year, is_leap_year};
-ghost use Rattle.cal_units.specs.Refusal.{refusal, IsRefused};
+ghost use Rattle.cal_units.specs.Refusal.{IsRefused};
 ghost use Rattle.cal_date.specs.Refusals.{year_out_of_range, ordinal_out_of_range, julian_day_out_of_range};
 
-use crate::error::ComponentRange;
+use crate::error::{Component, ComponentRange};
 use crate::kernel::{date_of_kernel, julian_kernel};
 use cal_units::util::{days_in_year, is_leap_year};
 use std::marker::Model;
@@ -116,15 +116,15 @@ impl Date {
 
         // It is refused exactly where no day has it, for the first component that is out of range.
         ensures refused { IsErr result ↔ NoDate (HasOrdinalDate year ordinal) }
-        ensures reason { IfErr result (λ e. (refusal e ≡ year_out_of_range) ⊎ (refusal e ≡ ordinal_out_of_range)) }
+        ensures reason { IfErr result (λ e. (e ≡ year_out_of_range) ⊎ (e ≡ ordinal_out_of_range)) }
         ensures year { IsRefused year_out_of_range result ↔ ¬ IsYear year }
         ensures ordinal { IsRefused ordinal_out_of_range result ↔ IsYear year × ¬ IsOrdinal year ordinal }
     {
         if !is_year(year) {
-            return Err(ComponentRange::unconditional("year"));
+            return Err(ComponentRange::unconditional(Component::Year));
         }
         if !has_ordinal(year, ordinal) {
-            return Err(ComponentRange::conditional("ordinal"));
+            return Err(ComponentRange::conditional(Component::Ordinal));
         }
         Ok(Date::at_ordinal(year, ordinal))
     }
@@ -140,13 +140,13 @@ impl Date {
         ensures every { (n : ℕ) → IsDate n → HasJulianDay julian_day n → result ≡ Ok n }
         ensures has { IfOk result (λ n. IsDate n × HasJulianDay julian_day n) }
         ensures refused { IsErr result ↔ NoDate (HasJulianDay julian_day) }
-        ensures reason { IfErr result (λ e. refusal e ≡ julian_day_out_of_range) }
+        ensures reason { IfErr result (λ e. e ≡ julian_day_out_of_range) }
         ensures julian_day { IsRefused julian_day_out_of_range result ↔ NoDate (HasJulianDay julian_day) }
         ensures closed_form { let kernel = kernel_of julian_day in
             IfOk result (HasOrdinalDate (year_of_kernel kernel) (ordinal_of_kernel kernel)) }
     {
         if julian_day < MIN_JULIAN_DAY || julian_day > MAX_JULIAN_DAY {
-            return Err(ComponentRange::unconditional("julian_day"));
+            return Err(ComponentRange::unconditional(Component::JulianDay));
         }
         Ok(date_of_kernel(julian_kernel(julian_day)))
     }

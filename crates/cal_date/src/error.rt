@@ -1,3 +1,3 @@
 //! The errors of dates.
 
-pub use cal_units::error::ComponentRange;
+pub use cal_units::error::{Component, ComponentRange};

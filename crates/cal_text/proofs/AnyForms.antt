@@ -2,7 +2,7 @@
 use Rattle.std.proofs.Common.{◌≡◌, ℕ, ℤ, Option, Some, List, get_or, ap, inl, inr, arith}
 use Rattle.cal_time.specs.Date.{IsDate}
 use Rattle.cal_time.specs.DateText.{text}
-use Rattle.cal_time.specs.Refusal.{Refusal}
+use Rattle.cal_time.specs.declared.error.ComponentRange.{ComponentRange}
 use Rattle.cal_time.specs.Refusals.{julian_day_out_of_range}
 use Rattle.cal_text.specs.declared.any.DateOrMoment.{DateOrMoment}
 use Rattle.cal_text.specs.declared.any.DateOrMoment.TheVariants.{Calendar, Ordinal, Week, JulianDay, Rfc3339, Unix}
@@ -16,10 +16,10 @@ use Rattle.cal_text.specs.UnixText.{IsUnixText, HasUnixForm, IsUnixFormOfNone, t
 use Rattle.cal_text.proofs.Shapes.{IsNoOther, date-shape, day-shape, moment-shape, julian-first, unix-first}
 
 -- ---- one reason
-pub same_reason : (found : Option Refusal) (a why : Refusal) → found ≡ Some a → found ≡ Some why → why ≡ a
+pub same_reason : (found : Option ComponentRange) (a why : ComponentRange) → found ≡ Some a → found ≡ Some why → why ≡ a
 same_reason found a why e f = cc
 
-pub reason_of : (found : Option Refusal) (a why : Refusal) → why ≡ a → found ≡ Some a → found ≡ Some why
+pub reason_of : (found : Option ComponentRange) (a why : ComponentRange) → why ≡ a → found ≡ Some a → found ≡ Some why
 reason_of found a why e f = cc
 
 -- ---- the form of a fault
@@ -35,13 +35,13 @@ SomeJulian bytes = (j : ℤ) × IsJulianForm bytes j
 abbrev SomeUnix : List ℕ → Type 0
 SomeUnix bytes = (v : ℤ) × HasUnixForm bytes v
 
-abbrev pub IsJulianFault : List ℕ → Refusal → Type 0
+abbrev pub IsJulianFault : List ℕ → ComponentRange → Type 0
 IsJulianFault bytes why = (why ≡ julian_day_out_of_range) × IsJulianFormOfNone bytes
 
-abbrev pub IsUnixFault : List ℕ → Refusal → Type 0
+abbrev pub IsUnixFault : List ℕ → ComponentRange → Type 0
 IsUnixFault bytes why = (why ≡ timestamp_out_of_range) × IsUnixFormOfNone bytes
 
-fault-date : (bytes : List ℕ) (why : Refusal) → IsDateFault bytes why → SomeForm bytes
+fault-date : (bytes : List ℕ) (why : ComponentRange) → IsDateFault bytes why → SomeForm bytes
 fault-date bytes why is = elim is as (λ _. SomeForm bytes) [
   | inl a ↦ (a.1.0, a.1.1)
   | inr is ↦ elim is as (λ _. SomeForm bytes) [
@@ -56,7 +56,7 @@ fault-date bytes why is = elim is as (λ _. SomeForm bytes) [
   ]
 ]
 
-fault-moment : (bytes : List ℕ) (why : Refusal) → IsMomentFault bytes why → SomeMoment bytes
+fault-moment : (bytes : List ℕ) (why : ComponentRange) → IsMomentFault bytes why → SomeMoment bytes
 fault-moment bytes why is = elim is as (λ _. SomeMoment bytes) [
   | inl a ↦ (a.1.0, a.1.1)
   | inr is ↦ elim is as (λ _. SomeMoment bytes) [
@@ -102,7 +102,7 @@ julian-any bytes first is = elim is as (λ _. SomeJulian bytes) [
   ]
 ]
 
-pub julian-fault : (bytes : List ℕ) (why : Refusal) → get_or bytes 0 0 ≡ 74 → IsFault bytes why → IsJulianFault bytes why
+pub julian-fault : (bytes : List ℕ) (why : ComponentRange) → get_or bytes 0 0 ≡ 74 → IsFault bytes why → IsJulianFault bytes why
 julian-fault bytes why first is = elim is as (λ _. IsJulianFault bytes why) [
   | inl date ↦ julian-date bytes first (fault-date bytes why date)
   | inr is ↦ elim is as (λ _. IsJulianFault bytes why) [
@@ -145,7 +145,7 @@ unix-any bytes first is = elim is as (λ _. SomeUnix bytes) [
   ]
 ]
 
-pub unix-fault : (bytes : List ℕ) (why : Refusal) → get_or bytes 0 0 ≡ 64 → IsFault bytes why → IsUnixFault bytes why
+pub unix-fault : (bytes : List ℕ) (why : ComponentRange) → get_or bytes 0 0 ≡ 64 → IsFault bytes why → IsUnixFault bytes why
 unix-fault bytes why first is = elim is as (λ _. IsUnixFault bytes why) [
   | inl date ↦ unix-date bytes first (fault-date bytes why date)
   | inr is ↦ elim is as (λ _. IsUnixFault bytes why) [
@@ -188,7 +188,7 @@ moment-any bytes first sep is = elim is as (λ _. SomeMoment bytes) [
   ]
 ]
 
-pub moment-fault : (bytes : List ℕ) (why : Refusal) → IsNoOther bytes → IsSeparator (get_or bytes 10 0) → IsFault bytes why → IsMomentFault bytes why
+pub moment-fault : (bytes : List ℕ) (why : ComponentRange) → IsNoOther bytes → IsSeparator (get_or bytes 10 0) → IsFault bytes why → IsMomentFault bytes why
 moment-fault bytes why first sep is = elim is as (λ _. IsMomentFault bytes why) [
   | inl date ↦ moment-date bytes sep (fault-date bytes why date)
   | inr is ↦ elim is as (λ _. IsMomentFault bytes why) [
@@ -223,7 +223,7 @@ date-any bytes first none is = elim is as (λ _. SomeForm bytes) [
   ]
 ]
 
-pub date-fault : (bytes : List ℕ) (why : Refusal) → IsNoOther bytes → ¬ IsSeparator (get_or bytes 10 0) → IsFault bytes why → IsDateFault bytes why
+pub date-fault : (bytes : List ℕ) (why : ComponentRange) → IsNoOther bytes → ¬ IsSeparator (get_or bytes 10 0) → IsFault bytes why → IsDateFault bytes why
 date-fault bytes why first none is = elim is as (λ _. IsDateFault bytes why) [
   | inl date ↦ date
   | inr is ↦ elim is as (λ _. IsDateFault bytes why) [

@@ -1,7 +1,7 @@
 -- A text has the form of one moment at most, so what is known of that one is known of the text.
 use Rattle.std.proofs.Common.{◌≡◌, ◌↔◌, ℕ, ℤ, Option, Some, None, List, Result, Ok, Err, ap, sym, subst}
 use Rattle.std.proofs.lemmas.Option.{none-some}
-use Rattle.cal_time.specs.Refusal.{Refusal}
+use Rattle.cal_time.specs.declared.error.ComponentRange.{ComponentRange}
 use Rattle.cal_text.specs.declared.rfc3339.moment.Moment.{Moment}
 use Rattle.cal_text.specs.Rfc3339Form.{HasMomentForm, HasMomentThat, IsMomentText, IsAt}
 
@@ -21,12 +21,12 @@ only text moment Lacks every h = subst Lacks (sym (one moment h.0 (every h.0 h.1
 pub not_refused : (text : List ℕ) (moment : Moment) (Lacks : Moment → Type 0) → IsOnly text moment → ⊥ ↔ Lacks moment → ⊥ ↔ HasMomentThat Lacks text
 not_refused text moment Lacks every lacks = (λ e. absurd e, λ h. lacks.1 (only text moment Lacks every h))
 
-pub refused_for : (text : List ℕ) (moment : Moment) (Lacks : Moment → Type 0) (found why : Refusal) → IsOnly text moment → HasMomentForm text moment
+pub refused_for : (text : List ℕ) (moment : Moment) (Lacks : Moment → Type 0) (found why : ComponentRange) → IsOnly text moment → HasMomentForm text moment
     → (found ≡ why) ↔ Lacks moment → (Some found ≡ Some why) ↔ HasMomentThat Lacks text
 refused_for text moment Lacks found why every has lacks =
     (λ e. (moment, has, lacks.0 (one found why e)), λ h. ap Some (lacks.1 (only text moment Lacks every h)))
 
-pub refused_for_form : (text : List ℕ) (Lacks : Moment → Type 0) (why : Refusal) → IsNone text → (◌≡◌ {A = Option Refusal} None (Some why)) ↔ HasMomentThat Lacks text
+pub refused_for_form : (text : List ℕ) (Lacks : Moment → Type 0) (why : ComponentRange) → IsNone text → (◌≡◌ {A = Option ComponentRange} None (Some why)) ↔ HasMomentThat Lacks text
 refused_for_form text Lacks why every = (λ e. absurd (none-some _ e), λ h. absurd (none-some _ (every h.0 h.1)))
 
 -- the moment of a text has what is at it

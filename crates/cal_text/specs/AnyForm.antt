@@ -3,7 +3,7 @@ use Rattle.std.specs.Prelude.{◌≡◌, ◌⊎◌, ℕ, ℤ, List}
 use Rattle.cal_time.specs.Date.{IsDate}
 use Rattle.cal_time.specs.DateText.{text}
 use Rattle.cal_time.specs.Month.{month_out_of_range}
-use Rattle.cal_time.specs.Refusal.{Refusal}
+use Rattle.cal_time.specs.declared.error.ComponentRange.{ComponentRange}
 use Rattle.cal_time.specs.Refusals.{julian_day_out_of_range, year_out_of_range, day_out_of_range, ordinal_out_of_range, week_out_of_range, weekday_out_of_range}
 use Rattle.cal_time.specs.Time.{hour_out_of_range, minute_out_of_range, second_out_of_range}
 use Rattle.cal_time.specs.UtcOffset.{offset_hour_out_of_range, offset_minute_out_of_range}
@@ -33,14 +33,14 @@ HasAnyForm bytes =
     ((f : Form) × HasForm bytes f) ⊎ ((j : ℤ) × IsJulianForm bytes j) ⊎ ((m : Moment) × HasMomentForm bytes m) ⊎ ((v : ℤ) × HasUnixForm bytes v)
 
 -- the component at fault of bytes that have the form of a date
-abbrev pub IsDateFault : List ℕ → Refusal → Type 0
+abbrev pub IsDateFault : List ℕ → ComponentRange → Type 0
 IsDateFault bytes why =
     ((why ≡ month_out_of_range) × HasFormThat LacksMonth bytes) ⊎ ((why ≡ year_out_of_range) × HasFormThat LacksYear bytes)
     ⊎ ((why ≡ day_out_of_range) × HasFormThat LacksDay bytes) ⊎ ((why ≡ ordinal_out_of_range) × HasFormThat LacksOrdinal bytes)
     ⊎ ((why ≡ week_out_of_range) × HasFormThat LacksWeek bytes) ⊎ ((why ≡ weekday_out_of_range) × HasFormThat LacksWeekday bytes)
 
 -- that of bytes that have the form of a moment
-abbrev pub IsMomentFault : List ℕ → Refusal → Type 0
+abbrev pub IsMomentFault : List ℕ → ComponentRange → Type 0
 IsMomentFault bytes why =
     ((why ≡ month_out_of_range) × HasMomentThat moment.LacksMonth bytes) ⊎ ((why ≡ day_out_of_range) × HasMomentThat moment.LacksDay bytes)
     ⊎ ((why ≡ hour_out_of_range) × HasMomentThat LacksHour bytes) ⊎ ((why ≡ minute_out_of_range) × HasMomentThat LacksMinute bytes)
@@ -48,7 +48,7 @@ IsMomentFault bytes why =
     ⊎ ((why ≡ offset_minute_out_of_range) × HasMomentThat LacksOffsetMinute bytes)
 
 -- that of bytes that have any of the forms
-abbrev pub IsFault : List ℕ → Refusal → Type 0
+abbrev pub IsFault : List ℕ → ComponentRange → Type 0
 IsFault bytes why =
     IsDateFault bytes why ⊎ ((why ≡ julian_day_out_of_range) × IsJulianFormOfNone bytes) ⊎ IsMomentFault bytes why
     ⊎ ((why ≡ timestamp_out_of_range) × IsUnixFormOfNone bytes)

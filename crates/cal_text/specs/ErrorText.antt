@@ -1,9 +1,9 @@
 -- The text of an error.
 use Rattle.std.specs.Prelude.{ℕ, List, ◌++◌, codes, decimal}
-use Rattle.cal_time.specs.Refusal.{refusal}
+use Rattle.cal_time.specs.Refusal.{component_name}
 use Rattle.cal_text.specs.declared.error.Unreadable.{Unreadable}
 use Rattle.cal_text.specs.declared.error.Unreadable.TheVariants.{UnexpectedByte, OutOfRange}
 
 abbrev pub error_text : Unreadable → List ℕ
 error_text (UnexpectedByte place) = codes "unexpected byte at " ++ decimal place
-error_text (OutOfRange e) = (refusal e).name ++ codes " was not in range"
+error_text (OutOfRange e) = component_name e.component ++ codes " was not in range"

@@ -3,7 +3,7 @@ use Rattle.std.specs.Prelude.{◌≡◌, ◌⊎◌, ℕ, ◌-◌, ◌≤◌, Lis
 use Rattle.cal_time.specs.Date.{IsYear, IsDayOfMonth, IsOrdinal, HasCalendarDate, HasOrdinalDate, NoDate}
 use Rattle.cal_time.specs.IsoWeekDate.{IsWeek, HasIsoWeekDate}
 use Rattle.cal_time.specs.Month.{month_out_of_range}
-use Rattle.cal_time.specs.Refusal.{Refusal, refusal}
+use Rattle.cal_time.specs.declared.error.ComponentRange.{ComponentRange}
 use Rattle.cal_time.specs.Refusals.{year_out_of_range, day_out_of_range, ordinal_out_of_range, week_out_of_range, weekday_out_of_range}
 use Rattle.cal_text.specs.declared.error.Unreadable.{Unreadable}
 use Rattle.cal_text.specs.declared.error.Unreadable.TheVariants.{UnexpectedByte, OutOfRange}
@@ -13,12 +13,12 @@ use Rattle.cal_text.specs.DateForms.{HasForm}
 
 -- ---- errors
 -- the refusal of a component, or nothing where the text has no form
-abbrev pub component_of : Unreadable → Option Refusal
+abbrev pub component_of : Unreadable → Option ComponentRange
 component_of (UnexpectedByte at) = None
-component_of (OutOfRange e) = Some (refusal e)
+component_of (OutOfRange e) = Some e
 
 -- the text was refused for just this component
-abbrev pub IsRefusedFor : {V : Type 0} → Refusal → Result V Unreadable → Type 0
+abbrev pub IsRefusedFor : {V : Type 0} → ComponentRange → Result V Unreadable → Type 0
 IsRefusedFor why r = IsErrAnd r (λ e. component_of e ≡ Some why)
 
 -- the text was refused for its form
@@ -26,7 +26,7 @@ abbrev pub IsRefusedForForm : {V : Type 0} → Result V Unreadable → Type 0
 IsRefusedForForm r = IsErrAnd r (λ e. component_of e ≡ None)
 
 -- why dates are refused
-abbrev pub IsDateReason : Option Refusal → Type 0
+abbrev pub IsDateReason : Option ComponentRange → Type 0
 IsDateReason why =
     (why ≡ None) ⊎ (why ≡ Some month_out_of_range) ⊎ (why ≡ Some year_out_of_range) ⊎ (why ≡ Some day_out_of_range)
     ⊎ (why ≡ Some ordinal_out_of_range) ⊎ (why ≡ Some week_out_of_range) ⊎ (why ≡ Some weekday_out_of_range)

@@ -4,7 +4,7 @@ use Rattle.std.specs.Str.Parse.{AllDigits, digits_value}
 use Rattle.cal_time.specs.Date.{IsDayOfMonth, HasCalendarDate}
 use Rattle.cal_time.specs.DateText.{digits_at_least, date_digits}
 use Rattle.cal_time.specs.Month.{month_out_of_range}
-use Rattle.cal_time.specs.Refusal.{Refusal}
+use Rattle.cal_time.specs.declared.error.ComponentRange.{ComponentRange}
 use Rattle.cal_time.specs.Refusals.{day_out_of_range}
 use Rattle.cal_time.specs.Time.{time_of, hour_out_of_range, minute_out_of_range, second_out_of_range}
 use Rattle.cal_time.specs.UtcOffset.{offset_hour_out_of_range, offset_minute_out_of_range}
@@ -132,7 +132,7 @@ abbrev pub HasMomentThat : (Moment → Type 0) → List ℕ → Type 0
 HasMomentThat Lacks bytes = (m : Moment) × HasMomentForm bytes m × Lacks m
 
 -- why moments are refused
-abbrev pub IsMomentReason : Option Refusal → Type 0
+abbrev pub IsMomentReason : Option ComponentRange → Type 0
 IsMomentReason why =
     (why ≡ None) ⊎ (why ≡ Some month_out_of_range) ⊎ (why ≡ Some day_out_of_range) ⊎ (why ≡ Some hour_out_of_range) ⊎ (why ≡ Some minute_out_of_range)
     ⊎ (why ≡ Some second_out_of_range) ⊎ (why ≡ Some offset_hour_out_of_range) ⊎ (why ≡ Some offset_minute_out_of_range)

@@ -1,7 +1,9 @@
 -- Unix time in text: an @, a minus sign before a number below 0, the whole seconds, and what is past them as a fraction.
 use Rattle.std.specs.Prelude.{◌≡◌, ◌≢◌, ℕ, ◌/◌, ◌%◌, ◌≤◌, ◌<◌, ◌^◌, ℤ, pos, negsuc, List, [], ◌++◌, codes, length, decimal, unsigned_abs}
 use Rattle.cal_time.specs.Date.{IsDate}
-use Rattle.cal_time.specs.Refusal.{Refusal, unconditional}
+use Rattle.cal_time.specs.declared.error.Component.TheVariants as component
+use Rattle.cal_time.specs.declared.error.ComponentRange.{ComponentRange}
+use Rattle.cal_time.specs.Refusal.{unconditional}
 use Rattle.cal_time.specs.SignedDuration.{second}
 use Rattle.cal_time.specs.Time.{IsTime}
 use Rattle.cal_text.specs.Rfc3339.{fraction_text}
@@ -34,5 +36,5 @@ pub record IsUnixText (bytes : List ℕ) (n t : ℕ) : Type 0 where
 abbrev pub IsUnixFormOfNone : List ℕ → Type 0
 IsUnixFormOfNone bytes = (v : ℤ) × HasUnixForm bytes v × ((n t : ℕ) → IsDate n → IsTime t → unix_time n t (pos 0) ≢ v)
 
-abbrev pub timestamp_out_of_range : Refusal
-timestamp_out_of_range = unconditional (codes "timestamp")
+abbrev pub timestamp_out_of_range : ComponentRange
+timestamp_out_of_range = unconditional component.Timestamp

@@ -1,6 +1,6 @@
 //! Dates and moments in text, in whichever form they come.
 ghost use Rattle.std.specs.Prelude.{◌≡◌, ◌↔◌, IfOk, IsErr, Ok};
-ghost use Rattle.cal_time.specs.Refusal.{Refusal};
+ghost use Rattle.cal_time.specs.declared.error.ComponentRange.{ComponentRange};
 ghost use Rattle.cal_text.specs.declared.any.DateOrMoment.{DateOrMoment};
 ghost use Rattle.cal_text.specs.AnyForm.{IsTextOf, IsFault, HasAnyForm};
 ghost use Rattle.cal_text.specs.Reading.{IsRefusedFor, IsRefusedForForm};
@@ -43,7 +43,7 @@ pub fn read_any(text: &[u8]) -> Result<DateOrMoment, Unreadable>
     ensures has { IfOk result (IsTextOf text.now) }
     ensures refused { IsErr result ↔ ((found : DateOrMoment) → ¬ IsTextOf text.now found) }
     ensures form { IsRefusedForForm result ↔ ¬ HasAnyForm text.now }
-    ensures component { (why : Refusal) → IsRefusedFor why result ↔ IsFault text.now why }
+    ensures component { (why : ComponentRange) → IsRefusedFor why result ↔ IsFault text.now why }
 {
     if begins_with(text, b'J') {
         julian_day_in(text)

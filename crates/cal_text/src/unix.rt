@@ -10,7 +10,7 @@ ghost use Rattle.cal_text.specs.UnixText.{HasUnixForm, IsUnixText, IsUnixFormOfN
 
 use crate::error::Unreadable;
 use crate::unix::reading::{first_wrong_byte, unix_of};
-use cal_time::error::ComponentRange;
+use cal_time::error::{Component, ComponentRange};
 use cal_time::{Date, SignedDuration, Time, UtcOffset, add_to_pair};
 
 mod reading;
@@ -62,7 +62,9 @@ pub fn read(text: &[u8]) -> Result<(Date, Time), Unreadable>
     match unix_of(text) {
         Some(duration) => match pair_of(duration, UtcOffset::UTC) {
             Some(pair) => Ok(pair),
-            None => Err(Unreadable::OutOfRange(ComponentRange::unconditional("timestamp"))),
+            None => Err(Unreadable::OutOfRange(ComponentRange::unconditional(
+                Component::Timestamp,
+            ))),
         },
         None => Err(Unreadable::UnexpectedByte(first_wrong_byte(text))),
     }

@@ -1,58 +1,199 @@
--- Each kind of contract that is no plain equation leaves one answer.
-use Rattle.std.proofs.Common.{◌≡◌, ℕ, refl, sym, ap, ◌∙◌, arith, ℤ, Option, Some, None, Result, Ok, Err, SomeIff}
-use Rattle.std.specs.Prelude.{IfOk, IfErr, ◌↔◌}
+-- Where a contract leaves one answer, and search does not find why.
+use Rattle.std.proofs.Common.{◌≡◌, ℕ, ◌+◌, ◌-◌, ◌*◌, ◌/◌, ◌%◌, ◌<◌, ◌≤◌, ◌⊎◌, List, [], ◌∷◌, Option, Some, None, inl, inr, refl, sym, ap, subst, ◌∙◌, arith, ℤ, pos, ◌+ℤ◌, ◌*ℤ◌, Bool, true, false, Result, Ok, Err}
+use Rattle.std.proofs.lemmas.Bool.{cases_lt}
 use Rattle.std.proofs.lemmas.Int.{ints}
-use Rattle.cal_units.specs.Refusal.{Refusal, refusal, IsRefused}
+use Rattle.std.proofs.lemmas.List.Elements.{All-contains}
+use Rattle.std.proofs.Math.Nat.{mod-add-mod, add-mod_right, add-mul-mod_self_left, mod-eq_of_lt}
+use Rattle.std.specs.Prelude.{IfOk, IfErr, MatchOption, IsSomeAnd, ◌↔◌, ◌≤ℤ◌, not}
+use Rattle.std.specs.List.{Contains}
+use Rattle.cal_units.specs.Counted.{IsExtent}
+use Rattle.cal_units.specs.declared.cycle.Cycle.{Ghosts}
+use Rattle.cal_units.specs.Refusal.{IsRefused}
 use Rattle.cal_units.specs.declared.error.ComponentRange.{ComponentRange}
-use Rattle.cal_date.specs.Date.{IsDate}
+use Rattle.cal_units.specs.Walk.{IsBack, Asked, at_end, stops, goes_on}
+use Rattle.cal_units.specs.declared.util.date_adjustment.DateAdjustment.{DateAdjustment}
+use Rattle.cal_span.specs.SignedDuration.{day}
+use Rattle.cal_clock.specs.Time.{carry}
+use Rattle.cal_date.specs.Date.{IsDate, julian_day_at}
 use Rattle.cal_time.specs.Pair.{HasMoment, PairAt}
+use Rattle.cal_time.proofs.Pairs.{same_moment}
 
--- a value exactly where a fact holds: moves, neighbours, durations that are checked
-pub some_iff-one : {X : Type 0} (P : Type 0) (x : X) (r s : Option X) → SomeIff r P x → SomeIff s P x → r ≡ s
-some_iff-one P x None None h k = refl
-some_iff-one P x None (Some z) h k = absurd (h k.0)
-some_iff-one P x (Some y) None h k = absurd (k h.0)
-some_iff-one P x (Some y) (Some z) h k = ap Some (h.1 ∙ sym k.1)
+-- a call that is refused for a reason is refused for it alone
+refused-err : {V : Type 0} (why : ComponentRange) (r : Result V ComponentRange) → IsRefused why r → r ≡ Err why
+refused-err why (Ok v) h = absurd h
+refused-err why (Err e) h = ap Err h
 
--- The clauses of a constructor and of a replaced component: the day that has what was asked for, or one of some refusals, each
--- exactly where its clause says.
-pub record Constructs (Has : ℕ → Type 0) (IsReason Says : Refusal → Type 0) (r : Result ℕ ComponentRange) : Type 0 where
-  pub every : (n : ℕ) → IsDate n → Has n → r ≡ Ok n
-  pub has : IfOk r (λ n. IsDate n × Has n)
-  pub reason : IfErr r (λ e. IsReason (refusal e))
-  pub exactly : (why : Refusal) → IsReason why → (IsRefused why r ↔ Says why)
+same_refusal : {V : Type 0} (why : ComponentRange) (Says : Type 0) (r s : Result V ComponentRange)
+    → (IsRefused why r ↔ Says) → (IsRefused why s ↔ Says) → IsRefused why s → r ≡ s
+same_refusal why Says r s h k refused = refused-err why r (h.1 (k.0 refused)) ∙ sym (refused-err why s refused)
 
--- the same day, or the same refusal
-abbrev pub Same : Result ℕ ComponentRange → Result ℕ ComponentRange → Type 0
-Same (Ok n) (Ok m) = n ≡ m
-Same (Ok n) (Err f) = ⊥
-Same (Err e) (Ok m) = ⊥
-Same (Err e) (Err f) = refusal e ≡ refusal f
+-- the day that has what was asked for, or one of two refusals, each exactly where its clause says
+pub of_two_refusals-one : (Has : ℕ → Type 0) (a b : ComponentRange) (A B : Type 0) (r s : Result ℕ ComponentRange)
+    → ((n : ℕ) → IsDate n → Has n → r ≡ Ok n) → IfOk s (λ n. IsDate n × Has n) → IfErr s (λ e. (e ≡ a) ⊎ (e ≡ b))
+    → (IsRefused a r ↔ A) → (IsRefused a s ↔ A) → (IsRefused b r ↔ B) → (IsRefused b s ↔ B) → r ≡ s
+of_two_refusals-one Has a b A B r (Ok n) every has reason ra sa rb sb = every n has.0 has.1
+of_two_refusals-one Has a b A B r (Err e) every has reason ra sa rb sb =
+    elim reason [
+      | inl first ↦ same_refusal a A r (Err e) ra sa first
+      | inr second ↦ same_refusal b B r (Err e) rb sb second
+    ]
 
-ok-ok : (n m : ℕ) (r s : Result ℕ ComponentRange) → r ≡ Ok m → s ≡ Ok n → r ≡ s → n ≡ m
-ok-ok n m r s p q e = cc
+-- the same, of three refusals
+pub of_three_refusals-one : (Has : ℕ → Type 0) (a b c : ComponentRange) (A B C : Type 0) (r s : Result ℕ ComponentRange)
+    → ((n : ℕ) → IsDate n → Has n → r ≡ Ok n) → IfOk s (λ n. IsDate n × Has n) → IfErr s (λ e. (e ≡ a) ⊎ (e ≡ b) ⊎ (e ≡ c))
+    → (IsRefused a r ↔ A) → (IsRefused a s ↔ A) → (IsRefused b r ↔ B) → (IsRefused b s ↔ B)
+    → (IsRefused c r ↔ C) → (IsRefused c s ↔ C) → r ≡ s
+of_three_refusals-one Has a b c A B C r (Ok n) every has reason ra sa rb sb rc sc = every n has.0 has.1
+of_three_refusals-one Has a b c A B C r (Err e) every has reason ra sa rb sb rc sc =
+    elim reason [
+      | inl first ↦ same_refusal a A r (Err e) ra sa first
+      | inr later ↦ elim later [
+        | inl second ↦ same_refusal b B r (Err e) rb sb second
+        | inr third ↦ same_refusal c C r (Err e) rc sc third
+      ]
+    ]
 
-ok-err : (n : ℕ) (f : ComponentRange) (r : Result ℕ ComponentRange) → r ≡ Err f → r ≡ Ok n → ⊥
-ok-err n f r p q = cc
+-- a value where three numbers keep to their bounds, or else the refusal of the first that does not
+pub of_three_bounds-one : {V : Type 0} (a b c : ComponentRange) (x y z i j k : ℕ) (v : V) (r s : Result V ComponentRange)
+    → (IsRefused a r ↔ (i < x)) → (IsRefused a s ↔ (i < x))
+    → (IsRefused b r ↔ (x ≤ i) × (j < y)) → (IsRefused b s ↔ (x ≤ i) × (j < y))
+    → (IsRefused c r ↔ (x ≤ i) × (y ≤ j) × (k < z)) → (IsRefused c s ↔ (x ≤ i) × (y ≤ j) × (k < z))
+    → (x ≤ i → y ≤ j → z ≤ k → r ≡ Ok v) → (x ≤ i → y ≤ j → z ≤ k → s ≡ Ok v) → r ≡ s
+of_three_bounds-one a b c x y z i j k v r s ra sa rb sb rc sc rv sv =
+    elim (cases_lt i x) [
+      | inl past ↦ same_refusal a (i < x) r s ra sa (sa.1 past)
+      | inr first ↦ elim (cases_lt j y) [
+        | inl past ↦ same_refusal b ((x ≤ i) × (j < y)) r s rb sb (sb.1 (first, past))
+        | inr second ↦ elim (cases_lt k z) [
+          | inl past ↦ same_refusal c ((x ≤ i) × (y ≤ j) × (k < z)) r s rc sc (sc.1 (first, second, past))
+          | inr third ↦ rv first second third ∙ sym (sv first second third)
+        ]
+      ]
+    ]
 
-pub constructs-one : (Has : ℕ → Type 0) (IsReason Says : Refusal → Type 0) (r s : Result ℕ ComponentRange) → Constructs Has IsReason Says r → Constructs Has IsReason Says s → Same r s
-constructs-one Has R S (Ok n) (Ok m) h k = ok-ok n m (Ok m) (Ok n) refl refl (k.every n h.has.0 h.has.1)
-constructs-one Has R S (Ok n) (Err f) h k = ok-err n f (Err f) refl (k.every n h.has.0 h.has.1)
-constructs-one Has R S (Err e) (Ok m) h k = ok-err m e (Err e) refl (h.every m k.has.0 k.has.1)
-constructs-one Has R S (Err e) (Err f) h k = sym ((k.exactly (refusal e) h.reason).1 ((h.exactly (refusal e) h.reason).0 refl))
+-- a step of the clock: its days and its time are those of one moment
+carry-one : (a b : DateAdjustment) → carry a ≡ carry b → a ≡ b
+carry-one a b e = grind (arith, ints)
+
+pub step-one : (days : DateAdjustment → ℤ) → ((a b : DateAdjustment) → days a ≡ days b → carry a ≡ carry b)
+    → (v : ℤ) (r s : DateAdjustment × ℕ)
+    → v ≡ days r.0 *ℤ pos day +ℤ pos r.1 → r.1 < day → v ≡ days s.0 *ℤ pos day +ℤ pos s.1 → s.1 < day → r ≡ s
+step-one days one v r s e below f under =
+    let same = same_moment (days r.0) (days s.0) r.1 s.1 below under (sym e ∙ f) in
+    let steps = carry-one r.0 s.0 (one r.0 s.0 same.0) in
+    λ i. (steps i, same.1 i)
+
+-- the value that a number of steps back leads to, sa that many steps lead on from it
+come_back : (a n length : ℕ) → a < length → ((a + n) % length + (length - n % length)) % length ≡ a
+come_back a n length below =
+    let back = length - n % length in
+    let around = mod-add-mod (a + n) length back in
+    let whole : a + n + back ≡ (a + length * (n / length)) + length = omega arith in
+    let once = add-mod_right (a + length * (n / length)) length in
+    let all = add-mul-mod_self_left a length (n / length) in
+    let small = mod-eq_of_lt below in
+    cc
+
+-- a step back leads to one value, since no two values have one place
+back-one : {C : Type 0} (cycle : Ghosts C)
+    → ((x : C) → cycle.place_of x < cycle.LENGTH) → ((x : C) → cycle.value_at (cycle.place_of x) ≡ x)
+    → (n : ℕ) (x y z : C) → IsBack cycle n x y → IsBack cycle n x z → y ≡ z
+back-one cycle below at_place n x y z e f =
+    let length = cycle.LENGTH in
+    let there = come_back (cycle.place_of y) n length (below y) in
+    let other = come_back (cycle.place_of z) n length (below z) in
+    let same : cycle.place_of y ≡ cycle.place_of z = sym there ∙ ap (λ p. (p + (length - n % length)) % length) (e ∙ sym f) ∙ other in
+    sym (at_place y) ∙ ap cycle.value_at same ∙ at_place z
+
+pub nth_back-one : {C : Type 0} (cycle : Ghosts C)
+    → ((x : C) → cycle.place_of x < cycle.LENGTH) → ((x : C) → cycle.value_at (cycle.place_of x) ≡ x)
+    → (n : ℕ) (x : C) (r s : Option C × C)
+    → IsSomeAnd r.0 (λ y. IsBack cycle n x y × IsBack cycle 1 y r.1)
+    → IsSomeAnd s.0 (λ y. IsBack cycle n x y × IsBack cycle 1 y s.1) → r ≡ s
+nth_back-one cycle below at_place n x (None, after) (end, left) h k = absurd h
+nth_back-one cycle below at_place n x (Some y, after) (None, left) h k = absurd k
+nth_back-one cycle below at_place n x (Some y, after) (Some z, left) h k =
+    let items : y ≡ z = back-one cycle below at_place n x y z h.0 k.0 in
+    let rest : after ≡ left = back-one cycle below at_place 1 z after left (rw items at h.1) k.1 in
+    λ i. (Some (items i), rest i)
+
+-- the questions of a closure of which each call leaves one answer
+not-itself : (go : Bool) → go ≡ not go → ⊥
+not-itself true e = cc
+not-itself false e = cc
+
+-- what the questions from one place on have come to
+abbrev Seen : {F C : Type 0} (cycle : Ghosts C) (calls : F → C → Bool → F → Type 0) (go : Bool) → ℕ → F → Bool → Type 0
+Seen cycle calls go i f r =
+    ((i ≡ cycle.LENGTH) × (r ≡ go))
+    ⊎ (((i < cycle.LENGTH) × (g : _) × calls f (cycle.value_at i) (not go) g × (r ≡ not go))
+    ⊎ ((i < cycle.LENGTH) × (g : _) × calls f (cycle.value_at i) go g × Asked cycle calls go (i + 1) g r))
+
+seen : {F C : Type 0} (cycle : Ghosts C) (calls : F → C → Bool → F → Type 0) (go : Bool) (i : ℕ) (f : F) (r : Bool)
+    → Asked cycle calls go i f r → Seen cycle calls go i f r
+seen cycle calls go i f r (at_end _) = inl (refl, refl)
+seen cycle calls go i f r (stops _ _ g below call) = inr (inl (below, g, call, refl))
+seen cycle calls go i f r (goes_on _ _ g _ below call rest) = inr (inr (below, g, call, rest))
+
+pub asked-one : {F C : Type 0} (cycle : Ghosts C) (calls : F → C → Bool → F → Type 0) (go : Bool)
+    → ((x : C) (f g h : F) (p q : Bool) → calls f x p g → calls f x q h → (p ≡ q) × (g ≡ h))
+    → (i : ℕ) (f : F) (r s : Bool) → Asked cycle calls go i f r → Asked cycle calls go i f s → r ≡ s
+asked-one cycle calls go one i f r s (at_end _) other =
+    elim (seen cycle calls go _ f s other) [
+      | inl end ↦ sym end.1
+      | inr more ↦ elim more [
+        | inl stop ↦ absurd (omega (arith, stop.0))
+        | inr on ↦ absurd (omega (arith, on.0))
+      ]
+    ]
+asked-one cycle calls go one i f r s (stops _ _ g below call) other =
+    elim (seen cycle calls go _ f s other) [
+      | inl end ↦ absurd (omega (arith, end.0))
+      | inr more ↦ elim more [
+        | inl stop ↦ sym stop.3
+        | inr on ↦ absurd (not-itself go (one _ f _ _ _ _ on.2 call).0)
+      ]
+    ]
+asked-one cycle calls go one i f r s (goes_on _ _ g _ below call rest) other =
+    elim (seen cycle calls go _ f s other) [
+      | inl end ↦ absurd (omega (arith, end.0))
+      | inr more ↦ elim more [
+        | inl stop ↦ absurd (not-itself go (one _ f _ _ _ _ call stop.2).0)
+        | inr on ↦
+            let after = subst (λ h. Asked cycle calls go (i + 1) h s) (one _ f _ _ _ _ on.2 call).1 on.3 in
+            asked-one cycle calls go one (i + 1) g r s rest after
+      ]
+    ]
 
 -- the pair that has a moment, or none
-same_date : (z : ℤ) (n t m u : ℕ) → HasMoment z n t → HasMoment z m u → n ≡ m
-same_date z n t m u h k = let before = h.time in let below = k.time in omega (arith, ints, h.moment_is, k.moment_is)
-
-same_time : (z : ℤ) (n t m u : ℕ) → HasMoment z n t → HasMoment z m u → t ≡ u
-same_time z n t m u h k = let before = h.time in let below = k.time in omega (arith, ints, h.moment_is, k.moment_is)
+pair-one : (z : ℤ) (p q : ℕ × ℕ) → HasMoment z p.0 p.1 → HasMoment z q.0 q.1 → p ≡ q
+pair-one z p q h k =
+    let same = same_moment (julian_day_at p.0) (julian_day_at q.0) p.1 q.1 h.time.below_day k.time.below_day (h.moment_is ∙ sym k.moment_is) in
+    let dates : p.0 ≡ q.0 = omega (arith, ints, same.0) in
+    λ i. (dates i, same.1 i)
 
 pub pair_at-one : (z : ℤ) (r s : Option (ℕ × ℕ)) → PairAt z r → PairAt z s → r ≡ s
 pair_at-one z None None h k = refl
 pair_at-one z None (Some p) h k = absurd (h p.0 p.1 k)
 pair_at-one z (Some p) None h k = absurd (k p.0 p.1 h)
-pair_at-one z (Some p) (Some q) h k =
-    let dates = same_date z p.0 p.1 q.0 q.1 h k in
-    let times = same_time z p.0 p.1 q.0 q.1 h k in
-    ap Some (λ i. (dates i, times i))
+pair_at-one z (Some p) (Some q) h k = ap Some (pair-one z p q h k)
+
+-- the ends of a slice whose items have one value for each number
+none-least : {T : Type 0} (items : List T) (x : T) → items ≡ [] → Contains items x → ⊥
+none-least [] x e h = absurd (omega (arith, h.1))
+none-least (y ∷ ys) x e h = cc
+
+pub extent-one : {T : Type 0} (number : T → ℤ) → ((x y : T) → number x ≡ number y → x ≡ y)
+    → (items : List T) (r s : Option (T × T))
+    → MatchOption r (items ≡ []) (IsExtent number items) → MatchOption s (items ≡ []) (IsExtent number items) → r ≡ s
+extent-one number one items None None h k = refl
+extent-one number one items None (Some q) h k = absurd (none-least items q.0 h k.least_is_item)
+extent-one number one items (Some p) None h k = absurd (none-least items p.0 k h.least_is_item)
+extent-one number one items (Some p) (Some q) h k =
+    let low = All-contains (λ x. number p.0 ≤ℤ number x) items q.0 h.least k.least_is_item in
+    let less = All-contains (λ x. number q.0 ≤ℤ number x) items p.0 k.least h.least_is_item in
+    let high = All-contains (λ x. number x ≤ℤ number p.1) items q.1 h.greatest k.greatest_is_item in
+    let more = All-contains (λ x. number x ≤ℤ number q.1) items p.1 k.greatest h.greatest_is_item in
+    let least : p.0 ≡ q.0 = one p.0 q.0 (omega (arith, ints)) in
+    let greatest : p.1 ≡ q.1 = one p.1 q.1 (omega (arith, ints)) in
+    ap Some (λ i. (least i, greatest i))

@@ -18,7 +18,7 @@ whole_days-sign (pos n) = (λ h. omega (arith, ints), λ h. omega (arith, ints))
 whole_days-sign (negsuc n) = (λ h. omega (arith, ints), λ h. omega (arith, ints))
 
 -- equal moments have one day and one time
-same_moment : (j k : ℤ) (t u : ℕ) → t < day → u < day → j *ℤ pos day +ℤ pos t ≡ k *ℤ pos day +ℤ pos u → (j ≡ k) × (t ≡ u)
+pub same_moment : (j k : ℤ) (t u : ℕ) → t < day → u < day → j *ℤ pos day +ℤ pos t ≡ k *ℤ pos day +ℤ pos u → (j ≡ k) × (t ≡ u)
 same_moment j k t u a b e =
     let x = times-day j in
     let y = times-day k in

@@ -26,6 +26,9 @@ month_at-range n = let at = in_month_of n in (omega (arith, at.month_is), omega 
 pub day_of_month_at-range : (n : ℕ) → IsDayOfMonth (year_at n) (month_at n) (day_of_month_at n)
 day_of_month_at-range n = day_of_month-range n
 
+-- the same for a caller's `#[tactic(auto, using(..))]`, which takes no name with a dash
+pub ruleset ranges = (month_at-range, day_of_month_at-range)
+
 -- a day of the range has a year of the range
 pub year_at-range : (n : ℕ) → IsDate n → IsYear (year_at n)
 year_at-range n h = (in_range n (year_at n) (ordinal_at n) h (refl, refl)).year

@@ -1,7 +1,9 @@
 pub mod Days
+pub mod Filters
 pub mod Laws
 pub mod Pair
 pub mod Parts
+pub mod Walks
 -- what the contracts of the calls are said in, for the crates above
 pub use Rattle.cal_units.specs.Counted
 pub use Rattle.cal_units.specs.Lengths

@@ -1,21 +1,23 @@
 -- Laws for callers: what each day has, that it has one of each, and in which order.
-use Rattle.std.proofs.Common.{◌≡◌, ℕ, ◌+◌, ◌<◌, ◌≤◌, inl, inr, refl, sym, ap, ◌∙◌, arith, ℤ, pos, ◌≤ℤ◌, [], ◌∷◌}
+use Rattle.std.proofs.Common.{◌≡◌, ℕ, ◌+◌, ◌<◌, ◌≤◌, inl, inr, refl, sym, ap, ◌∙◌, arith, ℤ, pos, ◌+ℤ◌, ◌*ℤ◌, ◌<ℤ◌, ◌≤ℤ◌, suc, [], ◌∷◌}
 use Rattle.std.proofs.lemmas.Bool.{cases_lt}
 use Rattle.std.proofs.lemmas.Int.{ints}
 use Rattle.cal_units.specs.declared.month.Month.{Month}
 use Rattle.cal_units.specs.declared.weekday.Weekday.{Weekday}
+use Rattle.cal_units.specs.Lengths.{days_in_year}
 use Rattle.cal_units.specs.Month as month
 use Rattle.cal_units.specs.MonthCycle.{month_at-place}
 use Rattle.cal_units.specs.Weekday as weekday
 use Rattle.cal_units.specs.WeekdayCycle.{weekday_at-place}
-use Rattle.cal_date.specs.CountLaws.{days_before}
-use Rattle.cal_date.specs.Date.{year_at, month_at, day_of_month_at, ordinal_at, weekday_at, HasCalendarDate}
+use Rattle.cal_date.specs.CountLaws.{days_of_years, days_of_years-suc, years_before, days_before}
+use Rattle.cal_date.specs.Date.{first_year, year_at, month_at, day_of_month_at, ordinal_at, weekday_at, HasCalendarDate}
 use Rattle.cal_date.specs.IsoWeekDate.{iso_year_at, iso_week_at, HasIsoWeekDate}
 use Rattle.cal_date.specs.Order.{IsBefore, ordinal_date_at, calendar_date_at, iso_week_date_at}
 use Rattle.cal_date.proofs.Dates.{stands}
 use Rattle.cal_date.proofs.IsoWeeks.{iso_week_dates-rise}
 use Rattle.cal_date.proofs.Order.{in_order}
 use Rattle.cal_date.proofs.Rising.{Rises-calendar_date, Rises-ordinal_date}
+use Rattle.cal_time.specs.Days.{month_at-range}
 
 -- the number of a month tells the month, and the place of a weekday the weekday
 pub number-one : (m k : Month) → month.number m ≡ month.number k → m ≡ k
@@ -96,6 +98,21 @@ month_at-rises m n h e =
 pub day_of_month_at-rises : (m n : ℕ) → m < n → year_at m ≡ year_at n → month_at m ≡ month_at n → day_of_month_at m < day_of_month_at n
 day_of_month_at-rises m n h e f = (by_calendar m n h).days e f
 
+-- what rises within a year, and is less on the later day
+later_by : (y z : ℤ) (p q : ℕ) → y ≤ℤ z → (y ≡ z → p ≤ q) → q < p → y <ℤ z
+later_by y z p q h rises less = grind (arith, ints)
+
+-- so the later day is of a later year where its month comes before that of the earlier one, or its day in the same month
+pub year_at-later : (m n : ℕ) → m ≤ n → month_at n < month_at m → year_at m <ℤ year_at n
+year_at-later m n h less = later_by (year_at m) (year_at n) (month_at m) (month_at n) (year_at-rises m n h) (month_at-rises m n h) less
+
+pub year_at-later_in_month : (m n : ℕ) → m ≤ n → month_at n ≡ month_at m → day_of_month_at n < day_of_month_at m → year_at m <ℤ year_at n
+year_at-later_in_month m n h same less =
+    elim (cases_lt m n) [
+      | inl before ↦ later_by _ _ (day_of_month_at m) (day_of_month_at n) (year_at-rises m n h) (λ e. omega (arith, day_of_month_at-rises m n before e (sym same))) less
+      | inr most ↦ let e : m ≡ n = omega arith in absurd (omega (arith, ap day_of_month_at e))
+    ]
+
 -- and the same of ISO years, of the weeks of one year, and of the weekdays of one week
 pub iso_year_at-rises : (m n : ℕ) → m ≤ n → iso_year_at m ≤ℤ iso_year_at n
 iso_year_at-rises m n h =
@@ -120,3 +137,28 @@ ordinals-apart m n e =
     let here = stands m in
     let there = stands n in
     omega (arith, here.number_is, there.number_is, ap days_before e, here.ordinal.0, there.ordinal.0)
+
+-- the same for a caller's `#[tactic(auto, using(..))]`, which takes no name with a dash
+pub ruleset days_apart = (ordinals-apart)
+
+-- and so are those of a year and of the next one, where the days of the first lie between
+days_before-next : (y : ℤ) → first_year ≤ℤ y → days_before (y +ℤ pos 1) ≡ days_before y + days_in_year y
+days_before-next y h =
+    let next : years_before (y +ℤ pos 1) ≡ suc (years_before y) = omega (arith, ints) in
+    let same : first_year +ℤ pos (years_before y) ≡ y = omega (arith, ints) in
+    ap days_of_years next ∙ days_of_years-suc (years_before y) ∙ ap (λ z. days_before y + days_in_year z) same
+
+pub ordinals-apart_a_year : (y : ℤ) (m n : ℕ) → year_at m ≡ y → year_at n ≡ y +ℤ pos 1 → m + days_in_year y + ordinal_at n ≡ n + ordinal_at m
+ordinals-apart_a_year y m n e f =
+    let here = stands m in
+    let there = stands n in
+    let late : first_year ≤ℤ y = omega (arith, ints, here.year) in
+    omega (arith, here.number_is, there.number_is, ap days_before e, ap days_before f, days_before-next y late, here.ordinal.0, there.ordinal.0)
+
+-- counted on from year to year, the month of a later day is no earlier one
+months_in_order : (y z : ℤ) (m k : ℕ) → y ≤ℤ z → (y ≡ z → m ≤ k) → m ≤ 12 → 1 ≤ k → (pos 12 *ℤ y +ℤ pos m) ≤ℤ (pos 12 *ℤ z +ℤ pos k)
+months_in_order y z m k years months most least = grind (arith, ints)
+
+pub months-rise : (m n : ℕ) → m ≤ n → (pos 12 *ℤ year_at m +ℤ pos (month_at m)) ≤ℤ (pos 12 *ℤ year_at n +ℤ pos (month_at n))
+months-rise m n h =
+    months_in_order (year_at m) (year_at n) (month_at m) (month_at n) (year_at-rises m n h) (month_at-rises m n h) (month_at-range m).1 (month_at-range n).0

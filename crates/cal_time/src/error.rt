@@ -1,3 +1,3 @@
 //! The errors of the calendar.
 
-pub use cal_units::error::{ComponentRange, ConversionRange, InvalidVariant};
+pub use cal_units::error::{Component, ComponentRange, ConversionRange, InvalidVariant};

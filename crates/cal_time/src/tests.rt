@@ -19,6 +19,7 @@ mod hidden;
 mod laws;
 mod moves;
 mod offsets;
+mod one_answer;
 mod pairs;
 mod range;
 mod texts;

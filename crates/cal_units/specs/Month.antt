@@ -1,9 +1,10 @@
 -- The months by their places, numbers and names.
 use Rattle.std.specs.Prelude.{◌≡◌, ◌<◌, ◌+◌, ◌⊎◌, ℕ, List, [], ◌∷◌, codes, Result, MatchResult, slice_index_or}
+use Rattle.cal_units.specs.declared.error.Component.TheVariants as component
 use Rattle.cal_units.specs.declared.error.ComponentRange.{ComponentRange}
 use Rattle.cal_units.specs.declared.month.Month.{Month}
 use Rattle.cal_units.specs.declared.month.Month.TheVariants.{January, February, March, April, May, June, July, August, September, October, November, December}
-use Rattle.cal_units.specs.Refusal.{Refusal, refusal, unconditional}
+use Rattle.cal_units.specs.Refusal.{unconditional}
 
 -- the place on the cycle of the months
 abbrev pub place : Month → ℕ
@@ -43,9 +44,9 @@ name October = codes "October"
 name November = codes "November"
 name December = codes "December"
 
-abbrev pub month_out_of_range : Refusal
-month_out_of_range = unconditional (codes "month")
+abbrev pub month_out_of_range : ComponentRange
+month_out_of_range = unconditional component.Month
 
 -- r is what a number gives: the month that has it, or the refusal of 0 and of each number above 12
 abbrev pub FromNumber : ℕ → Result Month ComponentRange → Type 0
-FromNumber n r = MatchResult r (λ m. number m ≡ n) (λ e. (refusal e ≡ month_out_of_range) × ((n ≡ 0) ⊎ (12 < n)))
+FromNumber n r = MatchResult r (λ m. number m ≡ n) (λ e. (e ≡ month_out_of_range) × ((n ≡ 0) ⊎ (12 < n)))

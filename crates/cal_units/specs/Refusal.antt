@@ -1,24 +1,38 @@
--- What an error of a component says: the name of the first component out of range, and whether the range depends on other components.
-use Rattle.std.specs.Prelude.{◌≡◌, ℕ, List, Bool, true, false, Result, IsErrAnd}
+-- Why a constructor refuses: the component at fault, and whether its range depends on other components.
+use Rattle.std.specs.Prelude.{◌≡◌, ℕ, List, true, false, codes, Result, IsErrAnd}
+use Rattle.cal_units.specs.declared.error.Component.{Component}
+use Rattle.cal_units.specs.declared.error.Component.TheVariants.{Year, Month, Day, Ordinal, Week, Weekday, JulianDay, Hour, Minute, Second, Millisecond, Microsecond, Nanosecond, OffsetHour, OffsetMinute, OffsetSecond, Seconds, Timestamp}
 use Rattle.cal_units.specs.declared.error.ComponentRange.{ComponentRange}
 
--- the bytes of the name, and the mark 'conditional'
-pub record Refusal : Type 0 where
-  pub name : List ℕ
-  pub is_conditional : Bool
-
--- what the error says
-abbrev pub refusal : ComponentRange → Refusal
-refusal e = record { name = e.name.now; is_conditional = e.is_conditional }
+-- the name of a component
+abbrev pub component_name : Component → List ℕ
+component_name Year = codes "year"
+component_name Month = codes "month"
+component_name Day = codes "day"
+component_name Ordinal = codes "ordinal"
+component_name Week = codes "week"
+component_name Weekday = codes "weekday"
+component_name JulianDay = codes "julian_day"
+component_name Hour = codes "hour"
+component_name Minute = codes "minute"
+component_name Second = codes "second"
+component_name Millisecond = codes "millisecond"
+component_name Microsecond = codes "microsecond"
+component_name Nanosecond = codes "nanosecond"
+component_name OffsetHour = codes "offset hour"
+component_name OffsetMinute = codes "offset minute"
+component_name OffsetSecond = codes "offset second"
+component_name Seconds = codes "seconds"
+component_name Timestamp = codes "timestamp"
 
 -- the range is the same whatever the other components are
-abbrev pub unconditional : List ℕ → Refusal
-unconditional name = record { name = name; is_conditional = false }
+abbrev pub unconditional : Component → ComponentRange
+unconditional c = record { component = c; is_conditional = false }
 
 -- the range depends on the other components
-abbrev pub conditional : List ℕ → Refusal
-conditional name = record { name = name; is_conditional = true }
+abbrev pub conditional : Component → ComponentRange
+conditional c = record { component = c; is_conditional = true }
 
 -- the call was refused for just this reason
-abbrev pub IsRefused : {V : Type 0} → Refusal → Result V ComponentRange → Type 0
-IsRefused why r = IsErrAnd r (λ e. refusal e ≡ why)
+abbrev pub IsRefused : {V : Type 0} → ComponentRange → Result V ComponentRange → Type 0
+IsRefused why r = IsErrAnd r (λ e. e ≡ why)

@@ -23,6 +23,9 @@ pub trait Counted: Copy + Ord + Hash {
     /// Values are equal exactly if their numbers are.
     ghost alike: { (x y : Self) → IsTrue (Self.eq x y) ↔ (number_of x ≡ number_of y) };
 
+    /// Numbers tell values apart.
+    ghost apart: { (x y : Self) → number_of x ≡ number_of y → x ≡ y };
+
     /// Values of one number give a hasher the same input.
     ghost hashed: { (x y : Self) → number_of x ≡ number_of y → Self.hash_input x ≡ Self.hash_input y };
 }

@@ -11,7 +11,7 @@ ghost use Rattle.cal_units.specs.MonthCycle.{place-below, month_at-place, place-
 ghost use Rattle.cal_units.specs.Name.{Reads};
 
 use crate::cycle::Cycle;
-use crate::error::{ComponentRange, InvalidVariant};
+use crate::error::{Component, ComponentRange, InvalidVariant};
 use crate::iter::MonthIter;
 use crate::steps::{nth_back_in, nth_in};
 use crate::util::days_in_month;
@@ -251,7 +251,7 @@ impl TryFrom<u8> for Month {
             10 => Ok(Month::October),
             11 => Ok(Month::November),
             12 => Ok(Month::December),
-            _ => Err(ComponentRange::unconditional("month")),
+            _ => Err(ComponentRange::unconditional(Component::Month)),
         }
     }
 }

@@ -1,7 +1,7 @@
 -- What is answered to a text is one, but for the place in an unreadable one.
 use Rattle.std.proofs.Common.{◌≡◌, ◌⊎◌, ℕ, ◌≤◌, ℤ, pos, List, length, codes, Some, None, Result, Ok, Err, inl, inr, refl, ap, sym, subst, ◌∙◌, arith}
 use Rattle.std.specs.Prelude.{◌↔◌}
-use Rattle.cal_time.specs.Refusal.{Refusal, refusal}
+use Rattle.cal_time.specs.declared.error.ComponentRange.{ComponentRange}
 use Rattle.cal_text.specs.AnyForm.{IsTextOf, IsFault, HasAnyForm}
 use Rattle.cal_text.specs.Reading.{IsRefusedFor, IsRefusedForForm}
 use Rattle.cal_text.specs.declared.any.DateOrMoment.{DateOrMoment}
@@ -54,7 +54,7 @@ one_answer_to (Until target) found a b h k = h ∙ sym k
 -- ---- the words for what a reader says of the text
 abbrev Told : Request → List ℕ → Result DateOrMoment Unreadable → List ℕ → Type 0
 Told q text (Ok found) words = IsAnswerTo q found words ⊎ (words ≡ codes "none") × ((others : List ℕ) → ¬ IsAnswerTo q found others)
-Told q text (Err (OutOfRange e)) words = words ≡ refused_text (refusal e)
+Told q text (Err (OutOfRange e)) words = words ≡ refused_text e
 Told q text (Err (UnexpectedByte at)) words = IsUnreadable text words
 
 one_told : (q : Request) (text : List ℕ) (r : Result DateOrMoment Unreadable) (a b : List ℕ) → Told q text r a → Told q text r b
@@ -69,16 +69,16 @@ one_told q text (Err (UnexpectedByte at)) a b h k = inr (h, k)
 none_some : {A : Type 0} (a : A) → None ≡ Some a → ⊥
 none_some a e = cc
 
-refused_told : (q : Request) (text : List ℕ) (r : Result DateOrMoment Unreadable) (why : Refusal) (words : List ℕ)
+refused_told : (q : Request) (text : List ℕ) (r : Result DateOrMoment Unreadable) (why : ComponentRange) (words : List ℕ)
     → IsRefusedFor why r → words ≡ refused_text why → Told q text r words
 refused_told q text (Ok found) why words h e = absurd h
-refused_told q text (Err (OutOfRange o)) why words h e = e ∙ ap refused_text (sym (some_one (refusal o) why h))
+refused_told q text (Err (OutOfRange o)) why words h e = e ∙ ap refused_text (sym (some_one o why h))
 refused_told q text (Err (UnexpectedByte at)) why words h e = absurd (none_some why h)
 
 unreadable_told : (q : Request) (text : List ℕ) (r : Result DateOrMoment Unreadable) (words : List ℕ)
     → IsRefusedForForm r → IsUnreadable text words → Told q text r words
 unreadable_told q text (Ok found) words h u = absurd h
-unreadable_told q text (Err (OutOfRange o)) words h u = absurd (none_some (refusal o) (sym h))
+unreadable_told q text (Err (OutOfRange o)) words h u = absurd (none_some o (sym h))
 unreadable_told q text (Err (UnexpectedByte at)) words h u = u
 
 found_told : (q : Request) (text : List ℕ) (r : Result DateOrMoment Unreadable) (found : DateOrMoment) (words : List ℕ)
@@ -87,7 +87,7 @@ found_told q text r found words e h = subst (λ r. Told q text r words) (sym e) 
 
 told : (q : Request) (text : List ℕ) (r : Result DateOrMoment Unreadable) (words : List ℕ)
     → ((found : DateOrMoment) → IsTextOf text found → r ≡ Ok found)
-    → (IsRefusedForForm r ↔ ¬ HasAnyForm text) → ((why : Refusal) → IsRefusedFor why r ↔ IsFault text why)
+    → (IsRefusedForForm r ↔ ¬ HasAnyForm text) → ((why : ComponentRange) → IsRefusedFor why r ↔ IsFault text why)
     → IsAnswer q text words → IsTooLong text words ⊎ (length text ≤ 4096) × Told q text r words
 told q text r words every form component (inl h) = inr (h.0, found_told q text r h.1.0 words (every h.1.0 h.1.1) (inl h.1.2))
 told q text r words every form component (inr (inl h)) = inl h
@@ -112,7 +112,7 @@ one_of q text r a b (inr h) (inr k) = one_told q text r a b h.1 k.1
 
 pub one_answer : (q : Request) (text : List ℕ) (r : Result DateOrMoment Unreadable) (a b : List ℕ)
     → ((found : DateOrMoment) → IsTextOf text found → r ≡ Ok found)
-    → (IsRefusedForForm r ↔ ¬ HasAnyForm text) → ((why : Refusal) → IsRefusedFor why r ↔ IsFault text why)
+    → (IsRefusedForForm r ↔ ¬ HasAnyForm text) → ((why : ComponentRange) → IsRefusedFor why r ↔ IsFault text why)
     → IsAnswer q text a → IsAnswer q text b → (a ≡ b) ⊎ IsUnreadable text a × IsUnreadable text b
 one_answer q text r a b every form component h k =
     one_of q text r a b (told q text r a every form component h) (told q text r b every form component k)

@@ -4,7 +4,7 @@ use Rattle.std.proofs.lemmas.Int.{ints, to_z-of_z}
 use Rattle.cal_time.specs.Date.{IsDate, julian_day_at}
 use Rattle.std.proofs.lemmas.Fmt.{length-decimal-le}
 use Rattle.cal_time.specs.Month.{month_out_of_range}
-use Rattle.cal_time.specs.Refusal.{Refusal}
+use Rattle.cal_time.specs.declared.error.ComponentRange.{ComponentRange}
 use Rattle.cal_time.specs.Refusals.{julian_day_out_of_range, year_out_of_range, day_out_of_range, ordinal_out_of_range, week_out_of_range, weekday_out_of_range}
 use Rattle.cal_time.specs.SignedDuration.{second, part, parts_text}
 use Rattle.cal_time.specs.Time.{hour_out_of_range, minute_out_of_range, second_out_of_range}
@@ -43,25 +43,3 @@ days_between n m a b d e p q =
     let y : to_z w32 (of_z w32 b) ≡ julian_day_at m = ap (λ z. to_z w32 (of_z w32 z)) q ∙ to_z-of_z w32 (julian_day_at m) (small (julian_day_at m) (omega (arith, ints, e))) in
     ap (λ z. to_z w32 (of_z w32 (z -ℤ to_z w32 (of_z w32 b)))) x ∙ ap (λ z. to_z w32 (of_z w32 (julian_day_at n -ℤ z))) y
     ∙ to_z-of_z w32 (julian_day_at n -ℤ julian_day_at m) (small (julian_day_at n -ℤ julian_day_at m) (omega (arith, ints, d, e)))
-
--- ---- the names of refusals
-same : (why other : Refusal) → length other.name ≤ 16 → why ≡ other → length why.name ≤ 16
-same why other few e = subst (λ (w : Refusal). length w.name ≤ 16) (sym e) few
-
--- none has more than 16 bytes
-pub short_name : (bytes : List ℕ) (why : Refusal) → IsFault bytes why → length why.name ≤ 16
-short_name bytes why (inl (inl h)) = same why month_out_of_range (omega arith) h.0
-short_name bytes why (inl (inr (inl h))) = same why year_out_of_range (omega arith) h.0
-short_name bytes why (inl (inr (inr (inl h)))) = same why day_out_of_range (omega arith) h.0
-short_name bytes why (inl (inr (inr (inr (inl h))))) = same why ordinal_out_of_range (omega arith) h.0
-short_name bytes why (inl (inr (inr (inr (inr (inl h)))))) = same why week_out_of_range (omega arith) h.0
-short_name bytes why (inl (inr (inr (inr (inr (inr h)))))) = same why weekday_out_of_range (omega arith) h.0
-short_name bytes why (inr (inl h)) = same why julian_day_out_of_range (omega arith) h.0
-short_name bytes why (inr (inr (inl (inl h)))) = same why month_out_of_range (omega arith) h.0
-short_name bytes why (inr (inr (inl (inr (inl h))))) = same why day_out_of_range (omega arith) h.0
-short_name bytes why (inr (inr (inl (inr (inr (inl h)))))) = same why hour_out_of_range (omega arith) h.0
-short_name bytes why (inr (inr (inl (inr (inr (inr (inl h))))))) = same why minute_out_of_range (omega arith) h.0
-short_name bytes why (inr (inr (inl (inr (inr (inr (inr (inl h)))))))) = same why second_out_of_range (omega arith) h.0
-short_name bytes why (inr (inr (inl (inr (inr (inr (inr (inr (inl h))))))))) = same why offset_hour_out_of_range (omega arith) h.0
-short_name bytes why (inr (inr (inl (inr (inr (inr (inr (inr (inr h))))))))) = same why offset_minute_out_of_range (omega arith) h.0
-short_name bytes why (inr (inr (inr h))) = same why timestamp_out_of_range (omega arith) h.0

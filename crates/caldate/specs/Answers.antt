@@ -5,7 +5,8 @@ use Rattle.cal_time.specs.Date.{IsDate, julian_day_at, weekday_at}
 use Rattle.cal_time.specs.DateText.{text}
 use Rattle.cal_time.specs.Occurrence.{next_occurrences, prev_occurrences, kth}
 use Rattle.cal_time.specs.Pair.{moment, HasMoment}
-use Rattle.cal_time.specs.Refusal.{Refusal, refusal}
+use Rattle.cal_time.specs.Refusal.{component_name}
+use Rattle.cal_time.specs.declared.error.ComponentRange.{ComponentRange}
 use Rattle.cal_time.specs.SignedDuration.{whole_days}
 use Rattle.cal_time.specs.SignedDuration as duration
 use Rattle.cal_time.specs.Weekday.{name, place}
@@ -126,16 +127,16 @@ HasNone q text words =
     (words ≡ codes "none") × ((found : DateOrMoment) × IsTextOf text found × ((others : List ℕ) → ¬ IsAnswerTo q found others))
 
 -- it has one of the forms, with this component at fault
-abbrev pub refused_text : Refusal → List ℕ
-refused_text why = codes "refused " ++ why.name ++ (if why.is_conditional then codes " conditional" else [])
+abbrev pub refused_text : ComponentRange → List ℕ
+refused_text why = codes "refused " ++ component_name why.component ++ (if why.is_conditional then codes " conditional" else [])
 
 -- what is said of a text that is not read
 abbrev pub why_text : Unreadable → List ℕ
 why_text (UnexpectedByte at) = codes "unreadable at " ++ decimal at
-why_text (OutOfRange e) = refused_text (refusal e)
+why_text (OutOfRange e) = refused_text e
 
 abbrev pub IsRefused : List ℕ → List ℕ → Type 0
-IsRefused text words = (why : Refusal) × IsFault text why × (words ≡ refused_text why)
+IsRefused text words = (why : ComponentRange) × IsFault text why × (words ≡ refused_text why)
 
 -- it has none of the forms; the place is that of the first wrong byte, as the reader of texts tells it
 abbrev pub IsUnreadable : List ℕ → List ℕ → Type 0

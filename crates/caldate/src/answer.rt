@@ -1,6 +1,5 @@
 //! What the text of a line is answered.
 ghost use Rattle.std.specs.Prelude.{◌≡◌, ◌+◌, ◌*◌, ◌<◌, ◌≤◌, ◌++◌, ℕ, List, Some, false, true, codes, length, unsigned_abs, MatchOption};
-ghost use Rattle.cal_time.specs.Refusal.{Refusal, refusal};
 ghost use Rattle.cal_time.specs.SignedDuration.{second};
 ghost use Rattle.cal_text.specs.Reading.{component_of};
 ghost use Rattle.caldate.specs.Answers.{HasAnswer, IsAlike, IsAnswerTo, IsDayLater, IsInForm, IsLater, LacksAnswer, refused_text, until_text, why_text, day_of, time_of, offset_of, is_date, unix_time_of};
@@ -41,8 +40,7 @@ pub fn push_answer(gathered: &mut Gathered, request: &Request, text: &[u8]) -> b
 
 /// Gathers why a text is not read.
 fn push_why(gathered: &mut Gathered, error: Unreadable)
-    requires named { (why : Refusal) → component_of error ≡ Some why → length why.name ≤ 16 }
-    requires room { HasRoom longest_answer gathered.old }
+    requires { HasRoom longest_answer gathered.old }
     ensures text { gathered.new ≡ gathered.old ++ why_text error }
     ensures short { length gathered.new ≤ length gathered.old + longest_answer }
 {
@@ -57,9 +55,8 @@ fn push_why(gathered: &mut Gathered, error: Unreadable)
 
 /// Gathers the name of a refusal, and whether it depends on other components.
 fn push_refusal(gathered: &mut Gathered, error: ComponentRange)
-    requires short_name { length (refusal error).name ≤ 16 }
-    requires room { HasRoom 64 gathered.old }
-    ensures text { gathered.new ≡ gathered.old ++ refused_text (refusal error) }
+    requires { HasRoom 64 gathered.old }
+    ensures text { gathered.new ≡ gathered.old ++ refused_text error }
     ensures short { length gathered.new ≤ length gathered.old + 64 }
 {
     gathered.push(b"refused ");

@@ -6,7 +6,7 @@ use Rattle.cal_time.specs.Date.{IsDate, IsYear, IsOrdinal, IsDayOfMonth, NoDate,
 use Rattle.cal_time.specs.IsoWeekDate.{IsWeek, HasIsoWeekDate}
 use Rattle.cal_time.specs.declared.Month.{Month}
 use Rattle.cal_time.specs.Month.{number}
-use Rattle.cal_time.specs.Refusal.{IsRefused, refusal}
+use Rattle.cal_time.specs.Refusal.{IsRefused}
 use Rattle.cal_time.specs.Refusals.{year_out_of_range, day_out_of_range, ordinal_out_of_range, week_out_of_range, weekday_out_of_range, julian_day_out_of_range}
 use Rattle.caltool.specs.Answers.{day_of_julian_day, day_of_ordinal_date, day_of_calendar_date, day_of_iso_date, why_no_ordinal_date, why_no_calendar_date, why_no_iso_date}
 use Rattle.caltool.specs.Finds.{Finds}
@@ -20,17 +20,17 @@ abbrev HasIt : (ℕ → Type 0) → Result ℕ ComponentRange → Type 0
 HasIt Has r = IfOk r (λ n. IsDate n × Has n)
 
 pub finds_julian_day : (j : ℤ) (r : Result ℕ ComponentRange) → Every (HasJulianDay j) r → HasIt (HasJulianDay j) r
-    → IfErr r (λ e. refusal e ≡ julian_day_out_of_range) → Finds (day_of_julian_day j) julian_day_out_of_range r
+    → IfErr r (λ e. e ≡ julian_day_out_of_range) → Finds (day_of_julian_day j) julian_day_out_of_range r
 finds_julian_day j (Ok day) every has reason = found _ _ (decides_julian_day j) day every has
 finds_julian_day j (Err error) every has reason = ((refused _ _ (decides_julian_day j) error every).1, reason)
 
 pub finds_ordinal_date : (y : ℤ) (o : ℕ) (r : Result ℕ ComponentRange) → Every (HasOrdinalDate y o) r → HasIt (HasOrdinalDate y o) r
-    → IfErr r (λ e. (refusal e ≡ year_out_of_range) ⊎ (refusal e ≡ ordinal_out_of_range))
+    → IfErr r (λ e. (e ≡ year_out_of_range) ⊎ (e ≡ ordinal_out_of_range))
     → (IsRefused year_out_of_range r ↔ ¬ IsYear y) → (IsRefused ordinal_out_of_range r ↔ IsYear y × ¬ IsOrdinal y o)
     → Finds (day_of_ordinal_date y o) (why_no_ordinal_date y) r
 finds_ordinal_date y o (Ok day) every has reason year ordinal = found _ _ (decides_ordinal_date y o) day every has
 finds_ordinal_date y o (Err error) every has reason year ordinal =
-    let why : refusal error ≡ why_no_ordinal_date y = elim reason [
+    let why : error ≡ why_no_ordinal_date y = elim reason [
       | inl e ↦ rw (not_a_year y (year.0 e)) e
       | inr e ↦ rw (a_year y (ordinal.0 e).0) e
     ] in
@@ -38,7 +38,7 @@ finds_ordinal_date y o (Err error) every has reason year ordinal =
 
 pub finds_calendar_date : (y : ℤ) (month : Month) (d : ℕ) (r : Result ℕ ComponentRange)
     → Every (HasCalendarDate y (number month) d) r → HasIt (HasCalendarDate y (number month) d) r
-    → IfErr r (λ e. (refusal e ≡ year_out_of_range) ⊎ (refusal e ≡ day_out_of_range))
+    → IfErr r (λ e. (e ≡ year_out_of_range) ⊎ (e ≡ day_out_of_range))
     → (IsRefused year_out_of_range r ↔ ¬ IsYear y) → (IsRefused day_out_of_range r ↔ IsYear y × ¬ IsDayOfMonth y (number month) d)
     → Finds (day_of_calendar_date y (number month) d) (why_no_calendar_date y (number month)) r
 finds_calendar_date y month d (Ok date) every has reason year day =
@@ -53,26 +53,15 @@ finds_calendar_date y month d (Err error) every has reason year day =
 
 pub finds_iso_week_date : (y : ℤ) (w wd : ℕ) (r : Result ℕ ComponentRange)
     → Every (HasIsoWeekDate y w wd) r → HasIt (HasIsoWeekDate y w wd) r
-    → IfErr r (λ e. (refusal e ≡ year_out_of_range) ⊎ (refusal e ≡ week_out_of_range) ⊎ (refusal e ≡ weekday_out_of_range))
+    → IfErr r (λ e. (e ≡ year_out_of_range) ⊎ (e ≡ week_out_of_range) ⊎ (e ≡ weekday_out_of_range))
     → (IsRefused year_out_of_range r ↔ ¬ IsYear y) → (IsRefused week_out_of_range r ↔ IsYear y × ¬ IsWeek y w)
     → (IsRefused weekday_out_of_range r ↔ IsYear y × IsWeek y w × NoDate (HasIsoWeekDate y w wd))
     → Finds (day_of_iso_date y w wd) (why_no_iso_date y w) r
 finds_iso_week_date y w wd (Ok day) every has reason year week weekday = found _ _ (decides_iso_week_date y w wd) day every has
 finds_iso_week_date y w wd (Err error) every has reason year week weekday =
-    let why : refusal error ≡ why_no_iso_date y w = elim reason [
+    let why : error ≡ why_no_iso_date y w = elim reason [
       | inl e ↦ rw (not_a_year y (year.0 e)) e
       | inr (inl e) ↦ rw (a_year y (week.0 e).0, not_a_week y w (week.0 e).1) e
       | inr (inr e) ↦ rw (a_year y (weekday.0 e).0, a_week y w (weekday.0 e).1) e
     ] in
     ((refused _ _ (decides_iso_week_date y w wd) error every).1, why)
-
--- the names of a refusal by ISO week date are short
-pub short_iso_name : (r : Result ℕ ComponentRange)
-    → IfErr r (λ e. (refusal e ≡ year_out_of_range) ⊎ (refusal e ≡ week_out_of_range) ⊎ (refusal e ≡ weekday_out_of_range))
-    → IfErr r (λ e. length (refusal e).name ≤ 10)
-short_iso_name (Ok day) reason = tt
-short_iso_name (Err error) reason = elim reason [
-  | inl e ↦ omega (arith, ap (λ why. length why.name) e)
-  | inr (inl e) ↦ omega (arith, ap (λ why. length why.name) e)
-  | inr (inr e) ↦ omega (arith, ap (λ why. length why.name) e)
-]

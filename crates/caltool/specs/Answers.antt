@@ -7,7 +7,8 @@ use Rattle.std.specs.Fmt.{signed_decimal}
 use Rattle.cal_time.specs.Date.{first_year, last_year, last_day, year_at, ordinal_at, weekday_at, julian_day_at}
 use Rattle.cal_time.specs.DateText.{text}
 use Rattle.cal_time.specs.IsoWeekDate.{iso_year_at, iso_week_at}
-use Rattle.cal_time.specs.Refusal.{Refusal}
+use Rattle.cal_time.specs.declared.error.ComponentRange.{ComponentRange}
+use Rattle.cal_time.specs.Refusal.{component_name}
 use Rattle.cal_time.specs.Refusals.{year_out_of_range, day_out_of_range, week_out_of_range, weekday_out_of_range, ordinal_out_of_range, julian_day_out_of_range}
 use Rattle.cal_time.specs.SignedDuration.{second, day, whole_days}
 use Rattle.cal_time.specs.Month.{month_out_of_range}
@@ -49,11 +50,11 @@ week_text n =
     ++ codes " " ++ decimal (weekday_at n + 1) ++ codes " " ++ name (weekday_in_place (weekday_at n))
 
 -- the text of a refusal
-abbrev pub refused_text : Refusal → List ℕ
-refused_text why = codes "refused " ++ why.name ++ (if why.is_conditional then codes " conditional" else [])
+abbrev pub refused_text : ComponentRange → List ℕ
+refused_text why = codes "refused " ++ component_name why.component ++ (if why.is_conditional then codes " conditional" else [])
 
 -- the text of the day, or why there is none
-abbrev pub text_or_refused : (ℕ → List ℕ) → Option ℕ → Refusal → List ℕ
+abbrev pub text_or_refused : (ℕ → List ℕ) → Option ℕ → ComponentRange → List ℕ
 text_or_refused text_of (Some n) why = text_of n
 text_or_refused text_of None why = refused_text why
 
@@ -79,14 +80,14 @@ day_of_julian_day j = day_with julian_day (j ∷ [])
 abbrev pub day_of_ordinal_date : ℤ → ℕ → Option ℕ
 day_of_ordinal_date y o = day_with ordinal_date_at (y ∷ pos o ∷ [])
 
-abbrev pub why_no_ordinal_date : ℤ → Refusal
+abbrev pub why_no_ordinal_date : ℤ → ComponentRange
 why_no_ordinal_date y = if is_year y then ordinal_out_of_range else year_out_of_range
 
 -- the day of this year, number of a month and day of the month, or why there is none: the month is refused before the year
 abbrev pub day_of_calendar_date : ℤ → ℕ → ℕ → Option ℕ
 day_of_calendar_date y m d = if is_month m then day_with calendar_date_at (y ∷ pos m ∷ pos d ∷ []) else None
 
-abbrev pub why_no_calendar_date : ℤ → ℕ → Refusal
+abbrev pub why_no_calendar_date : ℤ → ℕ → ComponentRange
 why_no_calendar_date y m =
     if is_month m then (if is_year y then day_out_of_range else year_out_of_range) else month_out_of_range
 
@@ -94,7 +95,7 @@ why_no_calendar_date y m =
 abbrev pub day_of_iso_date : ℤ → ℕ → ℕ → Option ℕ
 day_of_iso_date y w wd = day_with iso_week_date_at (y ∷ pos w ∷ pos wd ∷ [])
 
-abbrev pub why_no_iso_date : ℤ → ℕ → Refusal
+abbrev pub why_no_iso_date : ℤ → ℕ → ComponentRange
 why_no_iso_date y w =
     if is_year y then (if is_week y w then weekday_out_of_range else week_out_of_range) else year_out_of_range
 

@@ -1,6 +1,5 @@
 //! What a line is answered.
 ghost use Rattle.std.specs.Prelude.{◌≡◌, ◌+◌, ◌≤◌, ◌++◌, length};
-ghost use Rattle.cal_time.specs.Refusal.{refusal};
 ghost use Rattle.cal_time.specs.Time.{nanosecond_of};
 ghost use Rattle.cal_time.specs.Weekday.{place};
 ghost use Rattle.caltool.specs.Answers.{answer_of, add_answer, calendar_answer, clock_text, day_text, iso_answer, julian_answer, later_text, moment_answer, moved_text, ordinal_answer, pair_text, refused_text, reply_to, show_answer, week_text};
@@ -201,9 +200,8 @@ fn write_week(gathered: &mut Gathered, date: Date)
 }
 
 fn write_refusal(gathered: &mut Gathered, error: ComponentRange)
-    requires short_name { length (refusal error).name ≤ 10 }
-    requires room { HasRoom longest_answer gathered.old }
-    ensures text { gathered.new ≡ gathered.old ++ refused_text (refusal error) }
+    requires { HasRoom longest_answer gathered.old }
+    ensures text { gathered.new ≡ gathered.old ++ refused_text error }
     ensures short { length gathered.new ≤ length gathered.old + longest_answer }
 {
     gathered.push(b"refused ");

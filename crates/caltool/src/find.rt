@@ -1,7 +1,5 @@
 //! The day that a command asks for, or why there is none.
-ghost use Rattle.std.specs.Prelude.{◌≤◌, length, IfErr};
 ghost use Rattle.cal_time.specs.Month.{number};
-ghost use Rattle.cal_time.specs.Refusal.{refusal};
 ghost use Rattle.cal_time.specs.Refusals.{julian_day_out_of_range};
 ghost use Rattle.cal_time.specs.Weekday.{place};
 ghost use Rattle.caltool.specs.Answers.{day_of_calendar_date, day_of_iso_date, day_of_julian_day, day_of_ordinal_date, why_no_calendar_date, why_no_iso_date, why_no_ordinal_date};
@@ -12,24 +10,21 @@ use cal_time::{Date, Month, Weekday};
 
 /// The day of this Julian day.
 pub fn find_julian_day(julian_day: i32) -> Result<Date, ComponentRange>
-    ensures found { Finds (day_of_julian_day julian_day) julian_day_out_of_range result }
-    ensures short_name { IfErr result (λ error. length (refusal error).name ≤ 10) }
+    ensures { Finds (day_of_julian_day julian_day) julian_day_out_of_range result }
 {
     Date::from_julian_day(julian_day)
 }
 
 /// The day of this year and ordinal.
 pub fn find_ordinal_date(year: i32, ordinal: u16) -> Result<Date, ComponentRange>
-    ensures found { Finds (day_of_ordinal_date year ordinal) (why_no_ordinal_date year) result }
-    ensures short_name { IfErr result (λ error. length (refusal error).name ≤ 10) }
+    ensures { Finds (day_of_ordinal_date year ordinal) (why_no_ordinal_date year) result }
 {
     Date::from_ordinal_date(year, ordinal)
 }
 
 /// The day of this year, number of a month and day of the month.
 pub fn find_calendar_date(year: i32, month: u8, day: u8) -> Result<Date, ComponentRange>
-    ensures found { Finds (day_of_calendar_date year month day) (why_no_calendar_date year month) result }
-    ensures short_name { IfErr result (λ error. length (refusal error).name ≤ 10) }
+    ensures { Finds (day_of_calendar_date year month day) (why_no_calendar_date year month) result }
 {
     match Month::try_from(month) {
         Ok(month) => find_date_of_month(year, month, day),
@@ -38,16 +33,14 @@ pub fn find_calendar_date(year: i32, month: u8, day: u8) -> Result<Date, Compone
 }
 
 fn find_date_of_month(year: i32, month: Month, day: u8) -> Result<Date, ComponentRange>
-    ensures found { Finds (day_of_calendar_date year (number month) day) (why_no_calendar_date year (number month)) result }
-    ensures short_name { IfErr result (λ error. length (refusal error).name ≤ 10) }
+    ensures { Finds (day_of_calendar_date year (number month) day) (why_no_calendar_date year (number month)) result }
 {
     Date::from_calendar_date(year, month, day)
 }
 
 /// The day of this ISO year, week and weekday.
 pub fn find_iso_week_date(year: i32, week: u8, weekday: Weekday) -> Result<Date, ComponentRange>
-    ensures found { Finds (day_of_iso_date year week (place weekday)) (why_no_iso_date year week) result }
-    ensures short_name { IfErr result (λ error. length (refusal error).name ≤ 10) }
+    ensures { Finds (day_of_iso_date year week (place weekday)) (why_no_iso_date year week) result }
 {
     Date::from_iso_week_date(year, week, weekday)
 }

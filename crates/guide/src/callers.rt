@@ -7,8 +7,11 @@ use cal_time::util::{days_in_month, days_in_year, weeks_in_year};
 use cal_time::{Date, Month, SignedDuration, Weekday};
 use std::io;
 
-/// How many whole years someone who was born on the one day has lived on the other.
-fn age(born: Date, at: Date) -> i32 {
+/// How many whole years someone who was born on the one day has lived on the other, that day or a later one.
+fn age(born: Date, at: Date) -> i32
+    requires { born ≤ at }
+    ensures { pos 0 ≤ℤ result }
+{
     let years = at.year() - born.year();
     if at.month() < born.month() || (at.month() == born.month() && at.day() < born.day()) {
         years - 1
@@ -135,9 +138,7 @@ fn weeks_gone(date: Date) -> u8 {
 fn last_friday(year: i32, month: Month) -> Option<Date>
     ensures { IfSome result (λ day. weekday_at day ≡ 4) }
 {
-    let Ok(last) = Date::from_calendar_date(year, month, days_in_month(month, year)) else {
-        return None;
-    };
+    let last = Date::from_calendar_date(year, month, days_in_month(month, year)).ok()?;
     if last.weekday() == Weekday::Friday {
         Some(last)
     } else {
@@ -202,11 +203,13 @@ fn is_last(date: Date) -> bool
 }
 
 /// How many days from one to the other, both included, are no Saturday and no Sunday.
-fn working_days(from: Date, to: Date) -> u32 {
+fn working_days(from: Date, to: Date) -> u32
+    ensures { result ≤ to + 1 - from }
+{
     let mut count = 0u32;
     for date in from.iter_to(to) {
         if date.weekday() != Weekday::Saturday && date.weekday() != Weekday::Sunday {
-            count = count.saturating_add(1);
+            count += 1;
         }
     }
     count
@@ -219,7 +222,9 @@ pub fn show(rt: &impl Print) -> io::Result<()> {
     let Ok(day) = Date::from_calendar_date(2024, Month::February, 28) else {
         return Ok(());
     };
-    println!(rt; "{} {}", age(born, day), age(day, born))?;
+    if born <= day {
+        println!(rt; "{}", age(born, day))?;
+    }
     let round = [
         through_julian_day(day),
         through_ordinal_date(day),

@@ -3,6 +3,7 @@
 
 mod callers;
 mod clauses;
+mod days;
 mod generic;
 mod making;
 mod moving;
@@ -27,6 +28,7 @@ fn main(rt: HostRuntime) -> io::Result<()> {
     generic::show(&rt)?;
     clauses::show(&rt)?;
     callers::show(&rt)?;
+    days::show(&rt)?;
     names::show(&rt)?;
     texts::show(&rt)
 }

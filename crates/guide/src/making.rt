@@ -4,18 +4,10 @@ use std::io;
 
 /// 29 February 2000 by its month, by its ordinal, by its ISO week and by its Julian day.
 fn leap_day() -> Option<[Date; 4]> {
-    let Ok(by_month) = Date::from_calendar_date(2000, Month::February, 29) else {
-        return None;
-    };
-    let Ok(by_ordinal) = Date::from_ordinal_date(2000, 60) else {
-        return None;
-    };
-    let Ok(by_week) = Date::from_iso_week_date(2000, 9, Weekday::Tuesday) else {
-        return None;
-    };
-    let Ok(by_julian_day) = Date::from_julian_day(2451604) else {
-        return None;
-    };
+    let by_month = Date::from_calendar_date(2000, Month::February, 29).ok()?;
+    let by_ordinal = Date::from_ordinal_date(2000, 60).ok()?;
+    let by_week = Date::from_iso_week_date(2000, 9, Weekday::Tuesday).ok()?;
+    let by_julian_day = Date::from_julian_day(2451604).ok()?;
     Some([by_month, by_ordinal, by_week, by_julian_day])
 }
 

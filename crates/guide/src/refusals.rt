@@ -1,13 +1,74 @@
-//! What a constructor refuses, and why.
+//! What a constructor refuses, why, and how a refusal is handed on.
+ghost use Rattle.std.specs.Prelude.{◌≡◌, ℕ, IfOk, IfErr, IfSome, IsNone};
+ghost use Rattle.cal_time.specs.Date.{weekday_at, HasCalendarDate, HasJulianDay, HasOrdinalDate, IsDate};
+ghost use Rattle.cal_time.specs.Month.{number};
+ghost use Rattle.cal_time.specs.Refusals.{julian_day_out_of_range};
+ghost use Rattle.cal_time.specs.Weekday.{place};
+
 use cal_time::error::ComponentRange;
-use cal_time::{Date, Month, Weekday};
+use cal_time::{Date, Month, Time, Weekday};
 use std::io;
 
 /// The first day of that month and its weekday, or the refusal, handed on.
-fn first_of_month(year: i32, month: Month) -> Result<(Date, Weekday), ComponentRange> {
-    match Date::from_calendar_date(year, month, 1) {
-        Ok(date) => Ok((date, date.weekday())),
-        Err(error) => Err(error),
+fn first_of_month(year: i32, month: Month) -> Result<(Date, Weekday), ComponentRange>
+    ensures { IfOk result (λ first. HasCalendarDate year (number month) 1 first.0 × (place first.1 ≡ weekday_at first.0)) }
+{
+    let date = Date::from_calendar_date(year, month, 1)?;
+    Ok((date, date.weekday()))
+}
+
+/// The day of that year with that ordinal, or nothing.
+fn day_of_year(year: i32, ordinal: u16) -> Option<Date>
+    ensures { IfSome result (HasOrdinalDate year ordinal) }
+{
+    Date::from_ordinal_date(year, ordinal).ok()
+}
+
+/// The weekday of the day of that Julian day, or the refusal.
+fn weekday_of(julian_day: i32) -> Result<Weekday, ComponentRange>
+    ensures { IfErr result (λ error. error ≡ julian_day_out_of_range) }
+{
+    Date::from_julian_day(julian_day).map(|date| date.weekday())
+}
+
+/// The day of that Julian day, or the last of all where there is none.
+fn day_or_last(julian_day: i32) -> Date
+    ensures { (n : ℕ) → IsDate n → HasJulianDay julian_day n → result ≡ n }
+{
+    Date::from_julian_day(julian_day).unwrap_or(Date::MAX)
+}
+
+/// Why a table is not booked.
+#[derive(Clone, Copy, Debug, PartialEq, Eq)]
+enum NotBooked {
+    /// There is no such day.
+    Date(ComponentRange),
+    /// There is no such time.
+    Time(ComponentRange),
+}
+
+impl From<ComponentRange> for NotBooked {
+    fn from(error: ComponentRange) -> Self {
+        NotBooked::Date(error)
+    }
+}
+
+/// When a table is booked for. The refusal of the day becomes one of ours by `From`, that of the time by `map_err`.
+fn booking(year: i32, month: Month, day: u8, hour: u8) -> Result<(Date, Time), NotBooked>
+    ensures { IfOk result (λ booked. HasCalendarDate year (number month) day booked.0) }
+{
+    let date = Date::from_calendar_date(year, month, day)?;
+    let time = Time::from_hms(hour, 0, 0).map_err(NotBooked::Time)?;
+    Ok((date, time))
+}
+
+/// The name of the component that has no such value, or nothing where the date is one.
+fn component_at_fault(year: i32, month: Month, day: u8) -> Option<&'static str>
+    ensures { (n : ℕ) → IsDate n → HasCalendarDate year (number month) day n → IsNone result }
+{
+    match Date::from_calendar_date(year, month, day) {
+        Ok(_) => None,
+        Err(error) => Some(error.name()),
     }
 }
 
@@ -23,8 +84,11 @@ pub fn show(rt: &impl Print) -> io::Result<()> {
     describe(rt, 2020, Month::February, 29)?;
     describe(rt, 2019, Month::February, 29)?;
     describe(rt, 1_000_000, Month::February, 29)?;
-    match first_of_month(2019, Month::February) {
-        Ok((date, weekday)) => println!(rt; "{date} {weekday}"),
-        Err(error) => println!(rt; "{error}"),
-    }
+    println!(rt; "{:?}", first_of_month(2019, Month::February))?;
+    println!(rt; "{:?} {:?}", day_of_year(2020, 366), day_of_year(2019, 366))?;
+    println!(rt; "{:?} {}", weekday_of(2_451_545), day_or_last(i32::MAX))?;
+    println!(rt; "{:?}", booking(2024, Month::February, 29, 20))?;
+    println!(rt; "{:?}", booking(2024, Month::February, 30, 20))?;
+    println!(rt; "{:?}", booking(2024, Month::February, 29, 24))?;
+    println!(rt; "{:?}", component_at_fault(2023, Month::February, 29))
 }

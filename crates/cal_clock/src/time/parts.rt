@@ -10,7 +10,7 @@ use crate::units::{
     NANOSECONDS_PER_HOUR, NANOSECONDS_PER_MICROSECOND, NANOSECONDS_PER_MILLISECOND,
     NANOSECONDS_PER_MINUTE, NANOSECONDS_PER_SECOND,
 };
-use cal_units::error::ComponentRange;
+use cal_units::error::{Component, ComponentRange};
 
 impl Time {
     /// The hour, minute and second: those of 1:02:03.004005006 are 1, 2 and 3.
@@ -109,7 +109,7 @@ impl Time {
         ensures value { hour ≤ 23 → result ≡ Ok (time_of hour (minute_of self) (second_of self) (nanosecond_of self)) }
     {
         if hour > 23 {
-            return Err(ComponentRange::unconditional("hour"));
+            return Err(ComponentRange::unconditional(Component::Hour));
         }
         let past_hour = self.nanoseconds % NANOSECONDS_PER_HOUR;
         Ok(Self {
@@ -126,7 +126,7 @@ impl Time {
             → result ≡ Ok (time_of (hour_of self) minute (second_of self) (nanosecond_of self)) }
     {
         if minute > 59 {
-            return Err(ComponentRange::unconditional("minute"));
+            return Err(ComponentRange::unconditional(Component::Minute));
         }
         let hours = self.truncate_to_hour().nanoseconds;
         let past_minute = self.nanoseconds % NANOSECONDS_PER_MINUTE;
@@ -144,7 +144,7 @@ impl Time {
             → result ≡ Ok (time_of (hour_of self) (minute_of self) second (nanosecond_of self)) }
     {
         if second > 59 {
-            return Err(ComponentRange::unconditional("second"));
+            return Err(ComponentRange::unconditional(Component::Second));
         }
         let minutes = self.truncate_to_minute().nanoseconds;
         let past_second = self.nanoseconds % NANOSECONDS_PER_SECOND;
@@ -163,7 +163,7 @@ impl Time {
             → result ≡ Ok (time_of (hour_of self) (minute_of self) (second_of self) (millisecond * 1_000_000)) }
     {
         if millisecond > 999 {
-            return Err(ComponentRange::unconditional("millisecond"));
+            return Err(ComponentRange::unconditional(Component::Millisecond));
         }
         let seconds = self.truncate_to_second().nanoseconds;
         Ok(Self {
@@ -181,7 +181,7 @@ impl Time {
             → result ≡ Ok (time_of (hour_of self) (minute_of self) (second_of self) (microsecond * 1_000)) }
     {
         if microsecond > 999_999 {
-            return Err(ComponentRange::unconditional("microsecond"));
+            return Err(ComponentRange::unconditional(Component::Microsecond));
         }
         let seconds = self.truncate_to_second().nanoseconds;
         Ok(Self {
@@ -199,7 +199,7 @@ impl Time {
             → result ≡ Ok (time_of (hour_of self) (minute_of self) (second_of self) nanosecond) }
     {
         if nanosecond > 999_999_999 {
-            return Err(ComponentRange::unconditional("nanosecond"));
+            return Err(ComponentRange::unconditional(Component::Nanosecond));
         }
         let seconds = self.truncate_to_second().nanoseconds;
         Ok(Self {

@@ -1,7 +1,7 @@
 //! Dates by year, month and day of the month.
 ghost use Rattle.std.specs.Prelude.{◌≡◌, ℕ, ◌<◌, ◌≤◌, pos, ◌↔◌, ◌⊎◌, IfOk, IfErr, IsErr, IsTrue, Ok, [], ◌∷◌, ℤ};
 ghost use Rattle.cal_units.specs.Month.{number};
-ghost use Rattle.cal_units.specs.Refusal.{refusal, IsRefused};
+ghost use Rattle.cal_units.specs.Refusal.{IsRefused};
 ghost use Rattle.cal_units.specs.Lengths.{is_leap_year};
 ghost use Rattle.cal_date.specs.ClosedForms.{days_in_part, months_before_part, month_of_ordinal, day_of_ordinal};
 ghost use Rattle.cal_date.specs.CountLaws.{days_of_months};
@@ -10,7 +10,7 @@ ghost use Rattle.cal_date.specs.Order.{IsBefore, calendar_date_at};
 ghost use Rattle.cal_date.specs.Refusals.{year_out_of_range, day_out_of_range};
 
 use crate::date::{Date, is_year};
-use crate::error::ComponentRange;
+use crate::error::{Component, ComponentRange};
 use cal_units::util::is_leap_year;
 use cal_units::{Cycle, Month};
 
@@ -47,16 +47,16 @@ impl Date {
 
         // It is refused exactly where no day has it, for the first component that is out of range.
         ensures refused { IsErr result ↔ NoDate (HasCalendarDate year (number month) day) }
-        ensures reason { IfErr result (λ e. (refusal e ≡ year_out_of_range) ⊎ (refusal e ≡ day_out_of_range)) }
+        ensures reason { IfErr result (λ e. (e ≡ year_out_of_range) ⊎ (e ≡ day_out_of_range)) }
         ensures year { IsRefused year_out_of_range result ↔ ¬ IsYear year }
         ensures day { IsRefused day_out_of_range result ↔ IsYear year × ¬ IsDayOfMonth year (number month) day }
     {
         if !is_year(year) {
-            return Err(ComponentRange::unconditional("year"));
+            return Err(ComponentRange::unconditional(Component::Year));
         }
         let leap = is_leap_year(year);
         if !has_day(month, leap, day) {
-            return Err(ComponentRange::conditional("day"));
+            return Err(ComponentRange::conditional(Component::Day));
         }
         let ordinal = days_before_month(month.place(), leap) + u16::from(day);
         Ok(Date::from_parts(year, leap, ordinal))

@@ -1,6 +1,6 @@
 //! Weekdays, ISO week dates, and the weeks of a year from Sunday or Monday on.
 ghost use Rattle.std.specs.Prelude.{◌≡◌, ℕ, ◌+◌, ◌-◌, ◌*◌, ◌/◌, ◌%◌, ◌^◌, ◌<◌, ◌≤◌, pos, ◌↔◌, ◌⊎◌, IfOk, IfErr, IsErr, IsTrue, Ok, [], ◌∷◌};
-ghost use Rattle.cal_units.specs.Refusal.{refusal, IsRefused};
+ghost use Rattle.cal_units.specs.Refusal.{IsRefused};
 ghost use Rattle.cal_units.specs.Weekday.{place};
 ghost use Rattle.cal_units.specs.Weeks.{first_weekday, weeks_in_year};
 ghost use Rattle.cal_date.specs.ClosedForms.{iso_year_of, iso_week_of, year_of_week, ordinal_of_week, IsWeekByForm, IsDayByForm};
@@ -10,7 +10,7 @@ ghost use Rattle.cal_date.specs.Order.{IsBefore, iso_week_date_at};
 ghost use Rattle.cal_date.specs.Refusals.{year_out_of_range, week_out_of_range, weekday_out_of_range};
 
 use crate::date::{Date, MAX_YEAR, MIN_YEAR, is_year};
-use crate::error::ComponentRange;
+use crate::error::{Component, ComponentRange};
 use cal_units::util::{days_in_year, weeks_in_year};
 use cal_units::{Cycle, Weekday};
 
@@ -35,7 +35,7 @@ impl Date {
 
         // It is refused exactly where no day has it, for the first component that is out of range.
         ensures refused { IsErr result ↔ NoDate (HasIsoWeekDate year week (place weekday)) }
-        ensures reason { IfErr result (λ e. (refusal e ≡ year_out_of_range) ⊎ (refusal e ≡ week_out_of_range) ⊎ (refusal e ≡ weekday_out_of_range)) }
+        ensures reason { IfErr result (λ e. (e ≡ year_out_of_range) ⊎ (e ≡ week_out_of_range) ⊎ (e ≡ weekday_out_of_range)) }
         ensures year { IsRefused year_out_of_range result ↔ ¬ IsYear year }
         ensures week { IsRefused week_out_of_range result ↔ IsYear year × ¬ IsWeek year week }
         ensures weekday { IsRefused weekday_out_of_range result
@@ -43,14 +43,14 @@ impl Date {
         ensures closed_form { IfOk result (IsDayByForm year week (place weekday + 1)) }
     {
         if !is_year(year) {
-            return Err(ComponentRange::unconditional("year"));
+            return Err(ComponentRange::unconditional(Component::Year));
         }
         if !has_week(year, week) {
-            return Err(ComponentRange::conditional("week"));
+            return Err(ComponentRange::conditional(Component::Week));
         }
         let (calendar_year, ordinal) = ordinal_date_of(year, week, weekday);
         if calendar_year > MAX_YEAR {
-            return Err(ComponentRange::conditional("weekday"));
+            return Err(ComponentRange::conditional(Component::Weekday));
         }
         Ok(Date::at_ordinal(calendar_year, ordinal))
     }

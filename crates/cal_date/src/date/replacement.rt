@@ -1,13 +1,13 @@
 //! Dates with one component replaced.
 ghost use Rattle.std.specs.Prelude.{◌≡◌, ℕ, ◌+◌, ◌-◌, ◌↔◌, ◌⊎◌, IfOk, IfErr, IsErr, Ok, SomeIff};
 ghost use Rattle.cal_units.specs.Month.{number};
-ghost use Rattle.cal_units.specs.Refusal.{refusal, IsRefused};
+ghost use Rattle.cal_units.specs.Refusal.{IsRefused};
 ghost use Rattle.cal_date.specs.CountLaws.{days_of_months};
 ghost use Rattle.cal_date.specs.Date.{year_at, month_at, day_of_month_at, IsDate, IsYear, IsDayOfMonth, IsOrdinal, HasCalendarDate, HasOrdinalDate, NoDate};
 ghost use Rattle.cal_date.specs.Refusals.{year_out_of_range, day_out_of_range, ordinal_out_of_range};
 
 use crate::date::{Date, is_year};
-use crate::error::ComponentRange;
+use crate::error::{Component, ComponentRange};
 use cal_units::Month;
 use cal_units::util::is_leap_year;
 
@@ -27,17 +27,17 @@ impl Date {
 
         // It is refused exactly where no day has it.
         ensures refused { IsErr result ↔ NoDate (HasCalendarDate year (month_at self) (day_of_month_at self)) }
-        ensures reason { IfErr result (λ e. (refusal e ≡ year_out_of_range) ⊎ (refusal e ≡ day_out_of_range)) }
+        ensures reason { IfErr result (λ e. (e ≡ year_out_of_range) ⊎ (e ≡ day_out_of_range)) }
         ensures in_range { IsDate self }
         ensures year { IsRefused year_out_of_range result ↔ ¬ IsYear year }
         ensures day { IsRefused day_out_of_range result ↔ IsYear year × ¬ IsDayOfMonth year (month_at self) (day_of_month_at self) }
     {
         self.is_in_range();
         if !is_year(year) {
-            return Err(ComponentRange::unconditional("year"));
+            return Err(ComponentRange::unconditional(Component::Year));
         }
         let Some(ordinal) = self.ordinal_in(year) else {
-            return Err(ComponentRange::conditional("day"));
+            return Err(ComponentRange::conditional(Component::Day));
         };
         Ok(Date::at_ordinal(year, ordinal))
     }
@@ -51,7 +51,7 @@ impl Date {
 
         // It is refused exactly where no day has it.
         ensures refused { IsErr result ↔ NoDate (HasCalendarDate (year_at self) (number month) (day_of_month_at self)) }
-        ensures reason { IfErr result (λ e. refusal e ≡ day_out_of_range) }
+        ensures reason { IfErr result (λ e. e ≡ day_out_of_range) }
         ensures in_range { IsDate self }
         ensures day { IsRefused day_out_of_range result ↔ ¬ IsDayOfMonth (year_at self) (number month) (day_of_month_at self) }
     {
@@ -68,7 +68,7 @@ impl Date {
 
         // It is refused exactly where no day has it.
         ensures refused { IsErr result ↔ NoDate (HasCalendarDate (year_at self) (month_at self) day) }
-        ensures reason { IfErr result (λ e. refusal e ≡ day_out_of_range) }
+        ensures reason { IfErr result (λ e. e ≡ day_out_of_range) }
         ensures in_range { IsDate self }
         ensures day { IsRefused day_out_of_range result ↔ ¬ IsDayOfMonth (year_at self) (month_at self) day }
     {
@@ -85,7 +85,7 @@ impl Date {
 
         // It is refused exactly where no day has it.
         ensures refused { IsErr result ↔ NoDate (HasOrdinalDate (year_at self) ordinal) }
-        ensures reason { IfErr result (λ e. refusal e ≡ ordinal_out_of_range) }
+        ensures reason { IfErr result (λ e. e ≡ ordinal_out_of_range) }
         ensures in_range { IsDate self }
         ensures ordinal { IsRefused ordinal_out_of_range result ↔ ¬ IsOrdinal (year_at self) ordinal }
     {

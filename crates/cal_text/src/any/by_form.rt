@@ -1,6 +1,6 @@
 //! A text read by the one form that its first byte, or the one at 10, leaves open.
 ghost use Rattle.std.specs.Prelude.{◌≡◌, ◌≢◌, ◌↔◌, IfOk, Ok, get_or};
-ghost use Rattle.cal_time.specs.Refusal.{Refusal};
+ghost use Rattle.cal_time.specs.declared.error.ComponentRange.{ComponentRange};
 ghost use Rattle.cal_text.specs.declared.any.DateOrMoment.{DateOrMoment};
 ghost use Rattle.cal_text.specs.AnyForm.{IsTextOf, IsFault, HasAnyForm};
 ghost use Rattle.cal_text.specs.Reading.{component_of, IsRefusedFor, IsRefusedForForm};
@@ -19,7 +19,7 @@ pub(super) fn julian_day_in(text: &[u8]) -> Result<DateOrMoment, Unreadable>
     ensures every { (found : DateOrMoment) → IsTextOf text.now found → result ≡ Ok found }
     ensures has { IfOk result (IsTextOf text.now) }
     ensures form { IsRefusedForForm result ↔ ¬ HasAnyForm text.now }
-    ensures component { (why : Refusal) → IsRefusedFor why result ↔ IsFault text.now why }
+    ensures component { (why : ComponentRange) → IsRefusedFor why result ↔ IsFault text.now why }
 {
     match julian_day::read(text) {
         Ok(date) => Ok(DateOrMoment::JulianDay(date)),
@@ -33,7 +33,7 @@ pub(super) fn unix_time_in(text: &[u8]) -> Result<DateOrMoment, Unreadable>
     ensures every { (found : DateOrMoment) → IsTextOf text.now found → result ≡ Ok found }
     ensures has { IfOk result (IsTextOf text.now) }
     ensures form { IsRefusedForForm result ↔ ¬ HasAnyForm text.now }
-    ensures component { (why : Refusal) → IsRefusedFor why result ↔ IsFault text.now why }
+    ensures component { (why : ComponentRange) → IsRefusedFor why result ↔ IsFault text.now why }
 {
     match unix::read(text) {
         Ok(found) => Ok(DateOrMoment::Unix(found.0, found.1)),
@@ -48,7 +48,7 @@ pub(super) fn moment_in(text: &[u8]) -> Result<DateOrMoment, Unreadable>
     ensures every { (found : DateOrMoment) → IsTextOf text.now found → result ≡ Ok found }
     ensures has { IfOk result (IsTextOf text.now) }
     ensures form { IsRefusedForForm result ↔ ¬ HasAnyForm text.now }
-    ensures component { (why : Refusal) → IsRefusedFor why result ↔ IsFault text.now why }
+    ensures component { (why : ComponentRange) → IsRefusedFor why result ↔ IsFault text.now why }
 {
     match rfc3339::read(text) {
         Ok(found) => Ok(DateOrMoment::Rfc3339(found.0, found.1, found.2)),
@@ -75,7 +75,7 @@ pub(super) fn date_in(text: &[u8]) -> Result<DateOrMoment, Unreadable>
     ensures every { (found : DateOrMoment) → IsTextOf text.now found → result ≡ Ok found }
     ensures has { IfOk result (IsTextOf text.now) }
     ensures form { IsRefusedForForm result ↔ ¬ HasAnyForm text.now }
-    ensures component { (why : Refusal) → IsRefusedFor why result ↔ IsFault text.now why }
+    ensures component { (why : ComponentRange) → IsRefusedFor why result ↔ IsFault text.now why }
 {
     match form_and_date(text) {
         Ok(found) => match found.0 {

@@ -3,7 +3,7 @@ ghost use Rattle.std.specs.Prelude.{◌≡◌, ◌⊎◌, ℕ, ◌-◌, ◌≤�
 ghost use Rattle.cal_time.specs.Date.{IsDate, IsYear, IsDayOfMonth, HasCalendarDate, NoDate};
 ghost use Rattle.cal_time.specs.IsoWeekDate.{IsWeek, HasIsoWeekDate};
 ghost use Rattle.cal_time.specs.Month.{month_out_of_range};
-ghost use Rattle.cal_time.specs.Refusal.{refusal, IsRefused};
+ghost use Rattle.cal_time.specs.Refusal.{IsRefused};
 ghost use Rattle.cal_time.specs.Refusals.{year_out_of_range, day_out_of_range, ordinal_out_of_range, week_out_of_range, weekday_out_of_range};
 ghost use Rattle.cal_text.specs.DateForms.{IsForm};
 ghost use Rattle.cal_text.specs.Reading.{IsOnDay, IsMonth, IsDateReason, LacksMonth, LacksYear, LacksDay, LacksOrdinal, LacksWeek, LacksWeekday};
@@ -17,7 +17,7 @@ pub(super) fn date_of(form: Form) -> Result<Date, ComponentRange>
     requires { IsForm form }
     ensures every { (n : ℕ) → IsDate n → IsOnDay form n → result ≡ Ok n }
     ensures has { IfOk result (λ n. IsDate n × IsOnDay form n) }
-    ensures reason { IfErr result (λ e. IsDateReason (Some (refusal e))) }
+    ensures reason { IfErr result (λ e. IsDateReason (Some e)) }
     ensures month { IsRefused month_out_of_range result ↔ LacksMonth form }
     ensures year { IsRefused year_out_of_range result ↔ LacksYear form }
     ensures day { IsRefused day_out_of_range result ↔ LacksDay form }
@@ -36,7 +36,7 @@ pub(super) fn date_of(form: Form) -> Result<Date, ComponentRange>
 pub(crate) fn calendar_date(year: i32, month: u8, day: u8) -> Result<Date, ComponentRange>
     ensures every { (n : ℕ) → IsDate n → HasCalendarDate year month day n → result ≡ Ok n }
     ensures has { IfOk result (λ n. IsDate n × HasCalendarDate year month day n) }
-    ensures reason { IfErr result (λ e. (refusal e ≡ month_out_of_range) ⊎ (refusal e ≡ year_out_of_range) ⊎ (refusal e ≡ day_out_of_range)) }
+    ensures reason { IfErr result (λ e. (e ≡ month_out_of_range) ⊎ (e ≡ year_out_of_range) ⊎ (e ≡ day_out_of_range)) }
     ensures month { IsRefused month_out_of_range result ↔ ¬ IsMonth month }
     ensures year { IsRefused year_out_of_range result ↔ IsMonth month × ¬ IsYear year }
     ensures day { IsRefused day_out_of_range result ↔ IsMonth month × IsYear year × ¬ IsDayOfMonth year month day }
@@ -52,7 +52,7 @@ fn week_date(year: i32, week: u8, weekday: u8) -> Result<Date, ComponentRange>
     requires { (1 ≤ weekday) × (weekday ≤ 7) }
     ensures every { (n : ℕ) → IsDate n → HasIsoWeekDate year week (weekday - 1) n → result ≡ Ok n }
     ensures has { IfOk result (λ n. IsDate n × HasIsoWeekDate year week (weekday - 1) n) }
-    ensures reason { IfErr result (λ e. (refusal e ≡ year_out_of_range) ⊎ (refusal e ≡ week_out_of_range) ⊎ (refusal e ≡ weekday_out_of_range)) }
+    ensures reason { IfErr result (λ e. (e ≡ year_out_of_range) ⊎ (e ≡ week_out_of_range) ⊎ (e ≡ weekday_out_of_range)) }
     ensures year { IsRefused year_out_of_range result ↔ ¬ IsYear year }
     ensures week { IsRefused week_out_of_range result ↔ IsYear year × ¬ IsWeek year week }
     ensures weekday { IsRefused weekday_out_of_range result

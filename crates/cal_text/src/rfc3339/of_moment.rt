@@ -2,7 +2,7 @@
 ghost use Rattle.std.specs.Prelude.{◌≡◌, ◌⊎◌, ℕ, ◌+◌, ◌*◌, ℤ, ◌≤◌, ◌<◌, ◌↔◌, pos, neg_ℤ, IfOk, IfErr, Ok, Some, if◌then◌else◌};
 ghost use Rattle.cal_time.specs.Date.{IsDate};
 ghost use Rattle.cal_time.specs.Month.{month_out_of_range};
-ghost use Rattle.cal_time.specs.Refusal.{refusal, IsRefused};
+ghost use Rattle.cal_time.specs.Refusal.{IsRefused};
 ghost use Rattle.cal_time.specs.Refusals.{day_out_of_range};
 ghost use Rattle.cal_time.specs.Time.{hour_out_of_range, minute_out_of_range, second_out_of_range};
 ghost use Rattle.cal_time.specs.UtcOffset.{offset_hour_out_of_range, offset_minute_out_of_range};
@@ -10,7 +10,7 @@ ghost use Rattle.cal_text.specs.Rfc3339Form.{IsMoment, IsAt, IsOffsetOf, IsMomen
 
 use crate::date::of_form::calendar_date;
 use crate::rfc3339::moment::{Moment, Zone};
-use cal_time::error::ComponentRange;
+use cal_time::error::{Component, ComponentRange};
 use cal_time::{Date, Time, UtcOffset};
 
 /// The day, the time of day and the offset that have the numbers, or the first component at fault.
@@ -18,7 +18,7 @@ pub(super) fn parts_of(moment: Moment) -> Result<(Date, Time, UtcOffset), Compon
     requires { IsMoment moment }
     ensures every { (n t : ℕ) → (o : ℤ) → IsDate n → IsAt moment n t o → result ≡ Ok (n, t, o) }
     ensures has { IfOk result (λ r. IsDate r.0 × IsAt moment r.0 r.1 r.2) }
-    ensures reason { IfErr result (λ e. IsMomentReason (Some (refusal e))) }
+    ensures reason { IfErr result (λ e. IsMomentReason (Some e)) }
     ensures month { IsRefused month_out_of_range result ↔ LacksMonth moment }
     ensures day { IsRefused day_out_of_range result ↔ LacksDay moment }
     ensures hour { IsRefused hour_out_of_range result ↔ LacksHour moment }
@@ -50,7 +50,7 @@ pub(super) fn parts_of(moment: Moment) -> Result<(Date, Time, UtcOffset), Compon
 fn offset_of(zone: Zone) -> Result<UtcOffset, ComponentRange>
     ensures every { (o : ℤ) → IsOffsetOf zone o → result ≡ Ok o }
     ensures has { IfOk result (IsOffsetOf zone) }
-    ensures reason { IfErr result (λ e. (refusal e ≡ offset_hour_out_of_range) ⊎ (refusal e ≡ offset_minute_out_of_range)) }
+    ensures reason { IfErr result (λ e. (e ≡ offset_hour_out_of_range) ⊎ (e ≡ offset_minute_out_of_range)) }
     ensures hour { IsRefused offset_hour_out_of_range result ↔ IsPastHours zone }
     ensures minute { IsRefused offset_minute_out_of_range result ↔ IsPastMinutes zone }
 {
@@ -65,15 +65,15 @@ fn offset_of(zone: Zone) -> Result<UtcOffset, ComponentRange>
 fn offset_at(hours: u8, minutes: u8, is_west: bool) -> Result<UtcOffset, ComponentRange>
     ensures value { hours ≤ 23 → minutes ≤ 59
         → result ≡ Ok (if is_west then neg_ℤ (pos (3600 * hours + 60 * minutes)) else pos (3600 * hours + 60 * minutes)) }
-    ensures reason { IfErr result (λ e. (refusal e ≡ offset_hour_out_of_range) ⊎ (refusal e ≡ offset_minute_out_of_range)) }
+    ensures reason { IfErr result (λ e. (e ≡ offset_hour_out_of_range) ⊎ (e ≡ offset_minute_out_of_range)) }
     ensures hour { IsRefused offset_hour_out_of_range result ↔ (23 < hours) }
     ensures minute { IsRefused offset_minute_out_of_range result ↔ (hours ≤ 23) × (59 < minutes) }
 {
     if hours > 23 {
-        return Err(ComponentRange::unconditional("offset hour"));
+        return Err(ComponentRange::unconditional(Component::OffsetHour));
     }
     if minutes > 59 {
-        return Err(ComponentRange::unconditional("offset minute"));
+        return Err(ComponentRange::unconditional(Component::OffsetMinute));
     }
     let seconds = 3600 * i32::from(hours) + 60 * i32::from(minutes);
     if is_west {

@@ -3,7 +3,7 @@
 //! A call by name takes a function of the type itself where it has one of that name, and no contract of the trait speaks of that one.
 ghost use Rattle.std.specs.Prelude.{◌<◌};
 
-use crate::error::{ComponentRange, InvalidVariant};
+use crate::error::{Component, ComponentRange, InvalidVariant};
 use crate::iter::{DateIter, MonthIter, WeekdayIter};
 use crate::tests::{date, hash_of, offset, same, time};
 use crate::{Counted, Cycle, Date, Month, SignedDuration, Time, UtcOffset, Weekday};
@@ -189,8 +189,8 @@ fn equality_and_clones(rt: HostRuntime) -> Result<(), Fail> {
         same(&rt, [a.eq(&b), a.ne(&b)], is_equal(&a, &b));
     }
     let (day, year) = (
-        ComponentRange::conditional("day"),
-        ComponentRange::unconditional("year"),
+        ComponentRange::conditional(Component::Day),
+        ComponentRange::unconditional(Component::Year),
     );
     for (a, b) in [(day, year), (day, day)] {
         same(&rt, [a.eq(&b), a.ne(&b)], is_equal(&a, &b));

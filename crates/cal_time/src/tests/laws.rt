@@ -1,5 +1,5 @@
 //! Laws that hold between calls, each shown at a few values.
-use crate::error::{ComponentRange, ConversionRange, InvalidVariant};
+use crate::error::{Component, ComponentRange, ConversionRange, InvalidVariant};
 use crate::tests::range::{DAYS, FIRST_JULIAN_DAY, FIRST_YEAR, LAST_JULIAN_DAY, LAST_YEAR};
 use crate::tests::{date, hash_of, offset, same, time};
 use crate::util::DateAdjustment;
@@ -282,7 +282,7 @@ fn clones_are_the_values_themselves(rt: HostRuntime) -> Result<(), Fail> {
     same(&rt, Month::May.clone()?, Month::May);
     same(&rt, Weekday::Friday.clone()?, Weekday::Friday);
     same(&rt, DateAdjustment::Next.clone()?, DateAdjustment::Next);
-    let error = ComponentRange::conditional("day");
+    let error = ComponentRange::conditional(Component::Day);
     same(&rt, error.clone()?, error);
     same(&rt, ConversionRange.clone()?, ConversionRange);
     same(&rt, InvalidVariant.clone()?, InvalidVariant);

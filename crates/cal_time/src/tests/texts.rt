@@ -1,5 +1,5 @@
 //! The texts of values, plain, padded, and for debugging.
-use crate::error::{ComponentRange, ConversionRange, InvalidVariant};
+use crate::error::{Component, ComponentRange, ConversionRange, InvalidVariant};
 use crate::tests::{date, offset, same, time};
 use crate::{Date, Month, SignedDuration, Time, UtcOffset, Weekday};
 use std::test::Fail;
@@ -167,9 +167,12 @@ fn styled_texts_for_debugging(rt: HostRuntime) -> Result<(), Fail> {
 #[test]
 fn texts_of_errors(rt: HostRuntime) -> Result<(), Fail> {
     for (error, text) in [
-        (ComponentRange::conditional("day"), "day was not in range"),
         (
-            ComponentRange::unconditional("offset hour"),
+            ComponentRange::conditional(Component::Day),
+            "day was not in range",
+        ),
+        (
+            ComponentRange::unconditional(Component::OffsetHour),
             "offset hour was not in range",
         ),
     ] {

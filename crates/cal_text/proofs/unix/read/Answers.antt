@@ -1,7 +1,7 @@
-use Rattle.std.proofs.Common.{Ok, ap, refl}
+use Rattle.std.proofs.Common.{Ok, Some, ap, refl}
 use Rattle.std.proofs.lemmas.Bool.{false≢true}
 use Rattle.std.proofs.lemmas.Option.{none-some}
-use Rattle.cal_text.proofs.UnixReads.{text_of_pair, moment_of_text, pair_of_text, some_at}
+use Rattle.cal_text.proofs.UnixReads.{text_of_pair, moment_of_text, pair_of_text, of_none, some_at}
 use Rattle.cal_text.proofs.unix.read.Goals as goal
 
 pub returns-in-Some-pair_of-clause-every : goal.returns-in-Some-pair_of-clause-every
@@ -25,6 +25,10 @@ returns-in-None-pair_of-clause-every c n t is = absurd (c.in-None-pair_of.ensure
 pub returns-in-None-pair_of-clause-refused : goal.returns-in-None-pair_of-clause-refused
 returns-in-None-pair_of-clause-refused c =
     (λ e n t is. c.in-None-pair_of.ensures n t (moment_of_text c.args.text.now c.in-Some.duration n t c.in-Some.ensures.every is), λ none. refl)
+
+pub returns-in-None-pair_of-clause-timestamp : goal.returns-in-None-pair_of-clause-timestamp
+returns-in-None-pair_of-clause-timestamp c =
+    (λ e. of_none c.args.text.now c.in-Some.duration c.in-Some.ensures.has c.in-None-pair_of.ensures, λ none. ap Some c.unconditional.ensures)
 
 pub returns-in-None-clause-every : goal.returns-in-None-clause-every
 returns-in-None-clause-every c n t is = absurd (none-some _ (c.in-None.ensures.every _ is.form))

@@ -1,9 +1,5 @@
-use Rattle.caldate.proofs.Texts.{short_name}
 use Rattle.caldate.proofs.Lacks.{lacks_none, lacks_why}
 use Rattle.caldate.proofs.answer.push_answer.Goals as goal
-
-pub push_why-requires-clause-named : goal.push_why-requires-clause-named
-push_why-requires-clause-named c = λ why e. short_name c.args.text.now why ((c.in-Err.ensures.component why).0 e)
 
 pub returns-in-Ok-clause-lacks : goal.returns-in-Ok-clause-lacks
 returns-in-Ok-clause-lacks c = λ no.

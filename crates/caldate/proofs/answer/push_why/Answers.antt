@@ -1,10 +1,6 @@
 use Rattle.std.proofs.Common.{◌∙◌, ◌++◌, decimal, ap, sym, append_assoc, codes}
-use Rattle.cal_text.specs.Reading.{component_of}
 use Rattle.caldate.specs.Answers.{why_text}
 use Rattle.caldate.proofs.answer.push_why.Goals as goal
-
-pub push_refusal-requires-clause-short_name : goal.push_refusal-requires-clause-short_name
-push_refusal-requires-clause-short_name c = c.requires.named _ (ap component_of c.in-OutOfRange.is)
 
 pub returns-in-UnexpectedByte-clause-text : goal.returns-in-UnexpectedByte-clause-text
 returns-in-UnexpectedByte-clause-text c =

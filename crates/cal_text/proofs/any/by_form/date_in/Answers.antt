@@ -1,6 +1,6 @@
 use Rattle.std.proofs.Common.{◌≡◌, ℕ, Some, ℤ, List, inl, inr, Ok, Err, Option, Result, ap}
 use Rattle.cal_time.specs.Date.{IsDate}
-use Rattle.cal_time.specs.Refusal.{Refusal}
+use Rattle.cal_time.specs.declared.error.ComponentRange.{ComponentRange}
 use Rattle.cal_text.specs.declared.any.DateOrMoment.TheVariants as any
 use Rattle.cal_text.specs.declared.error.Unreadable.{Unreadable}
 use Rattle.cal_text.specs.declared.form.Form.{Form}
@@ -92,6 +92,6 @@ returns-in-Err-clause-form c = (
 
 pub returns-in-Err-clause-component : goal.returns-in-Err-clause-component
 returns-in-Err-clause-component c why =
-    let found : Option Refusal = component_of c.in-Err.error in
+    let found : Option ComponentRange = component_of c.in-Err.error in
     let one = date_component (λ w. found ≡ Some w) c.args.text.now (date_name found c.in-Err.ensures.reason) c.in-Err.ensures.month c.in-Err.ensures.year c.in-Err.ensures.day c.in-Err.ensures.ordinal c.in-Err.ensures.week c.in-Err.ensures.weekday why in
     (λ e. inl (one.0 e), λ is. one.1 (date-fault c.args.text.now why c.requires.first c.requires.separator is))

@@ -1,6 +1,6 @@
 use Rattle.std.proofs.Common.{◌≡◌, ℕ, ℤ, List, Some, inl, inr, Ok, Err, Option, Result, sym, ◌∙◌}
 use Rattle.cal_time.specs.Date.{IsDate}
-use Rattle.cal_time.specs.Refusal.{Refusal}
+use Rattle.cal_time.specs.declared.error.ComponentRange.{ComponentRange}
 use Rattle.cal_text.specs.declared.any.DateOrMoment.TheVariants.{Rfc3339}
 use Rattle.cal_text.specs.declared.error.Unreadable.{Unreadable}
 use Rattle.cal_text.specs.Reading.{component_of}
@@ -39,7 +39,7 @@ returns-in-Err-clause-form c = (
 
 pub returns-in-Err-clause-component : goal.returns-in-Err-clause-component
 returns-in-Err-clause-component c why =
-    let found : Option Refusal = component_of c.in-Err.error in
+    let found : Option ComponentRange = component_of c.in-Err.error in
     let one = moment_component (λ w. found ≡ Some w) c.args.text.now (moment_name found c.in-Err.ensures.reason) c.in-Err.ensures.month c.in-Err.ensures.day c.in-Err.ensures.hour c.in-Err.ensures.minute c.in-Err.ensures.second c.in-Err.ensures.offset_hour c.in-Err.ensures.offset_minute why in (
       λ e. inr (inr (inl (one.0 (sym c.further.ensures ∙ e)))),
       λ is. c.further.ensures ∙ one.1 (moment-fault c.args.text.now why c.requires.first c.requires.separator is),

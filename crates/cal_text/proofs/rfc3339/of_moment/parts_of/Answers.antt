@@ -1,6 +1,5 @@
 use Rattle.std.proofs.Common.{◌≡◌, ◌≤◌, Some, ap, inl, inr, ◌∙◌, arith, pos, w32, to_z, of_z}
 use Rattle.std.proofs.lemmas.Bool.{cases_lt}
-use Rattle.cal_time.specs.Refusal.{refusal}
 use Rattle.cal_text.specs.Rfc3339Form.{IsMomentReason}
 use Rattle.cal_text.proofs.YearTexts.{written-cast}
 use Rattle.cal_text.proofs.rfc3339.of_moment.parts_of.Goals as goal
@@ -9,7 +8,7 @@ pub returns-in-Err-from_hms_nano-clause-reason : goal.returns-in-Err-from_hms_na
 returns-in-Err-from_hms_nano-clause-reason c =
     let m = c.args.moment in
     let why = c.in-Err-from_hms_nano.ensures in
-    let P = IsMomentReason (Some (refusal c.in-Err-from_hms_nano.error)) in
+    let P = IsMomentReason (Some c.in-Err-from_hms_nano.error) in
     elim (cases_lt 23 m.hour) as (λ _. P) [
       | inl hour ↦ inr (inr (inr (inl (ap Some (why.refused.hour.1 hour)))))
       | inr hour ↦ elim (cases_lt 59 m.minute) as (λ _. P) [

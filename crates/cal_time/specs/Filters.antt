@@ -1,0 +1,126 @@
+-- Laws for callers: the first of the days from one on that passes a test, as a filter of them begins.
+use Rattle.std.proofs.Common.{◌≡◌, ℕ, zero, suc, ◌+◌, ◌-◌, ◌<◌, ◌≤◌, ◌⊎◌, inl, inr, refl, sym, ap, ◌∙◌, arith, List, [], ◌∷◌, filter, slice_get, Option, None, Bool, true, false}
+use Rattle.std.specs.Prelude.{IfSome}
+use Rattle.std.proofs.lemmas.Bool.{cases_lt, cases_Bool, false≢true}
+use Rattle.cal_date.specs.Occurrence.{days_from}
+
+-- none of so many days from day n on passes
+abbrev pub NoDayPasses : (ℕ → Bool) → ℕ → ℕ → Type 0
+NoDayPasses test n count = (k : ℕ) → n ≤ k → k < n + count → test k ≡ false
+
+-- x is the first of them that passes
+pub record IsFirstDay (test : ℕ → Bool) (n count x : ℕ) : Type 0 where
+  pub not_before : n ≤ x
+  pub within : x < n + count
+  pub passes : test x ≡ true
+  pub none_before : (k : ℕ) → n ≤ k → k < x → test k ≡ false
+
+-- those of them that pass, in order
+abbrev passing : (ℕ → Bool) → ℕ → ℕ → List ℕ
+passing test n count = filter test (days_from n count)
+
+-- one step of the list
+passing-none : (test : ℕ → Bool) (n : ℕ) → passing test n 0 ≡ []
+unfolding days_from
+passing-none test n = refl
+
+passing-true : (test : ℕ → Bool) (n count : ℕ) → test n ≡ true → passing test n (suc count) ≡ n ∷ passing test (n + 1) count
+unfolding days_from
+passing-true test n count h = rw h refl
+
+passing-false : (test : ℕ → Bool) (n count : ℕ) → test n ≡ false → passing test n (suc count) ≡ passing test (n + 1) count
+unfolding days_from
+passing-false test n count h = rw h refl
+
+-- how it begins: with no day, as none passes, or with the first that does
+record BeginsEmpty (test : ℕ → Bool) (n count : ℕ) : Type 0 where
+  none : NoDayPasses test n count
+  days : passing test n count ≡ []
+
+record BeginsWithDay (test : ℕ → Bool) (n count : ℕ) : Type 0 where
+  day : ℕ
+  first : IsFirstDay test n count day
+  days : passing test n count ≡ day ∷ passing test (day + 1) (n + count - (day + 1))
+
+-- where the first of the days does not pass, it begins as that of the others
+none_after : (test : ℕ → Bool) (n count : ℕ) → test n ≡ false → NoDayPasses test (n + 1) count → NoDayPasses test n (suc count)
+none_after test n count off none k low high =
+    elim (cases_lt n k) [
+      | inl later ↦ none k (omega arith) (omega arith)
+      | inr same ↦ let e : n ≡ k = omega arith in ap test (sym e) ∙ off
+    ]
+
+first_after : (test : ℕ → Bool) (n count x : ℕ) → test n ≡ false → IsFirstDay test (n + 1) count x → IsFirstDay test n (suc count) x
+first_after test n count x off h = record {
+  not_before = omega (arith, h.not_before);
+  within = omega (arith, h.within);
+  passes = h.passes;
+  none_before = λ k low high. elim (cases_lt n k) [
+    | inl later ↦ h.none_before k (omega arith) high
+    | inr same ↦ let e : n ≡ k = omega arith in ap test (sym e) ∙ off
+  ];
+}
+
+begins : (test : ℕ → Bool) (n count : ℕ) → BeginsEmpty test n count ⊎ BeginsWithDay test n count
+begins test n zero = inl (record { none = λ k low high. absurd (omega arith); days = passing-none test n })
+begins test n (suc count) =
+    elim (cases_Bool (test n)) as (λ _. BeginsEmpty test n (suc count) ⊎ BeginsWithDay test n (suc count)) [
+      | inl on ↦
+          let left : count ≡ n + suc count - (n + 1) = omega arith in
+          inr (record {
+            day = n;
+            first = record { not_before = omega arith; within = omega arith; passes = on; none_before = λ k low high. absurd (omega arith) };
+            days = passing-true test n count on ∙ ap (λ c. n ∷ passing test (n + 1) c) left;
+          })
+      | inr off ↦ elim (begins test (n + 1) count) as (λ _. BeginsEmpty test n (suc count) ⊎ BeginsWithDay test n (suc count)) [
+        | inl h ↦ inl (record { none = none_after test n count off h.none; days = passing-false test n count off ∙ h.days })
+        | inr h ↦
+            let left : n + 1 + count ≡ n + suc count = omega arith in
+            inr (record {
+              day = h.day;
+              first = first_after test n count h.day off h.first;
+              days = passing-false test n count off ∙ h.days ∙ ap (λ c. h.day ∷ passing test (h.day + 1) (c - (h.day + 1))) left;
+            })
+      ]
+    ]
+
+one_first : (test : ℕ → Bool) (n count x y : ℕ) → IsFirstDay test n count x → IsFirstDay test n count y → x ≡ y
+one_first test n count x y h k =
+    elim (cases_lt x y) [
+      | inl less ↦ absurd (false≢true (sym (k.none_before x h.not_before less) ∙ h.passes))
+      | inr most ↦ elim (cases_lt y x) [
+        | inl more ↦ absurd (false≢true (sym (h.none_before y k.not_before more) ∙ k.passes))
+        | inr least ↦ omega arith
+      ]
+    ]
+
+-- the first of the filtered days is the first that passes, and where there is none, none passes
+pub first_passing : (test : ℕ → Bool) (n count : ℕ) (r : Option ℕ) → r ≡ slice_get (filter test (days_from n count)) 0 → IfSome r (IsFirstDay test n count)
+first_passing test n count r e =
+    elim (begins test n count) [
+      | inl h ↦ rw (e, h.days) tt
+      | inr h ↦ rw (e, h.days) h.first
+    ]
+
+pub none_passing : (test : ℕ → Bool) (n count : ℕ) → slice_get (filter test (days_from n count)) 0 ≡ None → NoDayPasses test n count
+none_passing test n count e =
+    elim (begins test n count) [
+      | inl h ↦ h.none
+      | inr h ↦ let some = rw h.days at e in absurd (cc)
+    ]
+
+-- so the filter begins with it, and goes on as that of the days after it
+pub filter-first : (test : ℕ → Bool) (n count x : ℕ) → IsFirstDay test n count x
+    → filter test (days_from n count) ≡ x ∷ filter test (days_from (x + 1) (n + count - (x + 1)))
+filter-first test n count x h =
+    elim (begins test n count) [
+      | inl k ↦ absurd (false≢true (sym (k.none x h.not_before h.within) ∙ h.passes))
+      | inr k ↦ let e = one_first test n count k.day x k.first h in k.days ∙ ap (λ m. m ∷ passing test (m + 1) (n + count - (m + 1))) e
+    ]
+
+pub filter-none : (test : ℕ → Bool) (n count : ℕ) → NoDayPasses test n count → filter test (days_from n count) ≡ []
+filter-none test n count h =
+    elim (begins test n count) [
+      | inl k ↦ k.days
+      | inr k ↦ absurd (false≢true (sym (h k.day k.first.not_before k.first.within) ∙ k.first.passes))
+    ]

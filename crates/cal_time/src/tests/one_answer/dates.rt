@@ -1,0 +1,94 @@
+//! The dates of components, the components of dates, and dates with one replaced.
+ghost use Rattle.std.specs.Prelude.{◌≡◌, ℕ};
+ghost use Rattle.cal_date.specs.ClosedForms.{HasKernel};
+ghost use Rattle.cal_date.specs.Date.{IsDate};
+
+use crate::error::ComponentRange;
+use crate::tests::one_answer::Twice;
+use crate::{Date, Month, Weekday};
+use cal_date::JulianKernel;
+
+fn from_ordinal_date(year: i32, ordinal: u16) -> Twice<Result<Date, ComponentRange>>
+    ensures { result.0 ≡ result.1 }
+{
+    twice!(Date::from_ordinal_date(year, ordinal))
+}
+
+fn from_calendar_date(year: i32, month: Month, day: u8) -> Twice<Result<Date, ComponentRange>>
+    ensures { result.0 ≡ result.1 }
+{
+    twice!(Date::from_calendar_date(year, month, day))
+}
+
+fn from_iso_week_date(year: i32, week: u8, weekday: Weekday) -> Twice<Result<Date, ComponentRange>>
+    ensures { result.0 ≡ result.1 }
+{
+    twice!(Date::from_iso_week_date(year, week, weekday))
+}
+
+fn from_julian_day(julian_day: i32) -> Twice<Result<Date, ComponentRange>>
+    ensures { result.0 ≡ result.1 }
+{
+    twice!(Date::from_julian_day(julian_day))
+}
+
+fn month(date: Date) -> Twice<Month>
+    ensures { result.0 ≡ result.1 }
+{
+    twice!(date.month())
+}
+
+fn weekday(date: Date) -> Twice<Weekday>
+    ensures { result.0 ≡ result.1 }
+{
+    twice!(date.weekday())
+}
+
+fn to_ordinal_date(date: Date) -> Twice<(i32, u16)>
+    ensures { result.0 ≡ result.1 }
+{
+    twice!(date.to_ordinal_date())
+}
+
+fn to_calendar_date(date: Date) -> Twice<(i32, Month, u8)>
+    ensures { result.0 ≡ result.1 }
+{
+    twice!(date.to_calendar_date())
+}
+
+fn to_iso_week_date(date: Date) -> Twice<(i32, u8, Weekday)>
+    ensures { result.0 ≡ result.1 }
+{
+    twice!(date.to_iso_week_date())
+}
+
+fn replace_year(date: Date, year: i32) -> Twice<Result<Date, ComponentRange>>
+    ensures { result.0 ≡ result.1 }
+{
+    twice!(date.replace_year(year))
+}
+
+fn replace_month(date: Date, month: Month) -> Twice<Result<Date, ComponentRange>>
+    ensures { result.0 ≡ result.1 }
+{
+    twice!(date.replace_month(month))
+}
+
+fn replace_day(date: Date, day: u8) -> Twice<Result<Date, ComponentRange>>
+    ensures { result.0 ≡ result.1 }
+{
+    twice!(date.replace_day(day))
+}
+
+fn replace_ordinal(date: Date, ordinal: u16) -> Twice<Result<Date, ComponentRange>>
+    ensures { result.0 ≡ result.1 }
+{
+    twice!(date.replace_ordinal(ordinal))
+}
+
+fn date_of_kernel(kernel: JulianKernel) -> Twice<Date>
+    requires { (n : ℕ) × IsDate n × HasKernel kernel n }
+    ensures { result.0 ≡ result.1 }
+{
+    twice!(cal_date::date_of_kernel(kernel))
+}

@@ -1,0 +1,24 @@
+//! Walks over days.
+ghost use Rattle.std.specs.Prelude.{◌≡◌};
+
+use crate::Date;
+use crate::iter::DateIter;
+use crate::tests::one_answer::Twice;
+
+fn next(walk: &DateIter) -> Twice<(Option<Date>, DateIter)>
+    ensures { result.0 ≡ result.1 }
+{
+    twice!({
+        let mut walk = walk.clone();
+        (walk.next(), walk)
+    })
+}
+
+fn next_back(walk: &DateIter) -> Twice<(Option<Date>, DateIter)>
+    ensures { result.0 ≡ result.1 }
+{
+    twice!({
+        let mut walk = walk.clone();
+        (walk.next_back(), walk)
+    })
+}

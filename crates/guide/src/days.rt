@@ -1,0 +1,109 @@
+//! Callers that know the clauses and the laws of `cal_time`: the order of days, and how many lie between.
+ghost use Rattle.std.specs.Prelude.{◌≡◌, ◌+◌, ◌-◌, ◌≤◌, ◌<ℤ◌, ◌≤ℤ◌, ◌==◌, pos, IfSome, IsTrue, ◌↔◌, Some};
+ghost use Rattle.cal_time.specs.Date.{first_year, last_year, last_day, year_at, month_at, IsYear, HasCalendarDate, HasOrdinalDate};
+ghost use Rattle.cal_time.specs.Filters.{IsFirstDay};
+ghost use Rattle.cal_time.specs.Lengths.{days_in_year};
+ghost use Rattle.cal_time.specs.Occurrence.{is_on};
+
+use cal_time::{Date, Month, SignedDuration, Weekday};
+use std::io;
+
+/// Whether the two are one day.
+fn is_same(one: Date, other: Date) -> bool
+    ensures value { result ≡ (one == other) }
+    ensures same { IsTrue result ↔ (one ≡ other) }
+{
+    one == other
+}
+
+/// Whether the day has itself in its own year: it always has.
+fn stays_in_its_year(date: Date) -> bool
+    ensures { IsTrue result }
+{
+    date.replace_year(date.year()) == Ok(date)
+}
+
+/// The year of the day some whole days later, or of the last one: never an earlier year.
+fn later_year(date: Date, days: u32) -> i32
+    ensures { year_at date ≤ℤ result }
+{
+    date.saturating_add(SignedDuration::days(i64::from(days)))
+        .year()
+}
+
+/// The days from one day to another of the same year, which does not come before it.
+#[tactic(auto, using(cal_time::specs::Parts::days_apart))]
+fn days_between_in_year(from: Date, to: Date) -> u16
+    requires order { from ≤ to }
+    requires year { year_at from ≡ year_at to }
+    ensures { from + result ≡ to }
+{
+    to.ordinal() - from.ordinal()
+}
+
+/// The first day of the year.
+fn new_year(year: i32) -> Date
+    requires { IsYear year }
+    ensures { HasOrdinalDate year 1 result }
+{
+    match Date::from_ordinal_date(year, 1) {
+        Ok(date) => date,
+        Err(_) => unreachable!(),
+    }
+}
+
+/// The days from 1 January of the year to that of the next one.
+fn days_to_next_new_year(year: i32) -> i32
+    requires first { first_year ≤ℤ year }
+    requires last { year <ℤ last_year }
+    ensures { result ≡ pos (days_in_year year) }
+{
+    new_year(year + 1).to_julian_day() - new_year(year).to_julian_day()
+}
+
+/// The first day of the month of this day.
+#[tactic(auto, using(cal_time::specs::Days::ranges))]
+fn first_of_its_month(date: Date) -> Date
+    ensures { HasCalendarDate (year_at date) (month_at date) 1 result }
+{
+    match date.replace_day(1) {
+        Ok(first) => first,
+        Err(_) => unreachable!(),
+    }
+}
+
+/// The first day of the walk from one day to another that does not come before it.
+#[tactic(auto, using(cal_time::specs::Walks::days_of_walks))]
+fn first_of_walk(from: Date, to: Date) -> Option<Date>
+    requires { from ≤ to }
+    ensures { result ≡ Some from }
+{
+    from.iter_to(to).next()
+}
+
+/// The next Friday: no day between is one.
+#[tactic(auto, using(cal_time::specs::Filters::first_passing))]
+fn next_friday(date: Date) -> Option<Date>
+    ensures { IfSome result (IsFirstDay (is_on 4) (date + 1) (last_day - date)) }
+{
+    date.checked_next_occurrence(Weekday::Friday)
+}
+
+pub fn show(rt: &impl Print) -> io::Result<()> {
+    let Ok(from) = Date::from_calendar_date(2024, Month::February, 28) else {
+        return Ok(());
+    };
+    let Ok(to) = Date::from_calendar_date(2024, Month::December, 31) else {
+        return Ok(());
+    };
+    println!(rt; "{} {}", is_same(from, to), stays_in_its_year(from))?;
+    println!(rt; "{} {}", later_year(from, 365), days_to_next_new_year(2024))?;
+    println!(rt; "{} {:?}", first_of_its_month(from), next_friday(from))?;
+    if from <= to {
+        println!(rt; "{:?}", first_of_walk(from, to))?;
+        if from.year() == to.year() {
+            println!(rt; "{}", days_between_in_year(from, to))?;
+        }
+    }
+    Ok(())
+}
