@@ -11,7 +11,7 @@ use Rattle.cal_date.specs.CountLaws.{years_before, days_before, days_of_years-cl
 use Rattle.cal_date.specs.IsoWeekDate.{IsWeek, HasIsoWeekDate}
 use Rattle.cal_date.specs.ClosedForms.{week_quotient, iso_year_of, iso_week_of, fourth_weekday, year_of_week, ordinal_of_week}
 use Rattle.cal_date.specs.PackedDate.{ordinal_number}
-use Rattle.cal_date.proofs.Dates.{StandsAt, stands, in_range}
+use Rattle.cal_date.proofs.Dates.{IsYear-i32, StandsAt, stands, in_range}
 use Rattle.cal_date.proofs.IsoWeeks.{iso_number, in_weeks, HasIsoWeekDate-iso_number, HasIsoWeekDate-same_year, HasIsoWeekDate-next_year, HasIsoWeekDate-previous_year, has_year_before}
 use Rattle.cal_date.proofs.Rising.{has_ordinal_number}
 use Rattle.cal_date.proofs.Weekdays.{weekday_at-is, first_weekday-days_before, weeks_in_year-days_before}
@@ -111,6 +111,10 @@ HasIsoWeekDate-closed n =
 -- each year has 52 weeks
 pub weeks_in_year-least : (y : ℤ) → 52 ≤ weeks_in_year y
 weeks_in_year-least y = grind (arith, nat_tests, weeks_in_year-is y)
+
+pub ruleset at_least_52_weeks = (weeks_in_year-least, ints, nat_tests)
+
+pub ruleset years_of_weeks = (IsYear-i32, ints, nat_tests)
 
 -- what the closed forms give in each case
 pub record IsBack (y : ℤ) (w wd : ℕ) (year : ℤ) (ordinal : ℕ) : Type 0 where

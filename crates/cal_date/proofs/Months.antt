@@ -72,3 +72,5 @@ before_month-most i false low = (start (pos 0) i low).most.0
 pub days_of_months-next : (y : ℤ) (i : ℕ) → days_of_months y (i + 1) ≡ days_of_months y i + days_in_month y (i + 1)
 unfolding days_of_months
 days_of_months-next y i = rw add-one refl
+
+pub ruleset lengths_of_months = (days_of_months-next, nat_tests)

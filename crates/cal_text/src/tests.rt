@@ -10,6 +10,7 @@ use std::test::Fail;
 
 mod any;
 mod moments;
+mod one_answer;
 mod unix_times;
 
 /// Stops the test unless the two are equal. One function for all is proved once, where `assert_eq!` is proved at each place.

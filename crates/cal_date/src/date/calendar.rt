@@ -134,6 +134,7 @@ impl Date {
 }
 
 /// Whether the month has that day, in a leap year or in a common one: one of the days before the next month.
+#[tactic(auto, using(crate::proofs::Months::lengths_of_months))]
 fn has_day(month: Month, leap: bool, day: u8) -> bool
     ensures { (year : ℤ) → leap ≡ is_leap_year year → IsTrue result ↔ IsDayOfMonth year (number month) day }
 {
