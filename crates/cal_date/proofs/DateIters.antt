@@ -13,6 +13,7 @@ use Rattle.cal_date.specs.Occurrence.{days_from}
 use Rattle.cal_date.proofs.Dates.{stands}
 use Rattle.cal_date.proofs.Neighbours.{same_year, as_far}
 use Rattle.cal_date.specs.DateIter.{IsInOneYear, Walk, walk, IsWalk, days_between, days_of, without_first, without_last}
+use Rattle.std.proofs.lemmas.Int.{ints}
 
 days_from-none : (n : ℕ) → days_from n 0 ≡ []
 unfolding days_from
@@ -256,3 +257,7 @@ item_back-one_year w back n item h low is =
     let some : item ≡ Some (back - n) = is ∙ slice_get-days_of_back w back n h.back_is (omega (arith, far)) in
     let first = (stands w.front).ordinal.0 in
     rw some (as_far back (back - n) (ordinal_at back - n) (omega (arith, first)) (omega (arith, (stands back).ordinal.1)) (omega (arith, far)))
+
+pub ruleset items = (days_of-sorted, slice_get-first, slice_get-last)
+
+pub ruleset lengths = (ends, length-days_of, length-one_year, ints, nat_tests)

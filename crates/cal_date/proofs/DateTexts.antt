@@ -2,11 +2,12 @@
 use Rattle.std.proofs.Common.{◌≡◌, ℕ, ◌/◌, ◌%◌, ◌<◌, ◌≤◌, List, [], ◌∷◌, ◌++◌, length, get_or, drop, append_assoc, sym, true, false, ℤ, pos, ◌<ℤ◌, ◌≤ℤ◌, unsigned_abs, refl, ap, ◌∙◌, arith, inl, inr}
 use Rattle.std.specs.Prelude.{codes, decimal, int_lt}
 use Rattle.std.proofs.lemmas.Bool.{cases_lt}
-use Rattle.std.proofs.lemmas.Int.{ints}
+use Rattle.std.proofs.lemmas.Int.{ints, to_z-of_z}
 use Rattle.std.proofs.lemmas.List.{drop-append-le}
 use Rattle.std.proofs.lemmas.Fmt.{decimal_digit, decimal_step}
 use Rattle.cal_units.specs.Digits.{digit, two_digits}
 use Rattle.cal_date.specs.DateText.{digits_at_least, date_digits, sign_text}
+use Rattle.std.proofs.lemmas.Bool.Decides.{nat_tests}
 
 decimal-two : (n : ℕ) → 10 ≤ n → n < 100 → decimal n ≡ digit (n / 10) ∷ digit (n % 10) ∷ []
 decimal-two n low high =
@@ -153,3 +154,5 @@ date_text y m d year a b e =
     rw (digits_at_least-two m a, digits_at_least-two d b)
     (sym together ∙ ap (λ start. start ++ rest) e
     ∙ regroup (sign_text y) (digits_at_least 4 (unsigned_abs y)) (codes "-") (two_digits m) (codes "-") (two_digits d))
+
+pub ruleset years_in_digits = (digits_at_least-four, digits_at_least-five, digits_at_least-six, year-negative, year-short, year-long, to_z-of_z, ints, nat_tests)

@@ -71,3 +71,5 @@ pub ordinal-most : (n : ℕ) → ordinal_at n ≤ 366
 ordinal-most n =
     let at = stands n in
     omega (arith, at.ordinal.1, year-most (year_at n))
+
+pub ruleset places_in_years = (stands, year-most, ints, nat_tests)

@@ -142,3 +142,5 @@ texts-one m n h k e =
     let years = same_year (year_at m) (year_at n) (shape _ (omega (arith, ints))) (shape _ (omega (arith, ints))) (signed (year_at m)) (signed (year_at n)) split.0 in
     let parts = same_rest (month_at m) (day_of_month_at m) (month_at n) (day_of_month_at n) (month-most m) (omega arith) (month-most n) (omega arith) split.1 in
     one_number m n h k (λ i. record { year = years i; month = parts.0 i; day = parts.1 i })
+
+pub ruleset texts = (texts-one)

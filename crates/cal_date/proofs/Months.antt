@@ -5,6 +5,7 @@ use Rattle.std.proofs.lemmas.Bool.Decides.{nat_tests}
 use mir.Val.{bool_byte}
 use Rattle.cal_units.specs.Lengths.{is_leap_year, days_in_month}
 use Rattle.cal_date.specs.CountLaws.{days_of_months}
+use Rattle.std.proofs.lemmas.Int.{ints}
 
 -- by the months before it
 pub each_month : (P : ℕ → Type 0) → P 0 → P 1 → P 2 → P 3 → P 4 → P 5 → P 6 → P 7 → P 8 → P 9 → P 10 → P 11 → (i : ℕ) → i < 12 → P i
@@ -74,3 +75,5 @@ unfolding days_of_months
 days_of_months-next y i = rw add-one refl
 
 pub ruleset lengths_of_months = (days_of_months-next, nat_tests)
+
+pub ruleset days_before_months = (before_month-is, before_month-most, ints, nat_tests)

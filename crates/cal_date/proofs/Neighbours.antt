@@ -160,3 +160,5 @@ as_far n k p low high e =
     let number : days_before (year_at n) + (p - 1) ≡ k = omega (arith, at.number_is, at.ordinal.0) in
     let ordinal : p - 1 + 1 ≡ p = omega arith in
     (ap year_at (sym number) ∙ here.0, ap ordinal_at (sym number) ∙ here.1 ∙ ordinal)
+
+pub ruleset parts_of_years = (within_year, ints, nat_tests)

@@ -4,6 +4,8 @@ use Rattle.std.proofs.lemmas.Bool.Decides.{nat_tests}
 use Rattle.cal_date.specs.Date.{last_day, weekday_at}
 use Rattle.cal_date.specs.Occurrence.{days_from, days_before_back, is_on, next_occurrences, prev_occurrences, kth}
 use Rattle.cal_date.proofs.Weekdays.{weekday_at-is}
+use Rattle.std.proofs.lemmas.Int.{ints}
+use Rattle.cal_units.specs.WeekdayCycle.{place-below}
 
 -- one step of each list
 days_from-suc : (n count : ℕ) → days_from n (suc count) ≡ n ∷ days_from (n + 1) count
@@ -102,3 +104,5 @@ next_weekday w n m k p (Some x) below h past whole e some =
 pub prev_found : (w n m : ℕ) → w < 7
     → kth (suc m) (prev_occurrences w n) ≡ (if nat_le ((n + 6 - w) % 7 + 1 + 7 * m) n then Some (n - ((n + 6 - w) % 7 + 1 + 7 * m)) else None)
 prev_found w n m below = kth-prev_occurrences w n ((n + 6 - w) % 7 + 1) m (omega arith) (omega arith) below (days_to_prev w n below)
+
+pub ruleset days_before = (weekday_at-is, prev_found, place-below, ints, nat_tests)

@@ -8,7 +8,7 @@ use lib.Signed.{shr_z}
 use mir.Val.{bool_byte}
 use Rattle.cal_units.specs.Lengths.{is_leap_year, days_in_year}
 use Rattle.cal_date.specs.Date.{year_at, ordinal_at, IsYear, IsOrdinal, IsDate}
-use Rattle.cal_date.specs.PackedDate.{packed, raised_by, leap_mark, year_of, ordinal_of, IsPacked, IsPackedDate, IsPacked-fields, fields-IsPacked, ordinal_number, number_of, HasOrdinalDate-number_of}
+use Rattle.cal_date.specs.PackedDate.{packed, raised_by, leap_mark, year_of, ordinal_of, IsPacked, IsPackedDate, IsPacked-fields, fields-IsPacked, ordinal_number, number_of, HasOrdinalDate-number_of, packed_at-number_of}
 use Rattle.cal_date.specs.declared.date.Date.TheInside.{Inside}
 use Rattle.cal_date.proofs.Dates.{IsDate-ordinal_number}
 
@@ -175,3 +175,5 @@ packed-bits y leap o k h f mark e =
     ∙ ap (λ n. to_z w32 (bit_or (bit_or ((of_z w32 y % 4194304) * 2 ^ 10) (m * 512)) n)) (of_pos o k e short)
     ∙ ap (to_z w32) (joined (of_z w32 y % 4194304) m k short low)
     ∙ packed-parts y (packed y k) m k h short low is
+
+pub ruleset numbers_of_packed = (packed_at-number_of, ints, nat_tests)

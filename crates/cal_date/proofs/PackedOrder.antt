@@ -94,3 +94,5 @@ nat_eq-packed a b h k =
           λ same. other (ap number (sym (to_z-of_z w32 a.packed (fits a h)) ∙ ap (to_z w32) (sym same) ∙ to_z-of_z w32 b.packed (fits b k))) in
           ne_eqb _ _ differs ∙ sym (ne_eqb _ _ other)
     ]
+
+pub ruleset order_of_packed = (nat_cmp-packed, nat_eq-packed)

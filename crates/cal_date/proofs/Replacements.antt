@@ -12,6 +12,7 @@ use Rattle.cal_date.specs.PackedDate.{ordinal_number}
 use Rattle.cal_date.proofs.Dates.{IsDate-ordinal_number, IsYear-i32, in_range}
 use Rattle.cal_date.proofs.Calendar.{ordinal_in, IsInMonthOf, in_month_of, stands_at, calendar_in_range, IsOrdinal-ordinal_in}
 use Rattle.cal_date.proofs.Months.{each_month}
+use Rattle.std.proofs.lemmas.Int.{ints}
 
 -- what a month has, so many months into a year
 record IsMonthAt (y : ℤ) (i : ℕ) : Type 0 where
@@ -218,3 +219,5 @@ year_kept n y h e =
 -- of two causes of a refusal one is left where the other is known
 pub cause_left : {R A B : Type 0} → A → R ↔ A × (¬ B) → R ↔ ¬ B
 cause_left a both = (λ r. (both.0 r).1, λ b. both.1 (a, b))
+
+pub ruleset parts_kept = (year_kept, IsYear-i32, in_range, cause_left, other_reason, ints, nat_tests)

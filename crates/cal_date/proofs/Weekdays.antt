@@ -15,7 +15,7 @@ use Rattle.cal_date.specs.Date.{first_year, last_day, year_at, ordinal_at, weekd
 use Rattle.cal_date.specs.CountLaws.{days_of_years, days_before, in_year, year_start-days_before, days_of_years-suc}
 use Rattle.cal_date.specs.IsoWeekDate.{count_before, is_weekday_of_year, weekdays_upto}
 use Rattle.cal_date.proofs.Years.{days_before-IsYear}
-use Rattle.cal_date.proofs.Dates.{StandsAt, stands}
+use Rattle.cal_date.proofs.Dates.{StandsAt, stands, ordinal-most, IsYear-i32}
 
 pub weekday_at-is : (n : ℕ) → weekday_at n ≡ n % 7
 unfolding weekday_at
@@ -144,3 +144,7 @@ weeks_in_year-count y h =
     let count = count_in_year y 3 (days_in_year y) h.0 (lit< tt) (omega arith) in
     let weeks = weeks_in_year-days_before y h.0 in
     omega arith ∙ sym all ∙ ap (count_before test) sums
+
+pub ruleset weeks_begun = (ordinal-most, weekday_at-is, weekdays_upto-ordinal, days_from_sunday-place, ints, nat_tests)
+
+pub ruleset weeks_of_years = (IsYear-i32, weeks_in_year-count, ints, nat_tests)

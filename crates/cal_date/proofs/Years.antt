@@ -6,6 +6,7 @@ use Rattle.cal_units.specs.Lengths.{days_in_year}
 use Rattle.cal_date.specs.CalendarDay.{calendar_day}
 use Rattle.cal_date.specs.Date.{first_year, last_year, last_day, day_at, IsYear}
 use Rattle.cal_date.specs.CountLaws.{days_of_years, years_before, days_before, year_start, year_end, days_of_years-closed, days_of_years-suc}
+use Rattle.cal_date.specs.DateLimits.{MAX-number}
 
 -- each number stands in a year
 pub year_of : (k n : ℕ) → n < days_of_years k → (i : ℕ) × (j : ℕ) × (i < k) × (j < days_in_year (first_year +ℤ pos i)) × (n ≡ days_of_years i + j)
@@ -48,3 +49,5 @@ day_at-last_day =
     let end = year_end (days_of_years (years_before last_year)) last_year (year_start (years_before last_year)) in
     let sums : days_of_years (years_before last_year) + 364 ≡ last_day = omega (arith, days_of_years-closed (years_before last_year)) in
     ap day_at (sym sums) ∙ end.day_is
+
+pub ruleset end_of_range = (day_at-last_day, MAX-number)

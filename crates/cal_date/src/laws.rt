@@ -19,6 +19,7 @@ pub(crate) fn first_day() -> Date
 }
 
 /// The last day of the range is 31 December of the last year.
+#[tactic(auto, using(crate::proofs::Years::end_of_range))]
 pub(crate) fn final_day() -> Date
     ensures number { result ≡ last_day }
     ensures day { day_at last_day ≡ calendar_day last_year 12 31 }
@@ -48,6 +49,7 @@ pub(crate) fn is_same_kernel(kernel: JulianKernel, other: JulianKernel) -> bool
 }
 
 /// The weeks of a year, which `cal_units` counts within that year alone, are its Thursdays in the count of all days.
+#[tactic(auto, using(crate::proofs::Weekdays::weeks_of_years))]
 pub(crate) fn weeks_of(year: i32) -> u8
     requires { IsYear year }
     ensures { result ≡ count_before (is_weekday_of_year 3 year) (last_day + 1) }
@@ -56,6 +58,7 @@ pub(crate) fn weeks_of(year: i32) -> u8
 }
 
 /// No two days of the range print alike.
+#[tactic(auto, using(crate::proofs::DistinctTexts::texts))]
 pub(crate) fn texts_differ(one: Date, other: Date)
     ensures { text one ≡ text other → one ≡ other }
 {

@@ -118,6 +118,7 @@ impl Date {
 
     /// The days into its part of the year, and the months before that part: January and February are the one part,
     /// and March to December are the other.
+    #[tactic(auto, using(crate::proofs::Neighbours::parts_of_years))]
     fn place_in_part(self) -> (u32, u32)
         ensures days { result.0 ≡ days_in_part (is_leap_year (year_at self)) (ordinal_at self) }
         ensures months { result.1 ≡ months_before_part (is_leap_year (year_at self)) (ordinal_at self) }
@@ -146,6 +147,7 @@ fn has_day(month: Month, leap: bool, day: u8) -> bool
 /// The days that come before the month, in a leap year or in a common one.
 ///
 /// The month is given by its place. At 12 they are all the days of the year.
+#[tactic(auto, using(crate::proofs::Months::days_before_months))]
 fn days_before_month(place: u8, leap: bool) -> u16
     requires { place ≤ 12 }
     ensures value { (year : ℤ) → leap ≡ is_leap_year year → result ≡ days_of_months year place }

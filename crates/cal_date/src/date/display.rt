@@ -47,6 +47,7 @@ impl Date {
 }
 
 /// What comes before the last four digits of a year, in the last of these bytes, and where it begins.
+#[tactic(auto, using(crate::proofs::DateTexts::years_in_digits))]
 fn year_prefix(year: i32) -> ([u8; 3], usize)
     requires { IsYear year }
     ensures text { drop result.1 result.0 ++ two_digits (unsigned_abs year / 100 % 100) ++ two_digits (unsigned_abs year % 100)

@@ -56,6 +56,7 @@ impl Date {
     }
 
     /// The weekday. That of 2021-01-01 is Friday.
+    #[tactic(auto, using(crate::proofs::IsoForms::weekdays))]
     pub fn weekday(self) -> Weekday
         ensures counted { place result ≡ weekday_at self }
         ensures in_range { IsDate self }
@@ -92,6 +93,7 @@ impl Date {
 
     /// The weeks from Sunday on that have begun in the year up to the day: the Sundays of the year up to it, from 0 to 53.
     /// That of 2019-01-01 is 0, and that of 2020-12-31 is 52.
+    #[tactic(auto, using(crate::proofs::Weekdays::weeks_begun))]
     pub fn sunday_based_week(self) -> u8
         ensures counted { result ≡ weekdays_upto 6 self }
         ensures most { result ≤ 53 }
@@ -102,6 +104,7 @@ impl Date {
 
     /// The weeks from Monday on that have begun in the year up to the day: the Mondays of the year up to it, from 0 to 53.
     /// That of 2019-01-01 is 0, and that of 2020-12-31 is 52.
+    #[tactic(auto, using(crate::proofs::Weekdays::weeks_begun))]
     pub fn monday_based_week(self) -> u8
         ensures counted { result ≡ weekdays_upto 0 self }
         ensures most { result ≤ 53 }

@@ -52,6 +52,7 @@ impl Date {
     }
 
     /// The day that comes so many days after this one.
+    #[tactic(auto, using(crate::proofs::Dates::places_in_years))]
     pub(crate) fn days_later(self, days: u32) -> Self
         requires { IsDate (self + days) }
         ensures { result ≡ self + days }
@@ -63,6 +64,7 @@ impl Date {
     }
 
     /// The day that comes so many days before this one.
+    #[tactic(auto, using(crate::proofs::Dates::places_in_years))]
     pub(crate) fn days_earlier(self, days: u32) -> Self
         requires { days ≤ self }
         ensures { result ≡ self - days }

@@ -63,6 +63,7 @@ impl Date {
     /// before [`Self::MIN`], or `n` is 0.
     ///
     /// The third Monday before 2023-06-27 is 2023-06-12.
+    #[tactic(auto, using(crate::proofs::Occurrences::days_before))]
     pub fn checked_nth_prev_occurrence(self, weekday: Weekday, n: u8) -> Option<Self>
         ensures day { result ≡ kth n (prev_occurrences (place weekday) self) }
 

@@ -15,6 +15,7 @@ impl PartialEq for Date {
 
     ghost laws = { Prim.search (comparing, rules) };
 
+    #[tactic(auto, using(crate::proofs::PackedOrder::order_of_packed))]
     fn eq(&self, other: &Date) -> bool {
         other.packed == self.packed
     }
@@ -33,6 +34,7 @@ impl Ord for Date {
 
     ghost matches_eq = { Prim.search (comparing, rules) };
 
+    #[tactic(auto, using(crate::proofs::PackedOrder::order_of_packed))]
     fn cmp(&self, other: &Date) -> Ordering {
         self.packed.cmp(&other.packed)
     }
@@ -56,6 +58,7 @@ impl Hash for Date {
 
     ghost respects_eq = { Prim.search (hashing, rules) };
 
+    #[tactic(auto, using(crate::proofs::Packed::numbers_of_packed), unfolding(crate::specs::PackedDate::hash_word))]
     fn hash<H: Hasher>(&self, state: &mut H) {
         self.packed.hash(state);
     }

@@ -62,6 +62,7 @@ impl Date {
     /// 2022-02-18 and 1 lead to 2022-02-01.
     ///
     /// It is refused as `day`, conditionally, where the month has no such day, as 0 and 30 in February.
+    #[tactic(auto, using(crate::proofs::Replacements::parts_kept))]
     pub fn replace_day(self, day: u8) -> Result<Self, ComponentRange>
         ensures every { (n : ℕ) → IsDate n → HasCalendarDate (year_at self) (month_at self) day n → result ≡ Ok n }
         ensures has { IfOk result (λ n. IsDate n × HasCalendarDate (year_at self) (month_at self) day n) }
@@ -79,6 +80,7 @@ impl Date {
     /// 2022-01-01.
     ///
     /// It is refused as `ordinal`, conditionally, where the year has no such ordinal, as 366 in 2022.
+    #[tactic(auto, using(crate::proofs::Replacements::parts_kept))]
     pub fn replace_ordinal(self, ordinal: u16) -> Result<Self, ComponentRange>
         ensures every { (n : ℕ) → IsDate n → HasOrdinalDate (year_at self) ordinal n → result ≡ Ok n }
         ensures has { IfOk result (λ n. IsDate n × HasOrdinalDate (year_at self) ordinal n) }

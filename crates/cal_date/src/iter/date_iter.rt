@@ -110,6 +110,7 @@ impl DateIter {
     }
 
     /// How many days are left, from 0 to 730484634.
+    #[tactic(auto, using(crate::proofs::DateIters::lengths))]
     pub fn len(&self) -> usize
         ensures count { result ≡ length (days_of self.now) }
         ensures bound { result ≤ last_day + 1 }
@@ -130,6 +131,7 @@ impl DateIter {
     }
 
     /// The last day, or `None` where no days are left. From 2019-12-30 to 2020-01-02 it is 2020-01-02.
+    #[tactic(auto, using(crate::proofs::DateIters::items))]
     pub fn last(self) -> Option<Date>
         ensures { result ≡ slice_get (reverse (days_of self)) 0 }
     {
@@ -137,6 +139,7 @@ impl DateIter {
     }
 
     /// The greatest day, which is the last, or `None` where no days are left. From 2019-12-30 to 2020-01-02 it is 2020-01-02.
+    #[tactic(auto, using(crate::proofs::DateIters::items))]
     pub fn max(self) -> Option<Date>
         ensures { result ≡ slice_get (reverse (days_of self)) 0 }
     {
@@ -144,6 +147,7 @@ impl DateIter {
     }
 
     /// The least day, which is the first, or `None` where no days are left. From 2019-12-30 to 2020-01-02 it is 2019-12-30.
+    #[tactic(auto, using(crate::proofs::DateIters::items))]
     pub fn min(self) -> Option<Date>
         ensures { result ≡ slice_get (days_of self) 0 }
     {
@@ -154,6 +158,7 @@ impl DateIter {
     }
 
     /// Whether no day comes before the one that it follows: always true, as the days go on one by one.
+    #[tactic(auto, using(crate::proofs::DateIters::items))]
     pub fn is_sorted(self) -> bool
         ensures value { result ≡ true }
         ensures sorted { IsSorted nat_cmp (days_of self) }
