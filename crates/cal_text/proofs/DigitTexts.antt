@@ -10,9 +10,10 @@ use Rattle.std.specs.Str.Parse.{AllDigits, digits_value}
 use Rattle.std.proofs.lemmas.Bool.{cases_eq, cases_lt}
 use Rattle.std.proofs.lemmas.Fmt.{decimal-digits_value, decimal_is_IsNumeral, length-decimal-le, first_decimal, decimal_digit}
 use Rattle.std.proofs.lemmas.Int.Digits.{digits_value-lt, digits_more, digits_value_more}
-use Rattle.std.proofs.lemmas.List.{length-append, length-replicate, length-take}
+use Rattle.std.proofs.lemmas.List.{length-append, length-replicate, length-take, take_all}
 use Rattle.std.proofs.lemmas.Str.Parse.{IsNumeralModel, numerals_by_value, tells_digits, digits_value_short, digit_at}
 use Rattle.cal_time.specs.DateText.{digits_at_least}
+use Rattle.std.proofs.lemmas.Int.{ints}
 
 -- zeros at the front
 zeros-digits : (k : ℕ) (ds : List ℕ) → AllDigits 10 ds → AllDigits 10 (replicate k 48 ++ ds)
@@ -154,3 +155,5 @@ pub digits_at_least-first : (n : ℕ) → n < 10 ^ 9 → 48 ≤ get_or (digits_a
 digits_at_least-first n small =
     let long = (digits_at_least-magnitude n small).least in
     (digit_at (digits_at_least 4 n) 0 (digits_at_least-digits 4 n small) (omega arith)).0
+
+pub ruleset numbers = (digits-turn, value-turn, value-small, not_digits, digits_at_least-digits, digits_at_least-value, digits-printed, digits_value-lt, take_all, not_in_range, ints, nat_tests)

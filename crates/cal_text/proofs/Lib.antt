@@ -19,5 +19,6 @@ mod UnixReads
 mod Results
 mod Shapes
 mod Components
+mod OneAnswer
 mod AnyForms
 mod UnixPrinted

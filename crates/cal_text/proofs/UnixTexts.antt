@@ -10,6 +10,8 @@ use Rattle.std.proofs.lemmas.Bool.{cases_lt}
 use Rattle.std.proofs.lemmas.Fmt.{length-decimal-le, decimal_nonempty, first_decimal, decimal_is_IsNumeral, decimal-digits_value}
 use Rattle.cal_text.specs.Rfc3339Form.{IsDigit, IsDigitOrPoint, IsFraction}
 use Rattle.cal_text.proofs.MomentTexts.{AllDigits-take, same_count}
+use Rattle.std.proofs.lemmas.Bool.Decides.{nat_tests}
+use Rattle.std.proofs.lemmas.Int.{ints}
 
 own : IsNumeralModel (AllDigits 10) (digits_value 10)
 own = numerals_by_value _ tells_digits
@@ -80,3 +82,5 @@ pub first_taken : (text : List ℕ) (k : ℕ) → 0 < length (take k text) → g
 first_taken [] k some = ap (λ all. get_or all 0 0) (take_all k [] (omega arith))
 first_taken (c ∷ cs) zero some = absurd (omega (arith, some))
 first_taken (c ∷ cs) (suc k) some = refl
+
+pub ruleset whole_numbers = (one_digit_more, few_digits, digit_at, ints, nat_tests)

@@ -3,6 +3,7 @@ ghost use Rattle.std.specs.Prelude.{◌≡◌, ℕ, ◌<◌, ◌≤◌, ◌^◌,
 ghost use Rattle.cal_time.specs.DateText.{digits_at_least};
 
 /// The number that one to nine digits spell, or `None` where a byte is no digit.
+#[tactic(auto, using(crate::proofs::DigitTexts::numbers))]
 pub(crate) fn number_of(digits: &[u8]) -> Option<u32>
     requires some { 1 ≤ length digits.now }
     requires few { length digits.now ≤ 9 }

@@ -24,6 +24,7 @@ pub(crate) fn fraction_of(text: &[u8]) -> (u32, usize)
 }
 
 /// How many digits the text begins with.
+#[tactic(auto, using(crate::proofs::DigitTexts::numbers))]
 pub(crate) fn leading_digits(text: &[u8]) -> usize
     ensures digits { AllDigits 10 (take result text.now) }
     ensures end { result ≤ length text.now }

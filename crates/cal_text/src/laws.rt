@@ -22,6 +22,7 @@ pub(crate) fn one_day(text: &[u8]) -> Result<Date, Unreadable>
 }
 
 /// No text is in two forms, nor in one form with two sets of numbers.
+#[tactic(auto, using(crate::proofs::DayForms::same_form))]
 pub(crate) fn one_form(text: &[u8]) -> Option<Form>
     ensures { (f g : Form) → HasForm text.now f → HasForm text.now g → f ≡ g }
 {

@@ -5,6 +5,9 @@ ghost use Rattle.cal_text.specs.DateForms.{year_text, IsWrittenYear};
 
 use crate::digits::number_of;
 
+/// The last year that has no sign.
+const LAST_PLAIN_YEAR: u32 = 9999;
+
 /// The year that the text begins with, and the place of what comes after it and a hyphen.
 pub(crate) fn year_before_hyphen(text: &[u8]) -> Option<(i32, usize)>
     ensures every { (y : ℤ) (rest : List ℕ) → IsWrittenYear y → text.now ≡ year_text y ++ 45 ∷ rest
@@ -49,14 +52,14 @@ fn year_of(text: &[u8]) -> Option<i32>
     }
     if text[0] == b'+' {
         let magnitude = magnitude_of(&text[1..])?;
-        return if magnitude <= 9999 {
+        return if magnitude <= LAST_PLAIN_YEAR {
             None
         } else {
             Some(magnitude as i32)
         };
     }
     let magnitude = magnitude_of(text)?;
-    if magnitude > 9999 {
+    if magnitude > LAST_PLAIN_YEAR {
         return None;
     }
     Some(magnitude as i32)

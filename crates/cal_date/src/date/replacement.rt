@@ -11,6 +11,9 @@ use crate::error::{Component, ComponentRange};
 use cal_units::Month;
 use cal_units::util::is_leap_year;
 
+/// The ordinal of 29 February in a leap year.
+const LEAP_DAY: u16 = 60;
+
 impl Date {
     /// The day of that year that has the same month and day of the month.
     ///
@@ -106,11 +109,11 @@ impl Date {
         let was_leap = self.is_in_leap_year();
 
         // Up to 28 February all years have the same ordinals. From March on a leap year is one ahead.
-        if is_leap == was_leap || ordinal < 60 {
+        if is_leap == was_leap || ordinal < LEAP_DAY {
             Some(ordinal)
         } else if is_leap {
             Some(ordinal + 1)
-        } else if ordinal > 60 {
+        } else if ordinal > LEAP_DAY {
             Some(ordinal - 1)
         } else {
             None

@@ -8,6 +8,12 @@ use crate::digits::number_of;
 use crate::form::Form;
 use crate::year::year_before_hyphen;
 
+/// The bytes of `02-29` and of `W09-4`.
+const LENGTH_AFTER_YEAR: usize = 5;
+
+/// Sunday, as ISO 8601 counts weekdays.
+const LAST_WEEKDAY: u8 = 7;
+
 /// The form that the text has.
 pub(crate) fn form_of(text: &[u8]) -> Option<Form>
     ensures every { (form : Form) → HasForm text.now form → result ≡ Some form }
@@ -27,12 +33,12 @@ fn form_after_year(year: i32, rest: &[u8]) -> Option<Form>
         let ordinal = number_of(rest)?;
         return Some(Form::Ordinal(year, ordinal as u16));
     }
-    if rest.len() != 5 {
+    if rest.len() != LENGTH_AFTER_YEAR {
         return None;
     }
     if rest[0] == b'W' {
         let (week, weekday) = numbers_around(&rest[1..], 2, 1, b'-')?;
-        return if weekday == 0 || weekday > 7 {
+        return if weekday == 0 || weekday > LAST_WEEKDAY {
             None
         } else {
             Some(Form::Week(year, week, weekday))

@@ -11,18 +11,21 @@ use crate::form::numbers_around;
 use crate::fraction::fraction_of;
 use crate::rfc3339::moment::{Moment, Zone};
 
+/// The bytes of `2024-02-29T23:59:59`.
+const LENGTH_TO_SECONDS: usize = 19;
+
 /// The numbers of the moment whose form the text has.
 pub(super) fn moment_of(text: &[u8]) -> Option<Moment>
     ensures every { (m : Moment) → HasMomentForm text.now m → result ≡ Some m }
     ensures has { IfSome result (HasMomentForm text.now) }
 {
-    if text.len() < 19 || !is_separator(text[10]) {
+    if text.len() < LENGTH_TO_SECONDS || !is_separator(text[10]) {
         return None;
     }
     let (year, month, day) = three_numbers(&text[..10], 4, b'-')?;
-    let (hour, minute, second) = three_numbers(&text[11..19], 2, b':')?;
-    let (nanosecond, end) = fraction_of(&text[19..]);
-    let zone = zone_of(&text[19 + end..])?;
+    let (hour, minute, second) = three_numbers(&text[11..LENGTH_TO_SECONDS], 2, b':')?;
+    let (nanosecond, end) = fraction_of(&text[LENGTH_TO_SECONDS..]);
+    let zone = zone_of(&text[LENGTH_TO_SECONDS + end..])?;
     Some(Moment {
         year,
         month,

@@ -8,6 +8,9 @@ use crate::date::place::{begins_with, leading};
 use crate::fraction::{fraction_of, leading_digits};
 use cal_time::SignedDuration;
 
+/// A point and nine digits.
+const LONGEST_FRACTION: usize = 10;
+
 /// The Unix time that the text says.
 pub(super) fn unix_of(text: &[u8]) -> Option<SignedDuration>
     ensures every { (v : ℤ) → HasUnixForm text.now v → result ≡ Some v }
@@ -43,7 +46,7 @@ fn magnitude_of(text: &[u8]) -> Option<(u64, u32)>
         return None;
     }
     let (nanosecond, length) = fraction_of(&text[end..]);
-    if length > 10 {
+    if length > LONGEST_FRACTION {
         return None;
     }
     if end + length != text.len() {
@@ -61,6 +64,7 @@ fn has_zero_before(text: &[u8], count: usize) -> bool
 }
 
 /// The number of at most 18 digits.
+#[tactic(auto, using(crate::proofs::UnixTexts::whole_numbers))]
 fn whole_number(digits: &[u8]) -> u64
     requires few { length digits.now ≤ 18 }
     requires digits { AllDigits 10 digits.now }

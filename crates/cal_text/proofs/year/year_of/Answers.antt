@@ -36,33 +36,33 @@ returns-in_err-magnitude-2-clause-every c y small e =
     let size = ap unsigned_abs m.year_is in
     absurd (none-some _ (c.in_err-magnitude-2.ensures.every m.n (omega arith) (rest c.args.text.now ∙ m.digits_are)))
 
-pub returns-then-magnitude-le9999-clause-every : goal.returns-then-magnitude-le9999-clause-every
-returns-then-magnitude-le9999-clause-every c y small e =
+pub returns-then-magnitude-le-LAST_PLAIN_YEAR-clause-every : goal.returns-then-magnitude-le-LAST_PLAIN_YEAR-clause-every
+returns-then-magnitude-le-LAST_PLAIN_YEAR-clause-every c y small e =
     let m = plus-first c.args.text.now y small e c.if-text-eq43.true in
     let size = ap unsigned_abs m.year_is in
     let same = c.in_ok-magnitude-2.ensures.every m.n (omega arith) (rest c.args.text.now ∙ m.digits_are) in
     let same_number : c.in_ok-magnitude-2.magnitude ≡ m.n = cc in
-    absurd (omega (arith, same_number, m.many, c.if-magnitude-le9999.true))
+    absurd (omega (arith, same_number, m.many, c.if-magnitude-le-LAST_PLAIN_YEAR.true))
 
-pub returns-else-magnitude-le9999-clause-every : goal.returns-else-magnitude-le9999-clause-every
-returns-else-magnitude-le9999-clause-every c y small e =
+pub returns-else-magnitude-le-LAST_PLAIN_YEAR-clause-every : goal.returns-else-magnitude-le-LAST_PLAIN_YEAR-clause-every
+returns-else-magnitude-le-LAST_PLAIN_YEAR-clause-every c y small e =
     let m = plus-first c.args.text.now y small e c.if-text-eq43.true in
     let size = ap unsigned_abs m.year_is in
     let same = c.in_ok-magnitude-2.ensures.every m.n (omega arith) (rest c.args.text.now ∙ m.digits_are) in
     let same_number : c.in_ok-magnitude-2.magnitude ≡ m.n = cc in
     ap Some (plain-cast c.in_ok-magnitude-2.magnitude (omega arith) ∙ ap pos same_number ∙ sym m.year_is)
 
-pub returns-else-magnitude-le9999-clause-has : goal.returns-else-magnitude-le9999-clause-has
-returns-else-magnitude-le9999-clause-has c =
+pub returns-else-magnitude-le-LAST_PLAIN_YEAR-clause-has : goal.returns-else-magnitude-le-LAST_PLAIN_YEAR-clause-has
+returns-else-magnitude-le-LAST_PLAIN_YEAR-clause-has c =
     let n = c.in_ok-magnitude-2.magnitude in
     let h = c.in_ok-magnitude-2.ensures.has in
     let cast = plain-cast n h.0 in
-    rw cast (h.0, plus-year c.args.text.now n c.if-magnitude-le9999.false c.if-text-eq43.true (sym (rest c.args.text.now) ∙ h.1))
+    rw cast (h.0, plus-year c.args.text.now n c.if-magnitude-le-LAST_PLAIN_YEAR.false c.if-text-eq43.true (sym (rest c.args.text.now) ∙ h.1))
 
-pub returns-then-magnitude-gt9999-clause-every : goal.returns-then-magnitude-gt9999-clause-every
-returns-then-magnitude-gt9999-clause-every c y small e =
+pub returns-then-magnitude-gt-LAST_PLAIN_YEAR-clause-every : goal.returns-then-magnitude-gt-LAST_PLAIN_YEAR-clause-every
+returns-then-magnitude-gt-LAST_PLAIN_YEAR-clause-every c y small e =
     let m = plain-first c.args.text.now y small e c.if-text-eq45.false c.if-text-eq43.false in
     let size = ap unsigned_abs m.year_is in
     let same = c.in_ok-magnitude-3.ensures.every m.n (omega arith) m.digits_are in
     let same_number : c.in_ok-magnitude-3.magnitude ≡ m.n = cc in
-    absurd (omega (arith, same_number, m.few, c.if-magnitude-gt9999.true))
+    absurd (omega (arith, same_number, m.few, c.if-magnitude-gt-LAST_PLAIN_YEAR.true))

@@ -9,14 +9,14 @@ use Rattle.cal_date.proofs.date.Date.ordinal_in.Goals as goal
 pub overflow_add-result : goal.overflow_add-result
 overflow_add-result c = omega (arith, c.ordinal-ordinal.ensures.counted, ordinal-most c.args.self, year-most (year_at c.args.self))
 
-pub returns-then-ordinal-lt60 : goal.returns-then-ordinal-lt60
-returns-then-ordinal-lt60 c =
+pub returns-then-ordinal-lt-LEAP_DAY : goal.returns-then-ordinal-lt-LEAP_DAY
+returns-then-ordinal-lt-LEAP_DAY c =
     let n = c.args.self in
     let z = c.args.year in
     let leap : c.is_leap_year-is_leap.result ≡ is_leap_year z = c.is_leap_year-is_leap.ensures ∙ ap is_leap_year (to_z-of_z w32 z c.ranges.year) in
     let mark = c.is_in_leap_year-was_leap.ensures.leap in
     let either : (is_leap_year (year_at n) ≡ is_leap_year z) ⊎ (ordinal_at n < 60) =
-    elim c.if-ordinal-lt60.either [
+    elim c.if-ordinal-lt-LEAP_DAY.either [
       | inl alike ↦ inl (sym mark ∙ sym (beq-alike _ _ alike) ∙ leap)
       | inr early ↦ inr (omega (arith, early.1, c.ordinal-ordinal.ensures.counted))
     ] in
@@ -29,29 +29,29 @@ returns-then-is_leap c =
     let z = c.args.year in
     let leap : c.is_leap_year-is_leap.result ≡ is_leap_year z = c.is_leap_year-is_leap.ensures ∙ ap is_leap_year (to_z-of_z w32 z c.ranges.year) in
     let mark = c.is_in_leap_year-was_leap.ensures.leap in
-    let unlike = beq-unlike _ _ c.if-ordinal-lt60.false.0 in
+    let unlike = beq-unlike _ _ c.if-ordinal-lt-LEAP_DAY.false.0 in
     let was : is_leap_year (year_at n) ≡ not c.is_leap_year-is_leap.result = sym mark ∙ unlike in
-    let is = replaced-later z n (omega (arith, c.if-ordinal-lt60.false.1, c.ordinal-ordinal.ensures.counted)) (was ∙ ap not c.if-is_leap.true) (sym leap ∙ c.if-is_leap.true) in
+    let is = replaced-later z n (omega (arith, c.if-ordinal-lt-LEAP_DAY.false.1, c.ordinal-ordinal.ensures.counted)) (was ∙ ap not c.if-is_leap.true) (sym leap ∙ c.if-is_leap.true) in
     (is.day, ap (λ o. o + 1) c.ordinal-ordinal.ensures.counted ∙ is.ordinal_is)
 
-pub returns-then-ordinal-gt60 : goal.returns-then-ordinal-gt60
-returns-then-ordinal-gt60 c =
+pub returns-then-ordinal-gt-LEAP_DAY : goal.returns-then-ordinal-gt-LEAP_DAY
+returns-then-ordinal-gt-LEAP_DAY c =
     let n = c.args.self in
     let z = c.args.year in
     let leap : c.is_leap_year-is_leap.result ≡ is_leap_year z = c.is_leap_year-is_leap.ensures ∙ ap is_leap_year (to_z-of_z w32 z c.ranges.year) in
     let mark = c.is_in_leap_year-was_leap.ensures.leap in
-    let unlike = beq-unlike _ _ c.if-ordinal-lt60.false.0 in
+    let unlike = beq-unlike _ _ c.if-ordinal-lt-LEAP_DAY.false.0 in
     let was : is_leap_year (year_at n) ≡ not c.is_leap_year-is_leap.result = sym mark ∙ unlike in
     let is = replaced-earlier z n (omega (arith, c.ordinal-ordinal.ensures.counted)) (was ∙ ap not c.if-is_leap.false) (sym leap ∙ c.if-is_leap.false) in
     (is.day, ap (λ o. o - 1) c.ordinal-ordinal.ensures.counted ∙ is.ordinal_is)
 
-pub returns-else-ordinal-gt60 : goal.returns-else-ordinal-gt60
-returns-else-ordinal-gt60 c =
+pub returns-else-ordinal-gt-LEAP_DAY : goal.returns-else-ordinal-gt-LEAP_DAY
+returns-else-ordinal-gt-LEAP_DAY c =
     let n = c.args.self in
     let z = c.args.year in
     let leap : c.is_leap_year-is_leap.result ≡ is_leap_year z = c.is_leap_year-is_leap.ensures ∙ ap is_leap_year (to_z-of_z w32 z c.ranges.year) in
     let mark = c.is_in_leap_year-was_leap.ensures.leap in
-    let unlike = beq-unlike _ _ c.if-ordinal-lt60.false.0 in
+    let unlike = beq-unlike _ _ c.if-ordinal-lt-LEAP_DAY.false.0 in
     let was : is_leap_year (year_at n) ≡ not c.is_leap_year-is_leap.result = sym mark ∙ unlike in
-    let sixty : ordinal_at n ≡ 60 = omega (arith, c.if-ordinal-lt60.false.1, c.ordinal-ordinal.ensures.counted) in
+    let sixty : ordinal_at n ≡ 60 = omega (arith, c.if-ordinal-lt-LEAP_DAY.false.1, c.ordinal-ordinal.ensures.counted) in
     not_replaced z n sixty (was ∙ ap not c.if-is_leap.false) (sym leap ∙ c.if-is_leap.false)

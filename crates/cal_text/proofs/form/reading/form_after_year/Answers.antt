@@ -6,10 +6,10 @@ use Rattle.cal_text.specs.declared.form.Form.TheVariants.{Calendar, Ordinal, Wee
 use Rattle.cal_text.proofs.FormTexts.{month_and_day-pair, week_and_weekday-pair, month_and_day-length, ordinal-length, week_and_weekday-length, month_and_day-first, same-calendar, same-week, second-of}
 use Rattle.cal_text.proofs.form.reading.form_after_year.Goals as goal
 
-pub returns-then-rest-ne5-clause-every : goal.returns-then-rest-ne5-clause-every
-returns-then-rest-ne5-clause-every c (Calendar y m d) h same e = absurd (c.if-rest-ne5.true (ap length e ∙ month_and_day-length m d h.1 h.2))
-returns-then-rest-ne5-clause-every c (Ordinal y o) h same e = absurd (c.if-rest-eq3.false (ap length e ∙ ordinal-length o h.1))
-returns-then-rest-ne5-clause-every c (Week y w d) h same e = absurd (c.if-rest-ne5.true (ap length e ∙ week_and_weekday-length w d h.1 (omega (arith, h.3))))
+pub returns-then-rest-ne-LENGTH_AFTER_YEAR-clause-every : goal.returns-then-rest-ne-LENGTH_AFTER_YEAR-clause-every
+returns-then-rest-ne-LENGTH_AFTER_YEAR-clause-every c (Calendar y m d) h same e = absurd (c.if-rest-ne-LENGTH_AFTER_YEAR.true (ap length e ∙ month_and_day-length m d h.1 h.2))
+returns-then-rest-ne-LENGTH_AFTER_YEAR-clause-every c (Ordinal y o) h same e = absurd (c.if-rest-eq3.false (ap length e ∙ ordinal-length o h.1))
+returns-then-rest-ne-LENGTH_AFTER_YEAR-clause-every c (Week y w d) h same e = absurd (c.if-rest-ne-LENGTH_AFTER_YEAR.true (ap length e ∙ week_and_weekday-length w d h.1 (omega (arith, h.3))))
 
 pub returns-in_err-week-clause-every : goal.returns-in_err-week-clause-every
 returns-in_err-week-clause-every c (Calendar y m d) h same e = absurd (month_and_day-first m d h.1 (sym (ap (λ all. get_or all 0 0) e) ∙ c.if-rest-eq87.true))
@@ -18,19 +18,19 @@ returns-in_err-week-clause-every c (Week y w d) h same e =
     let rest = between_to_end c.args.rest.now 1 (length c.args.rest.now) (omega arith) ∙ ap (drop 1) (e ∙ week_and_weekday-pair w d) in
     absurd (none-some _ (c.in_err-week.ensures.every w d h.1 (omega (arith, h.3)) rest))
 
-pub returns-then-weekday-gt7-clause-every : goal.returns-then-weekday-gt7-clause-every
-returns-then-weekday-gt7-clause-every c (Calendar y m d) h same e = absurd (month_and_day-first m d h.1 (sym (ap (λ all. get_or all 0 0) e) ∙ c.if-rest-eq87.true))
-returns-then-weekday-gt7-clause-every c (Ordinal y o) h same e = absurd (c.if-rest-eq3.false (ap length e ∙ ordinal-length o h.1))
-returns-then-weekday-gt7-clause-every c (Week y w d) h same e =
+pub returns-then-weekday-gt-LAST_WEEKDAY-clause-every : goal.returns-then-weekday-gt-LAST_WEEKDAY-clause-every
+returns-then-weekday-gt-LAST_WEEKDAY-clause-every c (Calendar y m d) h same e = absurd (month_and_day-first m d h.1 (sym (ap (λ all. get_or all 0 0) e) ∙ c.if-rest-eq87.true))
+returns-then-weekday-gt-LAST_WEEKDAY-clause-every c (Ordinal y o) h same e = absurd (c.if-rest-eq3.false (ap length e ∙ ordinal-length o h.1))
+returns-then-weekday-gt-LAST_WEEKDAY-clause-every c (Week y w d) h same e =
     let rest = between_to_end c.args.rest.now 1 (length c.args.rest.now) (omega arith) ∙ ap (drop 1) (e ∙ week_and_weekday-pair w d) in
     let found = c.in_ok-week.ensures.every w d h.1 (omega (arith, h.3)) rest in
     let weekday = second-of (c.in_ok-week.week, c.in_ok-week.weekday) (w, d) found in
-    elim c.if-weekday-gt7.either [ inl zero ↦ absurd (omega (arith, weekday, zero, h.2)) | inr more ↦ absurd (omega (arith, weekday, more.1, h.3)) ]
+    elim c.if-weekday-gt-LAST_WEEKDAY.either [ inl zero ↦ absurd (omega (arith, weekday, zero, h.2)) | inr more ↦ absurd (omega (arith, weekday, more.1, h.3)) ]
 
-pub returns-else-weekday-gt7-clause-every : goal.returns-else-weekday-gt7-clause-every
-returns-else-weekday-gt7-clause-every c (Calendar y m d) h same e = absurd (month_and_day-first m d h.1 (sym (ap (λ all. get_or all 0 0) e) ∙ c.if-rest-eq87.true))
-returns-else-weekday-gt7-clause-every c (Ordinal y o) h same e = absurd (c.if-rest-eq3.false (ap length e ∙ ordinal-length o h.1))
-returns-else-weekday-gt7-clause-every c (Week y w d) h same e =
+pub returns-else-weekday-gt-LAST_WEEKDAY-clause-every : goal.returns-else-weekday-gt-LAST_WEEKDAY-clause-every
+returns-else-weekday-gt-LAST_WEEKDAY-clause-every c (Calendar y m d) h same e = absurd (month_and_day-first m d h.1 (sym (ap (λ all. get_or all 0 0) e) ∙ c.if-rest-eq87.true))
+returns-else-weekday-gt-LAST_WEEKDAY-clause-every c (Ordinal y o) h same e = absurd (c.if-rest-eq3.false (ap length e ∙ ordinal-length o h.1))
+returns-else-weekday-gt-LAST_WEEKDAY-clause-every c (Week y w d) h same e =
     let rest = between_to_end c.args.rest.now 1 (length c.args.rest.now) (omega arith) ∙ ap (drop 1) (e ∙ week_and_weekday-pair w d) in
     let found = c.in_ok-week.ensures.every w d h.1 (omega (arith, h.3)) rest in
     let year : to_z w32 (of_z w32 c.args.year) ≡ y = to_z-of_z w32 c.args.year c.ranges.year ∙ sym same in

@@ -7,14 +7,14 @@ use Rattle.cal_text.specs.declared.rfc3339.moment.Moment.{Moment}
 use Rattle.cal_text.specs.Rfc3339Form.{IsSeparator, IsFraction, IsZone, HasMomentForm}
 use Rattle.cal_text.proofs.MomentForms.{cut, whole, zone-first, same_moment}
 use Rattle.cal_text.proofs.rfc3339.form.moment_of.Goals as goal
-use Rattle.cal_text.proofs.rfc3339.form.moment_of.Goals.{then-text-lt19-via-then-text-lt19, then-text-lt19-via-else-text-lt19+then-not-is_separator}
+use Rattle.cal_text.proofs.rfc3339.form.moment_of.Goals.{then-text-lt-LENGTH_TO_SECONDS-via-then-text-lt-LENGTH_TO_SECONDS, then-text-lt-LENGTH_TO_SECONDS-via-else-text-lt-LENGTH_TO_SECONDS+then-not-is_separator}
 
-pub returns-then-text-lt19-clause-every : goal.returns-then-text-lt19-clause-every
-returns-then-text-lt19-clause-every c m h =
+pub returns-then-text-lt-LENGTH_TO_SECONDS-clause-every : goal.returns-then-text-lt-LENGTH_TO_SECONDS-clause-every
+returns-then-text-lt-LENGTH_TO_SECONDS-clause-every c m h =
     let at = cut c.args.text.now m h in
-    elim c.then-text-lt19.branch [
-      | then-text-lt19-via-then-text-lt19 w ↦ absurd (omega (arith, at.long))
-      | then-text-lt19-via-else-text-lt19+then-not-is_separator w ↦
+    elim c.then-text-lt-LENGTH_TO_SECONDS.branch [
+      | then-text-lt-LENGTH_TO_SECONDS-via-then-text-lt-LENGTH_TO_SECONDS w ↦ absurd (omega (arith, at.long))
+      | then-text-lt-LENGTH_TO_SECONDS-via-else-text-lt-LENGTH_TO_SECONDS+then-not-is_separator w ↦
           absurd (false≢true (sym w.if-not-is_separator.true ∙ w.is_separator.ensures.1 (subst IsSeparator (sym at.between) h.is_separator)))
     ]
 

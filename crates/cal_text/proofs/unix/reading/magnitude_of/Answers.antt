@@ -20,15 +20,15 @@ returns-then-has_zero_before-clause-every c s n fraction small is short e =
     let zero = c.has_zero_before.ensures.0 c.if-has_zero_before.true in
     absurd (r.first zero.0 zero.1)
 
-pub returns-then-length-gt10-clause-every : goal.returns-then-length-gt10-clause-every
-returns-then-length-gt10-clause-every c s n fraction small is short e =
+pub returns-then-length-gt-LONGEST_FRACTION-clause-every : goal.returns-then-length-gt-LONGEST_FRACTION-clause-every
+returns-then-length-gt-LONGEST_FRACTION-clause-every c s n fraction small is short e =
     let at = c.leading_digits-end.ensures in
     let text = c.args.text.now in
     let end = c.leading_digits-end.result in
     let r = read text s n end fraction small is e at.digits at.end at.last in
     let after = between_to_end text end (length text) (omega arith) ∙ r.rest ∙ sym (append-nil fraction) in
     let found = c.fraction_of-nanosecond.ensures.every fraction [] n after is nothing_after in
-    absurd (omega (arith, c.if-length-gt10.true, ap (λ (p : ℕ × ℕ). p.1) found, short))
+    absurd (omega (arith, c.if-length-gt-LONGEST_FRACTION.true, ap (λ (p : ℕ × ℕ). p.1) found, short))
 
 pub returns-then-end-length-clause-every : goal.returns-then-end-length-clause-every
 returns-then-end-length-clause-every c s n fraction small is short e =
