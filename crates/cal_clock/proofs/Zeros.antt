@@ -48,3 +48,5 @@ no-last-zero ds (suc j) some within last =
 pub no-digits : (ds : List ℕ) (n : ℕ) → n ≡ 0 → take n ds ≡ without_last_zeros (take n ds)
 unfolding without_last_zeros
 no-digits ds n none = subst (λ k. take k ds ≡ without_last_zeros (take k ds)) (sym none) refl
+
+pub ruleset last_zeros = (one-zero-less, no-last-zero, no-digits, nat_tests)

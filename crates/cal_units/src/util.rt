@@ -10,6 +10,12 @@ mod date_adjustment;
 
 pub use date_adjustment::DateAdjustment;
 
+/// The place of Thursday, from Monday, 0.
+const THURSDAY: i64 = 3;
+
+/// The place of Friday.
+const FRIDAY: i64 = 4;
+
 /// Whether the year is a leap year of the proleptic Gregorian calendar: every fourth year is one, but of the centuries only every
 /// fourth. Year 0 stands before year 1.
 ///
@@ -48,7 +54,7 @@ pub fn weeks_in_year(year: i32) -> u8
     let next_begins_on = first_weekday(year + 1);
 
     // A year has 53 Thursdays where it begins on one or ends on one. It ends on one where the next year begins on a Friday.
-    if begins_on == 3 || next_begins_on == 4 {
+    if begins_on == THURSDAY || next_begins_on == FRIDAY {
         53
     } else {
         52

@@ -56,6 +56,7 @@ fn four_digits(n: u32) -> [u8; 4]
 }
 
 /// How many of the digits are left without the zeros that they end in.
+#[tactic(auto, using(crate::proofs::Zeros::last_zeros))]
 fn length_without_last_zeros(digits: &[u8]) -> usize
     ensures within { result ≤ length digits.now }
     ensures value { take result digits.now ≡ without_last_zeros digits.now }

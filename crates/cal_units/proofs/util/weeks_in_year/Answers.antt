@@ -4,7 +4,7 @@ use Rattle.std.proofs.lemmas.Bool.Decides.{nat_tests}
 use Rattle.cal_units.proofs.Weeks.{weeks_in_year-is}
 use Rattle.cal_units.proofs.util.weeks_in_year.Goals as goal
 
-pub returns-then-next_begins_on-eq4 : goal.returns-then-next_begins_on-eq4
-returns-then-next_begins_on-eq4 c =
+pub returns-then-next_begins_on-eq-FRIDAY : goal.returns-then-next_begins_on-eq-FRIDAY
+returns-then-next_begins_on-eq-FRIDAY c =
     let is = weeks_in_year-is c.args.year in
     grind (arith, ints, nat_tests)
