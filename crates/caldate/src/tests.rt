@@ -12,6 +12,7 @@ use std::io::{ErrorKind, Read, Write};
 mod arguments;
 mod failing;
 mod long;
+mod one_answer;
 mod shown;
 mod strict;
 

@@ -6,3 +6,4 @@ pub mod Numbers
 pub mod Parts
 pub mod Replies
 pub mod Texts
+pub mod OneAnswer

@@ -10,6 +10,7 @@ use std::test::Fail;
 
 mod failing;
 mod manual;
+mod one_answer;
 mod reading;
 
 /// Eight lines, and the answers to them.

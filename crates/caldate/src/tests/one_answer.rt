@@ -1,0 +1,23 @@
+//! A run leaves one answer where each text has one: two runs over one input that reach its end leave alike writers.
+ghost use Rattle.std.specs.Prelude.{◌≡◌, List, ℕ, Some, IsOk};
+ghost use Rattle.caldate.specs.Runs.{IsAllowed};
+
+use crate::fault::Fault;
+use crate::request::Filter;
+use crate::run::run;
+use std::io::{Read, Write};
+
+fn runs<R: Read, W: Write>(
+    filter: &Filter,
+    reader: &mut R,
+    twin: &mut R,
+    writer: &mut W,
+    other: &mut W,
+) -> (Result<(), Fault>, Result<(), Fault>)
+    ensures { ((text words others : List ℕ) → IsAllowed filter.now text words → IsAllowed filter.now text others → words ≡ others)
+        → (input held : List ℕ) → R.remaining reader.old ≡ Some input → R.remaining twin.old ≡ Some input
+        → W.contents writer.old ≡ Some held → W.contents other.old ≡ Some held
+        → IsOk result.0 → IsOk result.1 → W.contents writer.new ≡ W.contents other.new }
+{
+    (run(*filter, reader, writer), run(*filter, twin, other))
+}
