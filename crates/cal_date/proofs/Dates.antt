@@ -1,11 +1,11 @@
 -- Each number of the count has its ordinal date, and each ordinal date of the range its number.
-use Rattle.std.proofs.Common.{◌≡◌, ℕ, suc, ◌+◌, ◌<◌, ◌≤◌, ap, ◌∙◌, arith, ℤ, pos, ◌+ℤ◌, ◌-ℤ◌, ◌≤ℤ◌, unsigned_abs, to_z, of_z, w32, FitsSigned}
+use Rattle.std.proofs.Common.{◌≡◌, ℕ, suc, refl, sym, ◌+◌, ◌<◌, ◌≤◌, ap, ◌∙◌, arith, ℤ, pos, ◌+ℤ◌, ◌-ℤ◌, ◌≤ℤ◌, unsigned_abs, to_z, of_z, w32, FitsSigned}
 use Rattle.std.proofs.lemmas.Bool.Decides.{nat_tests}
 use Rattle.std.proofs.lemmas.Int.{ints, to_z-of_z}
 use Rattle.cal_units.specs.Lengths.{days_in_year}
 use Rattle.cal_date.specs.Date.{first_year, year_at, ordinal_at, IsYear, IsDate, IsOrdinal, HasOrdinalDate, NoDate}
 use Rattle.cal_date.specs.CountLaws.{days_of_years, in_year, year_start, days_of_years-closed}
-use Rattle.cal_date.specs.PackedDate.{ordinal_number}
+use Rattle.cal_date.specs.PackedDate.{ordinal_number, HasOrdinalDate-ordinal_number}
 use Rattle.cal_date.proofs.Years.{year_of, IsYear-days_before, days_before-IsYear}
 
 -- where a number stands
@@ -73,3 +73,15 @@ ordinal-most n =
     omega (arith, at.ordinal.1, year-most (year_at n))
 
 pub ruleset places_in_years = (stands, year-most, ints, nat_tests)
+
+-- each day by its year and its ordinal
+pub number_of_parts : (n : ℕ) → ordinal_number (year_at n) (ordinal_at n) ≡ n
+number_of_parts n = sym (stands n).number_is
+
+pub year_of_date : (n : ℕ) → IsDate n → IsYear (year_at n)
+year_of_date n h = (in_range n (year_at n) (ordinal_at n) h (refl, refl)).year
+
+pub ordinal_of_date : (n : ℕ) → IsOrdinal (year_at n) (ordinal_at n)
+ordinal_of_date n = (stands n).ordinal
+
+pub ruleset ordinal_dates = (number_of_parts, year_of_date, ordinal_of_date, HasOrdinalDate-ordinal_number, IsDate-ordinal_number, to_z-of_z, ints, nat_tests)

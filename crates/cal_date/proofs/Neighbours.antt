@@ -8,7 +8,7 @@ use Rattle.cal_units.specs.Lengths.{is_leap_year, days_in_year}
 use Rattle.cal_date.specs.Date.{first_year, last_year, last_day, year_at, ordinal_at, IsYear, IsOrdinal, IsDate, HasOrdinalDate}
 use Rattle.cal_date.specs.CountLaws.{days_before, in_year, year_start-days_before}
 use Rattle.cal_date.specs.PackedDate.{leap_mark, ordinal_number}
-use Rattle.cal_date.proofs.Dates.{stands, in_range, ordinal-most, IsDate-ordinal_number}
+use Rattle.cal_date.proofs.Dates.{stands, in_range, year-most, ordinal-most, number_of_parts, ordinal_of_date, IsDate-ordinal_number}
 use Rattle.cal_date.proofs.Years.{days_before-first, days_before-last, days_before-next}
 
 -- the ordinal date y, o has its number one below that of z, p, and is not the last of the range
@@ -162,3 +162,5 @@ as_far n k p low high e =
     (ap year_at (sym number) ∙ here.0, ap ordinal_at (sym number) ∙ here.1 ∙ ordinal)
 
 pub ruleset parts_of_years = (within_year, ints, nat_tests)
+
+pub ruleset places = (number_of_parts, ordinal_of_date, year-most, ordinal-most, year_length, ints, nat_tests)

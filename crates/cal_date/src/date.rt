@@ -110,6 +110,7 @@ impl Date {
     ///
     /// For the first component that is out of range: `year`, unconditionally, or `ordinal`, conditionally, as its range
     /// depends on the year.
+    #[tactic(auto, using(crate::proofs::Dates::ordinal_dates))]
     pub fn from_ordinal_date(year: i32, ordinal: u16) -> Result<Self, ComponentRange>
         ensures every { (n : ℕ) → IsDate n → HasOrdinalDate year ordinal n → result ≡ Ok n }
         ensures has { IfOk result (λ n. IsDate n × HasOrdinalDate year ordinal n) }
@@ -284,6 +285,7 @@ impl Date {
     }
 
     /// The day of the same year that has so many days of the year before it, or `None` where the year has no such day.
+    #[tactic(auto, using(crate::proofs::Neighbours::places))]
     fn of_same_year(self, place: u64) -> Option<Self>
         ensures day { SomeIff result (place < days_in_year (year_at self)) (ordinal_number (year_at self) (place + 1)) }
         ensures in_range { IsDate self }
