@@ -197,11 +197,12 @@ slice_get-first w b h e =
     sym (slice_get-days_of w b 0 e within ∙ ap Some (omega arith))
 
 -- a walk whose days up to one of them are taken, and one whose days from one of them on are taken
-pub without_first-upto : (w : Walk) (b day : ℕ) → w.back ≡ Some b → w.front ≤ day → day < b → walk (day + 1) w.back ≡ without_first (day + 1 - w.front) w
-without_first-upto w b day e h less =
+pub without_first-upto : (v w : Walk) (b day next : ℕ) → v ≡ w → w.back ≡ Some b → w.front ≤ day → day < b → next ≡ day + 1
+    → walk next v.back ≡ without_first (day + 1 - w.front) w
+without_first-upto v w b day next same e h less is =
     let within : day + 1 - w.front < length (days_of w) = omega (arith, length-days_of w b e) in
-    let front : day + 1 ≡ w.front + (day + 1 - w.front) = omega arith in
-    ap (λ n. walk n w.back) front ∙ sym (without_first-some (day + 1 - w.front) w within)
+    let front : next ≡ w.front + (day + 1 - w.front) = omega arith in
+    ap (λ u. walk next u.back) same ∙ ap (λ n. walk n w.back) front ∙ sym (without_first-some (day + 1 - w.front) w within)
 
 pub without_first-all : (w : Walk) (b day : ℕ) → w.back ≡ Some b → w.front ≤ day → b ≤ day → walk w.front None ≡ without_first (day + 1 - w.front) w
 without_first-all w b day e h all = sym (without_first-none (day + 1 - w.front) w (omega (arith, length-days_of w b e)))
@@ -214,6 +215,10 @@ without_last-from w b day e less h =
 
 pub without_last-all : (w : Walk) (b day : ℕ) → w.back ≡ Some b → day ≤ w.front → day ≤ b → walk w.front None ≡ without_last (b + 1 - day) w
 without_last-all w b day e all h = sym (without_last-none (b + 1 - day) w (omega (arith, length-days_of w b e)))
+
+pub ruleset days_left_after = (without_first-upto, without_first-all, nat_tests)
+
+pub ruleset days_left_before = (without_last-from, without_last-all, nat_tests)
 
 -- where a place is one of the walk
 pub record IsPlace (front back n : ℕ) : Type 0 where

@@ -7,6 +7,7 @@ use Rattle.std.proofs.lemmas.Int.{ints}
 use Rattle.cal_units.specs.Lengths.{is_leap_year, days_in_year}
 use Rattle.cal_date.specs.Date.{first_year, last_year, last_day, year_at, ordinal_at, IsYear, IsOrdinal, IsDate, HasOrdinalDate}
 use Rattle.cal_date.specs.CountLaws.{days_before, in_year, year_start-days_before}
+use Rattle.cal_date.specs.DateLimits.{MIN-number, MAX-number}
 use Rattle.cal_date.specs.PackedDate.{leap_mark, ordinal_number}
 use Rattle.cal_date.proofs.Dates.{stands, in_range, ordinal-most, IsDate-ordinal_number}
 use Rattle.cal_date.proofs.Years.{days_before-first, days_before-last, days_before-next}
@@ -58,6 +59,16 @@ not_last_day n h less =
     let next = next_in_year (year_at n) (ordinal_at n) at.year at.ordinal less in
     omega (arith, at.number_is, next.not_last)
 
+-- no year ends before its day 365, and no day before that is the last of the range
+pub before_year_end : (n : ℕ) → ordinal_at n < 365 → ordinal_at n < days_in_year (year_at n)
+before_year_end n early = grind (arith, nat_tests)
+
+pub early_in_year : (n : ℕ) → IsDate n → ordinal_at n < 365 → n < last_day
+early_in_year n h early = not_last_day n h (before_year_end n early)
+
+-- what the day after a date takes, for `#[tactic(auto, using(..))]`
+pub ruleset days_after = (before_year_end, early_in_year, MAX-number, ints, nat_tests)
+
 -- the last day of its year
 pub record IsLastOfYear (n : ℕ) : Type 0 where
   pub year : IsYear (year_at n)
@@ -100,6 +111,9 @@ not_first_day n past = omega (arith, (stands n).number_is)
 
 pub within_year : (n : ℕ) → IsDate n → IsOrdinal (year_at n) (ordinal_at n)
 within_year n h = (in_range n (year_at n) (ordinal_at n) h (refl, refl)).ordinal
+
+-- what the day before a date takes
+pub ruleset days_before_it = (within_year, not_first_day, MIN-number, ints, nat_tests)
 
 -- the first day of its year
 pub record IsFirstOfYear (n : ℕ) : Type 0 where

@@ -9,7 +9,7 @@ ghost use Rattle.cal_units.specs.Refusal.{IsRefused};
 ghost use Rattle.cal_date.specs.Refusals.{year_out_of_range, ordinal_out_of_range, julian_day_out_of_range};
 
 use crate::error::{Component, ComponentRange};
-use crate::kernel::{date_of_kernel, julian_kernel};
+use crate::kernel::date_of_julian_day;
 use cal_units::util::{days_in_year, is_leap_year};
 use std::marker::Model;
 
@@ -26,15 +26,16 @@ mod tests;
 
 const MIN_YEAR: i32 = -999_999;
 
-const MAX_YEAR: i32 = 999_999;
+pub(crate) const MAX_YEAR: i32 = 999_999;
 
 /// The Julian day of the first day of the range, which has number 0.
-const MIN_JULIAN_DAY: i32 = -363_521_074;
+pub(crate) const MIN_JULIAN_DAY: i32 = -363_521_074;
 
 /// The number of the last day.
-const LAST_DAY: i32 = 730_484_633;
+pub(crate) const LAST_DAY: i32 = 730_484_633;
 
-const MAX_JULIAN_DAY: i32 = MIN_JULIAN_DAY + LAST_DAY;
+/// The days of a common year: no year ends before it has as many.
+const FEWEST_DAYS: u16 = 365;
 
 /// The leap mark of a packed date.
 const LEAP_MARK: i32 = 512;
@@ -56,11 +57,11 @@ fn is_year(year: i32) -> bool
 fn has_ordinal(year: i32, ordinal: u16) -> bool
     ensures { IsTrue result ↔ IsOrdinal year ordinal }
 {
-    match ordinal {
-        0 => false,
-        1..=365 => true,
-        _ => ordinal <= days_in_year(year),
+    // An ordinal of 0 wraps, far above the length of a year.
+    if u32::from(ordinal).wrapping_sub(1) < 365 {
+        return true;
     }
+    ordinal == 366 && is_leap_year(year)
 }
 
 /// A day of the proleptic Gregorian calendar, from -999999-01-01 to 999999-12-31.
@@ -145,10 +146,10 @@ impl Date {
         ensures closed_form { let kernel = kernel_of julian_day in
             IfOk result (HasOrdinalDate (year_of_kernel kernel) (ordinal_of_kernel kernel)) }
     {
-        if julian_day < MIN_JULIAN_DAY || julian_day > MAX_JULIAN_DAY {
-            return Err(ComponentRange::unconditional(Component::JulianDay));
+        match date_of_julian_day(julian_day) {
+            Some(date) => Ok(date),
+            None => Err(ComponentRange::unconditional(Component::JulianDay)),
         }
-        Ok(date_of_kernel(julian_kernel(julian_day)))
     }
 
     /// The year, from -999999 to 999999. That of [`Self::MIN`] is -999999.
@@ -196,39 +197,79 @@ impl Date {
     }
 
     /// The day after, or `None` after [`Self::MAX`] alone. That of 2019-12-31 is 2020-01-01.
+    #[tactic(auto, using(crate::proofs::Neighbours::days_after))]
     pub fn next_day(self) -> Option<Self>
         ensures day { SomeIff result (self < last_day) (self + 1) }
         ensures in_range { IsDate self }
     {
-        let low_bits = self.low_bits();
-
-        // 31 December of a common year, and of a leap year.
-        if low_bits != 365 && low_bits != 878 {
+        if self.ordinal() < FEWEST_DAYS {
             return Some(self.moved_in_year(1));
         }
-        let year = self.year();
-        if year == MAX_YEAR {
+        if self == Self::MAX {
             return None;
         }
-        Some(Date::at_ordinal(year + 1, 1))
+        Some(self.next_by_number())
     }
 
     /// The day before, or `None` before [`Self::MIN`] alone. That of 2020-01-01 is 2019-12-31.
+    #[tactic(auto, using(crate::proofs::Neighbours::days_before_it))]
     pub fn previous_day(self) -> Option<Self>
         ensures day { SomeIff result (0 < self) (self - 1) }
         ensures in_range { IsDate self }
     {
-        let low_bits = self.low_bits();
-
-        // 1 January of a common year, and of a leap year.
-        if low_bits != 1 && low_bits != 513 {
+        if self.ordinal() > 1 {
             return Some(self.moved_in_year(-1));
         }
-        let year = self.year();
-        if year == MIN_YEAR {
+        if self == Self::MIN {
             return None;
         }
-        Some(Date::at_ordinal(year - 1, days_in_year(year - 1)))
+        Some(self.previous_by_number())
+    }
+
+    /// The day after this day, which is not the last of the range.
+    #[tactic(auto, using(crate::proofs::Neighbours::days_after))]
+    pub(crate) fn day_after(self) -> Self
+        requires { self < last_day }
+        ensures { result ≡ self + 1 }
+    {
+        if self.ordinal() < FEWEST_DAYS {
+            self.moved_in_year(1)
+        } else {
+            self.next_by_number()
+        }
+    }
+
+    /// The day before this day, which is not the first of the range.
+    #[tactic(auto, using(crate::proofs::Neighbours::days_before_it))]
+    pub(crate) fn day_before(self) -> Self
+        requires { 0 < self }
+        ensures { result ≡ self - 1 }
+    {
+        if self.ordinal() > 1 {
+            self.moved_in_year(-1)
+        } else {
+            self.previous_by_number()
+        }
+    }
+
+    /// The day after, for a day that may end its year. It stands apart, so that the code which every day runs through stays short.
+    #[cold]
+    #[inline(never)]
+    fn next_by_number(self) -> Self
+        requires { self < last_day }
+        ensures { result ≡ self + 1 }
+    {
+        Self::at_number(self.number() + 1)
+    }
+
+    /// The day before, for a day that begins its year: apart as [`Self::next_by_number`] is.
+    #[cold]
+    #[inline(never)]
+    fn previous_by_number(self) -> Self
+        requires { 0 < self }
+        ensures { result ≡ self - 1 }
+    {
+        Self::at_number(self.number() - 1)
     }
 
     /// The day of that year of the range, with that ordinal of the year.
