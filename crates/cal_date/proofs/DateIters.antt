@@ -1,6 +1,6 @@
 -- The days of a walk, and what is left of them.
 use Rattle.std.proofs.Common.{◌≡◌, ℕ, zero, suc, ◌+◌, ◌-◌, ◌<◌, ◌≤◌, refl, sym, ap, ◌∙◌, arith, [], ◌∷◌, ◌++◌, length, get_or, take, drop, reverse, slice_get, Some, None, inl, inr, false, is_lt}
-use Rattle.std.specs.Prelude.{Option, option_map, IfSome, IsSomeAnd, SomeIff}
+use Rattle.std.specs.Prelude.{Option, option_map, IfSome, IsSomeAnd}
 use Rattle.std.proofs.Math.ListN.{drop_of_length-le}
 use Rattle.std.specs.List.Sorted.{IsSorted}
 use Rattle.std.specs.Ordering.{nat_cmp}
@@ -235,10 +235,6 @@ pub place_in : (v w : Walk) (b n len : ℕ) → v ≡ w → IsWalk v → v.back 
 place_in v w b n len same h e count less =
     let total : len ≡ length (days_of v) = count ∙ ap (λ u. length (days_of u)) (sym same) in
     place v b n h e (omega (arith, total))
-
-pub SomeIff-some : {X : Type 0} {o : Option X} {P : Type 0} {x : X} → SomeIff o P x → P → o ≡ Some x
-SomeIff-some {o = None} h p = absurd (h p)
-SomeIff-some {o = Some y} h p = ap Some h.1
 
 -- walks within one year, by the ordinals of their ends
 pub length-one_year : (w : Walk) (back len : ℕ) → IsWalk w → IsInOneYear w back → len ≡ length (days_of w) → len + ordinal_at w.front ≡ ordinal_at back + 1

@@ -10,7 +10,7 @@ ghost use Rattle.cal_date.specs.Refusals.{year_out_of_range, ordinal_out_of_rang
 
 use crate::error::{Component, ComponentRange};
 use crate::kernel::date_of_julian_day;
-use cal_units::util::{days_in_year, is_leap_year};
+use cal_units::util::is_leap_year;
 use std::marker::Model;
 
 mod arithmetic;
@@ -35,7 +35,7 @@ pub(crate) const MIN_JULIAN_DAY: i32 = -363_521_074;
 pub(crate) const LAST_DAY: i32 = 730_484_633;
 
 /// The days of a common year: no year ends before it has as many.
-const FEWEST_DAYS: u16 = 365;
+const FEWEST_DAYS: u32 = 365;
 
 /// The leap mark of a packed date.
 const LEAP_MARK: i32 = 512;
@@ -58,7 +58,7 @@ fn has_ordinal(year: i32, ordinal: u16) -> bool
     ensures { IsTrue result ↔ IsOrdinal year ordinal }
 {
     // An ordinal of 0 wraps, far above the length of a year.
-    if u32::from(ordinal).wrapping_sub(1) < 365 {
+    if u32::from(ordinal).wrapping_sub(1) < FEWEST_DAYS {
         return true;
     }
     ordinal == 366 && is_leap_year(year)
@@ -197,22 +197,23 @@ impl Date {
     }
 
     /// The day after, or `None` after [`Self::MAX`] alone. That of 2019-12-31 is 2020-01-01.
-    #[tactic(auto, using(crate::proofs::Neighbours::days_after))]
+    #[tactic(auto, using(crate::proofs::Neighbours::next_days))]
     pub fn next_day(self) -> Option<Self>
         ensures day { SomeIff result (self < last_day) (self + 1) }
         ensures in_range { IsDate self }
     {
-        if self.ordinal() < FEWEST_DAYS {
+        // What is tested is the ordinal of the answer, which a caller who asks for it then has.
+        if self.next_ordinal() < FEWEST_DAYS {
             return Some(self.moved_in_year(1));
         }
         if self == Self::MAX {
             return None;
         }
-        Some(self.next_by_number())
+        Some(self.after_year_end())
     }
 
     /// The day before, or `None` before [`Self::MIN`] alone. That of 2020-01-01 is 2019-12-31.
-    #[tactic(auto, using(crate::proofs::Neighbours::days_before_it))]
+    #[tactic(auto, using(crate::proofs::Neighbours::previous_days))]
     pub fn previous_day(self) -> Option<Self>
         ensures day { SomeIff result (0 < self) (self - 1) }
         ensures in_range { IsDate self }
@@ -223,24 +224,24 @@ impl Date {
         if self == Self::MIN {
             return None;
         }
-        Some(self.previous_by_number())
+        Some(self.before_year_start())
     }
 
     /// The day after this day, which is not the last of the range.
-    #[tactic(auto, using(crate::proofs::Neighbours::days_after))]
+    #[tactic(auto, using(crate::proofs::Neighbours::next_days))]
     pub(crate) fn day_after(self) -> Self
         requires { self < last_day }
         ensures { result ≡ self + 1 }
     {
-        if self.ordinal() < FEWEST_DAYS {
+        if u32::from(self.ordinal()) < FEWEST_DAYS {
             self.moved_in_year(1)
         } else {
-            self.next_by_number()
+            self.after_year_end()
         }
     }
 
     /// The day before this day, which is not the first of the range.
-    #[tactic(auto, using(crate::proofs::Neighbours::days_before_it))]
+    #[tactic(auto, using(crate::proofs::Neighbours::previous_days))]
     pub(crate) fn day_before(self) -> Self
         requires { 0 < self }
         ensures { result ≡ self - 1 }
@@ -248,28 +249,28 @@ impl Date {
         if self.ordinal() > 1 {
             self.moved_in_year(-1)
         } else {
-            self.previous_by_number()
+            self.before_year_start()
         }
     }
 
-    /// The day after, for a day that may end its year. It stands apart, so that the code which every day runs through stays short.
+    /// The day after, for the few days that may end their year. It stands apart, so that what each day runs through stays short.
     #[cold]
     #[inline(never)]
-    fn next_by_number(self) -> Self
+    fn after_year_end(self) -> Self
         requires { self < last_day }
         ensures { result ≡ self + 1 }
     {
-        Self::at_number(self.number() + 1)
+        self.days_later(1)
     }
 
-    /// The day before, for a day that begins its year: apart as [`Self::next_by_number`] is.
+    /// The day before, for the day that begins its year. It stands apart as [`Self::after_year_end`] does.
     #[cold]
     #[inline(never)]
-    fn previous_by_number(self) -> Self
+    fn before_year_start(self) -> Self
         requires { 0 < self }
         ensures { result ≡ self - 1 }
     {
-        Self::at_number(self.number() - 1)
+        self.days_earlier(1)
     }
 
     /// The day of that year of the range, with that ordinal of the year.
@@ -303,6 +304,14 @@ impl Date {
         ensures in_range { IsDate self }
     {
         (self.packed & LOW_BITS) as u32
+    }
+
+    /// One more than the ordinal.
+    fn next_ordinal(self) -> u32
+        ensures next { result ≡ ordinal_at self + 1 }
+        ensures in_range { IsDate self }
+    {
+        ((self.packed + 1) & ORDINAL_BITS) as u32
     }
 
     /// Whether the year of the day is a leap year, by its mark.

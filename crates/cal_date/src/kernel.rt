@@ -21,6 +21,7 @@ const DAY_ZERO: u32 = -MIN_JULIAN_DAY as u32;
 
 /// The first day of the range and its last year, both counted from 1 January -2379600 on.
 const FIRST_DAY: u32 = (MIN_JULIAN_DAY + DAY_SHIFT) as u32;
+
 const LAST_YEAR: u32 = (MAX_YEAR + YEAR_SHIFT) as u32;
 
 /// 2^49 / 146097, rounded down, where 146097 is the days of 400 years: a day times this is its centuries, in parts of
