@@ -216,7 +216,8 @@ without_last-from w b day e less h =
 pub without_last-all : (w : Walk) (b day : ℕ) → w.back ≡ Some b → day ≤ w.front → day ≤ b → walk w.front None ≡ without_last (b + 1 - day) w
 without_last-all w b day e all h = sym (without_last-none (b + 1 - day) w (omega (arith, length-days_of w b e)))
 
-pub ruleset days_left_after = (without_first-upto, without_first-all, nat_tests)
+-- what `leave_after` takes where no days are left, and `leave_before`
+pub ruleset days_left_after = (without_first-all, nat_tests)
 
 pub ruleset days_left_before = (without_last-from, without_last-all, nat_tests)
 

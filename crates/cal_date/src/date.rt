@@ -202,7 +202,7 @@ impl Date {
         ensures day { SomeIff result (self < last_day) (self + 1) }
         ensures in_range { IsDate self }
     {
-        // What is tested is the ordinal of the answer, which a caller who asks for it then has.
+        // The ordinal of the answer is tested: a caller who asks for it then has it.
         if self.next_ordinal() < FEWEST_DAYS {
             return Some(self.moved_in_year(1));
         }
