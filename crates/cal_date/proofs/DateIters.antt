@@ -1,6 +1,6 @@
 -- The days of a walk, and what is left of them.
 use Rattle.std.proofs.Common.{◌≡◌, ℕ, zero, suc, ◌+◌, ◌-◌, ◌<◌, ◌≤◌, refl, sym, ap, ◌∙◌, arith, [], ◌∷◌, ◌++◌, length, get_or, take, drop, reverse, slice_get, Some, None, inl, inr, false, is_lt}
-use Rattle.std.specs.Prelude.{Option, option_map, IfSome, IsSomeAnd, SomeIff}
+use Rattle.std.specs.Prelude.{Option, option_map, IfSome, IsSomeAnd}
 use Rattle.std.proofs.Math.ListN.{drop_of_length-le}
 use Rattle.std.specs.List.Sorted.{IsSorted}
 use Rattle.std.specs.Ordering.{nat_cmp}
@@ -198,11 +198,12 @@ slice_get-first w b h e =
     sym (slice_get-days_of w b 0 e within ∙ ap Some (omega arith))
 
 -- a walk whose days up to one of them are taken, and one whose days from one of them on are taken
-pub without_first-upto : (w : Walk) (b day : ℕ) → w.back ≡ Some b → w.front ≤ day → day < b → walk (day + 1) w.back ≡ without_first (day + 1 - w.front) w
-without_first-upto w b day e h less =
+pub without_first-upto : (v w : Walk) (b day next : ℕ) → v ≡ w → w.back ≡ Some b → w.front ≤ day → day < b → next ≡ day + 1
+    → walk next v.back ≡ without_first (day + 1 - w.front) w
+without_first-upto v w b day next same e h less is =
     let within : day + 1 - w.front < length (days_of w) = omega (arith, length-days_of w b e) in
-    let front : day + 1 ≡ w.front + (day + 1 - w.front) = omega arith in
-    ap (λ n. walk n w.back) front ∙ sym (without_first-some (day + 1 - w.front) w within)
+    let front : next ≡ w.front + (day + 1 - w.front) = omega arith in
+    ap (λ u. walk next u.back) same ∙ ap (λ n. walk n w.back) front ∙ sym (without_first-some (day + 1 - w.front) w within)
 
 pub without_first-all : (w : Walk) (b day : ℕ) → w.back ≡ Some b → w.front ≤ day → b ≤ day → walk w.front None ≡ without_first (day + 1 - w.front) w
 without_first-all w b day e h all = sym (without_first-none (day + 1 - w.front) w (omega (arith, length-days_of w b e)))
@@ -215,6 +216,11 @@ without_last-from w b day e less h =
 
 pub without_last-all : (w : Walk) (b day : ℕ) → w.back ≡ Some b → day ≤ w.front → day ≤ b → walk w.front None ≡ without_last (b + 1 - day) w
 without_last-all w b day e all h = sym (without_last-none (b + 1 - day) w (omega (arith, length-days_of w b e)))
+
+-- what `leave_after` takes where no days are left, and `leave_before`
+pub ruleset days_left_after = (without_first-all, nat_tests)
+
+pub ruleset days_left_before = (without_last-from, without_last-all, nat_tests)
 
 -- where a place is one of the walk
 pub record IsPlace (front back n : ℕ) : Type 0 where
@@ -231,10 +237,6 @@ pub place_in : (v w : Walk) (b n len : ℕ) → v ≡ w → IsWalk v → v.back 
 place_in v w b n len same h e count less =
     let total : len ≡ length (days_of v) = count ∙ ap (λ u. length (days_of u)) (sym same) in
     place v b n h e (omega (arith, total))
-
-pub SomeIff-some : {X : Type 0} {o : Option X} {P : Type 0} {x : X} → SomeIff o P x → P → o ≡ Some x
-SomeIff-some {o = None} h p = absurd (h p)
-SomeIff-some {o = Some y} h p = ap Some h.1
 
 -- walks within one year, by the ordinals of their ends
 pub length-one_year : (w : Walk) (back len : ℕ) → IsWalk w → IsInOneYear w back → len ≡ length (days_of w) → len + ordinal_at w.front ≡ ordinal_at back + 1

@@ -218,3 +218,7 @@ has_julian_kernel j k h is =
     let high = h.not_after in
     let day : HasJulianDay j (number_at j) = omega (arith, ints) in
     record { date = omega (arith, ints); has_day = day; has_kernel = ap kernel_of day ∙ sym is }
+
+-- and gives the date of that day
+pub date_by_kernel : (j : ℤ) (n : ℕ) → IsDate n → HasJulianDay j n → HasOrdinalDate (year_of_kernel (kernel_of j)) (ordinal_of_kernel (kernel_of j)) n
+date_by_kernel j n h day = subst (λ j. HasOrdinalDate (year_of_kernel (kernel_of j)) (ordinal_of_kernel (kernel_of j)) n) day (HasOrdinalDate-kernel n h)

@@ -94,6 +94,21 @@ lowest_bits-of z h =
 pub lowest_bits : (y : ℤ) (o : ℕ) → IsYear y → IsOrdinal y o → unsigned_abs (to_z w32 (bit_and (of_z w32 (packed y o)) 511)) ≡ o
 lowest_bits y o h f = lowest_bits-of (packed y o) (bounded y o h f) ∙ ordinal_of-packed y o h f
 
+next-bounded : (y : ℤ) (o : ℕ) → IsYear y → IsOrdinal y o → IsBounded (packed y o +ℤ pos 1)
+unfolding packed
+next-bounded y o h f = record { low = grind (arith, ints, nat_tests); high = grind (arith, ints, nat_tests) }
+
+next-ordinal_of : (y : ℤ) (o : ℕ) → IsYear y → IsOrdinal y o → ordinal_of (packed y o +ℤ pos 1) ≡ o + 1
+unfolding packed ordinal_of
+next-ordinal_of y o h f = grind (arith, ints, nat_tests)
+
+-- one more fits too, and its lowest nine bits are one more than the ordinal
+pub next-i32 : (y : ℤ) (o : ℕ) → IsYear y → IsOrdinal y o → FitsSigned w32 (packed y o +ℤ pos 1)
+next-i32 y o h f = let b = next-bounded y o h f in grind (arith, ints)
+
+pub next-lowest_bits : (y : ℤ) (o : ℕ) → IsYear y → IsOrdinal y o → unsigned_abs (to_z w32 (bit_and (of_z w32 (packed y o +ℤ pos 1)) 511)) ≡ o + 1
+next-lowest_bits y o h f = lowest_bits-of (packed y o +ℤ pos 1) (next-bounded y o h f) ∙ next-ordinal_of y o h f
+
 low_bits-of : (z : ℤ) → IsBounded z → unsigned_abs (to_z w32 (bit_and (of_z w32 z) 1023)) ≡ unsigned_abs (z +ℤ pos (raised_by * 1024)) % 1024
 low_bits-of z h =
     let mask : bit_and (of_z w32 z) 1023 ≡ of_z w32 z % 1024 = and_mask (of_z w32 z) 10 in

@@ -1,5 +1,5 @@
 -- How many days the first years of the range have, and in which year a day stands.
-use Rattle.std.proofs.Common.{◌≡◌, ℕ, zero, suc, ◌+◌, ◌-◌, ◌<◌, ◌≤◌, refl, sym, ap, ◌∙◌, arith, ℤ, pos, ◌+ℤ◌, ◌-ℤ◌, ◌≤ℤ◌, unsigned_abs, inl, inr}
+use Rattle.std.proofs.Common.{◌≡◌, ℕ, zero, suc, ◌+◌, ◌-◌, ◌<◌, ◌≤◌, sym, ap, ◌∙◌, arith, ℤ, pos, ◌+ℤ◌, ◌-ℤ◌, ◌≤ℤ◌, unsigned_abs, inl, inr}
 use Rattle.std.proofs.lemmas.Bool.{cases_lt}
 use Rattle.std.proofs.lemmas.Int.{ints}
 use Rattle.cal_units.specs.Lengths.{days_in_year}
@@ -16,9 +16,6 @@ year_of (suc k) n h =
       | inl low ↦ let found = year_of k n low in (found.0, found.1, omega (arith, found.2), found.3, found.4)
       | inr high ↦ (k, n - days_of_years k, omega arith, omega (arith, days_of_years-suc k), omega arith)
     ]
-
-pub days_before-first : days_before first_year ≡ 0
-days_before-first = unfold days_of_years in refl
 
 -- the days before the next year
 pub days_before-next : (y : ℤ) → first_year ≤ℤ y → days_before (y +ℤ pos 1) ≡ days_before y + days_in_year y
@@ -38,10 +35,6 @@ days_before-IsYear y h =
     let k = unsigned_abs (y -ℤ first_year) in
     let next : unsigned_abs ((y +ℤ pos 1) -ℤ first_year) ≡ suc k = omega (arith, ints) in
     omega (arith, ints, days_before-next y h.0, ap days_of_years next, days_of_years-closed (suc k))
-
--- the last year ends with the last day of the range
-pub days_before-last : days_before last_year + days_in_year last_year ≡ last_day + 1
-days_before-last = omega (arith, days_of_years-closed (years_before last_year))
 
 -- the last day of the range is the last of its last year
 pub day_at-last_day : day_at last_day ≡ calendar_day last_year 12 31

@@ -9,8 +9,8 @@ ghost use Rattle.cal_units.specs.Refusal.{IsRefused};
 ghost use Rattle.cal_date.specs.Refusals.{year_out_of_range, ordinal_out_of_range, julian_day_out_of_range};
 
 use crate::error::{Component, ComponentRange};
-use crate::kernel::{date_of_kernel, julian_kernel};
-use cal_units::util::{days_in_year, is_leap_year};
+use crate::kernel::date_of_julian_day;
+use cal_units::util::is_leap_year;
 use std::marker::Model;
 
 mod arithmetic;
@@ -26,15 +26,16 @@ mod tests;
 
 const MIN_YEAR: i32 = -999_999;
 
-const MAX_YEAR: i32 = 999_999;
+pub(crate) const MAX_YEAR: i32 = 999_999;
 
 /// The Julian day of the first day of the range, which has number 0.
-const MIN_JULIAN_DAY: i32 = -363_521_074;
+pub(crate) const MIN_JULIAN_DAY: i32 = -363_521_074;
 
 /// The number of the last day.
-const LAST_DAY: i32 = 730_484_633;
+pub(crate) const LAST_DAY: i32 = 730_484_633;
 
-const MAX_JULIAN_DAY: i32 = MIN_JULIAN_DAY + LAST_DAY;
+/// The days of a common year: no year ends before it has as many.
+const FEWEST_DAYS: u32 = 365;
 
 /// The leap mark of a packed date.
 const LEAP_MARK: i32 = 512;
@@ -56,11 +57,11 @@ fn is_year(year: i32) -> bool
 fn has_ordinal(year: i32, ordinal: u16) -> bool
     ensures { IsTrue result ↔ IsOrdinal year ordinal }
 {
-    match ordinal {
-        0 => false,
-        1..=365 => true,
-        _ => ordinal <= days_in_year(year),
+    // An ordinal of 0 wraps, far above the length of a year.
+    if u32::from(ordinal).wrapping_sub(1) < FEWEST_DAYS {
+        return true;
     }
+    ordinal == 366 && is_leap_year(year)
 }
 
 /// A day of the proleptic Gregorian calendar, from -999999-01-01 to 999999-12-31.
@@ -146,10 +147,10 @@ impl Date {
         ensures closed_form { let kernel = kernel_of julian_day in
             IfOk result (HasOrdinalDate (year_of_kernel kernel) (ordinal_of_kernel kernel)) }
     {
-        if julian_day < MIN_JULIAN_DAY || julian_day > MAX_JULIAN_DAY {
-            return Err(ComponentRange::unconditional(Component::JulianDay));
+        match date_of_julian_day(julian_day) {
+            Some(date) => Ok(date),
+            None => Err(ComponentRange::unconditional(Component::JulianDay)),
         }
-        Ok(date_of_kernel(julian_kernel(julian_day)))
     }
 
     /// The year, from -999999 to 999999. That of [`Self::MIN`] is -999999.
@@ -197,39 +198,80 @@ impl Date {
     }
 
     /// The day after, or `None` after [`Self::MAX`] alone. That of 2019-12-31 is 2020-01-01.
+    #[tactic(auto, using(crate::proofs::Neighbours::next_days))]
     pub fn next_day(self) -> Option<Self>
         ensures day { SomeIff result (self < last_day) (self + 1) }
         ensures in_range { IsDate self }
     {
-        let low_bits = self.low_bits();
-
-        // 31 December of a common year, and of a leap year.
-        if low_bits != 365 && low_bits != 878 {
+        // The ordinal of the answer is tested: a caller who asks for it then has it.
+        if self.next_ordinal() < FEWEST_DAYS {
             return Some(self.moved_in_year(1));
         }
-        let year = self.year();
-        if year == MAX_YEAR {
+        if self == Self::MAX {
             return None;
         }
-        Some(Date::at_ordinal(year + 1, 1))
+        Some(self.after_year_end())
     }
 
     /// The day before, or `None` before [`Self::MIN`] alone. That of 2020-01-01 is 2019-12-31.
+    #[tactic(auto, using(crate::proofs::Neighbours::previous_days))]
     pub fn previous_day(self) -> Option<Self>
         ensures day { SomeIff result (0 < self) (self - 1) }
         ensures in_range { IsDate self }
     {
-        let low_bits = self.low_bits();
-
-        // 1 January of a common year, and of a leap year.
-        if low_bits != 1 && low_bits != 513 {
+        if self.ordinal() > 1 {
             return Some(self.moved_in_year(-1));
         }
-        let year = self.year();
-        if year == MIN_YEAR {
+        if self == Self::MIN {
             return None;
         }
-        Some(Date::at_ordinal(year - 1, days_in_year(year - 1)))
+        Some(self.before_year_start())
+    }
+
+    /// The day after this day, which is not the last of the range.
+    #[tactic(auto, using(crate::proofs::Neighbours::next_days))]
+    pub(crate) fn day_after(self) -> Self
+        requires { self < last_day }
+        ensures { result ≡ self + 1 }
+    {
+        if u32::from(self.ordinal()) < FEWEST_DAYS {
+            self.moved_in_year(1)
+        } else {
+            self.after_year_end()
+        }
+    }
+
+    /// The day before this day, which is not the first of the range.
+    #[tactic(auto, using(crate::proofs::Neighbours::previous_days))]
+    pub(crate) fn day_before(self) -> Self
+        requires { 0 < self }
+        ensures { result ≡ self - 1 }
+    {
+        if self.ordinal() > 1 {
+            self.moved_in_year(-1)
+        } else {
+            self.before_year_start()
+        }
+    }
+
+    /// The day after, for the few days that may end their year. It stands apart, so that what each day runs through stays short.
+    #[cold]
+    #[inline(never)]
+    fn after_year_end(self) -> Self
+        requires { self < last_day }
+        ensures { result ≡ self + 1 }
+    {
+        self.days_later(1)
+    }
+
+    /// The day before, for the day that begins its year. It stands apart as [`Self::after_year_end`] does.
+    #[cold]
+    #[inline(never)]
+    fn before_year_start(self) -> Self
+        requires { 0 < self }
+        ensures { result ≡ self - 1 }
+    {
+        self.days_earlier(1)
     }
 
     /// The day of that year of the range, with that ordinal of the year.
@@ -263,6 +305,14 @@ impl Date {
         ensures in_range { IsDate self }
     {
         (self.packed & LOW_BITS) as u32
+    }
+
+    /// One more than the ordinal.
+    fn next_ordinal(self) -> u32
+        ensures next { result ≡ ordinal_at self + 1 }
+        ensures in_range { IsDate self }
+    {
+        ((self.packed + 1) & ORDINAL_BITS) as u32
     }
 
     /// Whether the year of the day is a leap year, by its mark.

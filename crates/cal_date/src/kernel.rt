@@ -1,11 +1,11 @@
 //! The kernel of a Julian day: five numbers, by two multiplications, that give its year, ordinal and leap mark.
-ghost use Rattle.std.specs.Prelude.{◌≡◌, ◌≢◌, ℕ, ◌+◌, ◌*◌, ◌/◌, ◌%◌, ◌^◌, ◌<◌, ◌-ℤ◌};
+ghost use Rattle.std.specs.Prelude.{◌≡◌, ◌≢◌, ℕ, ◌+◌, ◌*◌, ◌/◌, ◌%◌, ◌^◌, ◌<◌, ◌-ℤ◌, IfSome, None};
 ghost use Rattle.cal_units.specs.Lengths.{is_leap_year};
-ghost use Rattle.cal_date.specs.Date.{first_julian_day, IsDate, IsYear, HasJulianDay, HasOrdinalDate};
+ghost use Rattle.cal_date.specs.Date.{first_julian_day, IsDate, IsYear, HasJulianDay, HasOrdinalDate, NoDate};
 ghost use Rattle.cal_date.specs.Move.{IsDateNumber};
 ghost use Rattle.cal_date.specs.ClosedForms.{shifted_day, kernel_by, kernel_of, HasKernel, is_julian_year, year_of_kernel, ordinal_of_kernel, is_leap_by_kernel};
 
-use crate::date::Date;
+use crate::date::{Date, LAST_DAY, MAX_YEAR, MIN_JULIAN_DAY};
 
 #[cfg(test)]
 mod tests;
@@ -15,6 +15,14 @@ const DAY_SHIFT: i32 = 867_409_993;
 
 /// What is taken from a year that is counted from -2379600 on.
 const YEAR_SHIFT: i32 = 2_379_600;
+
+/// The number of the day whose Julian day is 0.
+const DAY_ZERO: u32 = -MIN_JULIAN_DAY as u32;
+
+/// The first day of the range and its last year, both counted from 1 January -2379600 on.
+const FIRST_DAY: u32 = (MIN_JULIAN_DAY + DAY_SHIFT) as u32;
+
+const LAST_YEAR: u32 = (MAX_YEAR + YEAR_SHIFT) as u32;
 
 /// 2^49 / 146097, rounded down, where 146097 is the days of 400 years: a day times this is its centuries, in parts of
 /// 2^47.
@@ -63,6 +71,24 @@ pub fn julian_kernel(julian_day: i32) -> JulianKernel
         day % 146097 ≡ 0 → result.century + 1 ≡ 4 * day / 146097 }
 {
     kernel_of_day(shifted_day(julian_day))
+}
+
+/// The date of a Julian day, or `None` where no day of the range has it.
+pub(crate) fn date_of_julian_day(julian_day: i32) -> Option<Date>
+    ensures has { IfSome result (λ n. IsDate n × HasJulianDay julian_day n) }
+    ensures none { result ≡ None → NoDate (HasJulianDay julian_day) }
+{
+    // A number past the last day stands as the day after that, also one below zero, which wraps. So the test comes after the
+    // products, and a compiler can take several Julian days at a time.
+    let number = julian_day
+        .cast_unsigned()
+        .wrapping_add(DAY_ZERO)
+        .min(LAST_DAY as u32 + 1);
+    let kernel = kernel_of_day(FIRST_DAY + number);
+    if kernel.years > LAST_YEAR {
+        return None;
+    }
+    Some(date_of_kernel(kernel))
 }
 
 /// The date of a kernel.

@@ -178,30 +178,33 @@ impl DateIter {
     }
 
     /// Takes the days up to `item`, one of those up to `back`, the back day.
+    #[tactic(auto, using(crate::proofs::DateIters::days_left_after))]
     fn leave_after(&mut self, item: Date, back: Date)
         requires back { self.old.back ≡ Some back }
         requires from_front { self.old.front ≤ item }
         requires to_back { item ≤ back }
         ensures { self.new ≡ without_first (item + 1 - self.old.front) self.old }
     {
-        match item.next_day() {
-            Some(day) if item < back => self.front = day,
-            _ => self.back = None,
+        if item < back {
+            self.front = item.day_after();
+        } else {
+            self.back = None;
         }
     }
 
     /// Takes the days from `item` on, one of those up to `back`, the back day.
+    #[tactic(auto, using(crate::proofs::DateIters::days_left_before))]
     fn leave_before(&mut self, item: Date, back: Date)
         requires back { self.old.back ≡ Some back }
         requires from_front { self.old.front ≤ item }
         requires to_back { item ≤ back }
         ensures { self.new ≡ without_last (back + 1 - item) self.old }
     {
-        self.back = if self.front < item {
-            item.previous_day()
+        if self.front < item {
+            self.back = Some(item.day_before());
         } else {
-            None
-        };
+            self.back = None;
+        }
     }
 }
 

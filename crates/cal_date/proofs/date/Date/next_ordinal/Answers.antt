@@ -1,0 +1,15 @@
+use Rattle.cal_date.proofs.Packed.{at_number, packed_at-i32, next-i32, next-lowest_bits}
+use Rattle.cal_date.proofs.date.Date.next_ordinal.Goals as goal
+
+pub overflow_add-result : goal.overflow_add-result
+overflow_add-result c =
+    let at = at_number c.self.inside c.args.self c.self.invariant c.self.view_is in
+    rw (packed_at-i32 _ _ at, at.packed_is) (next-i32 _ _ at.year at.ordinal)
+
+pub returns-clause-next : goal.returns-clause-next
+returns-clause-next c =
+    let at = at_number c.self.inside c.args.self c.self.invariant c.self.view_is in
+    rw (packed_at-i32 _ _ at, at.packed_is) (next-lowest_bits _ _ at.year at.ordinal)
+
+pub returns-clause-in_range : goal.returns-clause-in_range
+returns-clause-in_range c = (at_number c.self.inside c.args.self c.self.invariant c.self.view_is).in_range
