@@ -5,13 +5,13 @@ use Rattle.std.proofs.lemmas.Int.{ints}
 use Rattle.std.proofs.lemmas.Bool.Decides.{nat_tests}
 use Rattle.cal_units.specs.Lengths.{days_in_year}
 use Rattle.cal_units.specs.Weeks.{first_weekday, weeks_in_year}
-use Rattle.cal_units.proofs.Weeks.{weeks_in_year-is}
+use Rattle.cal_units.proofs.Weeks.{weeks_in_year-is, weeks_in_year-most}
 use Rattle.cal_date.specs.Date.{first_year, last_year, year_at, ordinal_at, weekday_at, IsYear, IsOrdinal, HasOrdinalDate, NoDate}
 use Rattle.cal_date.specs.CountLaws.{years_before, days_before, days_of_years-closed}
 use Rattle.cal_date.specs.IsoWeekDate.{IsWeek, HasIsoWeekDate}
 use Rattle.cal_date.specs.ClosedForms.{week_quotient, iso_year_of, iso_week_of, fourth_weekday, year_of_week, ordinal_of_week}
 use Rattle.cal_date.specs.PackedDate.{ordinal_number}
-use Rattle.cal_date.proofs.Dates.{IsYear-i32, StandsAt, stands, in_range}
+use Rattle.cal_date.proofs.Dates.{IsYear-i32, year-most, StandsAt, stands, in_range}
 use Rattle.cal_date.proofs.IsoWeeks.{iso_number, in_weeks, HasIsoWeekDate-iso_number, HasIsoWeekDate-same_year, HasIsoWeekDate-next_year, HasIsoWeekDate-previous_year, has_year_before}
 use Rattle.cal_date.proofs.Rising.{has_ordinal_number}
 use Rattle.cal_date.proofs.Weekdays.{weekday_at-is, first_weekday-days_before, weeks_in_year-days_before}
@@ -115,7 +115,7 @@ weeks_in_year-least y = grind (arith, nat_tests, weeks_in_year-is y)
 
 pub ruleset at_least_52_weeks = (weeks_in_year-least, ints, nat_tests)
 
-pub ruleset years_of_weeks = (IsYear-i32, ints, nat_tests)
+pub ruleset years_of_weeks = (IsYear-i32, weeks_in_year-least, weeks_in_year-most, year-most, ints, nat_tests)
 
 -- what the closed forms give in each case
 pub record IsBack (y : ℤ) (w wd : ℕ) (year : ℤ) (ordinal : ℕ) : Type 0 where

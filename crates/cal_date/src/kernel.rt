@@ -77,6 +77,7 @@ pub fn julian_kernel(julian_day: i32) -> JulianKernel
 pub(crate) fn date_of_julian_day(julian_day: i32) -> Option<Date>
     ensures has { IfSome result (λ n. IsDate n × HasJulianDay julian_day n) }
     ensures none { result ≡ None → NoDate (HasJulianDay julian_day) }
+    ensures closed_form { let kernel = kernel_of julian_day in IfSome result (HasOrdinalDate (year_of_kernel kernel) (ordinal_of_kernel kernel)) }
 {
     // A number past the last day stands as the day after that, also one below zero, which wraps. So the test comes after the
     // products, and a compiler can take several Julian days at a time.

@@ -1,11 +1,11 @@
 use Rattle.std.proofs.Common.{◌≡◌, ◌+◌, ◌≤◌, ◌-ℤ◌, ◌∙◌, ap, sym, subst, arith, to_z, of_z, w32}
 use Rattle.std.proofs.lemmas.Int.{ints, to_z-of_z}
-use Rattle.cal_date.specs.Date.{first_julian_day, IsDate, HasJulianDay}
+use Rattle.cal_date.specs.Date.{first_julian_day, IsDate, HasJulianDay, HasOrdinalDate}
 use Rattle.cal_date.specs.Move.{IsDateNumber}
-use Rattle.cal_date.specs.ClosedForms.{shifted_day, kernel_by, kernel_of}
+use Rattle.cal_date.specs.ClosedForms.{shifted_day, kernel_by, kernel_of, year_of_kernel, ordinal_of_kernel}
 use Rattle.cal_date.specs.declared.kernel.JulianKernel.{JulianKernel}
 use Rattle.cal_date.proofs.JulianDays.{number_at}
-use Rattle.cal_date.proofs.Kernels.{HasJulianKernel, has_julian_kernel}
+use Rattle.cal_date.proofs.Kernels.{HasJulianKernel, date_by_kernel, has_julian_kernel}
 use Rattle.cal_date.proofs.kernel.date_of_julian_day.Goals as goal
 
 -- past the test a day of the range has the Julian day, and the kernel
@@ -26,3 +26,10 @@ pub returns-clause-has : goal.returns-clause-has
 returns-clause-has c =
     let at = in_range c.before in
     subst (λ n. IsDate n × HasJulianDay c.args.julian_day n) (sym (c.date_of_kernel.ensures (number_at c.args.julian_day) at.date at.has_kernel)) (at.date, at.has_day)
+
+pub returns-clause-closed_form : goal.returns-clause-closed_form
+returns-clause-closed_form c =
+    let at = in_range c.before in
+    let j = c.args.julian_day in
+    subst (HasOrdinalDate (year_of_kernel (kernel_of j)) (ordinal_of_kernel (kernel_of j))) (sym (c.date_of_kernel.ensures (number_at j) at.date at.has_kernel))
+    (date_by_kernel j (number_at j) at.date at.has_day)
