@@ -164,11 +164,7 @@ fn past_whole_weeks(days: u32) -> u8
 }
 
 /// The ISO year and the week of the day of a year of the range that has this ordinal and this weekday.
-#[tactic(
-    auto,
-    using(crate::proofs::IsoForms::years_of_weeks),
-    unfolding(crate::specs::ClosedForms::iso_year_of, crate::specs::ClosedForms::iso_week_of)
-)]
+#[tactic(auto, using(crate::proofs::IsoForms::years_of_weeks), unfolding(crate::specs::ClosedForms::iso_year_of, crate::specs::ClosedForms::iso_week_of))]
 fn iso_year_and_week(year: i32, ordinal: u16, weekday: Weekday) -> (i32, u8)
     requires year { IsYear year }
     requires ordinal { IsOrdinal year ordinal }
@@ -186,11 +182,7 @@ fn iso_year_and_week(year: i32, ordinal: u16, weekday: Weekday) -> (i32, u8)
 }
 
 /// The year and the ordinal of the day that has this weekday, in this week of a year of the range.
-#[tactic(
-    auto,
-    using(crate::proofs::IsoForms::years_of_weeks),
-    unfolding(crate::specs::ClosedForms::year_of_week, crate::specs::ClosedForms::ordinal_of_week)
-)]
+#[tactic(auto, using(crate::proofs::IsoForms::years_of_weeks), unfolding(crate::specs::ClosedForms::year_of_week, crate::specs::ClosedForms::ordinal_of_week))]
 fn ordinal_date_of(year: i32, week: u8, weekday: Weekday) -> (i32, u16)
     requires year { IsYear year }
     requires week { IsWeek year week }

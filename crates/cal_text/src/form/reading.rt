@@ -8,7 +8,7 @@ use crate::digits::number_of;
 use crate::form::Form;
 use crate::year::year_before_hyphen;
 
-/// The bytes of `02-29` and of `W09-4`.
+/// The bytes of a month and a day with a hyphen between them, and of a week and a weekday.
 const LENGTH_AFTER_YEAR: usize = 5;
 
 /// Sunday, as ISO 8601 counts weekdays.

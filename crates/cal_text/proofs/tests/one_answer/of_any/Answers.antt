@@ -1,4 +1,4 @@
-use Rattle.std.proofs.Common.{◌≡◌, None, Some}
+use Rattle.std.proofs.Common.{None, Some}
 use Rattle.cal_text.specs.AnyForm.{IsTextOf}
 use Rattle.cal_text.proofs.OneAnswer.{Follows, alike, no_reason_asked}
 use Rattle.cal_text.proofs.tests.one_answer.of_any.Goals as goal

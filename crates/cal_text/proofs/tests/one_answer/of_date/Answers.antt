@@ -1,4 +1,3 @@
-use Rattle.std.proofs.Common.{◌≡◌}
 use Rattle.cal_time.specs.Date.{IsDate}
 use Rattle.cal_text.specs.DateForms.{IsDateText}
 use Rattle.cal_text.specs.Reading.{IsDateReason}
@@ -12,9 +11,9 @@ returns c =
     alike (λ n. IsDate n × IsDateText c.args.text.now n) IsDateReason _ _ r.has s.has
     (λ n h. r.every n h.0 h.1) (λ n h. s.every n h.0 h.1) r.reason
     (λ why. or (follows _ _ _ why (λ h. s.form.1 (r.form.0 h)))
-        (or (follows _ _ _ why (λ h. s.month.1 (r.month.0 h)))
-        (or (follows _ _ _ why (λ h. s.year.1 (r.year.0 h)))
-        (or (follows _ _ _ why (λ h. s.day.1 (r.day.0 h)))
-        (or (follows _ _ _ why (λ h. s.ordinal.1 (r.ordinal.0 h)))
-        (or (follows _ _ _ why (λ h. s.week.1 (r.week.0 h)))
-        (follows _ _ _ why (λ h. s.weekday.1 (r.weekday.0 h)))))))))
+    (or (follows _ _ _ why (λ h. s.month.1 (r.month.0 h)))
+    (or (follows _ _ _ why (λ h. s.year.1 (r.year.0 h)))
+    (or (follows _ _ _ why (λ h. s.day.1 (r.day.0 h)))
+    (or (follows _ _ _ why (λ h. s.ordinal.1 (r.ordinal.0 h)))
+    (or (follows _ _ _ why (λ h. s.week.1 (r.week.0 h)))
+    (follows _ _ _ why (λ h. s.weekday.1 (r.weekday.0 h)))))))))

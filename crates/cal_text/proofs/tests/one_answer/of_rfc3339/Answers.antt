@@ -1,4 +1,4 @@
-use Rattle.std.proofs.Common.{◌≡◌, ℕ, ℤ}
+use Rattle.std.proofs.Common.{ℕ, ℤ}
 use Rattle.cal_time.specs.Date.{IsDate}
 use Rattle.cal_text.specs.Rfc3339Form.{IsMomentText, IsMomentReason}
 use Rattle.cal_text.proofs.OneAnswer.{alike, follows, or}
@@ -11,10 +11,10 @@ returns c =
     alike (λ (v : ℕ × ℕ × ℤ). IsDate v.0 × IsMomentText c.args.text.now v.0 v.1 v.2) IsMomentReason _ _ r.has s.has
     (λ v h. r.every v.0 v.1 v.2 h.0 h.1) (λ v h. s.every v.0 v.1 v.2 h.0 h.1) r.reason
     (λ why. or (follows _ _ _ why (λ h. s.form.1 (r.form.0 h)))
-        (or (follows _ _ _ why (λ h. s.month.1 (r.month.0 h)))
-        (or (follows _ _ _ why (λ h. s.day.1 (r.day.0 h)))
-        (or (follows _ _ _ why (λ h. s.hour.1 (r.hour.0 h)))
-        (or (follows _ _ _ why (λ h. s.minute.1 (r.minute.0 h)))
-        (or (follows _ _ _ why (λ h. s.second.1 (r.second.0 h)))
-        (or (follows _ _ _ why (λ h. s.offset_hour.1 (r.offset_hour.0 h)))
-        (follows _ _ _ why (λ h. s.offset_minute.1 (r.offset_minute.0 h))))))))))
+    (or (follows _ _ _ why (λ h. s.month.1 (r.month.0 h)))
+    (or (follows _ _ _ why (λ h. s.day.1 (r.day.0 h)))
+    (or (follows _ _ _ why (λ h. s.hour.1 (r.hour.0 h)))
+    (or (follows _ _ _ why (λ h. s.minute.1 (r.minute.0 h)))
+    (or (follows _ _ _ why (λ h. s.second.1 (r.second.0 h)))
+    (or (follows _ _ _ why (λ h. s.offset_hour.1 (r.offset_hour.0 h)))
+    (follows _ _ _ why (λ h. s.offset_minute.1 (r.offset_minute.0 h))))))))))
