@@ -1,5 +1,5 @@
 -- The day or the refusal that a constructor of dates returns, as the day and the reason of the answers.
-use Rattle.std.proofs.Common.{◌≡◌, ℕ, ◌≤◌, ◌⊎◌, length, ap, arith, Result, Ok, Err, ℤ, inl, inr}
+use Rattle.std.proofs.Common.{◌≡◌, ℕ, ◌⊎◌, Result, Ok, Err, ℤ, inl, inr}
 use Rattle.std.specs.Prelude.{IfOk, IfErr, ◌↔◌}
 use Rattle.cal_time.specs.declared.error.ComponentRange.{ComponentRange}
 use Rattle.cal_time.specs.Date.{IsDate, IsYear, IsOrdinal, IsDayOfMonth, NoDate, HasJulianDay, HasOrdinalDate, HasCalendarDate}

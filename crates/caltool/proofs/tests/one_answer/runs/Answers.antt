@@ -1,4 +1,3 @@
-use Rattle.std.proofs.Common.{◌≡◌}
 use Rattle.caltool.proofs.OneAnswer.{ended-one}
 use Rattle.caltool.proofs.tests.one_answer.runs.Goals as goal
 
