@@ -1,17 +1,10 @@
 -- Numbers and durations that are put in place piece by piece.
-use Rattle.std.proofs.Common.{◌≡◌, ℕ, ◌/◌, ◌%◌, ◌^◌, ◌+◌, ◌*◌, ◌<◌, ◌≤◌, List, ◌∷◌, ◌++◌, codes, length, decimal, sym, ap, ◌∙◌, subst, inl, inr, arith, append_assoc, lit<, ℤ, pos, negsuc, ◌-ℤ◌, unsigned_abs, to_z, of_z, w32, FitsSigned}
+use Rattle.std.proofs.Common.{◌≡◌, ℕ, ◌/◌, ◌%◌, ◌^◌, ◌+◌, ◌*◌, ◌<◌, ◌≤◌, List, ◌∷◌, ◌++◌, codes, length, decimal, ap, ◌∙◌, arith, append_assoc, lit<, ℤ, pos, negsuc, ◌-ℤ◌, unsigned_abs, to_z, of_z, w32, FitsSigned}
 use Rattle.std.proofs.lemmas.Int.{ints, to_z-of_z}
 use Rattle.cal_time.specs.Date.{IsDate, julian_day_at}
 use Rattle.std.proofs.lemmas.Fmt.{length-decimal-le}
-use Rattle.cal_time.specs.Month.{month_out_of_range}
-use Rattle.cal_time.specs.declared.error.ComponentRange.{ComponentRange}
-use Rattle.cal_time.specs.Refusals.{julian_day_out_of_range, year_out_of_range, day_out_of_range, ordinal_out_of_range, week_out_of_range, weekday_out_of_range}
 use Rattle.cal_time.specs.SignedDuration.{second, part, parts_text}
-use Rattle.cal_time.specs.Time.{hour_out_of_range, minute_out_of_range, second_out_of_range}
-use Rattle.cal_time.specs.UtcOffset.{offset_hour_out_of_range, offset_minute_out_of_range}
 use Rattle.cal_span.proofs.Text.{parts_text-fields}
-use Rattle.cal_text.specs.AnyForm.{IsFault}
-use Rattle.cal_text.specs.UnixText.{timestamp_out_of_range}
 
 -- no number of 64 bits has more than 20 digits
 pub few_digits : (n : ℕ) → n < 2 ^ 64 → length (decimal n) ≤ 20

@@ -1,4 +1,3 @@
-use Rattle.std.proofs.Common.{◌≡◌}
 use Rattle.caldate.proofs.OneAnswer.{ended-one}
 use Rattle.caldate.proofs.tests.one_answer.runs.Goals as goal
 
