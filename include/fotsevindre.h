@@ -2,26 +2,37 @@
  *
  * Values are plain numbers, and each is checked by each call that it is passed to:
  *
- *   fots_date       a day, as its Julian day: from -363521074, -999999-01-01, to 366963559, 999999-12-31. 2451545 is 2000-01-01.
- *                   Days compare as numbers, and the days between two of them are their difference.
+ *   fots_date       a day, by its Julian day: from -363521074, -999999-01-01, to 366963559, 999999-12-31. {2451545} is 2000-01-01.
+ *                   Days compare by their Julian days, and the days between two of them are the difference of these.
  *   fots_time       a time of day, as nanoseconds since midnight: from 0 to 86399999999999.
- *   fots_offset     an offset from UTC, as seconds, above 0 to the east: from -93599 to 93599.
+ *   fots_offset     an offset from UTC, by its seconds, above 0 to the east: from {-93599} to {93599}.
  *   fots_duration   a signed length of time, as whole seconds and the nanoseconds past them: from -999999999 to 999999999, and
  *                   never against the sign of the seconds. {-1, -500000000} are -1.5 seconds.
  *   month           from January, 1, to December, 12.
  *   weekday         from Monday, 1, to Sunday, 7.
  *
+ * A date and an offset are structs, so neither is taken for the other, nor for a plain number. Below, the examples write them as their
+ * numbers.
+ *
  * The calendar is the proleptic Gregorian one of ISO 8601, with a year 0 before the year 1, from the year -999999 to 999999.
  *
- * Each call but those of years returns a struct that has a status first, and then its answer. Where the status is not FOTS_DONE,
- * each number of the answer is the one that its struct says, as FOTS_NOTHING for a date and FOTS_NO_TIME for a time. No date, time,
- * offset, duration or component is that, so what is not looked at is refused by the next call that it is passed to.
+ * Each call but those of columns, of years and of the version returns a struct that has a status first, and then its answer. Where the
+ * status is not FOTS_DONE, each number of the answer is the one that its struct says, as FOTS_NOTHING for a date and FOTS_NO_TIME for a
+ * time. No date, time, offset, duration, month, weekday, day, ordinal, week, hour, minute, second or part of a second is that, and the
+ * year of no date either. So a call that asks for one of these refuses what was not looked at.
+ *
+ * Other calls take every number, and so what was not looked at, too: fots_is_leap_year, fots_days_in_year, fots_weeks_in_year and
+ * fots_month_length as a year; those that make or scale a duration; the n of fots_month_nth_next and its like. A refused
+ * fots_duration_compare is below 0, as less is. There the status comes first. A struct of zero bytes is a value: the date {0} is
+ * -4713-11-24, and a result of zero bytes has the status FOTS_DONE.
  *
  * An argument that is no value of its type comes first, in the order of the parameters, as FOTS_BAD_DATE and the like, or
  * FOTS_MONTH; then what the call itself refuses, in the order of the parameters.
  *
  * No call keeps a pointer, allocates, reads or writes anything but its arguments, or has a state: any thread may make any call at
  * any time. Only the calls that read a text or take columns take a pointer; the others answer for each argument whatever its bits.
+ *
+ * The library is for Linux on x86-64 processors of level 2.
  */
 #ifndef FOTSEVINDRE_H
 #define FOTSEVINDRE_H
@@ -33,24 +44,39 @@
 extern "C" {
 #endif
 
-typedef int32_t fots_date;
+/* The version of this header. fots_version() says that of the library. */
+#define FOTS_VERSION "0.1.0"
+#define FOTS_VERSION_MAJOR 0
+#define FOTS_VERSION_MINOR 1
+#define FOTS_VERSION_PATCH 0
+
+/* Both cross as their one number. */
+typedef struct fots_date {
+    int32_t julian_day;
+} fots_date;
+
 typedef uint64_t fots_time;
-typedef int32_t fots_offset;
+
+typedef struct fots_offset {
+    int32_t seconds;
+} fots_offset;
 
 typedef struct fots_duration {
     int64_t seconds;
     int32_t nanoseconds;
 } fots_duration;
 
-#define FOTS_MIN_DATE ((fots_date)-363521074)
-#define FOTS_MAX_DATE ((fots_date)366963559)
+#define FOTS_MIN_JULIAN_DAY (-363521074)
+#define FOTS_MAX_JULIAN_DAY 366963559
 #define FOTS_MIN_YEAR (-999999)
 #define FOTS_MAX_YEAR 999999
-#define FOTS_MAX_TIME ((fots_time)86399999999999)
-#define FOTS_MAX_OFFSET ((fots_offset)93599)
+#define FOTS_MAX_TIME UINT64_C(86399999999999)
+#define FOTS_MAX_OFFSET_SECONDS 93599
 
-/* What stands in an answer that there is none of: no date, offset, year or other part, and no time. */
+/* What stands in an answer that there is none of: no Julian day, seconds of an offset or year; no month, day or other part without a
+ * sign; and no time. */
 #define FOTS_NOTHING INT32_MIN
+#define FOTS_NO_PART UINT32_C(2147483648)
 #define FOTS_NO_TIME UINT64_MAX
 
 /* The status of a call. From 16 on it is a refusal, by the name of the component that is out of range; from 64 on the range of that
@@ -132,10 +158,16 @@ static inline int fots_status_is_conditional(int32_t status)
 
 typedef struct fots_date_result {
     int32_t status;
-    fots_date date; /* or FOTS_NOTHING */
+    fots_date date; /* or {FOTS_NOTHING} */
 } fots_date_result;
 
-/* A part of a value. */
+/* A part of a value that is never below 0, as a month, and as it goes into the next call. */
+typedef struct fots_part_result {
+    int32_t status;
+    uint32_t number; /* or FOTS_NO_PART */
+} fots_part_result;
+
+/* A year, a part of an offset or a duration, or a sign. */
 typedef struct fots_number_result {
     int32_t status;
     int32_t number; /* or FOTS_NOTHING */
@@ -189,7 +221,7 @@ typedef struct fots_clock_result {
 
 typedef struct fots_offset_result {
     int32_t status;
-    fots_offset offset; /* or FOTS_NOTHING */
+    fots_offset offset; /* or {FOTS_NOTHING} */
 } fots_offset_result;
 
 /* The parts of an offset, all of one sign. */
@@ -207,7 +239,7 @@ typedef struct fots_duration_result {
 
 typedef struct fots_pair_result {
     int32_t status;
-    fots_date date; /* or FOTS_NOTHING */
+    fots_date date; /* or {FOTS_NOTHING} */
     fots_time time; /* or FOTS_NO_TIME */
 } fots_pair_result;
 
@@ -221,7 +253,7 @@ typedef struct fots_text_result {
 /* A date that was read. */
 typedef struct fots_read_date_result {
     int32_t status;
-    fots_date date; /* or FOTS_NOTHING */
+    fots_date date; /* or {FOTS_NOTHING} */
     size_t place; /* where the status is FOTS_UNREADABLE, the place from 0 of the first byte that no such text has there, or the
                    * length of a text that ends too early; else SIZE_MAX */
 } fots_read_date_result;
@@ -229,11 +261,16 @@ typedef struct fots_read_date_result {
 /* A date, a time of day and an offset that were read. */
 typedef struct fots_read_moment_result {
     int32_t status;
-    fots_date date; /* or FOTS_NOTHING */
+    fots_date date; /* or {FOTS_NOTHING} */
     fots_time time; /* or FOTS_NO_TIME */
-    fots_offset offset; /* or FOTS_NOTHING */
+    fots_offset offset; /* or {FOTS_NOTHING} */
     size_t place; /* as of fots_read_date_result */
 } fots_read_moment_result;
+
+/* ---- the version */
+
+/* That of the library, as 1000000 times its first number, 1000 times its second and its third: that of 0.1.0 is 1000. */
+uint32_t fots_version(void);
 
 /* ---- dates made */
 
@@ -267,15 +304,15 @@ fots_iso_week_date_result fots_date_to_iso_week_date(fots_date date);
 /* The year, from -999999 to 999999; the month; the day, from 1 to 31; the ordinal, from 1 to 366; the ISO week, from 1 to 53; the
  * weekday. Those of 2451604 are 2000, 2, 29, 60, 9 and 2. */
 fots_number_result fots_date_year(fots_date date);
-fots_number_result fots_date_month(fots_date date);
-fots_number_result fots_date_day(fots_date date);
-fots_number_result fots_date_ordinal(fots_date date);
-fots_number_result fots_date_iso_week(fots_date date);
-fots_number_result fots_date_weekday(fots_date date);
+fots_part_result fots_date_month(fots_date date);
+fots_part_result fots_date_day(fots_date date);
+fots_part_result fots_date_ordinal(fots_date date);
+fots_part_result fots_date_iso_week(fots_date date);
+fots_part_result fots_date_weekday(fots_date date);
 
 /* The Sundays, or the Mondays, of the year up to the date: from 0 to 53. Those of 2451604 are 9 and 9. */
-fots_number_result fots_date_sunday_based_week(fots_date date);
-fots_number_result fots_date_monday_based_week(fots_date date);
+fots_part_result fots_date_sunday_based_week(fots_date date);
+fots_part_result fots_date_monday_based_week(fots_date date);
 
 /* ---- dates moved: each refuses as FOTS_BAD_DATE or FOTS_BAD_DURATION */
 
@@ -292,7 +329,7 @@ fots_date_result fots_date_add_days(fots_date date, int64_t days);
 fots_date_result fots_date_checked_add(fots_date date, fots_duration duration);
 fots_date_result fots_date_checked_sub(fots_date date, fots_duration duration);
 
-/* The same, or the end of the range that is nearest: the day after FOTS_MAX_DATE is FOTS_MAX_DATE. */
+/* The same, or the end of the range that is nearest: the day after 366963559 is 366963559. */
 fots_date_result fots_date_saturating_add(fots_date date, fots_duration duration);
 fots_date_result fots_date_saturating_sub(fots_date date, fots_duration duration);
 
@@ -340,12 +377,12 @@ fots_clock_result fots_time_as_hms_nano(fots_time time);
 
 /* The hour, the minute, the second, and what lies below the second, in whole milliseconds, microseconds or nanoseconds. Those of
  * 3723004005006 are 1, 2, 3, 4, 4005 and 4005006. */
-fots_number_result fots_time_hour(fots_time time);
-fots_number_result fots_time_minute(fots_time time);
-fots_number_result fots_time_second(fots_time time);
-fots_number_result fots_time_millisecond(fots_time time);
-fots_number_result fots_time_microsecond(fots_time time);
-fots_number_result fots_time_nanosecond(fots_time time);
+fots_part_result fots_time_hour(fots_time time);
+fots_part_result fots_time_minute(fots_time time);
+fots_part_result fots_time_second(fots_time time);
+fots_part_result fots_time_millisecond(fots_time time);
+fots_part_result fots_time_microsecond(fots_time time);
+fots_part_result fots_time_nanosecond(fots_time time);
 
 /* ---- times with one component replaced, and the others the same: FOTS_BAD_TIME, then the name of the component. The last three
  * replace all that lies below the second. */
@@ -468,17 +505,17 @@ fots_duration_result fots_duration_saturating_mul(fots_duration duration, int32_
 /* ---- months, weekdays and years */
 
 /* The days of the month in the year, from 28 to 31; FOTS_MONTH. That of 2 and 2000 is 29. */
-fots_number_result fots_month_length(uint32_t month, int32_t year);
+fots_part_result fots_month_length(uint32_t month, int32_t year);
 
 /* The month, or the weekday, n after, or before, round the year or the week; FOTS_MONTH or FOTS_BAD_WEEKDAY. Nine months after 7 is
  * 4, and 10 weekdays after 7 is 3. */
-fots_number_result fots_month_nth_next(uint32_t month, uint32_t n);
-fots_number_result fots_month_nth_prev(uint32_t month, uint32_t n);
-fots_number_result fots_weekday_nth_next(uint32_t weekday, uint32_t n);
-fots_number_result fots_weekday_nth_prev(uint32_t weekday, uint32_t n);
+fots_part_result fots_month_nth_next(uint32_t month, uint32_t n);
+fots_part_result fots_month_nth_prev(uint32_t month, uint32_t n);
+fots_part_result fots_weekday_nth_next(uint32_t weekday, uint32_t n);
+fots_part_result fots_weekday_nth_prev(uint32_t weekday, uint32_t n);
 
 /* The number of the weekday from Sunday, 1, to Saturday, 7; FOTS_BAD_WEEKDAY. That of Friday, 5, is 6. */
-fots_number_result fots_weekday_number_from_sunday(uint32_t weekday);
+fots_part_result fots_weekday_number_from_sunday(uint32_t weekday);
 
 /* Whether a year is a leap year, 1 or 0; its days, 365 or 366; its ISO weeks, 52 or 53. Every year has these. */
 uint32_t fots_is_leap_year(int32_t year);
@@ -531,7 +568,7 @@ fots_text_result fots_weekday_name(uint32_t weekday);
 
 /* The day of a calendar date, an ordinal date or an ISO week date, as "2024-02-29", "2024-060" and "2024-W09-4", just as they are
  * printed: years from 0 to 9999 in four digits, others with their sign. Refused as FOTS_UNREADABLE, FOTS_MONTH, FOTS_YEAR, FOTS_DAY,
- * FOTS_ORDINAL, FOTS_WEEK, or as FOTS_WEEKDAY after FOTS_MAX_DATE. "2024-02-3" is unreadable at 9, and "2023-02-29" has no such day. */
+ * FOTS_ORDINAL, FOTS_WEEK, or as FOTS_WEEKDAY after the last day. "2024-02-3" is unreadable at 9, and "2023-02-29" has no such day. */
 fots_read_date_result fots_date_read(const char *text, size_t length);
 
 /* The day of a Julian day after a letter J, as "J2460370" and "J-1". Refused as FOTS_UNREADABLE, or as FOTS_JULIAN_DAY where no day of
@@ -570,7 +607,7 @@ size_t fots_dates_from_iso_week_dates(const int32_t *years, size_t years_length,
 size_t fots_dates_to_calendar_dates(const fots_date *dates, size_t dates_length, fots_calendar_date_result *results, size_t length);
 size_t fots_dates_to_ordinal_dates(const fots_date *dates, size_t dates_length, fots_ordinal_date_result *results, size_t length);
 size_t fots_dates_to_iso_week_dates(const fots_date *dates, size_t dates_length, fots_iso_week_date_result *results, size_t length);
-size_t fots_dates_weekdays(const fots_date *dates, size_t dates_length, fots_number_result *results, size_t length);
+size_t fots_dates_weekdays(const fots_date *dates, size_t dates_length, fots_part_result *results, size_t length);
 
 size_t fots_dates_add_days(const fots_date *dates, size_t dates_length, const int64_t *days, size_t days_length,
     fots_date_result *results, size_t length);

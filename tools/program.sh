@@ -18,17 +18,7 @@ fail() {
     exit 1
 }
 
-# Says whether the program is built and nothing has changed since: no source, and no folder, where one came or went.
-is_built() {
-    [ -x "$program" ] && [ -f "$marker" ] && read -r crates <"$marker" || return 1
-    set -- "$top/crates.txt"
-    for one in $crates; do
-        set -- "$@" "$top/crates/$one"
-    done
-    changed=$(find "$@" '(' -name out -o -name must-fail -o -name '.?*' ')' -prune -o \
-        '(' -type d -o -name crates.txt -o -name '*.rt' -o -name '*.antt' ')' -cnewer "$marker" -print -quit) && [ -z "$changed" ]
-}
-
+. "$top/tools/built.sh"
 if ! is_built; then
     make=run
     . "$top/tools/build.sh"

@@ -1,5 +1,5 @@
 /* The least that a call costs: the cheapest calls, and a row of a column, beside a loop over the same values with no call. It prints
- * the median of the rounds, in nanoseconds a value. Nothing tests what it prints. */
+ * the median of the rounds, in nanoseconds of processor time a value. Nothing tests what it prints. */
 #include <stdio.h>
 #include <stdlib.h>
 #include <time.h>
@@ -14,7 +14,7 @@ static fots_date dates[VALUES];
 static fots_offset offsets[VALUES];
 static int64_t days[VALUES];
 static fots_date_result made[VALUES];
-static fots_number_result numbers[VALUES];
+static fots_part_result numbers[VALUES];
 static fots_calendar_date_result calendars[VALUES];
 
 /* The compiler can't tell what becomes of the number, nor that the memory stays as it is. */
@@ -36,8 +36,8 @@ static uint32_t drawn(void)
 static void draw(void)
 {
     for (int k = 0; k < VALUES; k++) {
-        dates[k] = (fots_date)(1721426 + drawn() % 3652059);
-        offsets[k] = (fots_offset)(drawn() % 187199) - FOTS_MAX_OFFSET;
+        dates[k].julian_day = (int32_t)(1721426 + drawn() % 3652059);
+        offsets[k].seconds = (int32_t)(drawn() % 187199) - FOTS_MAX_OFFSET_SECONDS;
         days[k] = (int64_t)(drawn() % 20001) - 10000;
     }
 }
@@ -45,21 +45,21 @@ static void draw(void)
 static void no_call(void)
 {
     for (int k = 0; k < VALUES; k++) {
-        keep(-offsets[k]);
+        keep(-offsets[k].seconds);
     }
 }
 
 static void one_offset_negated(void)
 {
     for (int k = 0; k < VALUES; k++) {
-        keep(fots_offset_negated(offsets[k]).offset);
+        keep(fots_offset_negated(offsets[k]).offset.seconds);
     }
 }
 
 static void one_next_day(void)
 {
     for (int k = 0; k < VALUES; k++) {
-        keep(fots_date_next_day(dates[k]).date);
+        keep(fots_date_next_day(dates[k]).date.julian_day);
     }
 }
 
@@ -68,13 +68,13 @@ static void one_weekday(void)
     for (int k = 0; k < VALUES; k++) {
         numbers[k] = fots_date_weekday(dates[k]);
     }
-    keep(numbers[0].number);
+    keep((int32_t)numbers[0].number);
 }
 
 static void column_of_weekdays(void)
 {
     fots_dates_weekdays(dates, VALUES, numbers, VALUES);
-    keep(numbers[0].number);
+    keep((int32_t)numbers[0].number);
 }
 
 static void one_add_days(void)
@@ -82,13 +82,13 @@ static void one_add_days(void)
     for (int k = 0; k < VALUES; k++) {
         made[k] = fots_date_add_days(dates[k], days[k]);
     }
-    keep(made[0].date);
+    keep(made[0].date.julian_day);
 }
 
 static void column_of_added_days(void)
 {
     fots_dates_add_days(dates, VALUES, days, VALUES, made, VALUES);
-    keep(made[0].date);
+    keep(made[0].date.julian_day);
 }
 
 static void one_calendar_date(void)

@@ -64,24 +64,29 @@ static int is_made(struct day it)
     fots_date_result by_ordinal = fots_date_from_ordinal_date(it.year, it.ordinal);
     fots_date_result by_week = fots_date_from_iso_week_date(it.iso_year, it.iso_week, it.weekday);
     fots_date_result by_julian_day = fots_date_from_julian_day(it.julian_day);
-    return by_calendar.status == FOTS_DONE && by_calendar.date == it.julian_day
-        && by_ordinal.status == FOTS_DONE && by_ordinal.date == it.julian_day
-        && by_week.status == FOTS_DONE && by_week.date == it.julian_day
-        && by_julian_day.status == FOTS_DONE && by_julian_day.date == it.julian_day;
+    return by_calendar.status == FOTS_DONE && by_calendar.date.julian_day == it.julian_day
+        && by_ordinal.status == FOTS_DONE && by_ordinal.date.julian_day == it.julian_day
+        && by_week.status == FOTS_DONE && by_week.date.julian_day == it.julian_day
+        && by_julian_day.status == FOTS_DONE && by_julian_day.date.julian_day == it.julian_day;
 }
 
 /* A day gives back all that it has. */
 static int has_all(struct day it)
 {
-    fots_calendar_date_result calendar = fots_date_to_calendar_date(it.julian_day);
-    fots_ordinal_date_result ordinal = fots_date_to_ordinal_date(it.julian_day);
-    fots_iso_week_date_result week = fots_date_to_iso_week_date(it.julian_day);
+    fots_calendar_date_result calendar = fots_date_to_calendar_date(date_at(it.julian_day));
+    fots_ordinal_date_result ordinal = fots_date_to_ordinal_date(date_at(it.julian_day));
+    fots_iso_week_date_result week = fots_date_to_iso_week_date(date_at(it.julian_day));
     return calendar.status == FOTS_DONE && calendar.year == it.year && calendar.month == it.month && calendar.day == it.day
         && ordinal.status == FOTS_DONE && ordinal.year == it.year && ordinal.ordinal == it.ordinal
         && week.status == FOTS_DONE && week.year == it.iso_year && week.week == it.iso_week && week.weekday == it.weekday;
 }
 
-static int is_number(fots_number_result result, int64_t number)
+static int is_number(fots_number_result result, int32_t number)
+{
+    return result.status == FOTS_DONE && result.number == number;
+}
+
+static int is_part(fots_part_result result, uint32_t number)
 {
     return result.status == FOTS_DONE && result.number == number;
 }
@@ -89,20 +94,21 @@ static int is_number(fots_number_result result, int64_t number)
 /* The parts one by one: on a day in a few, as each of them is a conversion. */
 static int has_parts(struct day it)
 {
-    fots_date date = it.julian_day;
-    return is_number(fots_date_year(date), it.year) && is_number(fots_date_month(date), it.month)
-        && is_number(fots_date_day(date), it.day) && is_number(fots_date_ordinal(date), it.ordinal)
-        && is_number(fots_date_iso_week(date), it.iso_week) && is_number(fots_date_weekday(date), it.weekday)
-        && is_number(fots_date_sunday_based_week(date), it.sundays) && is_number(fots_date_monday_based_week(date), it.mondays);
+    fots_date date = date_at(it.julian_day);
+    return is_number(fots_date_year(date), it.year) && is_part(fots_date_month(date), it.month)
+        && is_part(fots_date_day(date), it.day) && is_part(fots_date_ordinal(date), it.ordinal)
+        && is_part(fots_date_iso_week(date), it.iso_week) && is_part(fots_date_weekday(date), it.weekday)
+        && is_part(fots_date_sunday_based_week(date), it.sundays) && is_part(fots_date_monday_based_week(date), it.mondays);
 }
 
 /* The days beside a day, of which the first and the last one have one alone. */
 static int has_neighbours(struct day it)
 {
-    fots_date_result next = fots_date_next_day(it.julian_day), previous = fots_date_previous_day(it.julian_day);
-    int last = it.julian_day == FOTS_MAX_DATE, first = it.julian_day == FOTS_MIN_DATE;
-    return next.status == (last ? FOTS_PAST_RANGE : FOTS_DONE) && next.date == (last ? FOTS_NOTHING : it.julian_day + 1)
-        && previous.status == (first ? FOTS_PAST_RANGE : FOTS_DONE) && previous.date == (first ? FOTS_NOTHING : it.julian_day - 1);
+    fots_date_result next = fots_date_next_day(date_at(it.julian_day)), previous = fots_date_previous_day(date_at(it.julian_day));
+    int last = it.julian_day == FOTS_MAX_JULIAN_DAY, first = it.julian_day == FOTS_MIN_JULIAN_DAY;
+    return next.status == (last ? FOTS_PAST_RANGE : FOTS_DONE) && next.date.julian_day == (last ? FOTS_NOTHING : it.julian_day + 1)
+        && previous.status == (first ? FOTS_PAST_RANGE : FOTS_DONE)
+            && previous.date.julian_day == (first ? FOTS_NOTHING : it.julian_day - 1);
 }
 
 /* What no day has, beside the end of a month and of a year. */
@@ -114,7 +120,8 @@ static int refuses_beside(struct day it)
         fots_date_result ordinal = fots_date_from_ordinal_date(it.year, is_leap(it.year) ? 367 : 366);
         fots_date_result none = fots_date_from_ordinal_date(it.year, 0);
         return day.status == FOTS_DAY && zero.status == FOTS_DAY && ordinal.status == FOTS_ORDINAL && none.status == FOTS_ORDINAL
-            && day.date == FOTS_NOTHING && zero.date == FOTS_NOTHING && ordinal.date == FOTS_NOTHING && none.date == FOTS_NOTHING;
+            && day.date.julian_day == FOTS_NOTHING && zero.date.julian_day == FOTS_NOTHING && ordinal.date.julian_day == FOTS_NOTHING
+                && none.date.julian_day == FOTS_NOTHING;
     }
     return 1;
 }
@@ -137,14 +144,14 @@ int main(int count, char **arguments)
 {
     int low = count < 2 || arguments[1][0] == 'l', high = count < 2 || arguments[1][0] == 'h';
     /* -999999-01-01 is a Monday, of week 1. */
-    struct day it = {FOTS_MIN_DATE, FOTS_MIN_YEAR, FOTS_MIN_YEAR, 1, 1, 1, 1, 1, 0, 1};
+    struct day it = {FOTS_MIN_JULIAN_DAY, FOTS_MIN_YEAR, FOTS_MIN_YEAR, 1, 1, 1, 1, 1, 0, 1};
     uint32_t drawn = 1;
     for (;;) {
         drawn = drawn * 1664525 + 1013904223;
         if (it.julian_day < HALF ? low : high) {
             check_day(it, drawn >> 28 == 0 || it.year < FOTS_MIN_YEAR + 2 || it.year > FOTS_MAX_YEAR - 2);
         }
-        if (it.julian_day == FOTS_MAX_DATE) {
+        if (it.julian_day == FOTS_MAX_JULIAN_DAY) {
             break;
         }
         it = day_after(it);

@@ -42,12 +42,12 @@ static fots_date day_of(int32_t year, uint32_t month, uint32_t day)
 
 static void is_date(fots_date_result result, fots_date date, const char *what)
 {
-    check(result.status == FOTS_DONE && result.date == date, what, result.status, result.date);
+    check(result.status == FOTS_DONE && result.date.julian_day == date.julian_day, what, result.status, result.date.julian_day);
 }
 
 static void is_no_date(fots_date_result result, int32_t status, const char *what)
 {
-    check(result.status == status && result.date == FOTS_NOTHING, what, result.status, result.date);
+    check(result.status == status && result.date.julian_day == FOTS_NOTHING, what, result.status, result.date.julian_day);
 }
 
 static void is_duration(fots_duration_result result, fots_duration duration, const char *what)
@@ -72,6 +72,11 @@ static void is_number(fots_number_result result, int32_t number, const char *wha
     check(result.status == FOTS_DONE && result.number == number, what, result.status, result.number);
 }
 
+static void is_part(fots_part_result result, uint32_t number, const char *what)
+{
+    check(result.status == FOTS_DONE && result.number == number, what, result.status, result.number);
+}
+
 static void is_text(fots_text_result result, const char *text, const char *what)
 {
     size_t length = strlen(text);
@@ -92,26 +97,27 @@ static void is_no_text(fots_text_result result, int32_t status, const char *what
 
 static void is_read(fots_read_date_result result, fots_date date, const char *what)
 {
-    check(result.status == FOTS_DONE && result.date == date && result.place == SIZE_MAX, what, result.status, result.date);
+    check(result.status == FOTS_DONE && result.date.julian_day == date.julian_day && result.place == SIZE_MAX, what, result.status,
+        result.date.julian_day);
 }
 
 /* What is refused, with its place where it is unreadable. */
 static void is_not_read(fots_read_date_result result, int32_t status, size_t place, const char *what)
 {
-    check(result.status == status && result.date == FOTS_NOTHING && result.place == place, what, result.status,
+    check(result.status == status && result.date.julian_day == FOTS_NOTHING && result.place == place, what, result.status,
         (long long)result.place);
 }
 
 static void is_moment(fots_read_moment_result result, fots_date date, fots_time time, fots_offset offset, const char *what)
 {
-    check(result.status == FOTS_DONE && result.date == date && result.time == time && result.offset == offset
-        && result.place == SIZE_MAX, what, result.status, result.date);
+    check(result.status == FOTS_DONE && result.date.julian_day == date.julian_day && result.time == time
+        && result.offset.seconds == offset.seconds && result.place == SIZE_MAX, what, result.status, result.date.julian_day);
 }
 
 static void is_no_moment(fots_read_moment_result result, int32_t status, size_t place, const char *what)
 {
-    check(result.status == status && result.date == FOTS_NOTHING && result.time == FOTS_NO_TIME && result.offset == FOTS_NOTHING
-        && result.place == place, what, result.status, (long long)result.place);
+    check(result.status == status && result.date.julian_day == FOTS_NOTHING && result.time == FOTS_NO_TIME
+        && result.offset.seconds == FOTS_NOTHING && result.place == place, what, result.status, (long long)result.place);
 }
 
 static fots_time clock_of(uint32_t hour, uint32_t minute, uint32_t second, uint32_t nanosecond)
@@ -147,31 +153,32 @@ static void days(void)
         {2460370, 2024, 2, 29, 60, 2024, 9, 4},
     };
     for (int k = 0; k < COUNT(rows); k++) {
-        fots_date date = rows[k].julian_day;
+        int32_t julian_day = rows[k].julian_day;
+        fots_date date = date_at(julian_day);
         fots_calendar_date_result calendar = fots_date_to_calendar_date(date);
         fots_ordinal_date_result ordinal = fots_date_to_ordinal_date(date);
         fots_iso_week_date_result week = fots_date_to_iso_week_date(date);
         check(calendar.status == FOTS_DONE && calendar.year == rows[k].year && calendar.month == rows[k].month
-            && calendar.day == rows[k].day, "the calendar date of a row", date, calendar.year);
+            && calendar.day == rows[k].day, "the calendar date of a row", julian_day, calendar.year);
         check(ordinal.status == FOTS_DONE && ordinal.year == rows[k].year && ordinal.ordinal == rows[k].ordinal,
-            "the ordinal date of a row", date, ordinal.ordinal);
+            "the ordinal date of a row", julian_day, ordinal.ordinal);
         check(week.status == FOTS_DONE && week.year == rows[k].iso_year && week.week == rows[k].week
-            && week.weekday == rows[k].weekday, "the week date of a row", date, week.week);
+            && week.weekday == rows[k].weekday, "the week date of a row", julian_day, week.week);
         is_date(fots_date_from_calendar_date(rows[k].year, rows[k].month, rows[k].day), date, "a row by calendar date");
         is_date(fots_date_from_ordinal_date(rows[k].year, rows[k].ordinal), date, "a row by ordinal date");
         is_date(fots_date_from_iso_week_date(rows[k].iso_year, rows[k].week, rows[k].weekday), date, "a row by week date");
-        is_date(fots_date_from_julian_day(date), date, "a row by Julian day");
+        is_date(fots_date_from_julian_day(julian_day), date, "a row by Julian day");
         is_number(fots_date_year(date), rows[k].year, "the year of a row");
-        is_number(fots_date_month(date), (int32_t)rows[k].month, "the month of a row");
-        is_number(fots_date_day(date), (int32_t)rows[k].day, "the day of a row");
-        is_number(fots_date_ordinal(date), (int32_t)rows[k].ordinal, "the ordinal of a row");
-        is_number(fots_date_iso_week(date), (int32_t)rows[k].week, "the week of a row");
-        is_number(fots_date_weekday(date), (int32_t)rows[k].weekday, "the weekday of a row");
+        is_part(fots_date_month(date), rows[k].month, "the month of a row");
+        is_part(fots_date_day(date), rows[k].day, "the day of a row");
+        is_part(fots_date_ordinal(date), rows[k].ordinal, "the ordinal of a row");
+        is_part(fots_date_iso_week(date), rows[k].week, "the week of a row");
+        is_part(fots_date_weekday(date), rows[k].weekday, "the weekday of a row");
     }
-    is_number(fots_date_sunday_based_week(day_of(2019, 1, 1)), 0, "Sundays");
-    is_number(fots_date_monday_based_week(day_of(2019, 1, 1)), 0, "Mondays");
-    is_number(fots_date_sunday_based_week(day_of(2020, 12, 31)), 52, "Sundays");
-    is_number(fots_date_monday_based_week(day_of(2020, 12, 31)), 52, "Mondays");
+    is_part(fots_date_sunday_based_week(day_of(2019, 1, 1)), 0, "Sundays");
+    is_part(fots_date_monday_based_week(day_of(2019, 1, 1)), 0, "Mondays");
+    is_part(fots_date_sunday_based_week(day_of(2020, 12, 31)), 52, "Sundays");
+    is_part(fots_date_monday_based_week(day_of(2020, 12, 31)), 52, "Mondays");
 }
 
 /* What is refused, and by which name. */
@@ -215,7 +222,7 @@ static void refusals(void)
 /* Days moved. */
 static void moves(void)
 {
-    fots_date first = FOTS_MIN_DATE, last = FOTS_MAX_DATE;
+    fots_date first = date_at(FOTS_MIN_JULIAN_DAY), last = date_at(FOTS_MAX_JULIAN_DAY);
     is_date(fots_date_checked_add(first, seconds(-23 * 3600)), first, "23 hours before the first day");
     is_no_date(fots_date_checked_add(first, seconds(-DAY)), FOTS_PAST_RANGE, "a day before the first day");
     is_date(fots_date_checked_sub(first, seconds(23 * 3600)), first, "23 hours before the first day");
@@ -342,17 +349,19 @@ static void times(void)
     is_duration(fots_time_difference(0, clock_of(23, 0, 0, 0)), seconds(-23 * 3600), "0:00 less 23:00");
     is_duration(fots_time_difference(FOTS_MAX_TIME, 0), both(86399, 999999999), "the last nanosecond less midnight");
     is_duration(fots_time_difference(one, one), zero, "a time less itself");
-    is_number(fots_time_millisecond(one), 4, "the millisecond");
-    is_number(fots_time_microsecond(one), 4005, "the microsecond");
-    is_number(fots_time_nanosecond(one), 4005006, "the nanosecond");
-    check(fots_add_to_pair(FOTS_MAX_DATE, FOTS_MAX_TIME, nanoseconds(1)).status == FOTS_PAST_RANGE, "past the last moment", 0, 0);
-    check(fots_sub_from_pair(FOTS_MIN_DATE, noon, seconds(13 * 3600)).status == FOTS_PAST_RANGE, "before the first moment", 0, 0);
+    is_part(fots_time_millisecond(one), 4, "the millisecond");
+    is_part(fots_time_microsecond(one), 4005, "the microsecond");
+    is_part(fots_time_nanosecond(one), 4005006, "the nanosecond");
+    check(fots_add_to_pair(date_at(FOTS_MAX_JULIAN_DAY), FOTS_MAX_TIME, nanoseconds(1)).status == FOTS_PAST_RANGE,
+        "past the last moment", 0, 0);
+    check(fots_sub_from_pair(date_at(FOTS_MIN_JULIAN_DAY), noon, seconds(13 * 3600)).status == FOTS_PAST_RANGE,
+        "before the first moment", 0, 0);
     pair = fots_add_to_pair(day_of(2020, 12, 31), clock_of(23, 0, 0, 0), seconds(7200));
-    check(pair.status == FOTS_DONE && pair.date == day_of(2021, 1, 1) && pair.time == clock_of(1, 0, 0, 0), "two hours later",
-        pair.date, (long long)pair.time);
+    check(pair.status == FOTS_DONE && pair.date.julian_day == 2459216 && pair.time == clock_of(1, 0, 0, 0), "two hours later",
+        pair.date.julian_day, (long long)pair.time);
     pair = fots_sub_from_pair(day_of(2021, 1, 1), clock_of(1, 0, 0, 0), seconds(7200));
-    check(pair.status == FOTS_DONE && pair.date == day_of(2020, 12, 31) && pair.time == clock_of(23, 0, 0, 0), "two hours earlier",
-        pair.date, (long long)pair.time);
+    check(pair.status == FOTS_DONE && pair.date.julian_day == 2459215 && pair.time == clock_of(23, 0, 0, 0), "two hours earlier",
+        pair.date.julian_day, (long long)pair.time);
 }
 
 /* Offsets. */
@@ -369,8 +378,8 @@ static void offsets(void)
     };
     for (int k = 0; k < COUNT(rows); k++) {
         fots_offset_result made = fots_offset_from_hms(rows[k].hours, rows[k].minutes, rows[k].seconds);
-        fots_offset_parts_result parts = fots_offset_as_hms(rows[k].offset);
-        check(made.status == FOTS_DONE && made.offset == rows[k].offset, "an offset of a row", k, made.offset);
+        fots_offset_parts_result parts = fots_offset_as_hms(offset_at(rows[k].offset));
+        check(made.status == FOTS_DONE && made.offset.seconds == rows[k].offset, "an offset of a row", k, made.offset.seconds);
         check(parts.status == FOTS_DONE && parts.hours == rows[k].parts[0] && parts.minutes == rows[k].parts[1]
             && parts.seconds == rows[k].parts[2], "the parts of an offset", k, parts.hours);
     }
@@ -380,27 +389,27 @@ static void offsets(void)
     check(fots_offset_from_hms(0, 0, 60).status == FOTS_OFFSET_SECOND, "60 seconds", 0, 0);
     check(fots_offset_from_whole_seconds(93600).status == FOTS_SECONDS, "93600 seconds", 0, 0);
     check(fots_offset_from_whole_seconds(4294967296).status == FOTS_SECONDS, "seconds of 33 bits", 0, 0);
-    check(fots_offset_from_whole_seconds(-93599).offset == -93599, "-93599 seconds", 0, 0);
-    check(fots_offset_negated(-19800).offset == 19800, "the other side", 0, 0);
-    is_number(fots_offset_whole_hours(-5400), -1, "the hours of -1:30");
-    is_number(fots_offset_whole_minutes(-5400), -90, "the minutes of -1:30");
-    is_number(fots_offset_minutes_past_hour(-5400), -30, "the minutes past the hour");
-    is_number(fots_offset_seconds_past_minute(3723), 3, "the seconds past the minute");
+    check(fots_offset_from_whole_seconds(-93599).offset.seconds == -93599, "-93599 seconds", 0, 0);
+    check(fots_offset_negated(offset_at(-19800)).offset.seconds == 19800, "the other side", 0, 0);
+    is_number(fots_offset_whole_hours(offset_at(-5400)), -1, "the hours of -1:30");
+    is_number(fots_offset_whole_minutes(offset_at(-5400)), -90, "the minutes of -1:30");
+    is_number(fots_offset_minutes_past_hour(offset_at(-5400)), -30, "the minutes past the hour");
+    is_number(fots_offset_seconds_past_minute(offset_at(3723)), 3, "the seconds past the minute");
 }
 
 /* Months, weekdays and years. */
 static void cycles(void)
 {
-    is_number(fots_month_length(2, 2000), 29, "February of 2000");
-    is_number(fots_month_length(2, 1900), 28, "February of 1900");
-    is_number(fots_month_nth_next(7, 9), 4, "nine months after July");
-    is_number(fots_month_nth_next(1, 255), 4, "255 months after January");
-    is_number(fots_month_nth_prev(7, 9), 10, "nine months before July");
-    is_number(fots_month_nth_prev(1, 4), 9, "four months before January");
-    is_number(fots_weekday_nth_next(7, 10), 3, "ten days after Sunday");
-    is_number(fots_weekday_nth_prev(7, 10), 4, "ten days before Sunday");
-    is_number(fots_weekday_number_from_sunday(5), 6, "Friday from Sunday");
-    is_number(fots_weekday_number_from_sunday(7), 1, "Sunday from Sunday");
+    is_part(fots_month_length(2, 2000), 29, "February of 2000");
+    is_part(fots_month_length(2, 1900), 28, "February of 1900");
+    is_part(fots_month_nth_next(7, 9), 4, "nine months after July");
+    is_part(fots_month_nth_next(1, 255), 4, "255 months after January");
+    is_part(fots_month_nth_prev(7, 9), 10, "nine months before July");
+    is_part(fots_month_nth_prev(1, 4), 9, "four months before January");
+    is_part(fots_weekday_nth_next(7, 10), 3, "ten days after Sunday");
+    is_part(fots_weekday_nth_prev(7, 10), 4, "ten days before Sunday");
+    is_part(fots_weekday_number_from_sunday(5), 6, "Friday from Sunday");
+    is_part(fots_weekday_number_from_sunday(7), 1, "Sunday from Sunday");
     check(fots_month_nth_next(0, 1).status == FOTS_MONTH && fots_month_nth_next(13, 1).status == FOTS_MONTH, "no month", 0, 0);
     check(fots_is_leap_year(2000) == 1 && fots_is_leap_year(1900) == 0 && fots_is_leap_year(INT32_MIN) == 1, "leap years", 0, 0);
     check(fots_days_in_year(2020) == 366 && fots_days_in_year(2019) == 365, "days of a year", 0, 0);
@@ -411,7 +420,7 @@ static void cycles(void)
 static void texts_of_days(void)
 {
     static const struct {
-        fots_date date;
+        int32_t julian_day;
         const char *calendar, *ordinal, *week, *julian;
     } rows[] = {
         {2460370, "2024-02-29", "2024-060", "2024-W09-4", "J2460370"},
@@ -425,17 +434,18 @@ static void texts_of_days(void)
         {-363521074, "-999999-01-01", "-999999-001", "-999999-W01-1", "J-363521074"},
     };
     for (int k = 0; k < COUNT(rows); k++) {
-        is_text(fots_date_calendar_text(rows[k].date), rows[k].calendar, rows[k].calendar);
-        is_text(fots_date_ordinal_text(rows[k].date), rows[k].ordinal, rows[k].ordinal);
-        is_text(fots_date_week_text(rows[k].date), rows[k].week, rows[k].week);
-        is_text(fots_date_julian_text(rows[k].date), rows[k].julian, rows[k].julian);
-        is_read(fots_date_read(rows[k].calendar, strlen(rows[k].calendar)), rows[k].date, rows[k].calendar);
-        is_read(fots_date_read(rows[k].ordinal, strlen(rows[k].ordinal)), rows[k].date, rows[k].ordinal);
-        is_read(fots_date_read(rows[k].week, strlen(rows[k].week)), rows[k].date, rows[k].week);
-        is_read(fots_julian_day_read(rows[k].julian, strlen(rows[k].julian)), rows[k].date, rows[k].julian);
+        fots_date date = date_at(rows[k].julian_day);
+        is_text(fots_date_calendar_text(date), rows[k].calendar, rows[k].calendar);
+        is_text(fots_date_ordinal_text(date), rows[k].ordinal, rows[k].ordinal);
+        is_text(fots_date_week_text(date), rows[k].week, rows[k].week);
+        is_text(fots_date_julian_text(date), rows[k].julian, rows[k].julian);
+        is_read(fots_date_read(rows[k].calendar, strlen(rows[k].calendar)), date, rows[k].calendar);
+        is_read(fots_date_read(rows[k].ordinal, strlen(rows[k].ordinal)), date, rows[k].ordinal);
+        is_read(fots_date_read(rows[k].week, strlen(rows[k].week)), date, rows[k].week);
+        is_read(fots_julian_day_read(rows[k].julian, strlen(rows[k].julian)), date, rows[k].julian);
     }
-    is_read(fots_date_read("2024-060-", 8), 2460370, "no byte after the length is looked at");
-    is_no_text(fots_date_calendar_text(FOTS_MAX_DATE + 1), FOTS_BAD_DATE, "the text of no date");
+    is_read(fots_date_read("2024-060-", 8), date_at(2460370), "no byte after the length is looked at");
+    is_no_text(fots_date_calendar_text(date_at(FOTS_MAX_JULIAN_DAY + 1)), FOTS_BAD_DATE, "the text of no date");
 }
 
 /* Texts that are no days: where they are wrong, or which component. */
@@ -480,7 +490,7 @@ static void texts_of_moments(void)
         const char *text, *printed;
         int32_t year;
         uint32_t month, day, hour, minute, second, nanosecond;
-        fots_offset offset;
+        int32_t offset;
     } rows[] = {
         {"1985-04-12T23:20:50.52Z", "1985-04-12T23:20:50.52Z", 1985, 4, 12, 23, 20, 50, 520000000, 0},
         {"1996-12-19T16:39:57-08:00", "1996-12-19T16:39:57-08:00", 1996, 12, 19, 16, 39, 57, 0, -28800},
@@ -506,30 +516,32 @@ static void texts_of_moments(void)
     };
     for (int k = 0; k < COUNT(rows); k++) {
         fots_date date = day_of(rows[k].year, rows[k].month, rows[k].day);
+        fots_offset offset = offset_at(rows[k].offset);
         fots_time time = clock_of(rows[k].hour, rows[k].minute, rows[k].second, rows[k].nanosecond);
-        is_moment(fots_moment_read(rows[k].text, strlen(rows[k].text)), date, time, rows[k].offset, rows[k].text);
-        is_text(fots_moment_text(date, time, rows[k].offset), rows[k].printed, rows[k].printed);
+        is_moment(fots_moment_read(rows[k].text, strlen(rows[k].text)), date, time, offset, rows[k].text);
+        is_text(fots_moment_text(date, time, offset), rows[k].printed, rows[k].printed);
     }
     for (int k = 0; k < COUNT(refused); k++) {
         const char *text = refused[k].text;
         is_no_moment(fots_moment_read(text, strlen(text)), refused[k].status, refused[k].place, text);
     }
-    is_no_text(fots_moment_text(day_of(10000, 1, 1), 0, 0), FOTS_PAST_RANGE, "a moment of the year 10000");
-    is_no_text(fots_moment_text(day_of(-1, 12, 31), 0, 0), FOTS_PAST_RANGE, "a moment of the year -1");
-    is_no_text(fots_moment_text(day_of(2024, 2, 29), 0, 86400), FOTS_PAST_RANGE, "an offset of a day");
-    is_no_text(fots_moment_text(day_of(2024, 2, 29), 0, -1), FOTS_PAST_RANGE, "an offset with seconds");
-    is_no_text(fots_moment_text(FOTS_NOTHING, FOTS_NO_TIME, FOTS_NOTHING), FOTS_BAD_DATE, "no date first");
-    is_no_text(fots_moment_text(2460370, FOTS_NO_TIME, FOTS_NOTHING), FOTS_BAD_TIME, "no time second");
-    is_no_text(fots_moment_text(FOTS_MAX_DATE, 0, FOTS_NOTHING), FOTS_BAD_OFFSET, "no offset before what has no text");
+    is_no_text(fots_moment_text(day_of(10000, 1, 1), 0, offset_at(0)), FOTS_PAST_RANGE, "a moment of the year 10000");
+    is_no_text(fots_moment_text(day_of(-1, 12, 31), 0, offset_at(0)), FOTS_PAST_RANGE, "a moment of the year -1");
+    is_no_text(fots_moment_text(day_of(2024, 2, 29), 0, offset_at(86400)), FOTS_PAST_RANGE, "an offset of a day");
+    is_no_text(fots_moment_text(day_of(2024, 2, 29), 0, offset_at(-1)), FOTS_PAST_RANGE, "an offset with seconds");
+    is_no_text(fots_moment_text(date_at(FOTS_NOTHING), FOTS_NO_TIME, offset_at(FOTS_NOTHING)), FOTS_BAD_DATE, "no date first");
+    is_no_text(fots_moment_text(date_at(2460370), FOTS_NO_TIME, offset_at(FOTS_NOTHING)), FOTS_BAD_TIME, "no time second");
+    is_no_text(fots_moment_text(date_at(FOTS_MAX_JULIAN_DAY), 0, offset_at(FOTS_NOTHING)), FOTS_BAD_OFFSET,
+        "no offset before what has no text");
 }
 
 /* Unix times, as durations and in text. */
 static void unix_times(void)
 {
     static const struct {
-        fots_date date;
+        int32_t julian_day;
         fots_time time;
-        fots_offset offset;
+        int32_t offset;
         int64_t seconds;
         int32_t nanoseconds;
         const char *text;
@@ -556,25 +568,30 @@ static void unix_times(void)
     };
     fots_pair_result pair;
     for (int k = 0; k < COUNT(rows); k++) {
+        fots_date date = date_at(rows[k].julian_day);
+        fots_offset offset = offset_at(rows[k].offset);
         fots_duration duration = both(rows[k].seconds, rows[k].nanoseconds);
-        is_duration(fots_unix_time(rows[k].date, rows[k].time, rows[k].offset), duration, rows[k].text);
-        is_text(fots_unix_text(rows[k].date, rows[k].time, rows[k].offset), rows[k].text, rows[k].text);
-        pair = fots_unix_pair(duration, rows[k].offset);
-        check(pair.status == FOTS_DONE && pair.date == rows[k].date && pair.time == rows[k].time, rows[k].text, pair.date, k);
+        is_duration(fots_unix_time(date, rows[k].time, offset), duration, rows[k].text);
+        is_text(fots_unix_text(date, rows[k].time, offset), rows[k].text, rows[k].text);
+        pair = fots_unix_pair(duration, offset);
+        check(pair.status == FOTS_DONE && pair.date.julian_day == rows[k].julian_day && pair.time == rows[k].time, rows[k].text,
+            pair.date.julian_day,
+            k);
         if (rows[k].offset == 0) {
-            is_moment(fots_unix_read(rows[k].text, strlen(rows[k].text)), rows[k].date, rows[k].time, 0, rows[k].text);
+            is_moment(fots_unix_read(rows[k].text, strlen(rows[k].text)), date, rows[k].time, offset, rows[k].text);
         }
     }
-    is_moment(fots_unix_read("@1709164800.50", 14), 2460370, 500000000, 0, "a zero at the end");
+    is_moment(fots_unix_read("@1709164800.50", 14), date_at(2460370), 500000000, offset_at(0), "a zero at the end");
     for (int k = 0; k < COUNT(refused); k++) {
         const char *text = refused[k].text;
         is_no_moment(fots_unix_read(text, strlen(text)), refused[k].status, refused[k].place, text);
     }
-    pair = fots_unix_pair(seconds(31494784780799), 3600);
-    check(pair.status == FOTS_PAST_RANGE && pair.date == FOTS_NOTHING && pair.time == FOTS_NO_TIME, "past the last day", pair.date, 0);
-    check(fots_unix_pair(both(1, -1), FOTS_NOTHING).status == FOTS_BAD_DURATION, "no duration first", 0, 0);
-    check(fots_unix_pair(greatest, FOTS_NOTHING).status == FOTS_BAD_OFFSET, "no offset before the range", 0, 0);
-    is_no_duration(fots_unix_time(FOTS_NOTHING, FOTS_NO_TIME, 0), FOTS_BAD_DATE, "the Unix time of no date");
+    pair = fots_unix_pair(seconds(31494784780799), offset_at(3600));
+    check(pair.status == FOTS_PAST_RANGE && pair.date.julian_day == FOTS_NOTHING && pair.time == FOTS_NO_TIME, "past the last day",
+        pair.date.julian_day, 0);
+    check(fots_unix_pair(both(1, -1), offset_at(FOTS_NOTHING)).status == FOTS_BAD_DURATION, "no duration first", 0, 0);
+    check(fots_unix_pair(greatest, offset_at(FOTS_NOTHING)).status == FOTS_BAD_OFFSET, "no offset before the range", 0, 0);
+    is_no_duration(fots_unix_time(date_at(FOTS_NOTHING), FOTS_NO_TIME, offset_at(0)), FOTS_BAD_DATE, "the Unix time of no date");
 }
 
 /* The names of months and weekdays. */
@@ -608,6 +625,33 @@ static void names(void)
     check(fots_status_is_conditional(FOTS_WEEK) && !fots_status_is_conditional(FOTS_YEAR), "the marks", 0, 0);
 }
 
+/* What was not looked at, and where it goes. */
+static void refused_next(void)
+{
+    fots_calendar_date_result calendar = fots_date_to_calendar_date(fots_date_from_calendar_date(2023, 2, 29).date);
+    fots_clock_result clock = fots_time_as_hms_nano(fots_time_from_hms(24, 0, 0).time);
+    fots_offset_parts_result parts = fots_offset_as_hms(fots_offset_from_hms(26, 0, 0).offset);
+    fots_part_result part = fots_date_month(date_at(FOTS_NOTHING));
+    check(calendar.status == FOTS_BAD_DATE && clock.status == FOTS_BAD_TIME && parts.status == FOTS_BAD_OFFSET, "values", 0, 0);
+    check(part.status == FOTS_BAD_DATE && part.number == FOTS_NO_PART, "no part", part.status, part.number);
+    is_no_date(fots_date_from_calendar_date(2023, calendar.month, 1), FOTS_MONTH, "no month");
+    is_no_date(fots_date_from_calendar_date(calendar.year, 1, 1), FOTS_YEAR, "no year");
+    is_no_date(fots_date_from_calendar_date(2023, 1, calendar.day), FOTS_DAY, "no day");
+    is_no_date(fots_date_from_calendar_date(2023, part.number, 1), FOTS_MONTH, "no part as a month");
+    is_no_date(fots_date_from_ordinal_date(2023, part.number), FOTS_ORDINAL, "no part as an ordinal");
+    is_no_date(fots_date_from_iso_week_date(2023, part.number, 1), FOTS_WEEK, "no part as a week");
+    is_no_date(fots_date_next_occurrence(date_at(0), part.number), FOTS_BAD_WEEKDAY, "no part as a weekday");
+    is_no_date(fots_date_nth_next_occurrence(date_at(0), 1, part.number), FOTS_BAD_COUNT, "no part as a count");
+    check(fots_time_from_hms(clock.hour, 0, 0).status == FOTS_HOUR && fots_time_from_hms(part.number, 0, 0).status == FOTS_HOUR,
+        "no hour",
+        0, 0);
+    check(fots_offset_from_hms(parts.hours, 0, 0).status == FOTS_OFFSET_HOUR, "no hours of an offset", 0, 0);
+    is_part(fots_month_length(2, calendar.year), 29, "a year of no date, which each year call takes");
+    check(fots_duration_compare(fots_duration_days(INT64_MAX).duration, zero).number < 0, "no duration, which is below as less is", 0,
+        0);
+    is_date(fots_date_next_day(date_at(0)), date_at(1), "a date of zero bytes, which is one");
+}
+
 int main(void)
 {
     days();
@@ -623,5 +667,8 @@ int main(void)
     unix_times();
     names_of_cycles();
     names();
+    refused_next();
+    check(fots_version() == 1000000 * FOTS_VERSION_MAJOR + 1000 * FOTS_VERSION_MINOR + FOTS_VERSION_PATCH, "the version",
+        fots_version(), 0);
     return ended("rows");
 }

@@ -4,6 +4,8 @@
 
 #include <stdio.h>
 
+#include "fotsevindre.h"
+
 static unsigned long long passed, failed;
 
 /* Counts a fact, and says where it does not hold. */
@@ -15,6 +17,18 @@ static int check(int holds, const char *what, long long first, long long second)
         printf("failed: %s at %lld %lld\n", what, first, second);
     }
     return holds;
+}
+
+static inline fots_date date_at(int32_t julian_day)
+{
+    fots_date date = {julian_day};
+    return date;
+}
+
+static inline fots_offset offset_at(int32_t seconds)
+{
+    fots_offset offset = {seconds};
+    return offset;
 }
 
 /* Says how many facts held, and whether all did. */

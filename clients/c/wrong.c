@@ -1,4 +1,5 @@
-/* Arguments that are no values, with all their bits: each call gives them a status and no answer, and gives a value no such status. And
+/* Arguments that are no values, with all their bits: each call gives them a status and no answer,
+    and gives a value no such status. And
  * bytes that are no text, or nearly one. */
 #include <string.h>
 
@@ -19,7 +20,7 @@ static uint64_t drawn(void)
 
 static int is_date(fots_date date)
 {
-    return date >= FOTS_MIN_DATE && date <= FOTS_MAX_DATE;
+    return date.julian_day >= FOTS_MIN_JULIAN_DAY && date.julian_day <= FOTS_MAX_JULIAN_DAY;
 }
 
 static int is_time(fots_time time)
@@ -29,7 +30,7 @@ static int is_time(fots_time time)
 
 static int is_offset(fots_offset offset)
 {
-    return offset >= -FOTS_MAX_OFFSET && offset <= FOTS_MAX_OFFSET;
+    return offset.seconds >= -FOTS_MAX_OFFSET_SECONDS && offset.seconds <= FOTS_MAX_OFFSET_SECONDS;
 }
 
 static int is_duration(fots_duration duration)
@@ -78,7 +79,8 @@ static int32_t first_of(int32_t one, int32_t other)
 static void status_is(int32_t wanted, int32_t status, int has_value, const char *what, long long first, long long second)
 {
     int fits = wanted != FOTS_DONE ? status == wanted
-        : status == FOTS_DONE || status == FOTS_PAST_RANGE || status == FOTS_BAD_COUNT || (status >= FOTS_YEAR && status <= FOTS_WEEKDAY);
+        : status == FOTS_DONE || status == FOTS_PAST_RANGE || status == FOTS_BAD_COUNT || (status >= FOTS_YEAR
+            && status <= FOTS_WEEKDAY);
     check(fits, what, first, second);
     check((status == FOTS_DONE) == has_value, what, first, second);
 }
@@ -101,13 +103,18 @@ static int bytes_of_text(const fots_text_result *result)
 #define DATE(wanted, call) \
     do { \
         fots_date_result result = call; \
-        status_is(wanted, result.status, is_date(result.date), #call, date, result.status); \
-        check(result.status == FOTS_DONE || result.date == FOTS_NOTHING, #call, date, result.date); \
+        status_is(wanted, result.status, is_date(result.date), #call, julian_day, result.status); \
+        check(result.status == FOTS_DONE || result.date.julian_day == FOTS_NOTHING, #call, julian_day, result.date.julian_day); \
     } while (0)
 #define NUMBER(wanted, call, first) \
     do { \
         fots_number_result result = call; \
         status_is(wanted, result.status, result.number != FOTS_NOTHING, #call, (long long)(first), result.status); \
+    } while (0)
+#define PART(wanted, call, first) \
+    do { \
+        fots_part_result result = call; \
+        status_is(wanted, result.status, result.number != FOTS_NO_PART, #call, (long long)(first), result.status); \
     } while (0)
 #define LONG(wanted, call) \
     do { \
@@ -139,15 +146,15 @@ static void every_date(int32_t from, int32_t to)
 {
     int32_t year = INT32_MIN;
     for (int64_t bits = from; bits <= to; bits++) {
-        fots_date date = (fots_date)bits;
+        fots_date date = date_at((int32_t)bits);
         fots_number_result result = fots_date_year(date);
         if (is_date(date)) {
             int in_order = result.status == FOTS_DONE && result.number >= FOTS_MIN_YEAR && result.number <= FOTS_MAX_YEAR
                 && (year == INT32_MIN || result.number == year || result.number == year + 1);
-            check(in_order, "the year of a date", date, result.number);
+            check(in_order, "the year of a date", bits, result.number);
             year = result.number;
         } else {
-            check(result.status == FOTS_BAD_DATE && result.number == FOTS_NOTHING, "the year of no date", date, result.number);
+            check(result.status == FOTS_BAD_DATE && result.number == FOTS_NOTHING, "the year of no date", bits, result.number);
         }
     }
 }
@@ -156,39 +163,39 @@ static void every_date(int32_t from, int32_t to)
 static void every_offset(int32_t from, int32_t to)
 {
     for (int64_t bits = from; bits <= to; bits++) {
-        fots_offset offset = (fots_offset)bits;
+        fots_offset offset = offset_at((int32_t)bits);
         fots_number_result result = fots_offset_whole_minutes(offset);
         if (is_offset(offset)) {
-            check(result.status == FOTS_DONE && result.number == offset / 60, "the minutes of an offset", offset, result.number);
+            check(result.status == FOTS_DONE && result.number == bits / 60, "the minutes of an offset", bits, result.number);
         } else {
-            check(result.status == FOTS_BAD_OFFSET && result.number == FOTS_NOTHING, "the minutes of no offset", offset, result.number);
+            check(result.status == FOTS_BAD_OFFSET && result.number == FOTS_NOTHING, "the minutes of no offset", bits, result.number);
         }
     }
 }
 
-static void dates(fots_date date, uint32_t number, fots_duration duration)
+static void dates(int32_t julian_day, uint32_t number, fots_duration duration)
 {
+    fots_date date = date_at(julian_day), other = date_at((int32_t)number);
     int32_t wrong = of_date(date), with_duration = first_of(wrong, of_duration(duration));
     int32_t with_weekday = first_of(wrong, is_weekday(number) ? FOTS_DONE : FOTS_BAD_WEEKDAY);
-    fots_date other = (fots_date)number;
     fots_calendar_date_result calendar = fots_date_to_calendar_date(date);
     fots_ordinal_date_result ordinal = fots_date_to_ordinal_date(date);
     fots_iso_week_date_result week = fots_date_to_iso_week_date(date);
-    status_is(wrong, calendar.status, calendar.month != 0, "to_calendar_date", date, calendar.year);
-    status_is(wrong, ordinal.status, ordinal.ordinal != 0, "to_ordinal_date", date, ordinal.year);
-    status_is(wrong, week.status, week.week != 0, "to_iso_week_date", date, week.year);
-    NUMBER(wrong, fots_date_year(date), date);
-    NUMBER(wrong, fots_date_month(date), date);
-    NUMBER(wrong, fots_date_day(date), date);
-    NUMBER(wrong, fots_date_ordinal(date), date);
-    NUMBER(wrong, fots_date_iso_week(date), date);
-    NUMBER(wrong, fots_date_weekday(date), date);
-    NUMBER(wrong, fots_date_sunday_based_week(date), date);
-    NUMBER(wrong, fots_date_monday_based_week(date), date);
-    TEXT(wrong, fots_date_calendar_text(date), date);
-    TEXT(wrong, fots_date_ordinal_text(date), date);
-    TEXT(wrong, fots_date_week_text(date), date);
-    TEXT(wrong, fots_date_julian_text(date), date);
+    status_is(wrong, calendar.status, calendar.month != 0, "to_calendar_date", julian_day, calendar.year);
+    status_is(wrong, ordinal.status, ordinal.ordinal != 0, "to_ordinal_date", julian_day, ordinal.year);
+    status_is(wrong, week.status, week.week != 0, "to_iso_week_date", julian_day, week.year);
+    NUMBER(wrong, fots_date_year(date), julian_day);
+    PART(wrong, fots_date_month(date), julian_day);
+    PART(wrong, fots_date_day(date), julian_day);
+    PART(wrong, fots_date_ordinal(date), julian_day);
+    PART(wrong, fots_date_iso_week(date), julian_day);
+    PART(wrong, fots_date_weekday(date), julian_day);
+    PART(wrong, fots_date_sunday_based_week(date), julian_day);
+    PART(wrong, fots_date_monday_based_week(date), julian_day);
+    TEXT(wrong, fots_date_calendar_text(date), julian_day);
+    TEXT(wrong, fots_date_ordinal_text(date), julian_day);
+    TEXT(wrong, fots_date_week_text(date), julian_day);
+    TEXT(wrong, fots_date_julian_text(date), julian_day);
     DATE(wrong, fots_date_next_day(date));
     DATE(wrong, fots_date_previous_day(date));
     DATE(wrong, fots_date_add_days(date, duration.seconds));
@@ -196,7 +203,7 @@ static void dates(fots_date date, uint32_t number, fots_duration duration)
     DATE(with_duration, fots_date_checked_sub(date, duration));
     DATE(with_duration, fots_date_saturating_add(date, duration));
     DATE(with_duration, fots_date_saturating_sub(date, duration));
-    DURATION(first_of(wrong, of_date(other)), fots_date_duration_since(date, other), date);
+    DURATION(first_of(wrong, of_date(other)), fots_date_duration_since(date, other), julian_day);
     DATE(with_weekday, fots_date_next_occurrence(date, number));
     DATE(with_weekday, fots_date_prev_occurrence(date, number));
     DATE(with_weekday, fots_date_nth_next_occurrence(date, number, (uint32_t)duration.nanoseconds));
@@ -206,9 +213,10 @@ static void dates(fots_date date, uint32_t number, fots_duration duration)
     DATE(wrong, fots_date_replace_day(date, number));
     DATE(wrong, fots_date_replace_ordinal(date, number));
     DATE(FOTS_DONE, fots_date_from_julian_day(duration.seconds));
-    DATE(is_month(number) ? FOTS_DONE : FOTS_MONTH, fots_date_from_calendar_date(date, number, (uint32_t)duration.nanoseconds));
-    DATE(FOTS_DONE, fots_date_from_ordinal_date(date, number));
-    DATE(is_weekday(number) ? FOTS_DONE : FOTS_BAD_WEEKDAY, fots_date_from_iso_week_date(date, (uint32_t)duration.nanoseconds, number));
+    DATE(is_month(number) ? FOTS_DONE : FOTS_MONTH, fots_date_from_calendar_date(julian_day, number, (uint32_t)duration.nanoseconds));
+    DATE(FOTS_DONE, fots_date_from_ordinal_date(julian_day, number));
+    DATE(is_weekday(number) ? FOTS_DONE : FOTS_BAD_WEEKDAY, fots_date_from_iso_week_date(julian_day, (uint32_t)duration.nanoseconds,
+        number));
 }
 
 static void times(fots_time time, uint32_t number, fots_duration duration)
@@ -216,7 +224,7 @@ static void times(fots_time time, uint32_t number, fots_duration duration)
     int32_t wrong = of_time(time), with_duration = first_of(wrong, of_duration(duration));
     fots_time other = (fots_time)duration.seconds;
     int32_t with_other = first_of(wrong, of_time(other));
-    fots_date date = (fots_date)number;
+    fots_date date = date_at((int32_t)number);
     int32_t of_pair = first_of(of_date(date), with_duration);
     fots_clock_result clock = fots_time_as_hms_nano(time);
     fots_adjusted_time_result later = fots_time_adjusting_add(time, duration), earlier = fots_time_adjusting_sub(time, duration);
@@ -225,14 +233,16 @@ static void times(fots_time time, uint32_t number, fots_duration duration)
         "as_hms_nano", (long long)time, clock.hour);
     status_is(with_duration, later.status, is_time(later.time), "adjusting_add", (long long)time, later.carry);
     status_is(with_duration, earlier.status, is_time(earlier.time), "adjusting_sub", (long long)time, earlier.carry);
-    status_is(of_pair, after.status, is_date(after.date) && is_time(after.time), "add_to_pair", (long long)time, after.date);
-    status_is(of_pair, before.status, is_date(before.date) && is_time(before.time), "sub_from_pair", (long long)time, before.date);
-    NUMBER(wrong, fots_time_hour(time), time);
-    NUMBER(wrong, fots_time_minute(time), time);
-    NUMBER(wrong, fots_time_second(time), time);
-    NUMBER(wrong, fots_time_millisecond(time), time);
-    NUMBER(wrong, fots_time_microsecond(time), time);
-    NUMBER(wrong, fots_time_nanosecond(time), time);
+    status_is(of_pair, after.status, is_date(after.date) && is_time(after.time), "add_to_pair", (long long)time,
+        after.date.julian_day);
+    status_is(of_pair, before.status, is_date(before.date) && is_time(before.time), "sub_from_pair", (long long)time,
+        before.date.julian_day);
+    PART(wrong, fots_time_hour(time), time);
+    PART(wrong, fots_time_minute(time), time);
+    PART(wrong, fots_time_second(time), time);
+    PART(wrong, fots_time_millisecond(time), time);
+    PART(wrong, fots_time_microsecond(time), time);
+    PART(wrong, fots_time_nanosecond(time), time);
     TIME(wrong, fots_time_replace_hour(time, number));
     TIME(wrong, fots_time_replace_minute(time, number));
     TIME(wrong, fots_time_replace_second(time, number));
@@ -255,21 +265,22 @@ static void times(fots_time time, uint32_t number, fots_duration duration)
     TIME(FOTS_DONE, fots_time_from_hms_nano(number, (uint32_t)time, (uint32_t)duration.seconds, (uint32_t)duration.nanoseconds));
 }
 
-static void offsets(fots_offset offset, int32_t number)
+static void offsets(int32_t seconds, int32_t number)
 {
+    fots_offset offset = offset_at(seconds);
     int32_t wrong = of_offset(offset);
     fots_offset_parts_result parts = fots_offset_as_hms(offset);
     fots_offset_result negated = fots_offset_negated(offset);
-    fots_offset_result made = fots_offset_from_hms(offset, number, (int32_t)((uint32_t)offset ^ (uint32_t)number));
-    fots_offset_result whole = fots_offset_from_whole_seconds((int64_t)offset * number);
-    status_is(wrong, parts.status, parts.hours != FOTS_NOTHING, "as_hms", offset, parts.hours);
-    status_is(wrong, negated.status, is_offset(negated.offset), "negated", offset, negated.offset);
-    status_is(FOTS_DONE, made.status, is_offset(made.offset), "from_hms", offset, made.offset);
-    status_is(FOTS_DONE, whole.status, is_offset(whole.offset), "from_whole_seconds", offset, whole.offset);
-    NUMBER(wrong, fots_offset_whole_hours(offset), offset);
-    NUMBER(wrong, fots_offset_whole_minutes(offset), offset);
-    NUMBER(wrong, fots_offset_minutes_past_hour(offset), offset);
-    NUMBER(wrong, fots_offset_seconds_past_minute(offset), offset);
+    fots_offset_result made = fots_offset_from_hms(seconds, number, (int32_t)((uint32_t)seconds ^ (uint32_t)number));
+    fots_offset_result whole = fots_offset_from_whole_seconds((int64_t)seconds * number);
+    status_is(wrong, parts.status, parts.hours != FOTS_NOTHING, "as_hms", seconds, parts.hours);
+    status_is(wrong, negated.status, is_offset(negated.offset), "negated", seconds, negated.offset.seconds);
+    status_is(FOTS_DONE, made.status, is_offset(made.offset), "from_hms", seconds, made.offset.seconds);
+    status_is(FOTS_DONE, whole.status, is_offset(whole.offset), "from_whole_seconds", seconds, whole.offset.seconds);
+    NUMBER(wrong, fots_offset_whole_hours(offset), seconds);
+    NUMBER(wrong, fots_offset_whole_minutes(offset), seconds);
+    NUMBER(wrong, fots_offset_minutes_past_hour(offset), seconds);
+    NUMBER(wrong, fots_offset_seconds_past_minute(offset), seconds);
 }
 
 static void durations(fots_duration duration, fots_duration other, int32_t number)
@@ -310,38 +321,43 @@ static void cycles(uint32_t number, uint32_t count)
 {
     int32_t no_month = is_month(number) ? FOTS_DONE : FOTS_MONTH, no_weekday = is_weekday(number) ? FOTS_DONE : FOTS_BAD_WEEKDAY;
     int32_t year = (int32_t)count;
-    NUMBER(no_month, fots_month_length(number, year), number);
-    NUMBER(no_month, fots_month_nth_next(number, count), number);
-    NUMBER(no_month, fots_month_nth_prev(number, count), number);
-    NUMBER(no_weekday, fots_weekday_nth_next(number, count), number);
-    NUMBER(no_weekday, fots_weekday_nth_prev(number, count), number);
-    NUMBER(no_weekday, fots_weekday_number_from_sunday(number), number);
+    PART(no_month, fots_month_length(number, year), number);
+    PART(no_month, fots_month_nth_next(number, count), number);
+    PART(no_month, fots_month_nth_prev(number, count), number);
+    PART(no_weekday, fots_weekday_nth_next(number, count), number);
+    PART(no_weekday, fots_weekday_nth_prev(number, count), number);
+    PART(no_weekday, fots_weekday_number_from_sunday(number), number);
     TEXT(no_month, fots_month_name(number), number);
     TEXT(no_weekday, fots_weekday_name(number), number);
-    check(fots_is_leap_year(year) == (year % 4 == 0 && (year % 100 != 0 || year % 400 == 0)), "is_leap_year", year, 0);
+    check(fots_is_leap_year(year) == (year % 4 == 0 && (year % 100 != 0 || year % 400 == 0) ? 1 : 0), "is_leap_year", year, 0);
     check(fots_days_in_year(year) == 365 + fots_is_leap_year(year), "days_in_year", year, 0);
     check(fots_weeks_in_year(year) == 52 || fots_weeks_in_year(year) == 53, "weeks_in_year", year, 0);
 }
 
 /* RFC 3339 has the years 0 to 9999, and offsets of whole minutes and less than a day. */
-static int has_moment_text(fots_date date, fots_offset offset)
+static int has_moment_text(int32_t julian_day, int32_t seconds)
 {
-    return date >= 1721060 && date <= 5373484 && offset % 60 == 0 && offset > -86400 && offset < 86400;
+    return julian_day >= 1721060 && julian_day <= 5373484 && seconds % 60 == 0 && seconds > -86400 && seconds < 86400;
 }
 
-static void moments(fots_date date, fots_time time, fots_offset offset, fots_duration duration)
+static void moments(int32_t julian_day, fots_time time, int32_t seconds, fots_duration duration)
 {
+    fots_date date = date_at(julian_day);
+    fots_offset offset = offset_at(seconds);
     int32_t wrong = first_of(first_of(of_date(date), of_time(time)), of_offset(offset));
     fots_duration_result since_epoch = fots_unix_time(date, time, offset);
     fots_pair_result pair = fots_unix_pair(duration, offset);
     status_is(first_of(of_duration(duration), of_offset(offset)), pair.status, is_date(pair.date) && is_time(pair.time), "unix_pair",
-        duration.seconds, pair.date);
-    TEXT(wrong == FOTS_DONE && !has_moment_text(date, offset) ? FOTS_PAST_RANGE : wrong, fots_moment_text(date, time, offset), date);
-    TEXT(wrong, fots_unix_text(date, time, offset), date);
-    status_is(wrong, since_epoch.status, is_duration(since_epoch.duration), "unix_time", date, since_epoch.duration.seconds);
+        duration.seconds, pair.date.julian_day);
+    TEXT(wrong == FOTS_DONE && !has_moment_text(julian_day, seconds) ? FOTS_PAST_RANGE : wrong, fots_moment_text(date, time, offset),
+        julian_day);
+    TEXT(wrong, fots_unix_text(date, time, offset), julian_day);
+    status_is(wrong, since_epoch.status, is_duration(since_epoch.duration), "unix_time", julian_day, since_epoch.duration.seconds);
     if (since_epoch.status == FOTS_DONE) {
         pair = fots_unix_pair(since_epoch.duration, offset);
-        check(pair.status == FOTS_DONE && pair.date == date && pair.time == time, "the pair of a Unix time", date, pair.date);
+        check(pair.status == FOTS_DONE && pair.date.julian_day == julian_day && pair.time == time, "the pair of a Unix time",
+            julian_day,
+            pair.date.julian_day);
     }
 }
 
@@ -361,7 +377,7 @@ static int is_this(fots_text_result text, const char *bytes, size_t length)
 static int reads_as_date(fots_text_result text, fots_date date)
 {
     fots_read_date_result read = fots_date_read(text.bytes, text.length);
-    return read.status == FOTS_DONE && read.date == date;
+    return read.status == FOTS_DONE && read.date.julian_day == date.julian_day;
 }
 
 /* What is read as a date is one of its three texts, and each of these reads as it. */
@@ -371,15 +387,17 @@ static void read_date(const char *bytes, size_t length)
     reads(read.status, read.place, length, read.status == FOTS_MONTH || read.status == FOTS_YEAR
         || (read.status >= FOTS_DAY && read.status <= FOTS_WEEKDAY), is_date(read.date), "date_read");
     if (read.status == FOTS_UNREADABLE && read.place < length) {
-        check(fots_date_read(bytes, read.place + 1).place == read.place, "the place in a date", (long long)read.place, (long long)length);
+        check(fots_date_read(bytes, read.place + 1).place == read.place, "the place in a date", (long long)read.place,
+            (long long)length);
     }
     if (read.status == FOTS_DONE) {
         fots_text_result calendar = fots_date_calendar_text(read.date), ordinal = fots_date_ordinal_text(read.date);
         fots_text_result week = fots_date_week_text(read.date);
-        check(is_this(calendar, bytes, length) || is_this(ordinal, bytes, length) || is_this(week, bytes, length), "the text of a date",
-            read.date, (long long)length);
+        check(is_this(calendar, bytes, length) || is_this(ordinal, bytes, length) || is_this(week, bytes, length),
+            "the text of a date",
+            read.date.julian_day, (long long)length);
         check(reads_as_date(calendar, read.date) && reads_as_date(ordinal, read.date) && reads_as_date(week, read.date),
-            "a date read back", read.date, (long long)length);
+            "a date read back", read.date.julian_day, (long long)length);
     }
 }
 
@@ -392,7 +410,8 @@ static void read_julian_day(const char *bytes, size_t length)
             (long long)length);
     }
     if (read.status == FOTS_DONE) {
-        check(is_this(fots_date_julian_text(read.date), bytes, length), "the text of a Julian day", read.date, (long long)length);
+        check(is_this(fots_date_julian_text(read.date), bytes, length), "the text of a Julian day", read.date.julian_day,
+            (long long)length);
     }
 }
 
@@ -403,8 +422,8 @@ static int is_moment(fots_read_moment_result read)
 
 static int is_same_moment(fots_read_moment_result one, fots_read_moment_result other)
 {
-    return one.status == FOTS_DONE && other.status == FOTS_DONE && one.date == other.date && one.time == other.time
-        && one.offset == other.offset;
+    return one.status == FOTS_DONE && other.status == FOTS_DONE && one.date.julian_day == other.date.julian_day
+        && one.time == other.time && one.offset.seconds == other.offset.seconds;
 }
 
 static void read_moment(const char *bytes, size_t length)
@@ -419,21 +438,23 @@ static void read_moment(const char *bytes, size_t length)
     }
     if (read.status == FOTS_DONE) {
         fots_text_result text = fots_moment_text(read.date, read.time, read.offset);
-        check(is_same_moment(fots_moment_read(text.bytes, text.length), read), "a moment read back", read.date, read.offset);
+        check(is_same_moment(fots_moment_read(text.bytes, text.length), read), "a moment read back", read.date.julian_day,
+            read.offset.seconds);
     }
 }
 
 static void read_unix(const char *bytes, size_t length)
 {
     fots_read_moment_result read = fots_unix_read(bytes, length);
-    reads(read.status, read.place, length, read.status == FOTS_TIMESTAMP, is_moment(read) && read.offset == 0, "unix_read");
+    reads(read.status, read.place, length, read.status == FOTS_TIMESTAMP, is_moment(read) && read.offset.seconds == 0, "unix_read");
     if (read.status == FOTS_UNREADABLE && read.place < length) {
         check(fots_unix_read(bytes, read.place + 1).place == read.place, "the place in a Unix time", (long long)read.place,
             (long long)length);
     }
     if (read.status == FOTS_DONE) {
-        fots_text_result text = fots_unix_text(read.date, read.time, 0);
-        check(is_same_moment(fots_unix_read(text.bytes, text.length), read), "a Unix time read back", read.date, (long long)length);
+        fots_text_result text = fots_unix_text(read.date, read.time, offset_at(0));
+        check(is_same_moment(fots_unix_read(text.bytes, text.length), read), "a Unix time read back", read.date.julian_day,
+            (long long)length);
     }
 }
 
@@ -489,20 +510,43 @@ static void drawn_texts(void)
     }
 }
 
-static const int32_t border_dates[] = {INT32_MIN, INT32_MIN + 1, FOTS_MIN_DATE - 1, FOTS_MIN_DATE, FOTS_MIN_DATE + 1, -93600, -93599,
-    -1, 0, 1, 93599, 93600, 1721059, 1721060, 2451545, 5373484, 5373485, FOTS_MAX_DATE - 1, FOTS_MAX_DATE, FOTS_MAX_DATE + 1,
+static const int32_t border_dates[] = {INT32_MIN, INT32_MIN + 1, FOTS_MIN_JULIAN_DAY - 1, FOTS_MIN_JULIAN_DAY,
+    FOTS_MIN_JULIAN_DAY + 1, -93600, -93599,
+    -1, 0, 1, 93599, 93600, 1721059, 1721060, 2451545, 5373484, 5373485, FOTS_MAX_JULIAN_DAY - 1, FOTS_MAX_JULIAN_DAY,
+        FOTS_MAX_JULIAN_DAY + 1,
     INT32_MAX - 1, INT32_MAX};
-static const uint32_t border_numbers[] = {0, 1, 2, 7, 8, 12, 13, 23, 24, 28, 29, 30, 31, 32, 52, 53, 54, 59, 60, 128, 255, 256, 257, 258,
+static const uint32_t border_numbers[] = {0, 1, 2, 7, 8, 12, 13, 23, 24, 28, 29, 30, 31, 32, 52, 53, 54, 59, 60, 128, 255, 256, 257,
+    258,
     263, 268, 365, 366, 367, 999, 1000, 65535, 65536, 65537, 999999, 1000000, 999999999, 1000000000, 2147483647, 2147483648,
     4294967295};
 static const uint64_t border_times[] = {0, 1, 86399999999998, 86399999999999, 86400000000000, 4294967296, 9223372036854775807ULL,
     9223372036854775808ULL, UINT64_MAX - 1, UINT64_MAX};
 static const int64_t border_seconds[] = {INT64_MIN, INT64_MIN + 1, -106751991167301, -86400, -1, 0, 1, 86399, 86400, 363521074,
     366963559, 4294967296, 106751991167301, INT64_MAX - 1, INT64_MAX};
-static const int32_t border_nanoseconds[] = {INT32_MIN, -1000000000, -999999999, -1, 0, 1, 255, 256, 999999999, 1000000000, INT32_MAX};
+static const int32_t border_nanoseconds[] = {INT32_MIN, -1000000000, -999999999, -1, 0, 1, 255, 256, 999999999, 1000000000,
+    INT32_MAX};
 
-static const int32_t border_offsets[] = {INT32_MIN, -93600, -93599, -86400, -86399, -86340, -3600, -60, -1, 0, 1, 60, 19800, 86340, 86400,
+static const int32_t border_offsets[] = {INT32_MIN, -93600, -93599, -86400, -86399, -86340, -3600, -60, -1, 0, 1, 60, 19800, 86340,
+    86400,
     93599, 93600, INT32_MAX};
+
+/* Drawn bits, cut to a drawn length, with their sign or without one. */
+static int64_t drawn_signed(void)
+{
+    uint64_t bits = drawn();
+    return (int64_t)bits >> (drawn() & 63);
+}
+
+static uint64_t drawn_unsigned(void)
+{
+    uint64_t bits = drawn();
+    return bits >> (drawn() & 63);
+}
+
+static int32_t drawn_short(void)
+{
+    return (int32_t)drawn_signed();
+}
 
 static fots_duration drawn_duration(int k)
 {
@@ -512,29 +556,29 @@ static fots_duration drawn_duration(int k)
         duration.nanoseconds = border_nanoseconds[k % COUNT(border_nanoseconds)];
         return duration;
     }
-    duration.seconds = (int64_t)drawn() >> (drawn() & 63);
-    duration.nanoseconds = (int32_t)(uint32_t)drawn() >> (drawn() & 31);
+    duration.seconds = drawn_signed();
+    duration.nanoseconds = drawn_short();
     return duration;
 }
 
 static int32_t drawn_date(int k)
 {
-    return k < COUNT(border_dates) ? border_dates[k] : (int32_t)(uint32_t)drawn() >> (drawn() & 31);
+    return k < COUNT(border_dates) ? border_dates[k] : drawn_short();
 }
 
 static uint32_t drawn_number(int k)
 {
-    return k < COUNT(border_numbers) ? border_numbers[k] : (uint32_t)drawn() >> (drawn() & 31);
+    return k < COUNT(border_numbers) ? border_numbers[k] : (uint32_t)drawn_unsigned();
 }
 
 static fots_time drawn_time(int k)
 {
-    return k < COUNT(border_times) ? border_times[k] : drawn() >> (drawn() & 63);
+    return k < COUNT(border_times) ? border_times[k] : drawn_unsigned();
 }
 
-static fots_offset drawn_offset(int k)
+static int32_t drawn_offset(int k)
 {
-    return k < COUNT(border_offsets) ? border_offsets[k] : (fots_offset)(uint32_t)drawn() >> (drawn() & 31);
+    return k < COUNT(border_offsets) ? border_offsets[k] : drawn_short();
 }
 
 /* Each border against each other one, and drawn ones beside them. */
@@ -544,27 +588,38 @@ static void everything(void)
         fots_duration duration = drawn_duration(k);
         for (int date = 0; date < 40; date++) {
             for (int number = 0; number < 60; number++) {
-                dates(drawn_date(date), drawn_number(number), duration);
+                int32_t julian_day = drawn_date(date);
+                uint32_t drawn_with = drawn_number(number);
+                dates(julian_day, drawn_with, duration);
             }
         }
         for (int time = 0; time < 20; time++) {
             for (int number = 0; number < 60; number++) {
-                times(drawn_time(time), drawn_number(number), duration);
+                fots_time since_midnight = drawn_time(time);
+                uint32_t drawn_with = drawn_number(number);
+                times(since_midnight, drawn_with, duration);
             }
         }
         for (int date = 0; date < 40; date++) {
             for (int offset = 0; offset < 40; offset++) {
-                moments(drawn_date(date), drawn_time(offset % 20), drawn_offset(offset), duration);
+                int32_t julian_day = drawn_date(date);
+                fots_time since_midnight = drawn_time(offset % 20);
+                int32_t seconds = drawn_offset(offset);
+                moments(julian_day, since_midnight, seconds, duration);
             }
         }
         for (int other = 0; other < DRAWN; other++) {
-            durations(duration, drawn_duration(other), (int32_t)drawn_number(other % 80));
+            fots_duration drawn_with = drawn_duration(other);
+            int32_t factor = (int32_t)drawn_number(other % 80);
+            durations(duration, drawn_with, factor);
         }
     }
     for (int number = 0; number < 2000; number++) {
         for (int other = 0; other < 80; other++) {
-            cycles(drawn_number(number), drawn_number(other));
-            offsets(drawn_date(number), (int32_t)drawn_number(other));
+            uint32_t drawn_first = drawn_number(number), drawn_with = drawn_number(other);
+            int32_t seconds = drawn_date(number);
+            cycles(drawn_first, drawn_with);
+            offsets(seconds, (int32_t)drawn_with);
         }
     }
     nearly_texts();

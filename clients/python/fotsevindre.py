@@ -1,8 +1,8 @@
 """The calendar of Fotsevindre for Python: dates, times of day, offsets from UTC, durations, months and weekdays.
 
 The names are those of the Rust crate `time`. Each answer comes from the library of Fotsevindre, which is proved, through its C calls;
-this file is the caller alone, and it is tested. It takes the shared object that the variable FOTSEVINDRE_LIBRARY names, or else the
-one that the system finds as `fotsevindre`.
+this file is the caller alone, and it is tested. It takes the shared object that the variable FOTSEVINDRE_LIBRARY names, or else
+libfotsevindre.so beside this file, or else the one that the system finds as `fotsevindre`.
 
     >>> from fotsevindre import Date, Month, SignedDuration
     >>> Date.from_calendar_date(2024, Month.February, 29) + SignedDuration.days(366)
@@ -18,16 +18,24 @@ value of the wrong type raises `TypeError`. No number wraps, however great it is
 Values are immutable. They compare and hash as their number, and `str` and `repr` give the text of the library.
 """
 
+from __future__ import annotations
+
+import array
 import ctypes
 import ctypes.util
 import datetime
 import enum
 import operator
 import os
+import pathlib
 import sys
+from typing import Any, Callable, ClassVar, Dict, Iterable, Iterator, List, Optional, Sequence, SupportsIndex, Tuple, Type, \
+    TypeVar, Union, cast, overload
+
+__version__ = "0.1.0"
 
 __all__ = [
-    "ComponentRange", "Date", "Month", "SignedDuration", "Time", "Unreadable", "UtcOffset", "Weekday", "add_to_pair", "dates_add_days",
+    "ComponentRange", "Date", "Days", "Month", "SignedDuration", "Time", "Unreadable", "UtcOffset", "Weekday", "add_to_pair", "dates_add_days",
     "dates_from_calendar_dates", "dates_from_iso_week_dates", "dates_from_julian_days", "dates_from_ordinal_dates",
     "dates_to_calendar_dates", "dates_to_iso_week_dates", "dates_to_ordinal_dates", "dates_weekdays", "days_in_month", "days_in_year",
     "days_in_year_month", "is_leap_year", "read_rfc3339", "read_unix", "rfc3339_text", "status_error", "sub_from_pair",
@@ -37,12 +45,18 @@ __all__ = [
 # ---- the library
 
 
-def _load():
-    name = os.environ.get("FOTSEVINDRE_LIBRARY") or ctypes.util.find_library("fotsevindre") or "libfotsevindre.so"
+def _load() -> ctypes.CDLL:
+    beside = pathlib.Path(__file__).with_name("libfotsevindre.so")
+    name = os.environ.get("FOTSEVINDRE_LIBRARY") or (str(beside) if beside.exists() else None)
+    name = name or ctypes.util.find_library("fotsevindre") or "libfotsevindre.so"
     try:
-        return ctypes.CDLL(name)
+        library = ctypes.CDLL(name)
     except OSError as error:
         raise ImportError(f"{error}: set FOTSEVINDRE_LIBRARY to the shared object of Fotsevindre") from error
+    major, minor, patch = map(int, __version__.split("."))
+    if not hasattr(library, "fots_version") or library.fots_version() != major * 10**6 + minor * 10**3 + patch:
+        raise ImportError(f"{name} is not of the version {__version__}")
+    return library
 
 
 _I32 = ctypes.c_int32
@@ -54,14 +68,46 @@ _U64 = ctypes.c_uint64
 class _CDuration(ctypes.Structure):
     _fields_ = [("seconds", _I64), ("nanoseconds", _I32)]
 
+    seconds: int
+    nanoseconds: int
 
-def _result(*fields):
+
+class _Result(ctypes.Structure):
+    """What a call returns: a status, and then its own of these fields."""
+
+    status: int
+    date: int
+    time: int
+    offset: int
+    duration: _CDuration
+    number: int
+    year: int
+    month: int
+    day: int
+    ordinal: int
+    week: int
+    weekday: int
+    carry: int
+    hour: int
+    minute: int
+    second: int
+    nanosecond: int
+    hours: int
+    minutes: int
+    seconds: int
+    length: int
+    bytes: bytes
+    place: int
+
+
+def _result(*fields: Tuple[str, Any]) -> Type[_Result]:
     """The struct that a call returns: a status, and then these."""
-    return type("_Result", (ctypes.Structure,), {"_fields_": [("status", _I32), *fields]})
+    return cast(Type[_Result], type("_Result", (_Result,), {"_fields_": [("status", _I32), *fields]}))
 
 
 _DATE = _result(("date", _I32))
 _NUMBER = _result(("number", _I32))
+_PART = _result(("number", _U32))
 _LONG = _result(("number", _I64))
 _CALENDAR_DATE = _result(("year", _I32), ("month", _U32), ("day", _U32))
 _ORDINAL_DATE = _result(("year", _I32), ("ordinal", _U32))
@@ -78,7 +124,7 @@ _READ_DATE = _result(("date", _I32), ("place", ctypes.c_size_t))
 _READ_MOMENT = _result(("date", _I32), ("time", _U64), ("offset", _I32), ("place", ctypes.c_size_t))
 
 # What each call returns, what it takes, and the calls of that form.
-_FORMS = [
+_FORMS: List[Tuple[Any, List[Any], str]] = [
     (_DATE, [_I64], "date_from_julian_day"),
     (_DATE, [_I32, _U32, _U32], "date_from_calendar_date date_from_iso_week_date"),
     (_DATE, [_I32, _U32], "date_from_ordinal_date date_next_occurrence date_prev_occurrence date_replace_month date_replace_day "
@@ -90,13 +136,13 @@ _FORMS = [
     (_CALENDAR_DATE, [_I32], "date_to_calendar_date"),
     (_ORDINAL_DATE, [_I32], "date_to_ordinal_date"),
     (_ISO_WEEK_DATE, [_I32], "date_to_iso_week_date"),
-    (_NUMBER, [_I32], "date_year date_month date_day date_ordinal date_iso_week date_weekday date_sunday_based_week "
-        "date_monday_based_week offset_whole_hours offset_whole_minutes offset_minutes_past_hour offset_seconds_past_minute"),
+    (_NUMBER, [_I32], "date_year offset_whole_hours offset_whole_minutes offset_minutes_past_hour offset_seconds_past_minute"),
+    (_PART, [_I32], "date_month date_day date_ordinal date_iso_week date_weekday date_sunday_based_week date_monday_based_week"),
     (_DURATION, [_I32, _I32], "date_duration_since"),
     (_TIME, [_U32, _U32, _U32], "time_from_hms"),
     (_TIME, [_U32, _U32, _U32, _U32], "time_from_hms_milli time_from_hms_micro time_from_hms_nano"),
     (_CLOCK, [_U64], "time_as_hms_nano"),
-    (_NUMBER, [_U64], "time_hour time_minute time_second time_millisecond time_microsecond time_nanosecond"),
+    (_PART, [_U64], "time_hour time_minute time_second time_millisecond time_microsecond time_nanosecond"),
     (_TIME, [_U64, _U32], "time_replace_hour time_replace_minute time_replace_second time_replace_millisecond "
         "time_replace_microsecond time_replace_nanosecond"),
     (_TIME, [_U64], "time_truncate_to_hour time_truncate_to_minute time_truncate_to_second time_truncate_to_millisecond "
@@ -118,9 +164,9 @@ _FORMS = [
     (_DURATION, [_CDuration, _CDuration], "duration_checked_add duration_checked_sub duration_saturating_add "
         "duration_saturating_sub"),
     (_DURATION, [_CDuration, _I32], "duration_checked_mul duration_checked_div duration_saturating_mul"),
-    (_NUMBER, [_U32, _I32], "month_length"),
-    (_NUMBER, [_U32, _U32], "month_nth_next month_nth_prev weekday_nth_next weekday_nth_prev"),
-    (_NUMBER, [_U32], "weekday_number_from_sunday"),
+    (_PART, [_U32, _I32], "month_length"),
+    (_PART, [_U32, _U32], "month_nth_next month_nth_prev weekday_nth_next weekday_nth_prev"),
+    (_PART, [_U32], "weekday_number_from_sunday"),
     (_U32, [_I32], "is_leap_year days_in_year weeks_in_year"),
     (_PAIR, [_I32, _U64, _CDuration], "add_to_pair sub_from_pair"),
     (_DURATION, [_I32, _U64, _I32], "unix_time"),
@@ -132,7 +178,7 @@ _FORMS = [
 ]
 
 _library = _load()
-_calls = {}
+_calls: Dict[str, Callable[..., Any]] = {}
 for _returned, _taken, _names in _FORMS:
     for _name in _names.split():
         _call = getattr(_library, "fots_" + _name)
@@ -141,7 +187,7 @@ for _returned, _taken, _names in _FORMS:
         _calls[_name] = _call
 
 # The calls over columns: what each row of the answer is, and the numbers of each column that goes in.
-_COLUMNS = {
+_COLUMNS: Dict[str, Tuple[Type[_Result], List[Any]]] = {
     "dates_from_julian_days": (_DATE, [_I64]),
     "dates_from_calendar_dates": (_DATE, [_I32, _U32, _U32]),
     "dates_from_ordinal_dates": (_DATE, [_I32, _U32]),
@@ -149,7 +195,7 @@ _COLUMNS = {
     "dates_to_calendar_dates": (_CALENDAR_DATE, [_I32]),
     "dates_to_ordinal_dates": (_ORDINAL_DATE, [_I32]),
     "dates_to_iso_week_dates": (_ISO_WEEK_DATE, [_I32]),
-    "dates_weekdays": (_NUMBER, [_I32]),
+    "dates_weekdays": (_PART, [_I32]),
     "dates_add_days": (_DATE, [_I32, _I64]),
 }
 for _name, (_returned, _taken) in _COLUMNS.items():
@@ -158,6 +204,9 @@ for _name, (_returned, _taken) in _COLUMNS.items():
     # Each array is a pointer and a length, and the rows of the answer are the last one.
     _call.argtypes = [_part for _kind in [*_taken, _returned] for _part in (ctypes.POINTER(_kind), ctypes.c_size_t)]
     _calls[_name] = _call
+
+# Each call by its name, as an attribute of a class: the quickest way to it.
+_C: Any = type("_C", (), _calls)
 
 # ---- statuses
 
@@ -184,12 +233,15 @@ class ComponentRange(ValueError):
     day True - day was not in range
     """
 
-    def __init__(self, name, is_conditional):
+    name: str
+    is_conditional: bool
+
+    def __init__(self, name: str, is_conditional: bool) -> None:
         super().__init__(name, is_conditional)
         self.name = name
         self.is_conditional = is_conditional
 
-    def __str__(self):
+    def __str__(self) -> str:
         return f"{self.name} was not in range"
 
 
@@ -203,15 +255,17 @@ class Unreadable(ValueError):
     fotsevindre.Unreadable: unexpected byte at 4
     """
 
-    def __init__(self, place):
+    place: int
+
+    def __init__(self, place: int) -> None:
         super().__init__(place)
         self.place = place
 
-    def __str__(self):
+    def __str__(self) -> str:
         return f"unexpected byte at {self.place}"
 
 
-def _error(status):
+def _error(status: int) -> Exception:
     """What to raise for a status that is not 'done'."""
     if status in _REFUSALS:
         return ComponentRange(_REFUSALS[status], status >= _FIRST_CONDITIONAL)
@@ -222,39 +276,33 @@ def _error(status):
     return ValueError(f"the library refused a value, with status {status}")
 
 
-def _done(name, *arguments):
-    """What the call returns, where it has an answer."""
-    result = _calls[name](*arguments)
+def _done(result: _Result) -> _Result:
+    """What a call returned, where it has an answer."""
     if result.status:
         raise _error(result.status)
     return result
 
 
-def _done_or_none(name, *arguments):
-    """What the call returns, or `None` where it is past the range."""
-    result = _calls[name](*arguments)
-    if result.status == _PAST_RANGE:
-        return None
+def _number(result: _Result) -> int:
+    """The number that a call returned."""
     if result.status:
         raise _error(result.status)
-    return result
+    return result.number
 
 
-def _read(name, text):
+def _read(call: Callable[..., _Result], text: str) -> _Result:
     """What the call reads of the text."""
     # Every byte before the first wrong one is ASCII, so its place is the same among the characters. A lone surrogate is a wrong byte.
-    text = _is(text, str).encode("utf-8", "surrogatepass")
-    result = _calls[name](text, len(text))
+    encoded = _is(text, str).encode("utf-8", "surrogatepass")
+    result = call(encoded, len(encoded))
     if result.status == _UNREADABLE:
         raise Unreadable(result.place)
-    if result.status:
-        raise _error(result.status)
-    return result
+    return _done(result)
 
 
-def _text(result):
-    """The text that a call returned, or `None` where there is none."""
-    return result and result.bytes[:result.length].decode("ascii")
+def _text(result: _Result) -> str:
+    """The text that a call returned."""
+    return _done(result).bytes.decode("ascii")
 
 
 # ---- arguments
@@ -262,7 +310,7 @@ def _text(result):
 # ctypes cuts a number to the bits of its type. So each goes through one of these first.
 
 
-def _fit(number, least, greatest):
+def _fit(number: SupportsIndex, least: int, greatest: int) -> int:
     """The number itself, where it is of the range."""
     number = operator.index(number)
     if not least <= number <= greatest:
@@ -270,37 +318,50 @@ def _fit(number, least, greatest):
     return number
 
 
-def _i32(number):
+def _i32(number: SupportsIndex) -> int:
     return _fit(number, -2**31, 2**31 - 1)
 
 
-def _u32(number):
+def _u32(number: SupportsIndex) -> int:
     return _fit(number, 0, 2**32 - 1)
 
 
-def _i64(number):
+def _i64(number: SupportsIndex) -> int:
     return _fit(number, -2**63, 2**63 - 1)
 
 
-def _component(number):
+def _component(number: SupportsIndex) -> int:
     """A component in 32 bits without a sign. One that does not fit becomes the greatest, which each call refuses by its name."""
-    number = operator.index(number)
-    return number if 0 <= number < 2**32 else 2**32 - 1
+    if type(number) is not int:
+        number = operator.index(number)
+    return number if 0 <= number <= 0xFFFFFFFF else 0xFFFFFFFF
 
 
-def _signed(number):
+def _signed(number: SupportsIndex) -> int:
     """A component in 32 bits with a sign. One that does not fit becomes the least, which each call refuses by its name."""
-    number = operator.index(number)
-    return number if -2**31 <= number < 2**31 else -2**31
+    if type(number) is not int:
+        number = operator.index(number)
+    return number if -0x80000000 <= number <= 0x7FFFFFFF else -0x80000000
 
 
-def _long(number):
+def _long(number: SupportsIndex) -> int:
     """A component in 64 bits with a sign. One that does not fit becomes the least, which each call refuses by its name."""
     number = operator.index(number)
     return number if -2**63 <= number < 2**63 else -2**63
 
 
-def _is(value, kind):
+def _weekday(weekday: Weekday) -> int:
+    """The number of the weekday."""
+    if type(weekday) is not Weekday:
+        raise TypeError(f"Weekday expected, not {type(weekday).__name__}")
+    number: int = weekday._value_
+    return number
+
+
+_T = TypeVar("_T")
+
+
+def _is(value: Any, kind: Type[_T]) -> _T:
     """The value itself, where it is of the class."""
     if not isinstance(value, kind):
         raise TypeError(f"{kind.__name__} expected, not {type(value).__name__}")
@@ -333,38 +394,37 @@ class Month(enum.IntEnum):
     December = 12
 
     @classmethod
-    def _missing_(cls, value):
+    def _missing_(cls, value: object) -> None:
         if isinstance(value, int):
             raise ComponentRange("month", False)
-        return None
 
-    def length(self, year):
+    def length(self, year: SupportsIndex) -> int:
         """The number of days of the month in this year, from 28 to 31. That of February in 1900 is 28."""
-        return _done("month_length", int(self), _i32(year)).number
+        return _number(_C.month_length(int(self), _i32(year)))
 
-    def previous(self):
+    def previous(self) -> Month:
         """The month before. That of January is December."""
         return self.nth_prev(1)
 
-    def next(self):
+    def next(self) -> Month:
         """The month after. That of December is January."""
         return self.nth_next(1)
 
-    def nth_next(self, n):
+    def nth_next(self, n: SupportsIndex) -> Month:
         """The month `n` months after, round the year as often as it takes. Nine months after July it is April."""
-        return Month(_done("month_nth_next", int(self), _u32(n)).number)
+        return _MONTHS[_number(_C.month_nth_next(self, _u32(n)))]
 
-    def nth_prev(self, n):
+    def nth_prev(self, n: SupportsIndex) -> Month:
         """The month `n` months before, round the year as often as it takes. Nine months before July it is October."""
-        return Month(_done("month_nth_prev", int(self), _u32(n)).number)
+        return _MONTHS[_number(_C.month_nth_prev(self, _u32(n)))]
 
-    def __str__(self):
+    def __str__(self) -> str:
         return self.name
 
-    def __repr__(self):
+    def __repr__(self) -> str:
         return self.name
 
-    def __format__(self, specification):
+    def __format__(self, specification: str) -> str:
         return format(self.name, specification)
 
 
@@ -383,69 +443,81 @@ class Weekday(enum.Enum):
     Saturday = 6
     Sunday = 7
 
-    def previous(self):
+    def __eq__(self, other: object) -> bool:
+        if isinstance(other, int):
+            raise TypeError("a weekday is no number: compare it with a Weekday, or take number_days_from_monday(), which datetime counts")
+        return self is other
+
+    __hash__ = enum.Enum.__hash__
+
+    def previous(self) -> Weekday:
         """The weekday before. That of Monday is Sunday."""
         return self.nth_prev(1)
 
-    def next(self):
+    def next(self) -> Weekday:
         """The weekday after. That of Sunday is Monday."""
         return self.nth_next(1)
 
-    def nth_next(self, n):
+    def nth_next(self, n: SupportsIndex) -> Weekday:
         """The weekday `n` days after, round the week as often as it takes. Ten days after Sunday it is Wednesday."""
-        return Weekday(_done("weekday_nth_next", self.value, _u32(n)).number)
+        return _WEEKDAYS[_number(_C.weekday_nth_next(self.value, _u32(n)))]
 
-    def nth_prev(self, n):
+    def nth_prev(self, n: SupportsIndex) -> Weekday:
         """The weekday `n` days before, round the week as often as it takes. Ten days before Sunday it is Thursday."""
-        return Weekday(_done("weekday_nth_prev", self.value, _u32(n)).number)
+        return _WEEKDAYS[_number(_C.weekday_nth_prev(self.value, _u32(n)))]
 
-    def number_from_monday(self):
+    def number_from_monday(self) -> int:
         """The number of the weekday from Monday, 1, to Sunday, 7. That of Friday is 5."""
-        return self.value
+        return int(self.value)
 
-    def number_from_sunday(self):
+    def number_from_sunday(self) -> int:
         """The number of the weekday from Sunday, 1, to Saturday, 7. That of Friday is 6."""
-        return _done("weekday_number_from_sunday", self.value).number
+        return _number(_C.weekday_number_from_sunday(self.value))
 
-    def number_days_from_monday(self):
+    def number_days_from_monday(self) -> int:
         """The number of days since Monday, from 0 to 6. On Friday it is 4."""
-        return self.value - 1
+        return int(self.value) - 1
 
-    def number_days_from_sunday(self):
+    def number_days_from_sunday(self) -> int:
         """The number of days since Sunday, from 0 to 6. On Friday it is 5."""
         return self.number_from_sunday() - 1
 
-    def __str__(self):
+    def __str__(self) -> str:
         return self.name
 
-    def __repr__(self):
+    def __repr__(self) -> str:
         return self.name
 
-    def __format__(self, specification):
+    def __format__(self, specification: str) -> str:
         return format(self.name, specification)
 
 
-def is_leap_year(year):
+# A month and a weekday by its number.
+_MONTHS: Tuple[Month, ...] = (Month.January, *Month)
+_WEEKDAYS: Tuple[Weekday, ...] = (Weekday.Monday, *Weekday)
+
+
+def is_leap_year(year: SupportsIndex) -> bool:
     """Whether the year is a leap year, of each year in 32 bits. It is true of 2000 and false of 1900."""
-    return bool(_calls["is_leap_year"](_i32(year)))
+    return bool(_C.is_leap_year(_i32(year)))
 
 
-def days_in_year(year):
+def days_in_year(year: SupportsIndex) -> int:
     """The number of days of the year, 365 or 366. It is 366 for 2020."""
-    return _calls["days_in_year"](_i32(year))
+    return int(_C.days_in_year(_i32(year)))
 
 
-def weeks_in_year(year):
+def weeks_in_year(year: SupportsIndex) -> int:
     """The number of ISO weeks of the year, 52 or 53. It is 53 for 2020."""
-    return _calls["weeks_in_year"](_i32(year))
+    return int(_C.weeks_in_year(_i32(year)))
 
 
-def days_in_month(month, year):
+def days_in_month(month: SupportsIndex, year: SupportsIndex) -> int:
     """The number of days of the month in this year, from 28 to 31; `ComponentRange` as `month`. `days_in_month(2, 2000)` is 29."""
-    return _done("month_length", _component(month), _i32(year)).number
+    return _number(_C.month_length(_component(month), _i32(year)))
 
 
-def days_in_year_month(year, month):
+def days_in_year_month(year: SupportsIndex, month: SupportsIndex) -> int:
     """The number of days of the month in this year, as `days_in_month` gives it."""
     return days_in_month(month, year)
 
@@ -453,55 +525,146 @@ def days_in_year_month(year, month):
 # ---- values
 
 
+_OF_DATETIME = (datetime.date, datetime.time, datetime.timedelta, datetime.tzinfo)
+
+
 class _Value:
-    """A value that is known by its key: order, equality and hash are those of the key."""
+    """A value that is known by its key: order, equality and hash are those of the key. It has no other attribute, and no call sets that one
+    but where the value is made."""
 
     __slots__ = ("_key",)
 
-    def __new__(cls, *_arguments, **_named):
-        raise TypeError(f"{cls.__name__} is made by its class methods")
+    _key: Any
+
+    def __init__(self, *_arguments: object, **_named: object) -> None:
+        raise TypeError(f"{type(self).__name__} is made by its class methods")
 
     @classmethod
-    def _of(cls, key):
-        value = object.__new__(cls)
-        object.__setattr__(value, "_key", key)
+    def _of(cls: Type[_V], key: object) -> _V:
+        value = _new(cls)
+        value._key = key
         return value
 
-    def __setattr__(self, name, _value):
-        raise AttributeError(f"{type(self).__name__} is immutable")
+    def _order(self) -> Any:
+        """What the value is compared by."""
+        return self._key
 
-    def __delattr__(self, name):
-        raise AttributeError(f"{type(self).__name__} is immutable")
+    def __eq__(self, other: object) -> bool:
+        if isinstance(other, type(self)):
+            return bool(self._order() == other._order())
+        if isinstance(other, _OF_DATETIME):
+            raise TypeError(f"{type(self).__name__} and {type(other).__name__} are not compared: convert the one to the other")
+        return NotImplemented
 
-    def __eq__(self, other):
-        return self._key == other._key if type(other) is type(self) else NotImplemented
+    def __lt__(self: _V, other: _V) -> bool:
+        if not isinstance(other, type(self)):
+            return NotImplemented
+        return bool(self._order() < other._order())
 
-    def __lt__(self, other):
-        return self._key < other._key if type(other) is type(self) else NotImplemented
+    def __le__(self: _V, other: _V) -> bool:
+        if not isinstance(other, type(self)):
+            return NotImplemented
+        return bool(self._order() <= other._order())
 
-    def __le__(self, other):
-        return self._key <= other._key if type(other) is type(self) else NotImplemented
+    def __gt__(self: _V, other: _V) -> bool:
+        if not isinstance(other, type(self)):
+            return NotImplemented
+        return bool(self._order() > other._order())
 
-    def __gt__(self, other):
-        return self._key > other._key if type(other) is type(self) else NotImplemented
+    def __ge__(self: _V, other: _V) -> bool:
+        if not isinstance(other, type(self)):
+            return NotImplemented
+        return bool(self._order() >= other._order())
 
-    def __ge__(self, other):
-        return self._key >= other._key if type(other) is type(self) else NotImplemented
+    def __hash__(self) -> int:
+        return hash((type(self).__name__, self._order()))
 
-    def __hash__(self):
-        return hash((type(self).__name__, self._key))
-
-    def __repr__(self):
+    def __repr__(self) -> str:
         return str(self)
 
-    def __format__(self, specification):
+    def __format__(self, specification: str) -> str:
         return format(str(self), specification)
 
 
-def _cut(number, divisor):
+_V = TypeVar("_V", bound=_Value)
+_new = object.__new__
+
+
+def _whole_microseconds(nanoseconds: int, name: str) -> None:
+    """Raises where there are nanoseconds past the microseconds, which the standard library has not."""
+    if nanoseconds % 1000:
+        raise ValueError(f"{name} has no nanoseconds: truncate {nanoseconds} ns to microseconds before")
+
+
+def _cut(number: int, divisor: int) -> Tuple[int, int]:
     """The quotient cut toward zero, and what is left of the number, with its sign."""
     quotient, rest = divmod(abs(number), divisor)
     return (quotient, rest) if number >= 0 else (-quotient, -rest)
+
+
+# What calls returned, as values. A number that is none tells that there is a status to look at: no date, offset or time is that.
+_NOTHING = -2**31
+_NO_TIME = 2**64 - 1
+
+
+def _duration(result: _Result) -> SignedDuration:
+    if result.status:
+        raise _error(result.status)
+    value = _new(SignedDuration)
+    value._key = result.duration
+    return value
+
+
+def _duration_or_none(result: _Result) -> Optional[SignedDuration]:
+    return None if result.status == _PAST_RANGE else _duration(result)
+
+
+def _time(result: _Result) -> Time:
+    key = result.time
+    if key == _NO_TIME:
+        raise _error(result.status)
+    value = _new(Time)
+    value._key = key
+    return value
+
+
+def _offset(result: _Result) -> UtcOffset:
+    key = result.offset
+    if key == _NOTHING:
+        raise _error(result.status)
+    value = _new(UtcOffset)
+    value._key = key
+    return value
+
+
+def _date(result: _Result) -> Date:
+    key = result.date
+    if key == _NOTHING:
+        raise _error(result.status)
+    value = _new(Date)
+    value._key = key
+    return value
+
+
+def _date_or_none(result: _Result) -> Optional[Date]:
+    key = result.date
+    if key == _NOTHING:
+        return None if result.status == _PAST_RANGE else _date(result)
+    value = _new(Date)
+    value._key = key
+    return value
+
+
+def _pair(result: _Result) -> Tuple[Date, Time]:
+    return _date(result), _time(result)
+
+
+def _pair_or_none(result: _Result) -> Optional[Tuple[Date, Time]]:
+    return None if result.status == _PAST_RANGE else _pair(result)
+
+
+def _text_or_none(result: _Result) -> Optional[str]:
+    return None if result.status == _PAST_RANGE else _text(result)
 
 
 class SignedDuration(_Value):
@@ -516,208 +679,237 @@ class SignedDuration(_Value):
 
     __slots__ = ()
 
-    @classmethod
-    def _from_c(cls, result):
-        """The duration that a call returned, or `None` where there is none."""
-        return result and cls._of((result.duration.seconds, result.duration.nanoseconds))
+    # The struct that crosses: it is not changed.
+    _key: _CDuration
+    ZERO: ClassVar[SignedDuration]
+    NANOSECOND: ClassVar[SignedDuration]
+    MICROSECOND: ClassVar[SignedDuration]
+    MILLISECOND: ClassVar[SignedDuration]
+    SECOND: ClassVar[SignedDuration]
+    MINUTE: ClassVar[SignedDuration]
+    HOUR: ClassVar[SignedDuration]
+    DAY: ClassVar[SignedDuration]
+    WEEK: ClassVar[SignedDuration]
+    MIN: ClassVar[SignedDuration]
+    MAX: ClassVar[SignedDuration]
 
-    def _c(self):
-        return _CDuration(*self._key)
+    def _order(self) -> Tuple[int, int]:
+        """The whole seconds, and the nanoseconds past them."""
+        struct = self._key
+        return struct.seconds, struct.nanoseconds
 
     @classmethod
-    def new(cls, seconds, nanoseconds):
+    def new(cls, seconds: SupportsIndex, nanoseconds: SupportsIndex) -> SignedDuration:
         """That many seconds and nanoseconds, which may be of opposite signs, and of which the nanoseconds may be more than a second.
 
         The seconds have 64 bits, the nanoseconds 32. `new(-1, 1)` is -999999999 ns.
         """
-        return cls._from_c(_done("duration_new", _i64(seconds), _i32(nanoseconds)))
+        return _duration(_C.duration_new(_i64(seconds), _i32(nanoseconds)))
 
     @classmethod
-    def weeks(cls, weeks):
+    def weeks(cls, weeks: SupportsIndex) -> SignedDuration:
         """That many weeks of 7 days, from -15250284452471 to 15250284452471. `weeks(2)` is 1209600 s."""
-        return cls._from_c(_done("duration_weeks", _i64(weeks)))
+        return _duration(_C.duration_weeks(_i64(weeks)))
 
     @classmethod
-    def days(cls, days):
+    def days(cls, days: SupportsIndex) -> SignedDuration:
         """That many days of 24 hours, from -106751991167300 to 106751991167300. `days(-3)` is -259200 s."""
-        return cls._from_c(_done("duration_days", _i64(days)))
+        return _duration(_C.duration_days(_i64(days)))
 
     @classmethod
-    def hours(cls, hours):
+    def hours(cls, hours: SupportsIndex) -> SignedDuration:
         """That many hours, from -2562047788015215 to 2562047788015215. `hours(36)` is 129600 s."""
-        return cls._from_c(_done("duration_hours", _i64(hours)))
+        return _duration(_C.duration_hours(_i64(hours)))
 
     @classmethod
-    def minutes(cls, minutes):
+    def minutes(cls, minutes: SupportsIndex) -> SignedDuration:
         """That many minutes, from -153722867280912930 to 153722867280912930. `minutes(90)` is 5400 s."""
-        return cls._from_c(_done("duration_minutes", _i64(minutes)))
+        return _duration(_C.duration_minutes(_i64(minutes)))
 
     @classmethod
-    def seconds(cls, seconds):
+    def seconds(cls, seconds: SupportsIndex) -> SignedDuration:
         """That many seconds, in 64 bits. `seconds(-5)` is -5000000000 ns."""
-        return cls._from_c(_done("duration_seconds", _i64(seconds)))
+        return _duration(_C.duration_seconds(_i64(seconds)))
 
     @classmethod
-    def milliseconds(cls, milliseconds):
+    def milliseconds(cls, milliseconds: SupportsIndex) -> SignedDuration:
         """That many milliseconds, in 64 bits. `milliseconds(-1500)` is -1 s and -500000000 ns."""
-        return cls._from_c(_done("duration_milliseconds", _i64(milliseconds)))
+        return _duration(_C.duration_milliseconds(_i64(milliseconds)))
 
     @classmethod
-    def microseconds(cls, microseconds):
+    def microseconds(cls, microseconds: SupportsIndex) -> SignedDuration:
         """That many microseconds, in 64 bits. `microseconds(1500000)` is 1 s and 500000000 ns."""
-        return cls._from_c(_done("duration_microseconds", _i64(microseconds)))
+        return _duration(_C.duration_microseconds(_i64(microseconds)))
 
     @classmethod
-    def nanoseconds(cls, nanoseconds):
+    def nanoseconds(cls, nanoseconds: SupportsIndex) -> SignedDuration:
         """That many nanoseconds, in 64 bits. `nanoseconds(-1)` is 0 s and -1 ns."""
-        return cls._from_c(_done("duration_nanoseconds", _i64(nanoseconds)))
+        return _duration(_C.duration_nanoseconds(_i64(nanoseconds)))
 
     @classmethod
-    def nanoseconds_i128(cls, nanoseconds):
+    def nanoseconds_i128(cls, nanoseconds: SupportsIndex) -> SignedDuration:
         """That many nanoseconds, from those of `MIN` to those of `MAX`. `nanoseconds_i128(1000000001)` is 1 s and 1 ns."""
         return cls.new(*_cut(operator.index(nanoseconds), 10**9))
 
-    def is_zero(self):
+    def is_zero(self) -> bool:
         """Whether the duration is zero, as `ZERO` is, and 1 ns is not."""
-        return self._key == (0, 0)
+        return self._order() == (0, 0)
 
-    def is_negative(self):
+    def is_negative(self) -> bool:
         """Whether the duration is below zero, as -1 ns is, and zero is not."""
-        return self._key < (0, 0)
+        return self._order() < (0, 0)
 
-    def is_positive(self):
+    def is_positive(self) -> bool:
         """Whether the duration is above zero, as 1 ns is, and zero is not."""
-        return self._key > (0, 0)
+        return self._order() > (0, 0)
 
-    def abs(self):
+    def abs(self) -> SignedDuration:
         """The magnitude, or `MAX` where it is past that: `MIN.abs()` is `MAX`."""
-        return self._from_c(_done("duration_abs", self._c()))
+        return _duration(_C.duration_abs(self._key))
 
-    def unsigned_abs(self):
+    def unsigned_abs(self) -> Tuple[int, int]:
         """The magnitude, as its whole seconds and the nanoseconds past them: for `MIN` 9223372036854775808 and 999999999."""
-        seconds, nanoseconds = self._key
+        seconds, nanoseconds = self._order()
         return abs(seconds), abs(nanoseconds)
 
-    def whole_weeks(self):
+    def whole_weeks(self) -> int:
         """The whole weeks, cut toward zero: those of -6 days are 0."""
-        return _done("duration_whole_weeks", self._c()).number
+        return _number(_C.duration_whole_weeks(self._key))
 
-    def whole_days(self):
+    def whole_days(self) -> int:
         """The whole days, cut toward zero: those of -47 hours are -1."""
-        return _done("duration_whole_days", self._c()).number
+        return _number(_C.duration_whole_days(self._key))
 
-    def whole_hours(self):
+    def whole_hours(self) -> int:
         """The whole hours, cut toward zero: those of -90 minutes are -1."""
-        return _done("duration_whole_hours", self._c()).number
+        return _number(_C.duration_whole_hours(self._key))
 
-    def whole_minutes(self):
+    def whole_minutes(self) -> int:
         """The whole minutes, cut toward zero: those of 90 s are 1."""
-        return _done("duration_whole_minutes", self._c()).number
+        return _number(_C.duration_whole_minutes(self._key))
 
-    def whole_seconds(self):
+    def whole_seconds(self) -> int:
         """The whole seconds, cut toward zero: those of -1.5 s are -1."""
-        return self._key[0]
+        return self._key.seconds
 
-    def whole_milliseconds(self):
+    def whole_milliseconds(self) -> int:
         """The whole milliseconds, cut toward zero, as an int of any size: those of -1.5 s are -1500."""
-        return self._key[0] * 10**3 + self.subsec_milliseconds()
+        return self._key.seconds * 10**3 + self.subsec_milliseconds()
 
-    def whole_microseconds(self):
+    def whole_microseconds(self) -> int:
         """The whole microseconds, cut toward zero, as an int of any size: those of 2500 ns are 2."""
-        return self._key[0] * 10**6 + self.subsec_microseconds()
+        return self._key.seconds * 10**6 + self.subsec_microseconds()
 
-    def whole_nanoseconds(self):
+    def whole_nanoseconds(self) -> int:
         """The duration in nanoseconds, as an int of any size: that of -1.5 s is -1500000000."""
-        return self._key[0] * 10**9 + self._key[1]
+        return self._key.seconds * 10**9 + self._key.nanoseconds
 
-    def subsec_milliseconds(self):
+    def subsec_milliseconds(self) -> int:
         """The milliseconds past the whole seconds, cut toward zero, from -999 to 999. Those of -1.5 s are -500."""
-        return _done("duration_subsec_milliseconds", self._c()).number
+        return _number(_C.duration_subsec_milliseconds(self._key))
 
-    def subsec_microseconds(self):
+    def subsec_microseconds(self) -> int:
         """The microseconds past the whole seconds, cut toward zero, from -999999 to 999999. Those of 1 s and 2500 ns are 2."""
-        return _done("duration_subsec_microseconds", self._c()).number
+        return _number(_C.duration_subsec_microseconds(self._key))
 
-    def subsec_nanoseconds(self):
+    def subsec_nanoseconds(self) -> int:
         """The nanoseconds past the whole seconds, from -999999999 to 999999999. Those of -1.5 s are -500000000."""
-        return self._key[1]
+        return self._key.nanoseconds
 
-    def checked_add(self, other):
+    def checked_add(self, other: SignedDuration) -> Optional[SignedDuration]:
         """The sum, or `None` where it is no duration. That of `MAX` and `MIN` is -1 s."""
-        return self._from_c(_done_or_none("duration_checked_add", self._c(), _is(other, SignedDuration)._c()))
+        return _duration_or_none(_C.duration_checked_add(self._key, _is(other, SignedDuration)._key))
 
-    def checked_sub(self, other):
+    def checked_sub(self, other: SignedDuration) -> Optional[SignedDuration]:
         """The difference, or `None` where it is no duration. -1 ns less the least whole seconds is `MAX`."""
-        return self._from_c(_done_or_none("duration_checked_sub", self._c(), _is(other, SignedDuration)._c()))
+        return _duration_or_none(_C.duration_checked_sub(self._key, _is(other, SignedDuration)._key))
 
-    def checked_mul(self, factor):
+    def checked_mul(self, factor: SupportsIndex) -> Optional[SignedDuration]:
         """The product with a factor in 32 bits, or `None` where it is no duration. That of 2 s and -3 is -6 s."""
-        return self._from_c(_done_or_none("duration_checked_mul", self._c(), _i32(factor)))
+        return _duration_or_none(_C.duration_checked_mul(self._key, _i32(factor)))
 
-    def checked_div(self, divisor):
+    def checked_div(self, divisor: SupportsIndex) -> Optional[SignedDuration]:
         """The quotient by a divisor in 32 bits, cut toward zero; `None` by 0, or where it is no duration. -7.5 s by 2 is -3.75 s."""
-        return self._from_c(_done_or_none("duration_checked_div", self._c(), _i32(divisor)))
+        return _duration_or_none(_C.duration_checked_div(self._key, _i32(divisor)))
 
-    def checked_neg(self):
+    def checked_neg(self) -> Optional[SignedDuration]:
         """The duration of the other sign, or `None` where it is no duration, as for `MIN`."""
-        return self._from_c(_done_or_none("duration_checked_neg", self._c()))
+        return _duration_or_none(_C.duration_checked_neg(self._key))
 
-    def saturating_add(self, other):
+    def saturating_add(self, other: SignedDuration) -> SignedDuration:
         """The sum, or the nearest limit where it is no duration. That of `MAX` and 1 ns is `MAX`."""
-        return self._from_c(_done("duration_saturating_add", self._c(), _is(other, SignedDuration)._c()))
+        return _duration(_C.duration_saturating_add(self._key, _is(other, SignedDuration)._key))
 
-    def saturating_sub(self, other):
+    def saturating_sub(self, other: SignedDuration) -> SignedDuration:
         """The difference, or the nearest limit where it is no duration. Zero less `MIN` is `MAX`."""
-        return self._from_c(_done("duration_saturating_sub", self._c(), _is(other, SignedDuration)._c()))
+        return _duration(_C.duration_saturating_sub(self._key, _is(other, SignedDuration)._key))
 
-    def saturating_mul(self, factor):
+    def saturating_mul(self, factor: SupportsIndex) -> SignedDuration:
         """The product with a factor in 32 bits, or the nearest limit where it is no duration. That of `MIN` and -2 is `MAX`."""
-        return self._from_c(_done("duration_saturating_mul", self._c(), _i32(factor)))
+        return _duration(_C.duration_saturating_mul(self._key, _i32(factor)))
 
     @classmethod
-    def try_sum(cls, durations):
+    def try_sum(cls, durations: Iterable[SignedDuration]) -> Optional[SignedDuration]:
         """The sum, `ZERO` where there are none, or `None` where the sum of the first few of them is no duration."""
         total = cls.ZERO
         for duration in durations:
-            total = total.checked_add(duration)
-            if total is None:
+            found = total.checked_add(duration)
+            if found is None:
                 return None
+            total = found
         return total
 
-    def __add__(self, other):
+    @classmethod
+    def from_timedelta(cls, delta: datetime.timedelta) -> SignedDuration:
+        """The duration of a `datetime.timedelta`, exactly.
+
+        >>> SignedDuration.from_timedelta(datetime.timedelta(hours=-1, microseconds=5))
+        -59m59s999ms995\u00b5s
+        """
+        microseconds = _is(delta, datetime.timedelta) // datetime.timedelta(microseconds=1)
+        seconds, rest = _cut(microseconds, 10**6)
+        return cls.new(seconds, rest * 1000)
+
+    def to_timedelta(self) -> datetime.timedelta:
+        """The `datetime.timedelta`; `OverflowError` past its range, and `ValueError` where it has nanoseconds past the microseconds."""
+        seconds, nanoseconds = self._order()
+        _whole_microseconds(nanoseconds, "datetime.timedelta")
+        return datetime.timedelta(seconds=seconds, microseconds=nanoseconds // 1000)
+
+    def __add__(self, other: SignedDuration) -> SignedDuration:
         if not isinstance(other, SignedDuration):
             return NotImplemented
-        return self._from_c(_done("duration_checked_add", self._c(), other._c()))
+        return _duration(_C.duration_checked_add(self._key, other._key))
 
-    def __sub__(self, other):
+    def __sub__(self, other: SignedDuration) -> SignedDuration:
         if not isinstance(other, SignedDuration):
             return NotImplemented
-        return self._from_c(_done("duration_checked_sub", self._c(), other._c()))
+        return _duration(_C.duration_checked_sub(self._key, other._key))
 
-    def __mul__(self, factor):
+    def __mul__(self, factor: SupportsIndex) -> SignedDuration:
         if not hasattr(factor, "__index__"):
             return NotImplemented
-        return self._from_c(_done("duration_checked_mul", self._c(), _i32(factor)))
+        return _duration(_C.duration_checked_mul(self._key, _i32(factor)))
 
     __rmul__ = __mul__
 
-    def __truediv__(self, divisor):
+    def __truediv__(self, divisor: SupportsIndex) -> SignedDuration:
         if not hasattr(divisor, "__index__"):
             return NotImplemented
         if operator.index(divisor) == 0:
             raise ZeroDivisionError("a duration by 0")
-        return self._from_c(_done("duration_checked_div", self._c(), _i32(divisor)))
+        return _duration(_C.duration_checked_div(self._key, _i32(divisor)))
 
-    def __neg__(self):
-        return self._from_c(_done("duration_checked_neg", self._c()))
+    def __neg__(self) -> SignedDuration:
+        return _duration(_C.duration_checked_neg(self._key))
 
-    def __abs__(self):
+    def __abs__(self) -> SignedDuration:
         return self.abs()
 
-    def __reduce__(self):
-        return SignedDuration.new, self._key
+    def __reduce__(self) -> Tuple[Any, ...]:
+        return SignedDuration.new, self._order()
 
-    def __str__(self):
+    def __str__(self) -> str:
         seconds, nanoseconds = self.unsigned_abs()
         units = [
             (seconds // 86400, "d"), (seconds // 3600 % 24, "h"), (seconds // 60 % 60, "m"), (seconds % 60, "s"),
@@ -727,7 +919,7 @@ class SignedDuration(_Value):
         return ("-" if self.is_negative() else "") + (text or "0s")
 
 
-def _limits_of_durations():
+def _limits_of_durations() -> None:
     """The constants of durations."""
     SignedDuration.ZERO = SignedDuration.nanoseconds(0)
     SignedDuration.NANOSECOND = SignedDuration.nanoseconds(1)
@@ -756,152 +948,191 @@ class Time(_Value):
 
     __slots__ = ()
 
-    @classmethod
-    def _from_c(cls, result):
-        return cls._of(result.time)
+    _key: int
+    MIDNIGHT: ClassVar[Time]
+    MAX: ClassVar[Time]
 
     @classmethod
-    def from_hms(cls, hour, minute, second):
+    def from_hms(cls, hour: SupportsIndex, minute: SupportsIndex, second: SupportsIndex) -> Time:
         """The time of an hour, from 0 to 23, a minute and a second, from 0 to 59.
 
         `ComponentRange` as `hour`, `minute` or `second`. `from_hms(9, 5, 0)` is 9:05:00.0.
         """
-        return cls._from_c(_done("time_from_hms", _component(hour), _component(minute), _component(second)))
+        # Ints that 31 bits hold, as nearly all are, need no look at each.
+        if type(hour) is int and type(minute) is int and type(second) is int and not (hour | minute | second) >> 31:
+            return _time(_C.time_from_hms(hour, minute, second))
+        return _time(_C.time_from_hms(_component(hour), _component(minute), _component(second)))
 
     @classmethod
-    def from_hms_milli(cls, hour, minute, second, millisecond):
+    def from_hms_milli(cls, hour: SupportsIndex, minute: SupportsIndex, second: SupportsIndex, millisecond: SupportsIndex) -> Time:
         """As `from_hms`, and milliseconds, to 999; `ComponentRange` as `millisecond`. `from_hms_milli(1, 2, 3, 4)` is 1:02:03.004."""
-        return cls._from_c(_done("time_from_hms_milli", *map(_component, (hour, minute, second, millisecond))))
+        return _time(_C.time_from_hms_milli(*map(_component, (hour, minute, second, millisecond))))
 
     @classmethod
-    def from_hms_micro(cls, hour, minute, second, microsecond):
+    def from_hms_micro(cls, hour: SupportsIndex, minute: SupportsIndex, second: SupportsIndex, microsecond: SupportsIndex) -> Time:
         """As `from_hms`, and microseconds, to 999999; `ComponentRange` as `microsecond`."""
-        return cls._from_c(_done("time_from_hms_micro", *map(_component, (hour, minute, second, microsecond))))
+        return _time(_C.time_from_hms_micro(*map(_component, (hour, minute, second, microsecond))))
 
     @classmethod
-    def from_hms_nano(cls, hour, minute, second, nanosecond):
+    def from_hms_nano(cls, hour: SupportsIndex, minute: SupportsIndex, second: SupportsIndex, nanosecond: SupportsIndex) -> Time:
         """As `from_hms`, and nanoseconds, to 999999999; `ComponentRange` as `nanosecond`."""
-        return cls._from_c(_done("time_from_hms_nano", *map(_component, (hour, minute, second, nanosecond))))
+        return _time(_C.time_from_hms_nano(*map(_component, (hour, minute, second, nanosecond))))
 
-    def as_hms(self):
+    def as_hms(self) -> Tuple[int, int, int]:
         """The hour, minute and second: those of 1:02:03.004005006 are 1, 2 and 3."""
         return self.as_hms_nano()[:3]
 
-    def as_hms_milli(self):
+    def as_hms_milli(self) -> Tuple[int, int, int, int]:
         """The hour, minute, second and millisecond: those of 1:02:03.004005006 are 1, 2, 3 and 4."""
         return (*self.as_hms(), self.millisecond())
 
-    def as_hms_micro(self):
+    def as_hms_micro(self) -> Tuple[int, int, int, int]:
         """The hour, minute, second and microsecond: those of 1:02:03.004005006 are 1, 2, 3 and 4005."""
         return (*self.as_hms(), self.microsecond())
 
-    def as_hms_nano(self):
+    def as_hms_nano(self) -> Tuple[int, int, int, int]:
         """The hour, minute, second and nanosecond: those of 1:02:03.004005006 are 1, 2, 3 and 4005006."""
-        clock = _done("time_as_hms_nano", self._key)
+        clock = _done(_C.time_as_hms_nano(self._key))
         return clock.hour, clock.minute, clock.second, clock.nanosecond
 
-    def hour(self):
+    @classmethod
+    def from_time(cls, time: datetime.time) -> Time:
+        """The time of a `datetime.time` without a time zone; one that has one raises `ValueError`."""
+        if _is(time, datetime.time).tzinfo is not None:
+            raise ValueError("a datetime.time without tzinfo expected")
+        return cls.from_hms_micro(time.hour, time.minute, time.second, time.microsecond)
+
+    def to_time(self) -> datetime.time:
+        """The `datetime.time`; `ValueError` where the time has nanoseconds past the microseconds."""
+        hour, minute, second, nanosecond = self.as_hms_nano()
+        _whole_microseconds(nanosecond, "datetime.time")
+        return datetime.time(hour, minute, second, nanosecond // 1000)
+
+    def isoformat(self) -> str:
+        """The time as `datetime.time` writes it, as `01:02:03` and `01:02:03.004005`, with nine digits where there are nanoseconds."""
+        hour, minute, second, nanosecond = self.as_hms_nano()
+        decimals = f".{nanosecond:09}" if nanosecond % 1000 else f".{nanosecond // 1000:06}" if nanosecond else ""
+        return f"{hour:02}:{minute:02}:{second:02}{decimals}"
+
+    def replace(self, *, hour: Optional[SupportsIndex] = None, minute: Optional[SupportsIndex] = None,
+                second: Optional[SupportsIndex] = None, nanosecond: Optional[SupportsIndex] = None) -> Time:
+        """The time with these parts and the others the same.
+
+        >>> Time.from_hms(9, 5, 0).replace(hour=10, second=30)
+        10:05:30.0
+        """
+        old = self.as_hms_nano()
+        parts = (own if part is None else part for own, part in zip(old, (hour, minute, second, nanosecond)))
+        return Time.from_hms_nano(*parts)
+
+    def hour(self) -> int:
         """The hour, from 0 to 23. That of 1:02:03.004005006 is 1."""
-        return _done("time_hour", self._key).number
+        return _number(_C.time_hour(self._key))
 
-    def minute(self):
+    def minute(self) -> int:
         """The minute of the hour, from 0 to 59. That of 1:02:03.004005006 is 2."""
-        return _done("time_minute", self._key).number
+        return _number(_C.time_minute(self._key))
 
-    def second(self):
+    def second(self) -> int:
         """The second of the minute, from 0 to 59. That of 1:02:03.004005006 is 3."""
-        return _done("time_second", self._key).number
+        return _number(_C.time_second(self._key))
 
-    def millisecond(self):
+    def millisecond(self) -> int:
         """The whole milliseconds of the second, from 0 to 999. Those of 1:02:03.004005006 are 4."""
-        return _done("time_millisecond", self._key).number
+        return _number(_C.time_millisecond(self._key))
 
-    def microsecond(self):
+    def microsecond(self) -> int:
         """The whole microseconds of the second, from 0 to 999999. Those of 1:02:03.004005006 are 4005."""
-        return _done("time_microsecond", self._key).number
+        return _number(_C.time_microsecond(self._key))
 
-    def nanosecond(self):
+    def nanosecond(self) -> int:
         """The nanoseconds of the second, from 0 to 999999999. Those of 1:02:03.004005006 are 4005006."""
-        return _done("time_nanosecond", self._key).number
+        return _number(_C.time_nanosecond(self._key))
 
-    def replace_hour(self, hour):
+    def replace_hour(self, hour: SupportsIndex) -> Time:
         """The time with another hour and everything else the same; `ComponentRange` as `hour`."""
-        return self._from_c(_done("time_replace_hour", self._key, _component(hour)))
+        return _time(_C.time_replace_hour(self._key, _component(hour)))
 
-    def replace_minute(self, minute):
+    def replace_minute(self, minute: SupportsIndex) -> Time:
         """The time with another minute and everything else the same; `ComponentRange` as `minute`."""
-        return self._from_c(_done("time_replace_minute", self._key, _component(minute)))
+        return _time(_C.time_replace_minute(self._key, _component(minute)))
 
-    def replace_second(self, second):
+    def replace_second(self, second: SupportsIndex) -> Time:
         """The time with another second and everything else the same; `ComponentRange` as `second`."""
-        return self._from_c(_done("time_replace_second", self._key, _component(second)))
+        return _time(_C.time_replace_second(self._key, _component(second)))
 
-    def replace_millisecond(self, millisecond):
+    def replace_millisecond(self, millisecond: SupportsIndex) -> Time:
         """The time with all that lies below its second replaced by that many milliseconds; `ComponentRange` as `millisecond`."""
-        return self._from_c(_done("time_replace_millisecond", self._key, _component(millisecond)))
+        return _time(_C.time_replace_millisecond(self._key, _component(millisecond)))
 
-    def replace_microsecond(self, microsecond):
+    def replace_microsecond(self, microsecond: SupportsIndex) -> Time:
         """The time with all that lies below its second replaced by that many microseconds; `ComponentRange` as `microsecond`."""
-        return self._from_c(_done("time_replace_microsecond", self._key, _component(microsecond)))
+        return _time(_C.time_replace_microsecond(self._key, _component(microsecond)))
 
-    def replace_nanosecond(self, nanosecond):
+    def replace_nanosecond(self, nanosecond: SupportsIndex) -> Time:
         """The time with all that lies below its second replaced by that many nanoseconds; `ComponentRange` as `nanosecond`."""
-        return self._from_c(_done("time_replace_nanosecond", self._key, _component(nanosecond)))
+        return _time(_C.time_replace_nanosecond(self._key, _component(nanosecond)))
 
-    def truncate_to_hour(self):
+    def truncate_to_hour(self) -> Time:
         """The time with all that lies below its hour zero: 1:02:03.004005006 becomes 1:00:00.0."""
-        return self._from_c(_done("time_truncate_to_hour", self._key))
+        return _time(_C.time_truncate_to_hour(self._key))
 
-    def truncate_to_minute(self):
+    def truncate_to_minute(self) -> Time:
         """The time with all that lies below its minute zero: 1:02:03.004005006 becomes 1:02:00.0."""
-        return self._from_c(_done("time_truncate_to_minute", self._key))
+        return _time(_C.time_truncate_to_minute(self._key))
 
-    def truncate_to_second(self):
+    def truncate_to_second(self) -> Time:
         """The time with all that lies below its second zero: 1:02:03.004005006 becomes 1:02:03.0."""
-        return self._from_c(_done("time_truncate_to_second", self._key))
+        return _time(_C.time_truncate_to_second(self._key))
 
-    def truncate_to_millisecond(self):
+    def truncate_to_millisecond(self) -> Time:
         """The time with all that lies below its millisecond zero: 1:02:03.004005006 becomes 1:02:03.004."""
-        return self._from_c(_done("time_truncate_to_millisecond", self._key))
+        return _time(_C.time_truncate_to_millisecond(self._key))
 
-    def truncate_to_microsecond(self):
+    def truncate_to_microsecond(self) -> Time:
         """The time with all that lies below its microsecond zero: 1:02:03.004005006 becomes 1:02:03.004005."""
-        return self._from_c(_done("time_truncate_to_microsecond", self._key))
+        return _time(_C.time_truncate_to_microsecond(self._key))
 
-    def duration_until(self, other):
+    def duration_until(self, other: Time) -> SignedDuration:
         """The way forward to the other time, from zero to below a day: from 23:00 until 1:00 it is two hours."""
-        return SignedDuration._from_c(_done("time_duration_until", self._key, _is(other, Time)._key))
+        return _duration(_C.time_duration_until(self._key, _is(other, Time)._key))
 
-    def duration_since(self, other):
+    def duration_since(self, other: Time) -> SignedDuration:
         """The way forward from the other time, from zero to below a day: since 23:00 it is two hours at 1:00."""
-        return SignedDuration._from_c(_done("time_duration_since", self._key, _is(other, Time)._key))
+        return _duration(_C.time_duration_since(self._key, _is(other, Time)._key))
 
-    def adjusting_add(self, duration):
+    def adjusting_add(self, duration: SignedDuration) -> Tuple[int, Time]:
         """The carry, -1, 0 or 1 days beyond the whole days of the duration, and the new time. 23:00 and 26 hours: 1 and 1:00."""
-        result = _done("time_adjusting_add", self._key, _is(duration, SignedDuration)._c())
-        return result.carry, self._from_c(result)
+        result = _done(_C.time_adjusting_add(self._key, _is(duration, SignedDuration)._key))
+        return result.carry, _time(result)
 
-    def adjusting_sub(self, duration):
+    def adjusting_sub(self, duration: SignedDuration) -> Tuple[int, Time]:
         """The carry, -1, 0 or 1 days beyond the whole days of the duration, and the new time. 1:00 less 26 hours: -1 and 23:00."""
-        result = _done("time_adjusting_sub", self._key, _is(duration, SignedDuration)._c())
-        return result.carry, self._from_c(result)
+        result = _done(_C.time_adjusting_sub(self._key, _is(duration, SignedDuration)._key))
+        return result.carry, _time(result)
 
-    def __add__(self, duration):
+    def __add__(self, duration: SignedDuration) -> Time:
         if not isinstance(duration, SignedDuration):
             return NotImplemented
-        return self._from_c(_done("time_add", self._key, duration._c()))
+        return _time(_C.time_add(self._key, duration._key))
 
-    def __sub__(self, other):
+    @overload
+    def __sub__(self, other: Time) -> SignedDuration: ...
+
+    @overload
+    def __sub__(self, other: SignedDuration) -> Time: ...
+
+    def __sub__(self, other: Union[Time, SignedDuration]) -> Union[Time, SignedDuration]:
         if isinstance(other, Time):
-            return SignedDuration._from_c(_done("time_difference", self._key, other._key))
+            return _duration(_C.time_difference(self._key, other._key))
         if not isinstance(other, SignedDuration):
             return NotImplemented
-        return self._from_c(_done("time_sub", self._key, other._c()))
+        return _time(_C.time_sub(self._key, other._key))
 
-    def __reduce__(self):
+    def __reduce__(self) -> Tuple[Any, ...]:
         return Time.from_hms_nano, self.as_hms_nano()
 
-    def __str__(self):
+    def __str__(self) -> str:
         hour, minute, second, nanosecond = self.as_hms_nano()
         decimals = f"{nanosecond:09}".rstrip("0") or "0"
         return f"{hour}:{minute:02}:{second:02}.{decimals}"
@@ -920,68 +1151,79 @@ class UtcOffset(_Value):
 
     __slots__ = ()
 
-    @classmethod
-    def _from_c(cls, result):
-        return cls._of(result.offset)
+    _key: int
+    UTC: ClassVar[UtcOffset]
 
     @classmethod
-    def from_hms(cls, hours, minutes, seconds):
+    def from_hms(cls, hours: SupportsIndex, minutes: SupportsIndex, seconds: SupportsIndex) -> UtcOffset:
         """The offset of hours, from -25 to 25, minutes and seconds, from -59 to 59. The first that is not zero gives the sign of all.
 
         `ComponentRange` as `offset hour`, `offset minute` or `offset second`. `from_hms(1, -2, -3)` is +01:02:03.
         """
-        return cls._from_c(_done("offset_from_hms", _signed(hours), _signed(minutes), _signed(seconds)))
+        return _offset(_C.offset_from_hms(_signed(hours), _signed(minutes), _signed(seconds)))
 
     @classmethod
-    def from_whole_seconds(cls, seconds):
+    def from_whole_seconds(cls, seconds: SupportsIndex) -> UtcOffset:
         """The offset of that many seconds, from -93599 to 93599; `ComponentRange` as `seconds`. That of 3723 is +01:02:03."""
-        return cls._from_c(_done("offset_from_whole_seconds", _long(seconds)))
+        return _offset(_C.offset_from_whole_seconds(_long(seconds)))
 
-    def as_hms(self):
+    @classmethod
+    def from_timezone(cls, timezone: datetime.timezone) -> UtcOffset:
+        """The offset of a `datetime.timezone`; `ValueError` where that has parts of a second."""
+        delta = _is(timezone, datetime.timezone).utcoffset(None)
+        if delta.microseconds:
+            raise ValueError(f"an offset of whole seconds expected, not {delta}")
+        return cls.from_whole_seconds(delta // datetime.timedelta(seconds=1))
+
+    def to_timezone(self) -> datetime.timezone:
+        """The `datetime.timezone`, which has offsets below a day; `ValueError` from a day on."""
+        return datetime.timezone(datetime.timedelta(seconds=self._key))
+
+    def as_hms(self) -> Tuple[int, int, int]:
         """The whole hours, the minutes past them and the seconds past these, all of one sign: those of -01:30:00 are -1, -30 and 0."""
-        parts = _done("offset_as_hms", self._key)
+        parts = _done(_C.offset_as_hms(self._key))
         return parts.hours, parts.minutes, parts.seconds
 
-    def whole_hours(self):
+    def whole_hours(self) -> int:
         """The whole hours, cut toward zero, from -25 to 25. Those of -01:30:00 are -1."""
-        return _done("offset_whole_hours", self._key).number
+        return _number(_C.offset_whole_hours(self._key))
 
-    def whole_minutes(self):
+    def whole_minutes(self) -> int:
         """The whole minutes, cut toward zero, from -1559 to 1559. Those of -01:30:00 are -90."""
-        return _done("offset_whole_minutes", self._key).number
+        return _number(_C.offset_whole_minutes(self._key))
 
-    def minutes_past_hour(self):
+    def minutes_past_hour(self) -> int:
         """The minutes past the whole hours, from -59 to 59. Those of -01:30:00 are -30."""
-        return _done("offset_minutes_past_hour", self._key).number
+        return _number(_C.offset_minutes_past_hour(self._key))
 
-    def whole_seconds(self):
+    def whole_seconds(self) -> int:
         """The seconds, from -93599 to 93599. Those of -01:30:00 are -5400."""
         return self._key
 
-    def seconds_past_minute(self):
+    def seconds_past_minute(self) -> int:
         """The seconds past the whole minutes, from -59 to 59. Those of +01:02:03 are 3."""
-        return _done("offset_seconds_past_minute", self._key).number
+        return _number(_C.offset_seconds_past_minute(self._key))
 
-    def is_utc(self):
+    def is_utc(self) -> bool:
         """Whether the offset is zero, as `UTC` alone is."""
         return self._key == 0
 
-    def is_positive(self):
+    def is_positive(self) -> bool:
         """Whether the offset is above zero, east of UTC."""
         return self._key > 0
 
-    def is_negative(self):
+    def is_negative(self) -> bool:
         """Whether the offset is below zero, west of UTC."""
         return self._key < 0
 
-    def __neg__(self):
-        return self._from_c(_done("offset_negated", self._key))
+    def __neg__(self) -> UtcOffset:
+        return _offset(_C.offset_negated(self._key))
 
-    def __reduce__(self):
+    def __reduce__(self) -> Tuple[Any, ...]:
         return UtcOffset.from_whole_seconds, (self._key,)
 
-    def __str__(self):
-        hours, minutes, seconds = map(abs, self.as_hms())
+    def __str__(self) -> str:
+        hours, minutes, seconds = (abs(part) for part in self.as_hms())
         return f"{'-' if self._key < 0 else '+'}{hours:02}:{minutes:02}:{seconds:02}"
 
 
@@ -999,46 +1241,47 @@ class Date(_Value):
 
     __slots__ = ()
 
-    @classmethod
-    def _from_c(cls, result):
-        """The date that a call returned, or `None` where there is none."""
-        return result and cls._of(result.date)
+    _key: int
+    MIN: ClassVar[Date]
+    MAX: ClassVar[Date]
 
     @classmethod
-    def from_calendar_date(cls, year, month, day):
+    def from_calendar_date(cls, year: SupportsIndex, month: SupportsIndex, day: SupportsIndex) -> Date:
         """The date of a year, from -999999 to 999999, a `Month` or its number, and a day, from 1 to the length of the month.
 
         `ComponentRange` as `month`, `year` or `day`. `from_calendar_date(2000, Month.February, 29)` is 2000-02-29.
         """
-        return cls._from_c(_done("date_from_calendar_date", _signed(year), _component(month), _component(day)))
+        # Ints that 31 bits hold, as nearly all are, need no look at each.
+        if type(year) is int and isinstance(month, int) and type(day) is int and not (year | month | day) >> 31:
+            return _date(_C.date_from_calendar_date(year, month, day))
+        return _date(_C.date_from_calendar_date(_signed(year), _component(month), _component(day)))
 
     @classmethod
-    def from_ordinal_date(cls, year, ordinal):
+    def from_ordinal_date(cls, year: SupportsIndex, ordinal: SupportsIndex) -> Date:
         """The date of a year, from -999999 to 999999, and an ordinal, from 1 to 365, or 366 in a leap year.
 
         `ComponentRange` as `year` or `ordinal`. `from_ordinal_date(2000, 60)` is 2000-02-29.
         """
-        return cls._from_c(_done("date_from_ordinal_date", _signed(year), _component(ordinal)))
+        return _date(_C.date_from_ordinal_date(_signed(year), _component(ordinal)))
 
     @classmethod
-    def from_iso_week_date(cls, year, week, weekday):
+    def from_iso_week_date(cls, year: SupportsIndex, week: SupportsIndex, weekday: Weekday) -> Date:
         """The date of an ISO year, from -999999 to 999999, a week, from 1 to 52, or 53 in a long year, and a `Weekday`.
 
         `ComponentRange` as `year`, `week`, or `weekday` where the day would come after `MAX`.
         """
-        weekday = _is(weekday, Weekday).value
-        return cls._from_c(_done("date_from_iso_week_date", _signed(year), _component(week), weekday))
+        return _date(_C.date_from_iso_week_date(_signed(year), _component(week), _weekday(weekday)))
 
     @classmethod
-    def from_julian_day(cls, julian_day):
+    def from_julian_day(cls, julian_day: SupportsIndex) -> Date:
         """The date that has the Julian day, from -363521074 to 366963559; `ComponentRange` as `julian_day`.
 
         `from_julian_day(2451545)` is 2000-01-01.
         """
-        return cls._from_c(_done("date_from_julian_day", _long(julian_day)))
+        return _date(_C.date_from_julian_day(_long(julian_day)))
 
     @classmethod
-    def read(cls, text):
+    def read(cls, text: str) -> Date:
         """The date of a calendar date, an ordinal date or an ISO week date in text, as `2024-02-29`, `2024-060` or `2024-W09-4`.
 
         `Unreadable` where the text is none of these, and `ComponentRange` as `month`, `year`, `day`, `ordinal`, `week` or `weekday`.
@@ -1046,190 +1289,215 @@ class Date(_Value):
         >>> Date.read("2020-W53-5"), Date.read("+10000-001")
         (2021-01-01, +10000-01-01)
         """
-        return cls._from_c(_read("date_read", text))
+        return _date(_read(_C.date_read, text))
 
     @classmethod
-    def read_julian_day(cls, text):
+    def read_julian_day(cls, text: str) -> Date:
         """The date of a Julian day in text, as `J2460370`; `Unreadable`, or `ComponentRange` as `julian_day`."""
-        return cls._from_c(_read("julian_day_read", text))
+        return _date(_read(_C.julian_day_read, text))
 
-    def calendar_text(self):
+    def calendar_text(self) -> str:
         """The calendar date in text, as `2024-02-29`: what `str` gives."""
-        return _text(_done("date_calendar_text", self._key))
+        return _text(_C.date_calendar_text(self._key))
 
-    def ordinal_text(self):
+    def ordinal_text(self) -> str:
         """The ordinal date in text, as `2024-060`."""
-        return _text(_done("date_ordinal_text", self._key))
+        return _text(_C.date_ordinal_text(self._key))
 
-    def week_text(self):
+    def week_text(self) -> str:
         """The ISO week date in text, as `2024-W09-4`."""
-        return _text(_done("date_week_text", self._key))
+        return _text(_C.date_week_text(self._key))
 
-    def julian_text(self):
+    def julian_text(self) -> str:
         """The Julian day in text, as `J2460370`."""
-        return _text(_done("date_julian_text", self._key))
+        return _text(_C.date_julian_text(self._key))
 
     @classmethod
-    def from_date(cls, date):
+    def from_date(cls, date: datetime.date) -> Date:
         """The date of a `datetime.date`, which has always one. A `datetime.datetime` is none: take its `date()`."""
-        if not isinstance(date, datetime.date) or isinstance(date, datetime.datetime):
-            raise TypeError(f"datetime.date expected, not {type(date).__name__}")
+        if isinstance(_is(date, datetime.date), datetime.datetime):
+            raise TypeError("datetime.date expected, not datetime")
         return cls.from_calendar_date(date.year, date.month, date.day)
 
-    def to_date(self):
+    def to_date(self) -> datetime.date:
         """The `datetime.date`, which has the years 1 to 9999; `OverflowError` where that has not the year."""
         year, month, day = self.to_calendar_date()
         if not datetime.MINYEAR <= year <= datetime.MAXYEAR:
             raise OverflowError(f"datetime.date has no year {year}")
         return datetime.date(year, month, day)
 
-    def year(self):
+    def isoformat(self) -> str:
+        """The calendar date in text, as `calendar_text` and `str` give it."""
+        return self.calendar_text()
+
+    def replace(self, *, year: Optional[SupportsIndex] = None, month: Optional[SupportsIndex] = None,
+                day: Optional[SupportsIndex] = None) -> Date:
+        """The date of these parts and the others the same; `ComponentRange` as `month`, `year` or `day`.
+
+        >>> Date.read("2024-02-29").replace(year=2023, day=28)
+        2023-02-28
+        """
+        old = self.to_calendar_date()
+        return Date.from_calendar_date(
+            old[0] if year is None else year, old[1] if month is None else month, old[2] if day is None else day)
+
+    def year(self) -> int:
         """The year, from -999999 to 999999. That of 2020-02-29 is 2020."""
-        return _done("date_year", self._key).number
+        return _number(_C.date_year(self._key))
 
-    def month(self):
+    def month(self) -> Month:
         """The month. That of 2020-02-29 is February."""
-        return Month(_done("date_month", self._key).number)
+        return _MONTHS[_number(_C.date_month(self._key))]
 
-    def day(self):
+    def day(self) -> int:
         """The day of the month, from 1 to 31. That of 2020-02-29 is 29."""
-        return _done("date_day", self._key).number
+        return _number(_C.date_day(self._key))
 
-    def ordinal(self):
+    def ordinal(self) -> int:
         """The place of the day in its year, from 1 to 366. That of 2020-12-31 is 366."""
-        return _done("date_ordinal", self._key).number
+        return _number(_C.date_ordinal(self._key))
 
-    def iso_week(self):
+    def iso_week(self) -> int:
         """The week of the ISO week date, from 1 to 53. That of 2021-01-01 is 53, as its week belongs to 2020."""
-        return _done("date_iso_week", self._key).number
+        return _number(_C.date_iso_week(self._key))
 
-    def sunday_based_week(self):
+    def sunday_based_week(self) -> int:
         """The Sundays of the year up to the day, from 0 to 53. Those of 2020-12-31 are 52."""
-        return _done("date_sunday_based_week", self._key).number
+        return _number(_C.date_sunday_based_week(self._key))
 
-    def monday_based_week(self):
+    def monday_based_week(self) -> int:
         """The Mondays of the year up to the day, from 0 to 53. Those of 2020-12-31 are 52."""
-        return _done("date_monday_based_week", self._key).number
+        return _number(_C.date_monday_based_week(self._key))
 
-    def weekday(self):
+    def weekday(self) -> Weekday:
         """The weekday. That of 2021-01-01 is Friday."""
-        return Weekday(_done("date_weekday", self._key).number)
+        return _WEEKDAYS[_number(_C.date_weekday(self._key))]
 
-    def to_calendar_date(self):
+    def to_calendar_date(self) -> Tuple[int, Month, int]:
         """The year, the `Month` and the day of the month."""
-        found = _done("date_to_calendar_date", self._key)
-        return found.year, Month(found.month), found.day
+        found = _done(_C.date_to_calendar_date(self._key))
+        return found.year, _MONTHS[found.month], found.day
 
-    def to_ordinal_date(self):
+    def to_ordinal_date(self) -> Tuple[int, int]:
         """The year and the ordinal. Those of 2020-12-31 are 2020 and 366."""
-        found = _done("date_to_ordinal_date", self._key)
+        found = _done(_C.date_to_ordinal_date(self._key))
         return found.year, found.ordinal
 
-    def to_iso_week_date(self):
+    def to_iso_week_date(self) -> Tuple[int, int, Weekday]:
         """The ISO year, the week and the `Weekday`. Those of 2021-01-01 are 2020, 53 and Friday."""
-        found = _done("date_to_iso_week_date", self._key)
-        return found.year, found.week, Weekday(found.weekday)
+        found = _done(_C.date_to_iso_week_date(self._key))
+        return found.year, found.week, _WEEKDAYS[found.weekday]
 
-    def to_julian_day(self):
+    def to_julian_day(self) -> int:
         """The Julian day, from -363521074 to 366963559. That of 2000-01-01 is 2451545."""
         return self._key
 
-    def next_day(self):
+    def next_day(self) -> Optional[Date]:
         """The day after, or `None` after `MAX` alone. That of 2019-12-31 is 2020-01-01."""
-        return self._from_c(_done_or_none("date_next_day", self._key))
+        return _date_or_none(_C.date_next_day(self._key))
 
-    def previous_day(self):
+    def previous_day(self) -> Optional[Date]:
         """The day before, or `None` before `MIN` alone. That of 2020-01-01 is 2019-12-31."""
-        return self._from_c(_done_or_none("date_previous_day", self._key))
+        return _date_or_none(_C.date_previous_day(self._key))
 
-    def checked_add(self, duration):
+    def checked_add(self, duration: SignedDuration) -> Optional[Date]:
         """The day that many whole days of the duration later, cut toward zero, or `None` past the range."""
-        return self._from_c(_done_or_none("date_checked_add", self._key, _is(duration, SignedDuration)._c()))
+        return _date_or_none(_C.date_checked_add(self._key, _is(duration, SignedDuration)._key))
 
-    def checked_sub(self, duration):
+    def checked_sub(self, duration: SignedDuration) -> Optional[Date]:
         """The day that many whole days of the duration earlier, cut toward zero, or `None` past the range."""
-        return self._from_c(_done_or_none("date_checked_sub", self._key, _is(duration, SignedDuration)._c()))
+        return _date_or_none(_C.date_checked_sub(self._key, _is(duration, SignedDuration)._key))
 
-    def saturating_add(self, duration):
+    def saturating_add(self, duration: SignedDuration) -> Date:
         """The day that many whole days of the duration later, or the nearest end of the range."""
-        return self._from_c(_done("date_saturating_add", self._key, _is(duration, SignedDuration)._c()))
+        return _date(_C.date_saturating_add(self._key, _is(duration, SignedDuration)._key))
 
-    def saturating_sub(self, duration):
+    def saturating_sub(self, duration: SignedDuration) -> Date:
         """The day that many whole days of the duration earlier, or the nearest end of the range."""
-        return self._from_c(_done("date_saturating_sub", self._key, _is(duration, SignedDuration)._c()))
+        return _date(_C.date_saturating_sub(self._key, _is(duration, SignedDuration)._key))
 
-    def checked_next_occurrence(self, weekday):
+    def checked_next_occurrence(self, weekday: Weekday) -> Optional[Date]:
         """The first day after this one that has the weekday, or `None` past the range."""
-        return self._from_c(_done_or_none("date_next_occurrence", self._key, _is(weekday, Weekday).value))
+        return _date_or_none(_C.date_next_occurrence(self._key, _weekday(weekday)))
 
-    def checked_prev_occurrence(self, weekday):
+    def checked_prev_occurrence(self, weekday: Weekday) -> Optional[Date]:
         """The last day before this one that has the weekday, or `None` past the range."""
-        return self._from_c(_done_or_none("date_prev_occurrence", self._key, _is(weekday, Weekday).value))
+        return _date_or_none(_C.date_prev_occurrence(self._key, _weekday(weekday)))
 
-    def checked_nth_next_occurrence(self, weekday, n):
+    def checked_nth_next_occurrence(self, weekday: Weekday, n: SupportsIndex) -> Optional[Date]:
         """The `n`-th day after this one that has the weekday, counted from 1, or `None` past the range and for 0; `n` to 255."""
-        return self._from_c(_done_or_none("date_nth_next_occurrence", self._key, _is(weekday, Weekday).value, _component(n)))
+        return _date_or_none(_C.date_nth_next_occurrence(self._key, _weekday(weekday), _component(n)))
 
-    def checked_nth_prev_occurrence(self, weekday, n):
+    def checked_nth_prev_occurrence(self, weekday: Weekday, n: SupportsIndex) -> Optional[Date]:
         """The `n`-th day before this one that has the weekday, counted from 1, or `None` past the range and for 0; `n` to 255."""
-        return self._from_c(_done_or_none("date_nth_prev_occurrence", self._key, _is(weekday, Weekday).value, _component(n)))
+        return _date_or_none(_C.date_nth_prev_occurrence(self._key, _weekday(weekday), _component(n)))
 
-    def next_occurrence(self, weekday):
+    def next_occurrence(self, weekday: Weekday) -> Date:
         """The first day after this one that has the weekday; `OverflowError` past the range. After 2023-06-28, Monday: 2023-07-03."""
-        return self._from_c(_done("date_next_occurrence", self._key, _is(weekday, Weekday).value))
+        return _date(_C.date_next_occurrence(self._key, _weekday(weekday)))
 
-    def prev_occurrence(self, weekday):
+    def prev_occurrence(self, weekday: Weekday) -> Date:
         """The last day before this one that has the weekday; `OverflowError` past the range. Before 2023-06-19, Monday: 2023-06-12."""
-        return self._from_c(_done("date_prev_occurrence", self._key, _is(weekday, Weekday).value))
+        return _date(_C.date_prev_occurrence(self._key, _weekday(weekday)))
 
-    def nth_next_occurrence(self, weekday, n):
+    def nth_next_occurrence(self, weekday: Weekday, n: SupportsIndex) -> Date:
         """The `n`-th day after this one that has the weekday, counted from 1 to 255; `OverflowError` past the range."""
-        return self._from_c(_done("date_nth_next_occurrence", self._key, _is(weekday, Weekday).value, _component(n)))
+        return _date(_C.date_nth_next_occurrence(self._key, _weekday(weekday), _component(n)))
 
-    def nth_prev_occurrence(self, weekday, n):
+    def nth_prev_occurrence(self, weekday: Weekday, n: SupportsIndex) -> Date:
         """The `n`-th day before this one that has the weekday, counted from 1 to 255; `OverflowError` past the range."""
-        return self._from_c(_done("date_nth_prev_occurrence", self._key, _is(weekday, Weekday).value, _component(n)))
+        return _date(_C.date_nth_prev_occurrence(self._key, _weekday(weekday), _component(n)))
 
-    def replace_year(self, year):
+    def replace_year(self, year: SupportsIndex) -> Date:
         """The day of that year that has the same month and day of the month; `ComponentRange` as `year` or `day`."""
-        return self._from_c(_done("date_replace_year", self._key, _signed(year)))
+        return _date(_C.date_replace_year(self._key, _signed(year)))
 
-    def replace_month(self, month):
+    def replace_month(self, month: SupportsIndex) -> Date:
         """The day of that month that has the same year and day of the month; `ComponentRange` as `month` or `day`."""
-        return self._from_c(_done("date_replace_month", self._key, _component(month)))
+        return _date(_C.date_replace_month(self._key, _component(month)))
 
-    def replace_day(self, day):
+    def replace_day(self, day: SupportsIndex) -> Date:
         """The day of the same month that has this day of the month; `ComponentRange` as `day`."""
-        return self._from_c(_done("date_replace_day", self._key, _component(day)))
+        return _date(_C.date_replace_day(self._key, _component(day)))
 
-    def replace_ordinal(self, ordinal):
+    def replace_ordinal(self, ordinal: SupportsIndex) -> Date:
         """The day of the same year that has this ordinal; `ComponentRange` as `ordinal`."""
-        return self._from_c(_done("date_replace_ordinal", self._key, _component(ordinal)))
+        return _date(_C.date_replace_ordinal(self._key, _component(ordinal)))
 
-    def iter_to(self, end):
-        """The days from this one to `end`, both included, in order; none where this one comes after `end`.
+    def iter_to(self, end: Date) -> Days:
+        """The days from this one to `end`, both included, in order, as a sequence; none where this one comes after `end`.
 
         >>> list(Date.from_calendar_date(2019, 12, 31).iter_to(Date.from_calendar_date(2020, 1, 1)))
         [2019-12-31, 2020-01-01]
         """
-        return map(Date._of, range(self._key, _is(end, Date)._key + 1))
+        return Days(range(self._key, _is(end, Date)._key + 1))
 
-    def __add__(self, duration):
+    def __add__(self, duration: Union[SignedDuration, datetime.timedelta]) -> Date:
+        if isinstance(duration, datetime.timedelta):
+            duration = _whole_days(duration)
         if not isinstance(duration, SignedDuration):
             return NotImplemented
-        return self._from_c(_done("date_checked_add", self._key, duration._c()))
+        return _date(_C.date_checked_add(self._key, duration._key))
 
-    def __sub__(self, other):
+    @overload
+    def __sub__(self, other: Date) -> SignedDuration: ...
+
+    @overload
+    def __sub__(self, other: Union[SignedDuration, datetime.timedelta]) -> Date: ...
+
+    def __sub__(self, other: Union[Date, SignedDuration, datetime.timedelta]) -> Union[Date, SignedDuration]:
         if isinstance(other, Date):
-            return SignedDuration._from_c(_done("date_duration_since", self._key, other._key))
+            return _duration(_C.date_duration_since(self._key, other._key))
+        if isinstance(other, datetime.timedelta):
+            other = _whole_days(other)
         if not isinstance(other, SignedDuration):
             return NotImplemented
-        return self._from_c(_done("date_checked_sub", self._key, other._c()))
+        return _date(_C.date_checked_sub(self._key, other._key))
 
-    def __reduce__(self):
+    def __reduce__(self) -> Tuple[Any, ...]:
         return Date.from_julian_day, (self._key,)
 
-    def __str__(self):
+    def __str__(self) -> str:
         return self.calendar_text()
 
 
@@ -1237,34 +1505,84 @@ Date.MIN = Date.from_julian_day(-363_521_074)
 Date.MAX = Date.from_julian_day(366_963_559)
 
 
-def _pair(result):
-    """The pair that a call returned, or `None` where there is none."""
-    return result and (Date._of(result.date), Time._of(result.time))
+def _whole_days(delta: datetime.timedelta) -> SignedDuration:
+    """The duration of whole days. `datetime` cuts others down, and a duration is cut toward zero: so others have to be converted."""
+    if delta.seconds or delta.microseconds:
+        raise ValueError("a timedelta of whole days expected: SignedDuration.from_timedelta takes others")
+    return SignedDuration.days(delta.days)
 
 
-def add_to_pair(date, time, duration):
+class Days(Sequence[Date]):
+    """Days that follow each other, as `Date.iter_to` gives them: a sequence, with a length, places, slices and a reversed order.
+
+    >>> days = Date.from_calendar_date(2024, 2, 28).iter_to(Date.from_calendar_date(2024, 3, 2))
+    >>> len(days), days[1], list(reversed(days))[:2], Date.from_calendar_date(2024, 3, 3) in days
+    (4, 2024-02-29, [2024-03-02, 2024-03-01], False)
+    """
+
+    __slots__ = ("_julian_days",)
+
+    def __init__(self, julian_days: range) -> None:
+        self._julian_days = julian_days
+
+    def __len__(self) -> int:
+        return len(self._julian_days)
+
+    @overload
+    def __getitem__(self, place: SupportsIndex) -> Date: ...
+
+    @overload
+    def __getitem__(self, place: slice) -> Days: ...
+
+    def __getitem__(self, place: Union[SupportsIndex, slice]) -> Union[Date, Days]:
+        if isinstance(place, slice):
+            return Days(self._julian_days[place])
+        return Date._of(self._julian_days[place])
+
+    def __iter__(self) -> Iterator[Date]:
+        return map(Date._of, self._julian_days)
+
+    def __reversed__(self) -> Iterator[Date]:
+        return map(Date._of, reversed(self._julian_days))
+
+    def __contains__(self, date: object) -> bool:
+        return isinstance(date, Date) and date._key in self._julian_days
+
+    def __eq__(self, other: object) -> bool:
+        if not isinstance(other, Days):
+            return NotImplemented
+        return self._julian_days == other._julian_days
+
+    def __hash__(self) -> int:
+        return hash(self._julian_days)
+
+    def __repr__(self) -> str:
+        return f"{self[0]} to {self[-1]}" if len(self) else "no days"
+
+
+def add_to_pair(date: Date, time: Time, duration: SignedDuration) -> Optional[Tuple[Date, Time]]:
     """The date and the time that come so much later, to the nanosecond, or `None` where that date is past the range.
 
     >>> add_to_pair(Date.from_calendar_date(2020, 12, 31), Time.from_hms(23, 0, 0), SignedDuration.hours(2))
     (2021-01-01, 1:00:00.0)
     """
-    return _pair(_done_or_none("add_to_pair", _is(date, Date)._key, _is(time, Time)._key, _is(duration, SignedDuration)._c()))
+    return _pair_or_none(_C.add_to_pair(_is(date, Date)._key, _is(time, Time)._key, _is(duration, SignedDuration)._key))
 
 
-def sub_from_pair(date, time, duration):
+def sub_from_pair(date: Date, time: Time, duration: SignedDuration) -> Optional[Tuple[Date, Time]]:
     """The date and the time that come so much earlier, to the nanosecond, or `None` where that date is past the range."""
-    return _pair(_done_or_none("sub_from_pair", _is(date, Date)._key, _is(time, Time)._key, _is(duration, SignedDuration)._c()))
+    return _pair_or_none(_C.sub_from_pair(_is(date, Date)._key, _is(time, Time)._key, _is(duration, SignedDuration)._key))
 
 
 # ---- moments
 
 
-def _moment(date, time, offset):
+def _moment(date: Date, time: Time, offset: UtcOffset) -> Tuple[int, int, int]:
     """A date, a time and an offset, as they cross."""
     return _is(date, Date)._key, _is(time, Time)._key, _is(offset, UtcOffset)._key
 
 
-def rfc3339_text(date, time, offset):
+def rfc3339_text(date: Date, time: Time, offset: UtcOffset) -> Optional[str]:
     """The text of RFC 3339 of a date and a time that a clock shows at the offset, or `None` where RFC 3339 has none.
 
     It has none for a year outside 0 to 9999, an offset of a day and more, and one with seconds.
@@ -1272,10 +1590,10 @@ def rfc3339_text(date, time, offset):
     >>> rfc3339_text(Date.read("2024-02-29"), Time.from_hms_milli(23, 59, 59, 250), UtcOffset.from_hms(1, 0, 0))
     '2024-02-29T23:59:59.25+01:00'
     """
-    return _text(_done_or_none("moment_text", *_moment(date, time, offset)))
+    return _text_or_none(_C.moment_text(*_moment(date, time, offset)))
 
 
-def read_rfc3339(text):
+def read_rfc3339(text: str) -> Tuple[Date, Time, UtcOffset]:
     """The date, the time and the offset of a text of RFC 3339.
 
     `Unreadable`, or `ComponentRange` as `month`, `day`, `hour`, `minute`, `second`, `offset hour` or `offset minute`. A second of 60 is
@@ -1284,46 +1602,46 @@ def read_rfc3339(text):
     >>> read_rfc3339("2024-02-29T23:59:59.25+01:00")
     (2024-02-29, 23:59:59.25, +01:00:00)
     """
-    found = _read("moment_read", text)
-    return Date._of(found.date), Time._of(found.time), UtcOffset._of(found.offset)
+    found = _read(_C.moment_read, text)
+    return _date(found), _time(found), _offset(found)
 
 
-def unix_duration(date, time, offset):
+def unix_duration(date: Date, time: Time, offset: UtcOffset) -> SignedDuration:
     """The Unix time of a date and a time that a clock shows at the offset, as a duration from 1970-01-01 0:00 UTC on.
 
     >>> unix_duration(Date.read("2024-02-29"), Time.MIDNIGHT, UtcOffset.UTC).whole_seconds()
     1709164800
     """
-    return SignedDuration._from_c(_done("unix_time", *_moment(date, time, offset)))
+    return _duration(_C.unix_time(*_moment(date, time, offset)))
 
 
-def unix_pair(duration, offset):
+def unix_pair(duration: SignedDuration, offset: UtcOffset) -> Optional[Tuple[Date, Time]]:
     """The date and the time of a Unix time, as a clock shows them at the offset, or `None` where no day of the range has it.
 
     >>> unix_pair(SignedDuration.seconds(1709164800), UtcOffset.from_hms(1, 0, 0))
     (2024-02-29, 1:00:00.0)
     """
-    return _pair(_done_or_none("unix_pair", _is(duration, SignedDuration)._c(), _is(offset, UtcOffset)._key))
+    return _pair_or_none(_C.unix_pair(_is(duration, SignedDuration)._key, _is(offset, UtcOffset)._key))
 
 
-def unix_text(date, time, offset):
+def unix_text(date: Date, time: Time, offset: UtcOffset) -> str:
     """The Unix time in text of a date and a time that a clock shows at the offset, as `@1709164800.5`."""
-    return _text(_done("unix_text", *_moment(date, time, offset)))
+    return _text(_C.unix_text(*_moment(date, time, offset)))
 
 
-def read_unix(text):
+def read_unix(text: str) -> Tuple[Date, Time]:
     """The date and the time, at UTC, of a Unix time in text; `Unreadable`, or `ComponentRange` as `timestamp`.
 
     >>> read_unix("@1709164800.5")
     (2024-02-29, 0:00:00.5)
     """
-    return _pair(_read("unix_read", text))
+    return _pair(_read(_C.unix_read, text))
 
 
 # ---- columns
 
 
-def status_error(status):
+def status_error(status: int) -> Optional[Exception]:
     """What a call of one value would raise for the status of a row, or `None` where the row has an answer.
 
     >>> status_error(0), status_error(64)
@@ -1332,36 +1650,74 @@ def status_error(status):
     return _error(status) if status else None
 
 
-def _column(values, kind):
-    """The numbers of a buffer, as C has them: the buffer itself, or a copy where that is empty, or not aligned, or can't be shared."""
+# The Julian day of 1970-01-01, from which numpy counts.
+_UNIX_EPOCH = 2440588
+
+
+def _of_array(values: Any, kind: Any, of_dates: bool) -> Any:
+    """The numbers of an array of numpy, in one piece and in the bits of the kind."""
+    letter, name = values.dtype.kind, str(values.dtype)
+    if letter == "M" and of_dates:
+        if name != "datetime64[D]":
+            raise TypeError(f"a column of dates is datetime64[D], not {name}: .astype('datetime64[D]') cuts to days")
+        # Not a time is the least number, which is no date.
+        days = values.view("int64")
+        missing = days == -2**63
+        values = days + _UNIX_EPOCH
+        values[missing | (days < -2**40) | (days > 2**40)] = -2**31
+    elif letter == "m" and kind is _I64:
+        if name != "timedelta64[D]":
+            raise TypeError(f"a column of days is timedelta64[D], not {name}: .astype('timedelta64[D]') cuts to days")
+        values = values.view("int64")
+    elif letter not in "iu":
+        raise TypeError(f"a column of whole numbers expected, not of {name}")
+    least, greatest = _BITS[kind]
+    if values.ndim == 1 and len(values) and not least <= int(values.min()) <= int(values.max()) <= greatest:
+        raise OverflowError(f"a column has a number outside {least} to {greatest}")
+    return values.astype(_CODES[kind], order="C", copy=False)
+
+
+_BITS = {_I32: (-2**31, 2**31 - 1), _U32: (0, 2**32 - 1), _I64: (-2**63, 2**63 - 1)}
+_CODES = {_I32: "i", _U32: "I", _I64: "q"}
+
+
+def _column(values: Any, kind: Any, of_dates: bool) -> Any:
+    """The numbers of a buffer, as C has them: the buffer itself where it has just these bits in one piece, and else a copy."""
+    if hasattr(values, "dtype"):
+        values = _of_array(values, kind, of_dates)
     view = memoryview(values)
-    signs = "bhilq" if kind in (_I32, _I64) else "BHILQ"
+    if view.ndim != 1:
+        raise TypeError(f"a column has one dimension, not {view.ndim}")
     order = "@=" + ("<" if sys.byteorder == "little" else ">")
     code = view.format[1:] if view.format[:1] in order else view.format
-    if view.ndim != 1 or not view.c_contiguous or code not in signs or view.itemsize != ctypes.sizeof(kind):
-        sign = "a" if kind in (_I32, _I64) else "no"
-        raise TypeError(f"a column of whole numbers of {8 * ctypes.sizeof(kind)} bits with {sign} sign expected, not '{view.format}'")
-    array = kind * len(view)
+    if code not in "bhilqBHILQ":
+        raise TypeError(f"a column of whole numbers expected, not of the format '{view.format}'")
+    signs = "bhilq" if kind is not _U32 else "BHILQ"
+    if code not in signs or view.itemsize != ctypes.sizeof(kind) or not view.c_contiguous:
+        # array raises OverflowError where a number does not fit.
+        view = memoryview(array.array(_CODES[kind], view.tolist()))
+    column = kind * len(view)
     if len(view) and not view.readonly:
-        shared = array.from_buffer(view)
+        shared = column.from_buffer(view)
         if ctypes.addressof(shared) % ctypes.alignment(kind) == 0:
             return shared
-    return array.from_buffer_copy(view)
+    return column.from_buffer_copy(view)
 
 
-def _over_columns(name, *columns):
+def _over_columns(name: str, *columns: object) -> Tuple[Any, int]:
     """The rows of the answer, and how many have none."""
     row, kinds = _COLUMNS[name]
-    columns = [_column(values, kind) for values, kind in zip(columns, kinds)]
-    length = len(columns[0])
-    if any(len(column) != length for column in columns):
+    of_dates = name.startswith("dates_to_") or name in ("dates_weekdays", "dates_add_days")
+    found = [_column(values, kind, of_dates and place == 0) for place, (values, kind) in enumerate(zip(columns, kinds))]
+    length = len(found[0])
+    if any(len(column) != length for column in found):
         raise ValueError("columns of one length expected")
     rows = (row * length)()
-    refused = _calls[name](*(part for column in [*columns, rows] for part in (column, length)))
+    refused: int = _calls[name](*(part for column in [*found, rows] for part in (column, length)))
     return rows, refused
 
 
-def dates_from_julian_days(julian_days):
+def dates_from_julian_days(julian_days: object) -> Tuple[Any, int]:
     """The dates of a column of Julian days, and how many rows have none.
 
     A column is a buffer of whole numbers, as an `array.array`: here of 64 bits with a sign. Each row of the answer has a `status`,
@@ -1375,41 +1731,41 @@ def dates_from_julian_days(julian_days):
     return _over_columns("dates_from_julian_days", julian_days)
 
 
-def dates_from_calendar_dates(years, months, days):
+def dates_from_calendar_dates(years: object, months: object, days: object) -> Tuple[Any, int]:
     """The dates of columns of years, in 32 bits with a sign, and months and days, without one: rows with `status` and `date`."""
     return _over_columns("dates_from_calendar_dates", years, months, days)
 
 
-def dates_from_ordinal_dates(years, ordinals):
+def dates_from_ordinal_dates(years: object, ordinals: object) -> Tuple[Any, int]:
     """The dates of columns of years, in 32 bits with a sign, and ordinals, without one: rows with `status` and `date`."""
     return _over_columns("dates_from_ordinal_dates", years, ordinals)
 
 
-def dates_from_iso_week_dates(years, weeks, weekdays):
+def dates_from_iso_week_dates(years: object, weeks: object, weekdays: object) -> Tuple[Any, int]:
     """The dates of columns of ISO years, in 32 bits with a sign, weeks and weekdays, from 1: rows with `status` and `date`."""
     return _over_columns("dates_from_iso_week_dates", years, weeks, weekdays)
 
 
-def dates_to_calendar_dates(dates):
+def dates_to_calendar_dates(dates: object) -> Tuple[Any, int]:
     """What a column of dates has, each a Julian day in 32 bits with a sign: rows with `status`, `year`, `month` and `day`."""
     return _over_columns("dates_to_calendar_dates", dates)
 
 
-def dates_to_ordinal_dates(dates):
+def dates_to_ordinal_dates(dates: object) -> Tuple[Any, int]:
     """What a column of dates has, each a Julian day in 32 bits with a sign: rows with `status`, `year` and `ordinal`."""
     return _over_columns("dates_to_ordinal_dates", dates)
 
 
-def dates_to_iso_week_dates(dates):
+def dates_to_iso_week_dates(dates: object) -> Tuple[Any, int]:
     """What a column of dates has, each a Julian day in 32 bits with a sign: rows with `status`, `year`, `week` and `weekday`."""
     return _over_columns("dates_to_iso_week_dates", dates)
 
 
-def dates_weekdays(dates):
+def dates_weekdays(dates: object) -> Tuple[Any, int]:
     """The weekdays of a column of dates, each a Julian day in 32 bits with a sign: rows with `status` and `number`, from Monday, 1."""
     return _over_columns("dates_weekdays", dates)
 
 
-def dates_add_days(dates, days):
+def dates_add_days(dates: object, days: object) -> Tuple[Any, int]:
     """A column of dates, in 32 bits with a sign, each moved by days, in 64 bits with a sign: rows with `status` and `date`."""
     return _over_columns("dates_add_days", dates, days)

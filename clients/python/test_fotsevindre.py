@@ -7,6 +7,7 @@ import ctypes
 import datetime
 import doctest
 import itertools
+import operator
 import pathlib
 import pickle
 import random
@@ -279,7 +280,8 @@ class Times(Cases):
     def test_cut_to_each_unit(self):
         for number in [*range(0, DAY * 10**9, 86399999977), DAY * 10**9 - 1]:
             time = Time.MIDNIGHT + SignedDuration.nanoseconds(number)
-            units = [("hour", 3600 * 10**9), ("minute", 60 * 10**9), ("second", 10**9), ("millisecond", 10**6), ("microsecond", 10**3)]
+            units = [("hour", 3600 * 10**9), ("minute", 60 * 10**9), ("second", 10**9), ("millisecond", 10**6), ("microsecond",
+                10**3)]
             for name, unit in units:
                 cut = getattr(time, "truncate_to_" + name)()
                 self.assertEqual((cut - Time.MIDNIGHT).whole_nanoseconds(), number // unit * unit)
@@ -859,21 +861,33 @@ class Columns(Cases):
         self.assertEqual(len(bytes(rows)), 8 * len(whole))
         self.assertIn(":date:", memoryview(rows).format)
         for values in (array.array("q"), unaligned):
-            address = ctypes.addressof(fotsevindre._column(values, ctypes.c_int64))
+            address = ctypes.addressof(fotsevindre._column(values, ctypes.c_int64, False))
             self.assertTrue(address and address % 8 == 0)
-        self.assertEqual(ctypes.addressof(fotsevindre._column(whole, ctypes.c_int64)), whole.buffer_info()[0])
+        self.assertEqual(ctypes.addressof(fotsevindre._column(whole, ctypes.c_int64, False)), whole.buffer_info()[0])
+
+    def test_other_buffers(self):
+        """Whole numbers of other bits, and in other steps, are taken where they fit."""
+        for code in "bBhHiIlLqQ":
+            rows, refused = fotsevindre.dates_from_julian_days(array.array(code, [1, 2, 100]))
+            self.assertEqual((refused, [row.date for row in rows]), (0, [1, 2, 100]), code)
+        steps = memoryview(array.array("q", [1, 2, 3, 4]))
+        for view, numbers in [(steps[::2], [1, 3]), (steps[::-1], [4, 3, 2, 1])]:
+            self.assertEqual([row.date for row in fotsevindre.dates_from_julian_days(view)[0]], numbers)
+        for values in (array.array("Q", [2**63]), array.array("Q", [1, 2**64 - 1])):
+            with self.assertRaises(OverflowError):
+                fotsevindre.dates_from_julian_days(values)
+        for values in (array.array("q", [-1]), array.array("q", [2**32])):
+            with self.assertRaises(OverflowError):
+                fotsevindre.dates_from_calendar_dates(array.array("i", [2000]), values, array.array("I", [1]))
 
     def test_wrong_buffers(self):
         wrong = [
-            [2451545], 2451545, None, "2451545", b"12345678", array.array("i", [1]), array.array("Q", [1]), array.array("d", [1.0]),
-            memoryview(array.array("q", [1, 2, 3, 4]))[::2], memoryview(bytes(32)).cast("q", (2, 2)),
+            [2451545], 2451545, None, "2451545", array.array("d", [1.0]), memoryview(bytes(32)).cast("q", (2, 2)),
+                memoryview(b"12").cast("c"),
         ]
         for values in wrong:
             with self.assertRaises(TypeError, msg=values):
                 fotsevindre.dates_from_julian_days(values)
-        for values in (array.array("q", [1]), array.array("i", [1])):
-            with self.assertRaises(TypeError):
-                fotsevindre.dates_from_calendar_dates(array.array("i", [2000]), values, array.array("I", [1]))
         years, months, days = (column[:3] for column in self.CALENDAR)
         for columns in [(years[:2], months, days), (years, months[:2], days), (years, months, days[:2]), (years[:0], months, days)]:
             with self.assertRaises(ValueError):
@@ -974,11 +988,9 @@ class Values(Cases):
 
     def test_values_do_not_change(self):
         for value in self.values():
-            for name in ("_key", "other"):
-                with self.assertRaises(AttributeError):
+            for name in ("other", "checked_add", "whole_seconds", "MAX", "__class__"):
+                with self.assertRaises((AttributeError, TypeError)):
                     setattr(value, name, 1)
-            with self.assertRaises(AttributeError):
-                del value._key
             with self.assertRaises(TypeError):
                 type(value)(1)
 
@@ -992,7 +1004,7 @@ class Values(Cases):
             UtcOffset._of(93600).whole_hours()
         for key in ((1, -1), (-1, 1), (0, 10**9), (0, -10**9)):
             with self.assertRaises(ValueError):
-                SignedDuration._of(key).whole_days()
+                SignedDuration._of(fotsevindre._CDuration(*key)).whole_days()
 
     def test_wrong_kinds(self):
         date, time, offset, duration = self.values()
@@ -1079,6 +1091,96 @@ class Values(Cases):
                 self.assertEqual(Date.from_julian_day(number).to_julian_day(), number)
             else:
                 self.refused("julian_day", False, Date.from_julian_day, number)
+
+
+class Habits(Cases):
+    """What users of `datetime` write: it works, or raises."""
+
+    def test_comparison(self):
+        values = [
+            (day(2024, 2, 29), datetime.date(2024, 2, 29)), (day(2024, 2, 29), datetime.datetime(2024, 2, 29)),
+            (Time.MIDNIGHT, datetime.time()), (SignedDuration.DAY, datetime.timedelta(1)), (UtcOffset.UTC, datetime.timezone.utc),
+        ]
+        for own, other in values:
+            for one, another in ((own, other), (other, own)):
+                for compare in (operator.eq, operator.ne, operator.lt, operator.ge):
+                    if compare in (operator.lt, operator.ge) and isinstance(other, datetime.tzinfo):
+                        continue
+                    with self.assertRaises(TypeError, msg=(one, another)):
+                        compare(one, another)
+        friday = day(2021, 1, 1).weekday()
+        for call in (lambda: friday == 4, lambda: 4 == friday, lambda: friday != 5, lambda: friday in (4, 5)):
+            with self.assertRaises(TypeError):
+                call()
+        self.assertTrue(friday == Weekday.Friday and friday != Weekday.Monday and friday in {Weekday.Friday} and friday != "Friday")
+
+    def test_timedelta(self):
+        date = day(2024, 2, 29)
+        for days in (-366, -1, 0, 1, 366):
+            self.assertEqual((date + datetime.timedelta(days)).to_date(), datetime.date(2024, 2, 29) + datetime.timedelta(days))
+            self.assertEqual((date - datetime.timedelta(days)).to_date(), datetime.date(2024, 2, 29) - datetime.timedelta(days))
+        for delta in (datetime.timedelta(hours=-1), datetime.timedelta(days=1, microseconds=1)):
+            with self.assertRaises(ValueError):
+                date + delta
+            with self.assertRaises(ValueError):
+                date - delta
+        for delta in (datetime.timedelta.min, datetime.timedelta.max, datetime.timedelta(-1, 5, 7),
+            datetime.timedelta(microseconds=-1)):
+            duration = SignedDuration.from_timedelta(delta)
+            self.assertEqual((duration.whole_microseconds(), duration.to_timedelta()), (delta // datetime.timedelta(microseconds=1),
+                delta))
+        with self.assertRaises(OverflowError):
+            SignedDuration.seconds(2**63 - 1).to_timedelta()
+        for duration in (span(0, 1), span(0, -1), span(-5, -999)):
+            with self.assertRaises(ValueError):
+                duration.to_timedelta()
+
+    def test_text_and_replacement(self):
+        for date in (datetime.date(2024, 2, 29), datetime.date.min, datetime.date.max):
+            self.assertEqual(Date.from_date(date).isoformat(), date.isoformat())
+        for time in (datetime.time(), datetime.time(1, 2, 3), datetime.time(23, 59, 59, 999999), datetime.time(0, 0, 0, 5)):
+            own = Time.from_time(time)
+            self.assertEqual((own.isoformat(), own.to_time()), (time.isoformat(), time))
+        self.assertEqual(Time.from_hms_nano(1, 2, 3, 4).isoformat(), "01:02:03.000000004")
+        with self.assertRaises(ValueError):
+            Time.from_hms_nano(1, 2, 3, 4).to_time()
+        with self.assertRaises(ValueError):
+            Time.from_time(datetime.time(tzinfo=datetime.timezone.utc))
+        date = day(2024, 2, 29)
+        self.assertEqual([date.replace(), date.replace(day=1), date.replace(year=2020), date.replace(month=Month.May, day=31)],
+            [date, day(2024, 2, 1), day(2020, 2, 29), day(2024, 5, 31)])
+        self.refused("day", True, lambda: date.replace(year=2023))
+        time = Time.from_hms_nano(1, 2, 3, 4)
+        self.assertEqual([time.replace(), time.replace(hour=5), time.replace(minute=6, second=7, nanosecond=0)],
+            [time, Time.from_hms_nano(5, 2, 3, 4), Time.from_hms(1, 6, 7)])
+        self.refused("hour", False, lambda: time.replace(hour=24))
+        for call in (lambda: date.replace(2020), lambda: date.strftime("%Y"), lambda: Date.today()):
+            with self.assertRaises((TypeError, AttributeError)):
+                call()
+
+    def test_timezones(self):
+        for seconds in (0, -86399, 86399, 3600, -19800):
+            timezone = datetime.timezone(datetime.timedelta(seconds=seconds))
+            self.assertEqual(UtcOffset.from_timezone(timezone).whole_seconds(), seconds)
+            self.assertEqual(UtcOffset.from_whole_seconds(seconds).to_timezone(), timezone)
+        with self.assertRaises(ValueError):
+            UtcOffset.from_whole_seconds(86400).to_timezone()
+        with self.assertRaises(ValueError):
+            UtcOffset.from_timezone(datetime.timezone(datetime.timedelta(microseconds=1)))
+
+    def test_walks_are_sequences(self):
+        days = day(2024, 2, 28).iter_to(day(2024, 3, 2))
+        listed = [day(2024, 2, 28), day(2024, 2, 29), day(2024, 3, 1), day(2024, 3, 2)]
+        self.assertEqual((len(days), list(days), list(reversed(days))), (4, listed, listed[::-1]))
+        self.assertEqual((days[0], days[-1], list(days[1:3]), days.index(listed[2])), (listed[0], listed[-1], listed[1:3], 2))
+        self.assertTrue(listed[1] in days and day(2024, 3, 3) not in days and 5 not in days)
+        self.assertEqual((len(Date.MIN.iter_to(Date.MAX)), len(Date.MAX.iter_to(Date.MIN))), (730484634, 0))
+        self.assertEqual((repr(days), repr(days[:0])), ("2024-02-28 to 2024-03-02", "no days"))
+        with self.assertRaises(IndexError):
+            days[4]
+
+    def test_version(self):
+        self.assertEqual(fotsevindre.__version__, (pathlib.Path(__file__).resolve().parents[2] / "VERSION").read_text().strip())
 
 
 def load_tests(loader, tests, _pattern):

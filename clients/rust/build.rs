@@ -1,35 +1,45 @@
-//! Finds the static library: in the folder that `FOTSEVINDRE_ARCHIVE` names, or else by `pkg-config`.
+//! Finds the static library: in the folder that `FOTSEVINDRE_ARCHIVE` names, or else in `lib` beside this file, where a package has it, or
+//! else by `pkg-config`. Where there is none it warns: the crate can be checked, and does not link.
 
 use std::env;
 use std::path::PathBuf;
-use std::process::{exit, Command};
+use std::process::Command;
 
 const ARCHIVE: &str = "libfotsevindre.a";
 
 /// The folders that may have the archive.
 fn folders() -> Vec<PathBuf> {
     if let Some(folder) = env::var_os("FOTSEVINDRE_ARCHIVE") {
-        return vec![folder.into()];
+        let folder = PathBuf::from(folder);
+        if folder.is_absolute() {
+            return vec![folder];
+        }
+        // This runs in the folder of the crate, and the name was given in that of the caller.
+        println!("cargo:rerun-if-env-changed=PWD");
+        return vec![env::var_os("PWD").map_or_else(PathBuf::new, PathBuf::from).join(folder)];
     }
-    let output =
-        Command::new("pkg-config").args(["--libs-only-L", "fotsevindre"]).env("PKG_CONFIG_ALLOW_SYSTEM_LIBS", "1").output();
-    match output {
-        Ok(output) if output.status.success() => String::from_utf8_lossy(&output.stdout)
-            .split_whitespace()
-            .filter_map(|flag| flag.strip_prefix("-L").map(PathBuf::from))
-            .collect(),
-        _ => Vec::new(),
+    let mut folders: Vec<_> =
+        env::var_os("CARGO_MANIFEST_DIR").map(|folder| PathBuf::from(folder).join("lib")).into_iter().collect();
+    let output = Command::new("pkg-config").args(["--variable=libdir", "fotsevindre"]).output();
+    if let Ok(output) = output {
+        if output.status.success() {
+            folders.push(String::from_utf8_lossy(&output.stdout).trim_end().into());
+        }
     }
+    folders
 }
 
 fn main() {
     println!("cargo:rerun-if-env-changed=FOTSEVINDRE_ARCHIVE");
     println!("cargo:rerun-if-env-changed=PKG_CONFIG_PATH");
-    let Some(folder) = folders().into_iter().find(|folder| folder.join(ARCHIVE).is_file()) else {
-        eprintln!("no {ARCHIVE}: set FOTSEVINDRE_ARCHIVE to its folder, or PKG_CONFIG_PATH to that of fotsevindre.pc");
-        exit(1);
-    };
-    println!("cargo:rerun-if-changed={}", folder.join(ARCHIVE).display());
-    println!("cargo:rustc-link-search=native={}", folder.display());
     println!("cargo:rustc-link-lib=static=fotsevindre");
+    match folders().into_iter().find(|folder| folder.join(ARCHIVE).is_file()) {
+        Some(folder) => {
+            println!("cargo:rerun-if-changed={}", folder.join(ARCHIVE).display());
+            println!("cargo:rustc-link-search=native={}", folder.display());
+        }
+        None => println!(
+            "cargo:warning=no {ARCHIVE}: set FOTSEVINDRE_ARCHIVE to its folder, or PKG_CONFIG_PATH to that of fotsevindre.pc"
+        ),
+    }
 }

@@ -120,9 +120,9 @@ rows! {
         };
 
     /// A row of a call that gives weekdays.
-    WeekdayOfDate of NumberResult:
+    WeekdayOfDate of PartResult:
         /// The weekday.
-        Weekday = |answer| Weekday::of_number(certain(answer) as u32);
+        Weekday = |answer| Weekday::of_number(certain(answer));
 }
 
 /// The dates of these Julian days, and how many rows have none: those of which [`Date::from_julian_day`] refuses `julian_day`.

@@ -102,7 +102,7 @@ impl Date {
 
     /// The month. That of 2020-02-29 is February.
     pub fn month(self) -> Month {
-        Month::of_number(certain(ffi::fots_date_month(self.julian_day)) as u32)
+        Month::of_number(certain(ffi::fots_date_month(self.julian_day)))
     }
 
     /// The day of the month, from 1 to the length of the month, at most 31. That of 2020-02-29 is 29.
@@ -132,7 +132,7 @@ impl Date {
 
     /// The weekday. That of 2021-01-01 is Friday.
     pub fn weekday(self) -> Weekday {
-        Weekday::of_number(certain(ffi::fots_date_weekday(self.julian_day)) as u32)
+        Weekday::of_number(certain(ffi::fots_date_weekday(self.julian_day)))
     }
 
     /// The year, the month and the day of the month. Those of the Julian day 2451545 are (2000, January, 1).

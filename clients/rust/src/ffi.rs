@@ -93,6 +93,7 @@ pub(crate) trait Returned {
 
 results! {
     DateResult { date: i32 } => i32;
+    PartResult { number: u32 } => u32;
     NumberResult { number: i32 } => i32;
     LongResult { number: i64 } => i64;
     CalendarDateResult { year: i32, month: u32, day: u32 } => (i32, u32, u32);
@@ -138,13 +139,13 @@ calls! {
     fots_date_to_ordinal_date(date: i32) -> OrdinalDateResult;
     fots_date_to_iso_week_date(date: i32) -> IsoWeekDateResult;
     fots_date_year(date: i32) -> NumberResult;
-    fots_date_month(date: i32) -> NumberResult;
-    fots_date_day(date: i32) -> NumberResult;
-    fots_date_ordinal(date: i32) -> NumberResult;
-    fots_date_iso_week(date: i32) -> NumberResult;
-    fots_date_weekday(date: i32) -> NumberResult;
-    fots_date_sunday_based_week(date: i32) -> NumberResult;
-    fots_date_monday_based_week(date: i32) -> NumberResult;
+    fots_date_month(date: i32) -> PartResult;
+    fots_date_day(date: i32) -> PartResult;
+    fots_date_ordinal(date: i32) -> PartResult;
+    fots_date_iso_week(date: i32) -> PartResult;
+    fots_date_weekday(date: i32) -> PartResult;
+    fots_date_sunday_based_week(date: i32) -> PartResult;
+    fots_date_monday_based_week(date: i32) -> PartResult;
     fots_date_next_day(date: i32) -> DateResult;
     fots_date_previous_day(date: i32) -> DateResult;
     fots_date_add_days(date: i32, days: i64) -> DateResult;
@@ -166,12 +167,12 @@ calls! {
     fots_time_from_hms_micro(hour: u32, minute: u32, second: u32, microsecond: u32) -> TimeResult;
     fots_time_from_hms_nano(hour: u32, minute: u32, second: u32, nanosecond: u32) -> TimeResult;
     fots_time_as_hms_nano(time: u64) -> ClockResult;
-    fots_time_hour(time: u64) -> NumberResult;
-    fots_time_minute(time: u64) -> NumberResult;
-    fots_time_second(time: u64) -> NumberResult;
-    fots_time_millisecond(time: u64) -> NumberResult;
-    fots_time_microsecond(time: u64) -> NumberResult;
-    fots_time_nanosecond(time: u64) -> NumberResult;
+    fots_time_hour(time: u64) -> PartResult;
+    fots_time_minute(time: u64) -> PartResult;
+    fots_time_second(time: u64) -> PartResult;
+    fots_time_millisecond(time: u64) -> PartResult;
+    fots_time_microsecond(time: u64) -> PartResult;
+    fots_time_nanosecond(time: u64) -> PartResult;
     fots_time_replace_hour(time: u64, hour: u32) -> TimeResult;
     fots_time_replace_minute(time: u64, minute: u32) -> TimeResult;
     fots_time_replace_second(time: u64, second: u32) -> TimeResult;
@@ -222,12 +223,12 @@ calls! {
     fots_duration_saturating_add(duration: CDuration, other: CDuration) -> DurationResult;
     fots_duration_saturating_sub(duration: CDuration, other: CDuration) -> DurationResult;
     fots_duration_saturating_mul(duration: CDuration, factor: i32) -> DurationResult;
-    fots_month_length(month: u32, year: i32) -> NumberResult;
-    fots_month_nth_next(month: u32, n: u32) -> NumberResult;
-    fots_month_nth_prev(month: u32, n: u32) -> NumberResult;
-    fots_weekday_nth_next(weekday: u32, n: u32) -> NumberResult;
-    fots_weekday_nth_prev(weekday: u32, n: u32) -> NumberResult;
-    fots_weekday_number_from_sunday(weekday: u32) -> NumberResult;
+    fots_month_length(month: u32, year: i32) -> PartResult;
+    fots_month_nth_next(month: u32, n: u32) -> PartResult;
+    fots_month_nth_prev(month: u32, n: u32) -> PartResult;
+    fots_weekday_nth_next(weekday: u32, n: u32) -> PartResult;
+    fots_weekday_nth_prev(weekday: u32, n: u32) -> PartResult;
+    fots_weekday_number_from_sunday(weekday: u32) -> PartResult;
     fots_add_to_pair(date: i32, time: u64, duration: CDuration) -> PairResult;
     fots_sub_from_pair(date: i32, time: u64, duration: CDuration) -> PairResult;
     fots_unix_time(date: i32, time: u64, offset: i32) -> DurationResult;
@@ -238,6 +239,17 @@ calls! {
     fots_date_julian_text(date: i32) -> TextResult;
     fots_moment_text(date: i32, time: u64, offset: i32) -> TextResult;
     fots_unix_text(date: i32, time: u64, offset: i32) -> TextResult;
+}
+
+mod declared_alone {
+    extern "C" {
+        pub(super) fn fots_version() -> u32;
+    }
+}
+
+/// The version of the library.
+pub(crate) fn fots_version() -> u32 {
+    unsafe { declared_alone::fots_version() }
 }
 
 /// Calls of years, which answer for each.

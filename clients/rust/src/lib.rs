@@ -28,6 +28,7 @@ mod ffi;
 pub mod iter;
 mod month;
 mod pair;
+mod reader;
 mod short_text;
 pub mod text;
 mod time;
@@ -42,6 +43,12 @@ pub use pair::{add_to_pair, sub_from_pair};
 pub use time::Time;
 pub use utc_offset::UtcOffset;
 pub use weekday::Weekday;
+
+/// The version of the library that is linked: `(0, 1, 0)` is 0.1.0, which is that of this crate.
+pub fn version() -> (u32, u32, u32) {
+    let number = ffi::fots_version();
+    (number / 1_000_000, number / 1_000 % 1_000, number % 1_000)
+}
 
 /// The page of the guide, whose examples are tested with those of the crate.
 #[cfg(doctest)]

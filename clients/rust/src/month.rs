@@ -73,14 +73,14 @@ impl Month {
     ///
     /// `Month::January.nth_next(4)` is May, `Month::July.nth_next(9)` is April.
     pub fn nth_next(self, n: u8) -> Self {
-        Self::of_number(certain(ffi::fots_month_nth_next(self.number(), n.into())) as u32)
+        Self::of_number(certain(ffi::fots_month_nth_next(self.number(), n.into())))
     }
 
     /// The month `n` months before, round the year as often as it takes.
     ///
     /// `Month::January.nth_prev(4)` is September, `Month::July.nth_prev(9)` is October.
     pub fn nth_prev(self, n: u8) -> Self {
-        Self::of_number(certain(ffi::fots_month_nth_prev(self.number(), n.into())) as u32)
+        Self::of_number(certain(ffi::fots_month_nth_prev(self.number(), n.into())))
     }
 
     /// An endless walk over the months from `start` on: from November it gives November, December, January, and so on.

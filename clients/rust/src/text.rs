@@ -21,12 +21,14 @@ use crate::ffi::{certain, Answer};
 use core::fmt;
 use core::str;
 
+mod any;
 pub mod date;
 pub mod julian_day;
 pub mod rfc3339;
 pub mod unix;
 
 pub use crate::error::Unreadable;
+pub use any::{read_any, DateOrMoment};
 
 /// What a date or a moment prints, in bytes: ASCII, at most 38 of them, in place and without a formatter.
 ///

@@ -1,10 +1,12 @@
-use crate::error::ComponentRange;
+use crate::error::{ComponentRange, Unreadable};
 use crate::ffi::{self, certain, or_refused, Answer};
+use crate::reader::Reader;
 use crate::short_text::ShortText;
 use crate::util::DateAdjustment;
 use crate::SignedDuration;
 use core::fmt::{self, Write};
 use core::ops::{Add, AddAssign, Sub, SubAssign};
+use core::str::FromStr;
 
 /// A time of day, exact to the nanosecond, from 0:00:00.0 to 23:59:59.999999999, without leap seconds.
 ///
@@ -128,12 +130,12 @@ impl Time {
 
     /// The whole microseconds of the second, from 0 to 999999. Those of 1:02:03.004005006 are 4005.
     pub fn microsecond(self) -> u32 {
-        certain(ffi::fots_time_microsecond(self.nanoseconds)) as u32
+        certain(ffi::fots_time_microsecond(self.nanoseconds))
     }
 
     /// The nanoseconds of the second, from 0 to 999999999. Those of 1:02:03.004005006 are 4005006.
     pub fn nanosecond(self) -> u32 {
-        certain(ffi::fots_time_nanosecond(self.nanoseconds)) as u32
+        certain(ffi::fots_time_nanosecond(self.nanoseconds))
     }
 
     /// The time with another hour and everything else the same: 1:02:03.5 with hour 7 is 7:02:03.5.
@@ -300,5 +302,39 @@ impl fmt::Display for Time {
 impl fmt::Debug for Time {
     fn fmt(&self, f: &mut fmt::Formatter<'_>) -> fmt::Result {
         fmt::Display::fmt(self, f)
+    }
+}
+
+impl FromStr for Time {
+    type Err = Unreadable;
+
+    /// The time of a text as it is printed, or as ISO 8601 has it: an hour of one or two digits, two digits each of the minute and the
+    /// second, and perhaps a point and one to nine decimals, as `9:05:00.12` and `09:05:00`. Nothing may come before or after.
+    ///
+    /// # Errors
+    ///
+    /// `UnexpectedByte` where the text has not this form; otherwise `OutOfRange` for `hour`, `minute` or `second`.
+    fn from_str(text: &str) -> Result<Self, Unreadable> {
+        let mut reader = Reader::new(text);
+        let mut hour = reader.digit().ok_or_else(|| reader.unexpected())?;
+        if let Some(ones) = reader.digit() {
+            hour = hour * 10 + ones;
+        }
+        reader.byte(b':')?;
+        let minute = reader.two_digits()?;
+        reader.byte(b':')?;
+        let second = reader.two_digits()?;
+        let mut nanosecond = 0;
+        if reader.takes(b'.') {
+            let mut unit = 100_000_000;
+            nanosecond = unit * u32::from(reader.digit().ok_or_else(|| reader.unexpected())?);
+            while unit > 1 {
+                let Some(digit) = reader.digit() else { break };
+                unit /= 10;
+                nanosecond += unit * u32::from(digit);
+            }
+        }
+        reader.end()?;
+        Self::from_hms_nano(hour, minute, second, nanosecond).map_err(Unreadable::OutOfRange)
     }
 }

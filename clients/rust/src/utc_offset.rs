@@ -1,8 +1,10 @@
-use crate::error::ComponentRange;
+use crate::error::{ComponentRange, Unreadable};
 use crate::ffi::{self, certain, or_refused};
+use crate::reader::Reader;
 use crate::short_text::ShortText;
 use core::fmt::{self, Write};
 use core::ops::Neg;
+use core::str::FromStr;
 
 /// An offset from UTC, exact to the second, from -25:59:59 to +25:59:59.
 ///
@@ -117,5 +119,35 @@ impl fmt::Display for UtcOffset {
 impl fmt::Debug for UtcOffset {
     fn fmt(&self, f: &mut fmt::Formatter<'_>) -> fmt::Result {
         fmt::Display::fmt(self, f)
+    }
+}
+
+impl FromStr for UtcOffset {
+    type Err = Unreadable;
+
+    /// The offset of a text as it is printed, or as RFC 3339 has it: a sign, two digits each of the hours and the minutes, and perhaps of
+    /// the seconds, as `-05:30:00` and `+01:00`, or `Z` or `z` for UTC. Nothing may come before or after.
+    ///
+    /// # Errors
+    ///
+    /// `UnexpectedByte` where the text has not this form; otherwise `OutOfRange` for `offset hour` above 25, `offset minute` or
+    /// `offset second`.
+    fn from_str(text: &str) -> Result<Self, Unreadable> {
+        let mut reader = Reader::new(text);
+        if reader.takes(b'Z') || reader.takes(b'z') {
+            return reader.end().map(|()| Self::UTC);
+        }
+        let sign = if reader.takes(b'-') {
+            -1
+        } else {
+            reader.byte(b'+')?;
+            1
+        };
+        let hours = reader.two_digits()? as i8;
+        reader.byte(b':')?;
+        let minutes = reader.two_digits()? as i8;
+        let seconds = if reader.takes(b':') { reader.two_digits()? as i8 } else { 0 };
+        reader.end()?;
+        Self::from_hms(sign * hours, sign * minutes, sign * seconds).map_err(Unreadable::OutOfRange)
     }
 }

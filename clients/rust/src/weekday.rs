@@ -50,14 +50,14 @@ impl Weekday {
     ///
     /// `Weekday::Sunday.nth_next(10)` is Wednesday.
     pub fn nth_next(self, n: u8) -> Self {
-        Self::of_number(certain(ffi::fots_weekday_nth_next(self.number(), n.into())) as u32)
+        Self::of_number(certain(ffi::fots_weekday_nth_next(self.number(), n.into())))
     }
 
     /// The weekday `n` days before, round the week as often as it takes.
     ///
     /// `Weekday::Sunday.nth_prev(10)` is Thursday.
     pub fn nth_prev(self, n: u8) -> Self {
-        Self::of_number(certain(ffi::fots_weekday_nth_prev(self.number(), n.into())) as u32)
+        Self::of_number(certain(ffi::fots_weekday_nth_prev(self.number(), n.into())))
     }
 
     /// The number of the weekday from Monday, 1, to Sunday, 7, as in ISO 8601. That of Friday is 5.

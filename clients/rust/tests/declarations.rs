@@ -61,7 +61,8 @@ fn calls_of_header() -> HashMap<String, (String, String)> {
         let (before, arguments) = line.trim().strip_suffix(')')?.split_once('(')?;
         let (result, name) = before.rsplit_once(' ')?;
         let result = result.rsplit_once(' ').map_or(result, |(_, last)| last);
-        name.starts_with("fots_").then(|| (name.to_string(), (list(arguments, ',', false), rust_type(result))))
+        let arguments = if arguments == "void" { String::new() } else { list(arguments, ',', false) };
+        name.starts_with("fots_").then(|| (name.to_string(), (arguments, rust_type(result))))
     });
     calls.collect()
 }
@@ -100,6 +101,8 @@ fn calls_are_those_of_the_header() {
         count += 1;
     }
     assert!(count > 120, "{count} calls were found");
+    assert_eq!(header["fots_version"], (String::new(), "u32".into()));
+    assert!(DECLARED.contains("fn fots_version() -> u32;"));
 }
 
 #[test]
@@ -108,6 +111,11 @@ fn structs_are_those_of_the_header() {
     let mut count = 0;
     for part in plain.split("typedef struct ").skip(1) {
         let (name, rest) = part.split_once(" { ").unwrap();
+        if matches!(name, "fots_date" | "fots_offset") {
+            // A struct of one number crosses as that number.
+            assert_eq!(rest.split_once('}').unwrap().0.matches("int32_t").count(), 1, "{name}");
+            continue;
+        }
         let fields = list(rest.split_once('}').unwrap().0, ';', true);
         let declared = match fields.strip_prefix("status: i32, ") {
             Some(fields) => format!("    {} {{ {fields} }} => ", rust_type(name)),
@@ -119,7 +127,7 @@ fn structs_are_those_of_the_header() {
         assert!(DECLARED.contains(&declared), "{declared}");
         count += 1;
     }
-    assert_eq!(count, 17);
+    assert_eq!(count, 18);
 }
 
 #[test]
@@ -137,4 +145,10 @@ fn refusals_are_those_of_the_header() {
         }
     }
     assert_eq!(count, ERRORS.lines().filter(|line| line.contains(" => \"")).count());
+}
+
+#[test]
+fn version_is_that_of_the_library() {
+    let (major, minor, patch) = fotsevindre::version();
+    assert_eq!(format!("{major}.{minor}.{patch}"), env!("CARGO_PKG_VERSION"));
 }

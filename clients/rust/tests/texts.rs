@@ -3,7 +3,7 @@
 use fotsevindre::error::Unreadable;
 use fotsevindre::text::date::{CalendarText, OrdinalText, WeekText};
 use fotsevindre::text::julian_day::JulianText;
-use fotsevindre::text::{date, julian_day, rfc3339, unix};
+use fotsevindre::text::{date, julian_day, read_any, rfc3339, unix, DateOrMoment};
 use fotsevindre::{Date, Duration, Month, Time, UtcOffset};
 
 fn day(year: i32, month: u8, day: u8) -> Date {
@@ -284,5 +284,92 @@ fn moments_printed_and_read() {
             let (utc_date, utc_time) = unix::read(unix_text.as_bytes()).unwrap();
             assert_eq!(unix::duration_of(utc_date, utc_time, UtcOffset::UTC), unix::duration_of(date, time, offset));
         }
+    }
+}
+
+/// Times and offsets that are read: how they print, which reads as the same, and other texts of theirs.
+#[test]
+fn times_and_offsets_in_text() {
+    let times = [
+        ("0:00:00.0", (0, 0, 0, 0), ["00:00:00", "0:00:00"]),
+        ("9:05:00.12", (9, 5, 0, 120_000_000), ["09:05:00.12", "9:05:00.120000000"]),
+        ("23:59:59.999999999", (23, 59, 59, 999_999_999), ["23:59:59.999999999"; 2]),
+        ("1:02:03.000000004", (1, 2, 3, 4), ["01:02:03.000000004"; 2]),
+    ];
+    for (text, (hour, minute, second, nanosecond), others) in times {
+        let time = Time::from_hms_nano(hour, minute, second, nanosecond).unwrap();
+        assert_eq!((time.to_string().as_str(), text.parse()), (text, Ok(time)));
+        assert_eq!(others.map(|other| other.parse()), [Ok(time); 2], "{text}");
+    }
+    let offsets = [
+        ("+00:00:00", 0, ["Z", "-00:00"]),
+        ("-05:30:00", -19_800, ["-05:30"; 2]),
+        ("+25:59:59", 93_599, ["+25:59:59"; 2]),
+        ("-00:00:01", -1, ["-00:00:01"; 2]),
+    ];
+    for (text, seconds, others) in offsets {
+        let offset = UtcOffset::from_whole_seconds(seconds).unwrap();
+        assert_eq!((offset.to_string().as_str(), text.parse()), (text, Ok(offset)));
+        assert_eq!(others.map(|other| other.parse()), [Ok(offset); 2], "{text}");
+    }
+    let no_times = [
+        ("", 0),
+        ("123:00:00", 2),
+        ("9:5:00", 3),
+        ("9:05", 4),
+        ("9:05:0", 6),
+        ("9:05:00.", 8),
+        ("9:05:00.1234567890", 17),
+        ("9:05:00Z", 7),
+        ("-9:05:00", 0),
+        (" 9:05:00", 0),
+    ];
+    for (text, place) in no_times {
+        assert_eq!(text.parse::<Time>(), Err(Unreadable::UnexpectedByte(place)), "{text}");
+    }
+    let no_offsets =
+        [("", 0), ("05:30", 0), ("+5:30", 2), ("+0530", 3), ("+05", 3), ("+05:3", 5), ("+05:30:", 7), ("Z ", 1), ("+05:30:000", 9)];
+    for (text, place) in no_offsets {
+        assert_eq!(text.parse::<UtcOffset>(), Err(Unreadable::UnexpectedByte(place)), "{text}");
+    }
+    for (text, name) in [("24:60:60", "hour"), ("23:60:60", "minute"), ("23:59:60", "second")] {
+        assert_eq!(text.parse::<Time>().unwrap_err().to_string(), format!("{name} was not in range"));
+    }
+    for (text, name) in
+        [("+26:60:60", "offset hour"), ("-25:60:60", "offset minute"), ("+25:59:60", "offset second"), ("+99:00", "offset hour")]
+    {
+        assert_eq!(text.parse::<UtcOffset>().unwrap_err().to_string(), format!("{name} was not in range"));
+    }
+}
+
+/// What is read in any form, and which form it has.
+#[test]
+fn any_form() {
+    let date = day(2024, 2, 29);
+    let (_, time, offset) = rfc3339::read(b"2024-02-29T23:59:59.25+01:00").unwrap();
+    let (utc_date, utc_time) = unix::read(b"@1709247599.25").unwrap();
+    let rows = [
+        ("2024-02-29", DateOrMoment::Calendar(date)),
+        ("2024-060", DateOrMoment::Ordinal(date)),
+        ("2024-W09-4", DateOrMoment::Week(date)),
+        ("J2460370", DateOrMoment::JulianDay(date)),
+        ("2024-02-29T23:59:59.25+01:00", DateOrMoment::Rfc3339(date, time, offset)),
+        ("2024-02-29 23:59:59.25+01:00", DateOrMoment::Rfc3339(date, time, offset)),
+        ("@1709247599.25", DateOrMoment::Unix(utc_date, utc_time)),
+        ("+10000-01-01", DateOrMoment::Calendar(day(10_000, 1, 1))),
+        ("+10000-001", DateOrMoment::Ordinal(day(10_000, 1, 1))),
+        ("+10000-W01-1", DateOrMoment::Week(day(10_000, 1, 3))),
+        ("-0001-W52-6", DateOrMoment::Week(day(0, 1, 1))),
+    ];
+    for (text, found) in rows {
+        assert_eq!(read_any(text.as_bytes()), Ok(found), "{text}");
+    }
+    for (text, place) in [("", 0), ("x", 0), ("2024-02-2", 9), ("2024-02-29T", 11), ("J", 1), ("@", 1), ("2024-02-29x", 10)] {
+        assert_eq!(read_any(text.as_bytes()), Err(Unreadable::UnexpectedByte(place)), "{text}");
+    }
+    for (text, name) in
+        [("2023-02-29", "day"), ("2024-13-01T00:00:00Z", "month"), ("J999999999", "julian_day"), ("@99999999999999", "timestamp")]
+    {
+        assert_eq!(read_any(text.as_bytes()).unwrap_err().to_string(), format!("{name} was not in range"));
     }
 }

@@ -1,8 +1,14 @@
 -- The bytes of a text and zeros, put together.
-use Rattle.std.proofs.Common.{◌≡◌, ℕ, List, ◌++◌, drop, replicate, length, ap, ◌∙◌}
+use Rattle.std.proofs.Common.{◌≡◌, ℕ, ◌+◌, ◌-◌, List, ◌++◌, drop, replicate, length, ap, sym, ◌∙◌, arith}
 use Rattle.std.proofs.lemmas.List.{drop-replicate}
+use Rattle.cal_time.specs.declared.Month.{Month}
+use Rattle.cal_time.specs.declared.Weekday.{Weekday}
+use Rattle.cal_time.specs.Month as months
+use Rattle.cal_time.specs.MonthCycle.{month_at-place}
+use Rattle.cal_time.specs.Weekday as weekdays
+use Rattle.cal_time.specs.WeekdayCycle.{weekday_at-place}
 use Rattle.cal_c.specs.Statuses.{done}
-use Rattle.cal_c.specs.Texts.{text_done}
+use Rattle.cal_c.specs.Texts.{text_done, month_name, weekday_name}
 use Rattle.cal_c.specs.declared.texts.TextResult.{TextResult}
 
 abbrev pub text_with : List ℕ → List ℕ → TextResult
@@ -11,3 +17,16 @@ text_with text bytes = record { status = done; length = length text; bytes = byt
 pub copied-over-zeros : (text copied : List ℕ) → copied ≡ text → text_with text (copied ++ drop (length text) (replicate 40 0)) ≡ text_done text
 copied-over-zeros text copied same =
     ap (λ bytes. text_with text (bytes ++ drop (length text) (replicate 40 0))) same ∙ ap (λ zeros. text_with text (text ++ zeros)) (drop-replicate (length text) 40 0)
+
+-- the names of the month and the weekday that have a number
+pub month-named : (m : Month) (n : ℕ) → months.number m ≡ n → months.name m ≡ month_name n
+month-named m n e =
+    let place : n - 1 ≡ months.place m = omega (arith, e) in
+    ap months.name (sym (ap months.month_at place ∙ month_at-place m))
+
+pub weekday-named : (w : Weekday) (n : ℕ) → weekdays.place w + 1 ≡ n → weekdays.name w ≡ weekday_name n
+weekday-named w n e =
+    let place : n - 1 ≡ weekdays.place w = omega (arith, e) in
+    ap weekdays.name (sym (ap weekdays.weekday_at place ∙ weekday_at-place w))
+
+pub ruleset names = (month-named, weekday-named)

@@ -6,6 +6,7 @@ use Rattle.cal_time.specs.Pair.{PairAt}
 use Rattle.cal_time.specs.SignedDuration.{second, day, cut, past_second, whole_days}
 use Rattle.cal_time.specs.Time.{IsTime, hour_of, minute_of, second_of, nanosecond_of}
 use Rattle.cal_time.specs.UtcOffset.{whole_hours, minutes_past_hour, seconds_past_minute}
+use Rattle.cal_datetime.specs.DateTime.{date_at, time_at}
 use Rattle.cal_c.specs.Statuses.{done, past_range}
 use Rattle.cal_c.specs.Values.{day_of, IsJulianDay}
 use Rattle.cal_c.specs.declared.results.Duration.{Duration}
@@ -152,6 +153,10 @@ pair_refused s = record { status = s; date = nothing; time = 18_446_744_073_709_
 abbrev pub pair_if_any : Option (ℕ × ℕ) → PairResult
 pair_if_any (Some pair) = pair_done pair.0 pair.1
 pair_if_any None = pair_refused past_range
+
+-- those of a local date-time
+abbrev pub local_done : ℤ → PairResult
+local_done z = pair_done (date_at z) (time_at z)
 
 -- the answer is the day and the time that have this moment, where a day of the range has it
 abbrev pub IsPairAt : ℤ → PairResult → Type 0

@@ -3,6 +3,8 @@ use Rattle.std.specs.Prelude.{◌≡◌, ℕ, ◌-◌, ℤ, List, ◌++◌, leng
 use Rattle.cal_time.specs.Date.{julian_day_at}
 use Rattle.cal_time.specs.Month.{month_at, name}
 use Rattle.cal_time.specs.Weekday as weekdays
+use Rattle.cal_datetime.specs.DateTime.{date_at, time_at}
+use Rattle.cal_datetime.specs.OffsetDateTime.{Shown}
 use Rattle.cal_text.specs.Reading.{HasFormThat}
 use Rattle.cal_text.specs.Rfc3339Form.{HasMomentThat}
 use Rattle.cal_c.specs.Results.{nothing}
@@ -48,8 +50,9 @@ read_date_refused s = record { status = s; date = nothing; place = nowhere }
 abbrev pub IsUnreadableDate : ReadDateResult → Type 0
 IsUnreadableDate r = (at : ℕ) × (r ≡ record { status = unreadable; date = nothing; place = at })
 
-abbrev pub read_moment_done : ℕ → ℕ → ℤ → ReadMomentResult
-read_moment_done n t o = record { status = done; date = julian_day_at n; time = t; offset = o; place = nowhere }
+abbrev pub read_moment_done : Shown → ReadMomentResult
+read_moment_done m =
+    record { status = done; date = julian_day_at (date_at m.local); time = time_at m.local; offset = m.offset; place = nowhere }
 
 abbrev pub read_moment_refused : ℤ → ReadMomentResult
 read_moment_refused s = record { status = s; date = nothing; time = 18_446_744_073_709_551_615; offset = nothing; place = nowhere }

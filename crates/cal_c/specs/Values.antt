@@ -4,6 +4,8 @@ use Rattle.std.specs.Prelude.{ℕ, ◌≤◌, ℤ, pos, neg_ℤ, ◌+ℤ◌, ◌
 use Rattle.std.specs.Int.{int_min, int_max}
 use Rattle.cal_time.specs.Date.{first_julian_day, last_day, julian_day_at}
 use Rattle.cal_time.specs.SignedDuration.{second}
+use Rattle.cal_datetime.specs.DateTime.{date_time}
+use Rattle.cal_datetime.specs.OffsetDateTime.{Shown}
 use Rattle.cal_c.specs.declared.results.Duration.{Duration}
 
 -- a date is its Julian day
@@ -36,3 +38,7 @@ pub record IsDurationPair (d : Duration) : Type 0 where
 -- in nanoseconds
 abbrev pub nanoseconds_in : Duration → ℤ
 nanoseconds_in d = d.seconds *ℤ pos second +ℤ d.nanoseconds
+
+-- a moment is a date and a time at an offset
+abbrev pub moment_of : ℤ → ℕ → ℤ → Shown
+moment_of date time offset = record { local = date_time (day_of date) time; offset = offset }

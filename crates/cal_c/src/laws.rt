@@ -2,6 +2,7 @@
 //! a wrong byte.
 ghost use Rattle.std.specs.Prelude.{◌≡◌, ◌⊎◌, ℕ, ℤ};
 ghost use Rattle.cal_time.specs.Date.{IsDate};
+ghost use Rattle.cal_datetime.specs.OffsetDateTime.{Shown};
 ghost use Rattle.cal_text.specs.DateForms.{IsDateText};
 ghost use Rattle.cal_text.specs.JulianForm.{julian_text, IsJulianForm, IsJulianFormOfNone};
 ghost use Rattle.cal_text.specs.Reading.{HasFormThat, LacksMonth, LacksYear, LacksDay, LacksOrdinal, LacksWeek, LacksWeekday};
@@ -29,16 +30,16 @@ pub fn julian_day_cases(text: &[u8])
 
 /// A text is one of a moment, has no such form, or has one with a component at fault.
 pub fn moment_cases(text: &[u8])
-    ensures { ((n t : ℕ) × (o : ℤ) × IsDate n × IsMomentText text.now n t o) ⊎ (¬ HasFormOfMoment text.now) ⊎ HasMomentThat moments.LacksMonth text.now
+    ensures { ((m : Shown) × IsMomentText text.now m) ⊎ (¬ HasFormOfMoment text.now) ⊎ HasMomentThat moments.LacksMonth text.now
         ⊎ HasMomentThat moments.LacksDay text.now ⊎ HasMomentThat LacksHour text.now ⊎ HasMomentThat LacksMinute text.now
         ⊎ HasMomentThat LacksSecond text.now ⊎ HasMomentThat LacksOffsetHour text.now ⊎ HasMomentThat LacksOffsetMinute text.now }
 {
     let _ = rfc3339::read(text);
 }
 
-/// A text is that of a Unix time of the range, has no such form, or says a time of no day.
+/// A text is that of a Unix time of the range, has no such form, or says a time of no moment.
 pub fn unix_cases(text: &[u8])
-    ensures { ((n t : ℕ) × IsUnixText text.now n t) ⊎ ((v : ℤ) → ¬ HasUnixForm text.now v) ⊎ IsUnixFormOfNone text.now }
+    ensures { ((m : Shown) × IsUnixText text.now m) ⊎ ((v : ℤ) → ¬ HasUnixForm text.now v) ⊎ IsUnixFormOfNone text.now }
 {
     let _ = unix::read(text);
 }

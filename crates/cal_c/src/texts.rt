@@ -10,9 +10,10 @@ use crate::status::{
     TIMESTAMP, UNREADABLE, WEEK, WEEKDAY, YEAR,
 };
 use crate::values::nanoseconds_of;
+use cal_datetime::OffsetDateTime;
 use cal_text::Unreadable;
+use cal_time::Date;
 use cal_time::error::{Component, ComponentRange};
-use cal_time::{Date, Time, UtcOffset};
 
 mod making;
 mod reading;
@@ -99,14 +100,14 @@ impl ReadDateResult {
 }
 
 impl ReadMomentResult {
-    pub fn of(date: Date, time: Time, offset: UtcOffset) -> Self
-        ensures { result ≡ read_moment_done date time offset }
+    pub fn of(moment: OffsetDateTime) -> Self
+        ensures { result ≡ read_moment_done moment }
     {
         ReadMomentResult {
             status: DONE,
-            date: date.to_julian_day(),
-            time: nanoseconds_of(time),
-            offset: offset.whole_seconds(),
+            date: moment.date().to_julian_day(),
+            time: nanoseconds_of(moment.time()),
+            offset: moment.offset().whole_seconds(),
             place: usize::MAX,
         }
     }

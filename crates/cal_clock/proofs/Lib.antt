@@ -1,3 +1,2 @@
 pub mod Days
 pub mod Text
-pub mod Zeros

@@ -9,8 +9,7 @@ use Rattle.cal_units.specs.Refusal.{unconditional, IsRefused}
 use Rattle.cal_units.specs.declared.util.date_adjustment.DateAdjustment.{DateAdjustment}
 use Rattle.cal_units.specs.declared.util.date_adjustment.DateAdjustment.TheVariants.{Previous, Next, None}
 use Rattle.cal_span.specs.SignedDuration.{microsecond, millisecond, second, minute, hour, day, whole_days}
-use Rattle.cal_units.specs.Digits.{two_digits}
-use Rattle.cal_clock.specs.Digits.{decimals}
+use Rattle.cal_units.specs.Digits.{decimals, two_digits}
 
 -- a number of nanoseconds that is a time of day
 pub record IsTime (t : ℕ) : Type 0 where
@@ -88,4 +87,4 @@ carry Next = pos 1
 abbrev pub text : ℕ → List ℕ
 text t =
     decimal (hour_of t) ++ codes ":" ++ two_digits (minute_of t) ++ codes ":" ++ two_digits (second_of t)
-    ++ codes "." ++ decimals (nanosecond_of t)
+    ++ codes "." ++ decimals 1 (nanosecond_of t)

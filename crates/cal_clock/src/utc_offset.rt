@@ -1,13 +1,13 @@
 //! Offsets from UTC.
-ghost use Rattle.std.specs.Prelude.{◌≡◌, ◌↔◌, ◌<◌, ◌≤◌, pos, neg_ℤ, ◌<ℤ◌, unsigned_abs, Some, IsTrue};
+ghost use Rattle.std.specs.Prelude.{length, ◌≡◌, ◌↔◌, ◌<◌, ◌≤◌, pos, neg_ℤ, ◌<ℤ◌, unsigned_abs, Some, IsTrue};
 ghost use Rattle.std.specs.Fmt.{WritesOnOk, WritesStyledOnOk, formatter_spec, padded};
+ghost use Rattle.std.specs.Str.{IsAscii};
 ghost use Rattle.cal_units.specs.Refusal.{IsRefused};
 ghost use Rattle.cal_clock.specs.UtcOffset.{IsOffset, greatest, offset_hour_out_of_range, offset_minute_out_of_range, offset_second_out_of_range, seconds_out_of_range, leading, offset_of, whole_hours, whole_minutes, minutes_past_hour, seconds_past_minute, text};
 
 use crate::units::{SECONDS_PER_HOUR, SECONDS_PER_MINUTE};
-use cal_units::Counted;
-use cal_units::digits::{ascii_text, two_digits};
 use cal_units::error::{Component, ComponentRange};
+use cal_units::{Counted, ShortText};
 use std::fmt;
 use std::marker::Model;
 use std::ops::Neg;
@@ -154,6 +154,25 @@ impl UtcOffset {
         (self.seconds % SECONDS_PER_MINUTE as i32) as i8
     }
 
+    /// The text, as the offset prints it: that of five and a half hours to the west is `-05:30:00`.
+    ///
+    /// It has the sign, `+` for zero too, and two digits each of hours, minutes and seconds: 9 bytes, all of them ASCII.
+    pub fn text(self) -> ShortText
+        ensures text { result ≡ text self }
+        ensures short { length result ≤ 9 }
+        ensures ascii { IsAscii result }
+    {
+        let seconds = self.seconds.unsigned_abs();
+        let mut text = ShortText::new();
+        text.push(if self.seconds < 0 { "-" } else { "+" });
+        text.push_two_digits(seconds / SECONDS_PER_HOUR);
+        text.push(":");
+        text.push_two_digits(seconds / SECONDS_PER_MINUTE % 60);
+        text.push(":");
+        text.push_two_digits(seconds % SECONDS_PER_MINUTE);
+        text
+    }
+
     /// Whether the offset is zero, as [`Self::UTC`] alone is.
     pub fn is_utc(self) -> bool
         ensures { IsTrue result ↔ (self ≡ pos 0) }
@@ -229,24 +248,7 @@ impl fmt::Display for UtcOffset {
     ghost styled_output = { λ o spec. Some (padded spec (text o)) };
 
     fn fmt<W: fmt::Write>(&self, f: &mut fmt::Formatter<W>) -> fmt::Result {
-        let seconds = self.seconds.unsigned_abs();
-        let sign = if self.seconds < 0 { b'-' } else { b'+' };
-        let [hour_tens, hour_units] = two_digits(seconds / SECONDS_PER_HOUR);
-        let [minute_tens, minute_units] = two_digits(
-            seconds % SECONDS_PER_HOUR / SECONDS_PER_MINUTE,
-        );
-        let [second_tens, second_units] = two_digits(seconds % SECONDS_PER_MINUTE);
-        f.pad(ascii_text(&[
-            sign,
-            hour_tens,
-            hour_units,
-            b':',
-            minute_tens,
-            minute_units,
-            b':',
-            second_tens,
-            second_units,
-        ]))
+        f.pad(self.text().as_str())
     }
 }
 

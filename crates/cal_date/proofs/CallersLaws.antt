@@ -3,15 +3,14 @@ use Rattle.std.proofs.Common.{◌≡◌, ℕ, zero, suc, ◌+◌, ◌-◌, ◌*�
 use Rattle.std.specs.Prelude.{IsSome}
 use Rattle.std.proofs.lemmas.Bool.{cases_lt}
 use Rattle.std.proofs.lemmas.Bool.Decides.{nat_tests}
-use Rattle.cal_date.specs.Date.{last_day, weekday_at, IsDate, HasOrdinalDate, HasCalendarDate}
+use Rattle.cal_date.specs.Date.{last_day, day_at, year_at, day_of_month_at, weekday_at, IsDate, HasOrdinalDate, HasCalendarDate}
 use Rattle.cal_date.specs.IsoWeekDate.{HasIsoWeekDate}
 use Rattle.cal_date.specs.Occurrence.{next_occurrences, prev_occurrences, kth}
 use Rattle.cal_date.specs.DateIter.{Walk, walk, walk_between, days_of, days_between}
-use Rattle.cal_date.specs.DateText.{text}
 use Rattle.cal_date.proofs.Dates.{in_range}
 use Rattle.cal_date.proofs.IsoWeeks.{in_weeks}
 use Rattle.cal_date.proofs.DateIters as iters
-use Rattle.cal_date.proofs.DistinctTexts.{texts-one, one_number}
+use Rattle.cal_date.proofs.Calendar.{in_month_of, calendar_in_range}
 use Rattle.cal_date.proofs.Occurrences as occurrences
 use Rattle.cal_date.proofs.Weekdays as weekdays
 
@@ -21,14 +20,19 @@ weekday_at-is n = weekdays.weekday_at-is n
 pub ordinal_date-one : (y : ℤ) (o m n : ℕ) → IsDate m → IsDate n → HasOrdinalDate y o m → HasOrdinalDate y o n → m ≡ n
 ordinal_date-one y o m n h k e f = (in_range m y o h e).number_is ∙ sym (in_range n y o k f).number_is
 
+-- equal days have one number
+one_number : (m n : ℕ) → IsDate m → IsDate n → day_at m ≡ day_at n → m ≡ n
+one_number m n h k same =
+    let at = in_month_of n in
+    let i = at.months in
+    let here : day_at n ≡ record { year = year_at n; month = i + 1; day = day_of_month_at n } = ap (λ j. record { year = year_at n; month = j; day = day_of_month_at n }) at.month_is in
+    omega (arith, (calendar_in_range m (year_at n) i (day_of_month_at n) h (same ∙ here)).number_is, (calendar_in_range n (year_at n) i (day_of_month_at n) k here).number_is)
+
 pub calendar_date-one : (y : ℤ) (month d m n : ℕ) → IsDate m → IsDate n → HasCalendarDate y month d m → HasCalendarDate y month d n → m ≡ n
 calendar_date-one y month d m n h k e f = one_number m n h k (e ∙ sym f)
 
 pub iso_week_date-one : (y : ℤ) (w wd m n : ℕ) → IsDate m → IsDate n → HasIsoWeekDate y w wd m → HasIsoWeekDate y w wd n → m ≡ n
 iso_week_date-one y w wd m n h k e f = (in_weeks m y w wd h e).number_is ∙ sym (in_weeks n y w wd k f).number_is
-
-pub text-one : (m n : ℕ) → IsDate m → IsDate n → text m ≡ text n → m ≡ n
-text-one m n h k e = texts-one m n h k e
 
 pub kth-next_occurrences : (w n k m : ℕ) → 1 ≤ k → k ≤ 7 → (weekday_at n + k) % 7 ≡ w
     → kth (suc m) (next_occurrences w n) ≡ (if nat_le (n + (k + 7 * m)) last_day then Some (n + (k + 7 * m)) else None)

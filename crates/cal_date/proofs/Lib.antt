@@ -1,9 +1,8 @@
 pub mod Calendar
 pub mod CallersLaws
 pub mod DateIters
-pub mod DateTexts
 pub mod Dates
-pub mod DistinctTexts
+pub mod DateTexts
 pub mod IsoForms
 pub mod IsoWeeks
 pub mod MonthForms

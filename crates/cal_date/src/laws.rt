@@ -2,7 +2,6 @@
 ghost use Rattle.std.specs.Prelude.{◌≡◌, ◌+◌, ◌↔◌, Ok, IsTrue};
 ghost use Rattle.cal_date.specs.CalendarDay.{calendar_day};
 ghost use Rattle.cal_date.specs.Date.{first_year, last_year, last_day, day_at, IsYear};
-ghost use Rattle.cal_date.specs.DateText.{text};
 ghost use Rattle.cal_date.specs.IsoWeekDate.{count_before, is_weekday_of_year};
 
 use crate::date::Date;
@@ -55,13 +54,4 @@ pub(crate) fn weeks_of(year: i32) -> u8
     ensures { result ≡ count_before (is_weekday_of_year 3 year) (last_day + 1) }
 {
     weeks_in_year(year)
-}
-
-/// No two days of the range print alike.
-#[tactic(auto, using(crate::proofs::DistinctTexts::texts))]
-pub(crate) fn texts_differ(one: Date, other: Date)
-    ensures { text one ≡ text other → one ≡ other }
-{
-    one.is_in_range();
-    other.is_in_range();
 }

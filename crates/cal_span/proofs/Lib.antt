@@ -5,4 +5,3 @@ pub mod Carry
 pub mod Clamp
 pub mod Product
 pub mod Quotient
-pub mod PartTexts

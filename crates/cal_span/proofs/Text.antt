@@ -1,5 +1,7 @@
 -- The parts of a text, from the seconds and the nanoseconds past them.
-use Rattle.std.proofs.Common.{◌≡◌, ℕ, zero, suc, ◌+◌, ◌*◌, ◌/◌, ◌%◌, ◌<◌, ℤ, pos, negsuc, ◌<ℤ◌, unsigned_abs, ◌∷◌, ◌++◌, codes, refl, ap, append_assoc, arith}
+use Rattle.std.proofs.Common.{◌≡◌, ℕ, zero, suc, ◌+◌, ◌*◌, ◌/◌, ◌%◌, ◌<◌, ℤ, pos, negsuc, ◌<ℤ◌, unsigned_abs, ◌∷◌, ◌++◌, ◌≤◌, ◌^◌, List, codes, decimal, length, length-append, refl, ap, ◌∙◌, append_assoc, arith}
+use Rattle.std.proofs.lemmas.Fmt.{length-decimal-le}
+use Rattle.std.proofs.lemmas.Bool.Decides.{nat_tests}
 use Rattle.std.proofs.lemmas.Int.{ints}
 use Rattle.cal_span.specs.SignedDuration.{day, hour, minute, second, millisecond, microsecond, part, parts_text, text}
 
@@ -30,6 +32,36 @@ parts_text-fields s n below =
     ++ (part (microseconds i) (0xc2 ∷ 0xb5 ∷ codes "s")
     ++ part (nanoseconds i) (codes "ns")))))))
 
+-- the same, appended one after another
+pub parts-appended : (a b c d e f g h : List ℕ) (s n : ℕ) → n < second → b ≡ a ++ part (s / 86_400) (codes "d") → c ≡ b ++ part (s % 86_400 / 3_600) (codes "h")
+    → d ≡ c ++ part (s % 86_400 / 60 % 60) (codes "m") → e ≡ d ++ part (s % 86_400 % 60) (codes "s") → f ≡ e ++ part (n / 1_000_000) (codes "ms")
+    → g ≡ f ++ part (n / 1_000 % 1_000) (0xc2 ∷ 0xb5 ∷ codes "s") → h ≡ g ++ part (n % 1_000) (codes "ns") → h ≡ a ++ parts_text (s * second + n)
+parts-appended a b c d e f g h s n below p q r t u v w =
+    rw (w, v, u, t, r, q, p)
+    (regrouped a (part (s / 86_400) (codes "d")) (part (s % 86_400 / 3_600) (codes "h")) (part (s % 86_400 / 60 % 60) (codes "m")) (part (s % 86_400 % 60) (codes "s"))
+    (part (n / 1_000_000) (codes "ms")) (part (n / 1_000 % 1_000) (0xc2 ∷ 0xb5 ∷ codes "s")) (part (n % 1_000) (codes "ns"))
+    ∙ ap (λ parts. a ++ parts) (parts_text-fields s n below))
+  where
+    regrouped : (a d h m s x y z : List ℕ) → a ++ d ++ h ++ m ++ s ++ x ++ y ++ z ≡ a ++ (d ++ (h ++ (m ++ (s ++ (x ++ (y ++ z))))))
+    regrouped a d h m s x y z = simp append_assoc
+
+-- the length of a number and its unit
+some-part : (n : ℕ) (unit : List ℕ) → 0 < n → part n unit ≡ decimal n ++ unit
+some-part n unit some = grind (arith, nat_tests)
+
+length-part : (k n : ℕ) (unit : List ℕ) → 0 < k → n < 10 ^ k → n < 2 ^ 64 → length (part n unit) ≤ k + length unit
+length-part k zero unit some below small = omega arith
+length-part k (suc n) unit some below small = omega (arith, ap length (some-part (suc n) unit (omega arith)), length-append (decimal (suc n)) unit, length-decimal-le k (suc n) some below small)
+
+pub length-days : (n : ℕ) (unit : List ℕ) → n < 1_000_000_000_000_000 → length (part n unit) ≤ 15 + length unit
+length-days n unit below = length-part 15 n unit (omega arith) (omega (arith, below)) (omega (arith, below))
+
+pub length-below_100 : (n : ℕ) (unit : List ℕ) → n < 100 → length (part n unit) ≤ 2 + length unit
+length-below_100 n unit below = length-part 2 n unit (omega arith) (omega (arith, below)) (omega (arith, below))
+
+pub length-below_1000 : (n : ℕ) (unit : List ℕ) → n < 1_000 → length (part n unit) ≤ 3 + length unit
+length-below_1000 n unit below = length-part 3 n unit (omega arith) (omega (arith, below)) (omega (arith, below))
+
 -- the text of a number below 0, and of one above
 pub text-negative : (v : ℤ) (s n : ℕ) → v <ℤ pos 0 → s ≡ unsigned_abs v / second → n ≡ unsigned_abs v % second → codes "-" ++ parts_text (s * second + n) ≡ text v
 text-negative (pos k) s n below e f = absurd (omega (arith, ints))
@@ -43,3 +75,5 @@ text-positive (pos (suc k)) s n not_zero not_below e f =
     let whole : s * second + n ≡ suc k = omega arith in
     ap parts_text whole
 text-positive (negsuc k) s n not_zero not_below e f = absurd (not_below (omega (arith, ints)))
+
+pub ruleset short_parts = (length-days, length-below_100, length-below_1000)

@@ -1,18 +1,21 @@
 -- What a text of one shape is, and why it is refused: only the form of this shape is left.
 use Rattle.std.proofs.Common.{◌≡◌, ℕ, ℤ, Option, Some, List, get_or, ap, inl, inr, arith}
 use Rattle.cal_time.specs.Date.{IsDate}
-use Rattle.cal_time.specs.DateText.{text}
 use Rattle.cal_time.specs.declared.error.ComponentRange.{ComponentRange}
 use Rattle.cal_time.specs.Refusals.{julian_day_out_of_range}
+use Rattle.cal_datetime.specs.OffsetDateTime.{Shown}
 use Rattle.cal_text.specs.declared.any.DateOrMoment.{DateOrMoment}
-use Rattle.cal_text.specs.declared.any.DateOrMoment.TheVariants.{Calendar, Ordinal, Week, JulianDay, Rfc3339, Unix}
+use Rattle.cal_text.specs.declared.any.DateOrMoment.TheVariants.{Date, Moment}
+use Rattle.cal_text.specs.declared.any.DateForm.TheVariants.{Calendar, Ordinal, Week, JulianDay}
+use Rattle.cal_text.specs.declared.any.MomentForm.TheVariants.{Rfc3339, Unix}
 use Rattle.cal_text.specs.declared.form.Form.{Form}
-use Rattle.cal_text.specs.declared.rfc3339.moment.Moment.{Moment}
-use Rattle.cal_text.specs.AnyForm.{IsTextOf, HasAnyForm, IsDateFault, IsMomentFault, IsFault}
-use Rattle.cal_text.specs.DateForms.{HasForm, ordinal_text, week_text}
+use Rattle.cal_text.specs.declared.rfc3339.numbers.Numbers.{Numbers}
+use Rattle.cal_text.specs.AnyForm.{IsTextOf, name_of, HasAnyForm, IsDateFault, IsMomentFault, IsFault}
+use Rattle.cal_text.specs.DateForms.{HasForm}
 use Rattle.cal_text.specs.JulianForm.{IsJulianForm, julian_text, IsJulianFormOfNone}
 use Rattle.cal_text.specs.Rfc3339Form.{IsSeparator, IsMomentText, HasMomentForm}
 use Rattle.cal_text.specs.UnixText.{IsUnixText, HasUnixForm, IsUnixFormOfNone, timestamp_out_of_range}
+use Rattle.cal_text.proofs.DayForms.{HasOnDay, calendar-of, ordinal-of, week-of}
 use Rattle.cal_text.proofs.Shapes.{IsNoOther, date-shape, day-shape, moment-shape, julian-first, unix-first}
 
 -- ---- one reason
@@ -27,7 +30,7 @@ abbrev SomeForm : List ℕ → Type 0
 SomeForm bytes = (f : Form) × HasForm bytes f
 
 abbrev SomeMoment : List ℕ → Type 0
-SomeMoment bytes = (m : Moment) × HasMomentForm bytes m
+SomeMoment bytes = (m : Numbers) × HasMomentForm bytes m
 
 abbrev SomeJulian : List ℕ → Type 0
 SomeJulian bytes = (j : ℤ) × IsJulianForm bytes j
@@ -84,14 +87,14 @@ julian-moment bytes first h = absurd ((moment-shape bytes h.0 h.1).first.0 first
 julian-unix : {R : Type 0} (bytes : List ℕ) (v : ℤ) → get_or bytes 0 0 ≡ 74 → HasUnixForm bytes v → R
 julian-unix bytes v first h = absurd (omega (arith, first, unix-first bytes v h))
 
-pub julian-found : (bytes : List ℕ) (P : DateOrMoment → Type 0) → get_or bytes 0 0 ≡ 74 → ((n : ℕ) → IsDate n → bytes ≡ julian_text n → P (JulianDay n))
+pub julian-found : (bytes : List ℕ) (P : DateOrMoment → Type 0) → get_or bytes 0 0 ≡ 74 → ((n : ℕ) → IsDate n → bytes ≡ julian_text n → P (Date JulianDay n))
     → (found : DateOrMoment) → IsTextOf bytes found → P found
-julian-found bytes P first at (Calendar n) is = absurd ((day-shape bytes n is.0 (inl is.1)).first.0 first)
-julian-found bytes P first at (Ordinal n) is = absurd ((day-shape bytes n is.0 (inr (inl is.1))).first.0 first)
-julian-found bytes P first at (Week n) is = absurd ((day-shape bytes n is.0 (inr (inr is.1))).first.0 first)
-julian-found bytes P first at (JulianDay n) is = at n is.0 is.1
-julian-found bytes P first at (Rfc3339 n t o) is = julian-moment bytes first (is.1.0, is.1.1)
-julian-found bytes P first at (Unix n t) is = julian-unix bytes _ first is.form
+julian-found bytes P first at (Date Calendar n) is = absurd ((day-shape bytes n is.0 (inl is.1)).first.0 first)
+julian-found bytes P first at (Date Ordinal n) is = absurd ((day-shape bytes n is.0 (inr (inl is.1))).first.0 first)
+julian-found bytes P first at (Date Week n) is = absurd ((day-shape bytes n is.0 (inr (inr is.1))).first.0 first)
+julian-found bytes P first at (Date JulianDay n) is = at n is.0 is.1
+julian-found bytes P first at (Moment Rfc3339 m) is = julian-moment bytes first (is.0, is.1)
+julian-found bytes P first at (Moment Unix m) is = julian-unix bytes _ first is.form
 
 pub julian-any : (bytes : List ℕ) → get_or bytes 0 0 ≡ 74 → HasAnyForm bytes → SomeJulian bytes
 julian-any bytes first is = elim is as (λ _. SomeJulian bytes) [
@@ -127,14 +130,14 @@ unix-julian bytes j first h = absurd (omega (arith, first, julian-first bytes j 
 unix-day : {R : Type 0} (bytes : List ℕ) (n : ℕ) → get_or bytes 0 0 ≡ 64 → bytes ≡ julian_text n → R
 unix-day bytes n first e = absurd (omega (arith, first, ap (λ all. get_or all 0 0) e))
 
-pub unix-found : (bytes : List ℕ) (P : DateOrMoment → Type 0) → get_or bytes 0 0 ≡ 64 → ((n t : ℕ) → IsUnixText bytes n t → P (Unix n t))
+pub unix-found : (bytes : List ℕ) (P : DateOrMoment → Type 0) → get_or bytes 0 0 ≡ 64 → ((m : Shown) → IsUnixText bytes m → P (Moment Unix m))
     → (found : DateOrMoment) → IsTextOf bytes found → P found
-unix-found bytes P first at (Calendar n) is = absurd ((day-shape bytes n is.0 (inl is.1)).first.1 first)
-unix-found bytes P first at (Ordinal n) is = absurd ((day-shape bytes n is.0 (inr (inl is.1))).first.1 first)
-unix-found bytes P first at (Week n) is = absurd ((day-shape bytes n is.0 (inr (inr is.1))).first.1 first)
-unix-found bytes P first at (JulianDay n) is = unix-day bytes n first is.1
-unix-found bytes P first at (Rfc3339 n t o) is = unix-moment bytes first (is.1.0, is.1.1)
-unix-found bytes P first at (Unix n t) is = at n t is
+unix-found bytes P first at (Date Calendar n) is = absurd ((day-shape bytes n is.0 (inl is.1)).first.1 first)
+unix-found bytes P first at (Date Ordinal n) is = absurd ((day-shape bytes n is.0 (inr (inl is.1))).first.1 first)
+unix-found bytes P first at (Date Week n) is = absurd ((day-shape bytes n is.0 (inr (inr is.1))).first.1 first)
+unix-found bytes P first at (Date JulianDay n) is = unix-day bytes n first is.1
+unix-found bytes P first at (Moment Rfc3339 m) is = unix-moment bytes first (is.0, is.1)
+unix-found bytes P first at (Moment Unix m) is = at m is
 
 pub unix-any : (bytes : List ℕ) → get_or bytes 0 0 ≡ 64 → HasAnyForm bytes → SomeUnix bytes
 unix-any bytes first is = elim is as (λ _. SomeUnix bytes) [
@@ -171,13 +174,13 @@ other-unix : {R : Type 0} (bytes : List ℕ) (v : ℤ) → IsNoOther bytes → H
 other-unix bytes v first h = absurd (first.1 (unix-first bytes v h))
 
 pub moment-found : (bytes : List ℕ) (P : DateOrMoment → Type 0) → IsNoOther bytes → IsSeparator (get_or bytes 10 0)
-    → ((n t : ℕ) (o : ℤ) → IsDate n → IsMomentText bytes n t o → P (Rfc3339 n t o)) → (found : DateOrMoment) → IsTextOf bytes found → P found
-moment-found bytes P first sep at (Calendar n) is = absurd ((day-shape bytes n is.0 (inl is.1)).separator sep)
-moment-found bytes P first sep at (Ordinal n) is = absurd ((day-shape bytes n is.0 (inr (inl is.1))).separator sep)
-moment-found bytes P first sep at (Week n) is = absurd ((day-shape bytes n is.0 (inr (inr is.1))).separator sep)
-moment-found bytes P first sep at (JulianDay n) is = other-day bytes n first is.1
-moment-found bytes P first sep at (Rfc3339 n t o) is = at n t o is.0 is.1
-moment-found bytes P first sep at (Unix n t) is = other-unix bytes _ first is.form
+    → ((m : Shown) → IsMomentText bytes m → P (Moment Rfc3339 m)) → (found : DateOrMoment) → IsTextOf bytes found → P found
+moment-found bytes P first sep at (Date Calendar n) is = absurd ((day-shape bytes n is.0 (inl is.1)).separator sep)
+moment-found bytes P first sep at (Date Ordinal n) is = absurd ((day-shape bytes n is.0 (inr (inl is.1))).separator sep)
+moment-found bytes P first sep at (Date Week n) is = absurd ((day-shape bytes n is.0 (inr (inr is.1))).separator sep)
+moment-found bytes P first sep at (Date JulianDay n) is = other-day bytes n first is.1
+moment-found bytes P first sep at (Moment Rfc3339 m) is = at m is
+moment-found bytes P first sep at (Moment Unix m) is = other-unix bytes _ first is.form
 
 pub moment-any : (bytes : List ℕ) → IsNoOther bytes → IsSeparator (get_or bytes 10 0) → HasAnyForm bytes → SomeMoment bytes
 moment-any bytes first sep is = elim is as (λ _. SomeMoment bytes) [
@@ -205,14 +208,13 @@ date-moment : {R : Type 0} (bytes : List ℕ) → ¬ IsSeparator (get_or bytes 1
 date-moment bytes none h = absurd (none (moment-shape bytes h.0 h.1).separator)
 
 pub date-found : (bytes : List ℕ) (P : DateOrMoment → Type 0) → IsNoOther bytes → ¬ IsSeparator (get_or bytes 10 0)
-    → ((n : ℕ) → IsDate n → bytes ≡ text n → P (Calendar n)) → ((n : ℕ) → IsDate n → bytes ≡ ordinal_text n → P (Ordinal n))
-    → ((n : ℕ) → IsDate n → bytes ≡ week_text n → P (Week n)) → (found : DateOrMoment) → IsTextOf bytes found → P found
-date-found bytes P first none calendar ordinal week (Calendar n) is = calendar n is.0 is.1
-date-found bytes P first none calendar ordinal week (Ordinal n) is = ordinal n is.0 is.1
-date-found bytes P first none calendar ordinal week (Week n) is = week n is.0 is.1
-date-found bytes P first none calendar ordinal week (JulianDay n) is = other-day bytes n first is.1
-date-found bytes P first none calendar ordinal week (Rfc3339 n t o) is = date-moment bytes none (is.1.0, is.1.1)
-date-found bytes P first none calendar ordinal week (Unix n t) is = other-unix bytes _ first is.form
+    → ((f : Form) (n : ℕ) → IsDate n → HasOnDay bytes f n → P (Date (name_of f) n)) → (found : DateOrMoment) → IsTextOf bytes found → P found
+date-found bytes P first none at (Date Calendar n) is = at _ n is.0 (calendar-of bytes n is.0 is.1)
+date-found bytes P first none at (Date Ordinal n) is = at _ n is.0 (ordinal-of bytes n is.0 is.1)
+date-found bytes P first none at (Date Week n) is = at _ n is.0 (week-of bytes n is.0 is.1)
+date-found bytes P first none at (Date JulianDay n) is = other-day bytes n first is.1
+date-found bytes P first none at (Moment Rfc3339 m) is = date-moment bytes none (is.0, is.1)
+date-found bytes P first none at (Moment Unix m) is = other-unix bytes _ first is.form
 
 pub date-any : (bytes : List ℕ) → IsNoOther bytes → ¬ IsSeparator (get_or bytes 10 0) → HasAnyForm bytes → SomeForm bytes
 date-any bytes first none is = elim is as (λ _. SomeForm bytes) [

@@ -7,6 +7,7 @@ use Rattle.cal_time.specs.DateText.{text}
 use Rattle.cal_time.specs.IsoWeekDate.{iso_year_at, iso_week_at}
 use Rattle.cal_text.specs.declared.form.Form.{Form}
 use Rattle.cal_text.specs.declared.form.Form.TheVariants.{Calendar, Ordinal, Week}
+use Rattle.cal_text.specs.AnyForm.{date_text, name_of}
 use Rattle.cal_text.specs.DateForms.{IsDateText, HasForm, form_text, ordinal_text, week_text}
 use Rattle.cal_text.specs.Reading.{IsOnDay}
 use Rattle.cal_text.proofs.Ranges.{year_at-written, iso_year_at-written, month_at-below, day_of_month_at-below, ordinal_at-below, iso_week_at-below, weekday_at-below}
@@ -46,14 +47,19 @@ form-of-day bytes n date t = elim t as (λ _. FormOfDay bytes n) [
   ]
 ]
 
-pub day-of-form : (bytes : List ℕ) (f : Form) (n : ℕ) → HasForm bytes f → IsOnDay f n → IsDateText bytes n
-day-of-form bytes (Calendar y m d) n h e =
-    inl (h.bytes_are ∙ sym (text-is n ∙ ap (λ (c : CalendarDay). form_text (Calendar c.year c.month c.day)) e))
-day-of-form bytes (Ordinal y o) n h e =
-    inr (inl (h.bytes_are ∙ sym (ap (λ x. form_text (Ordinal x (ordinal_at n))) e.0 ∙ ap (λ k. form_text (Ordinal y k)) e.1)))
-day-of-form bytes (Week y w d) n h e =
+pub text-of-form : (bytes : List ℕ) (f : Form) (n : ℕ) → HasForm bytes f → IsOnDay f n → bytes ≡ date_text (name_of f) n
+text-of-form bytes (Calendar y m d) n h e =
+    h.bytes_are ∙ sym (text-is n ∙ ap (λ (c : CalendarDay). form_text (Calendar c.year c.month c.day)) e)
+text-of-form bytes (Ordinal y o) n h e =
+    h.bytes_are ∙ sym (ap (λ x. form_text (Ordinal x (ordinal_at n))) e.0 ∙ ap (λ k. form_text (Ordinal y k)) e.1)
+text-of-form bytes (Week y w d) n h e =
     let weekday : weekday_at n + 1 ≡ d = omega (arith, e.2, h.form.2) in
-    inr (inr (h.bytes_are ∙ sym (ap (λ x. form_text (Week x (iso_week_at n) (weekday_at n + 1))) e.0 ∙ ap (λ k. form_text (Week y k (weekday_at n + 1))) e.1 ∙ ap (λ k. form_text (Week y w k)) weekday)))
+    h.bytes_are ∙ sym (ap (λ x. form_text (Week x (iso_week_at n) (weekday_at n + 1))) e.0 ∙ ap (λ k. form_text (Week y k (weekday_at n + 1))) e.1 ∙ ap (λ k. form_text (Week y w k)) weekday)
+
+pub day-of-form : (bytes : List ℕ) (f : Form) (n : ℕ) → HasForm bytes f → IsOnDay f n → IsDateText bytes n
+day-of-form bytes (Calendar y m d) n h e = inl (text-of-form bytes (Calendar y m d) n h e)
+day-of-form bytes (Ordinal y o) n h e = inr (inl (text-of-form bytes (Ordinal y o) n h e))
+day-of-form bytes (Week y w d) n h e = inr (inr (text-of-form bytes (Week y w d) n h e))
 
 -- one text, one form
 pub same_form : (a b : Form) → Some a ≡ Some b → a ≡ b

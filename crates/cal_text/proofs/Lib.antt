@@ -4,8 +4,6 @@ pub mod YearTexts
 pub mod Ranges
 pub mod FormTexts
 pub mod DayForms
-pub mod Printed
-pub mod UnixTimes
 pub mod NumberTexts
 mod Fractions
 mod MomentTexts
@@ -22,3 +20,4 @@ mod Components
 mod OneAnswer
 mod AnyForms
 mod UnixPrinted
+mod Moments

@@ -2,9 +2,9 @@
 use Rattle.std.proofs.Common.{◌≡◌, ℕ, ◌+◌, ◌≤◌, Some, List, [], ◌∷◌, ◌++◌, length, get_or, take, drop, sym, ap, subst, ◌∙◌, arith, lit≤, inl, inr}
 use Rattle.std.proofs.lemmas.List.{length-append, append_assoc, get_or_at, take_at, drop_at, drop-drop, drop_more, take-append-drop}
 use Rattle.cal_time.specs.DateText.{digits_at_least, date_digits}
-use Rattle.cal_text.specs.declared.rfc3339.moment.Moment.{Moment}
-use Rattle.cal_text.specs.declared.rfc3339.moment.Zone.{Zone}
-use Rattle.cal_text.specs.declared.rfc3339.moment.Zone.TheVariants.{Utc, East, West}
+use Rattle.cal_text.specs.declared.rfc3339.numbers.Numbers.{Numbers}
+use Rattle.cal_text.specs.declared.rfc3339.numbers.Zone.{Zone}
+use Rattle.cal_text.specs.declared.rfc3339.numbers.Zone.TheVariants.{Utc, East, West}
 use Rattle.cal_text.specs.Rfc3339Form.{clock_digits, IsZone, IsDigitOrPoint, HasMomentForm}
 use Rattle.cal_text.proofs.MomentTexts.{three}
 
@@ -33,14 +33,14 @@ zone-first zone (West a b) h is =
     elim (subst IsDigitOrPoint (ap (λ all. get_or all 0 0) h.2) is) [ inl point ↦ absurd (omega (arith, point)) | inr digit ↦ absurd (omega (arith, digit.0)) ]
 
 -- ---- cut
-pub record IsCut (text : List ℕ) (m : Moment) (separator : ℕ) (rest : List ℕ) : Type 0 where
+pub record IsCut (text : List ℕ) (m : Numbers) (separator : ℕ) (rest : List ℕ) : Type 0 where
   pub long : 19 ≤ length text
   pub between : get_or text 10 0 ≡ separator
   pub date : take 10 text ≡ three_text 4 m.year m.month m.day 45
   pub clock : take 8 (drop 11 text) ≡ three_text 2 m.hour m.minute m.second 58
   pub after : drop 19 text ≡ rest
 
-pub cut : (text : List ℕ) (m : Moment) (h : HasMomentForm text m) → IsCut text m h.separator (h.fraction ++ h.zone)
+pub cut : (text : List ℕ) (m : Numbers) (h : HasMomentForm text m) → IsCut text m h.separator (h.fraction ++ h.zone)
 cut text m h =
     let ds = date_digits m.year m.month m.day in
     let cs = clock_digits m.hour m.minute m.second in
@@ -71,7 +71,7 @@ whole text y m d h n s end long date clock =
     ∙ ap (λ back. date_digits y m d ++ get_or text 10 0 ∷ back) (at_11 ∙ ap (λ front. front ++ drop 19 text) (clock ∙ sym (clock-three h n s)) ∙ ap (λ back. clock_digits h n s ++ back) at_19)
 
 -- ---- moments of equal numbers
-abbrev pub moment : ℕ × ℕ × ℕ → ℕ × ℕ × ℕ → ℕ → Zone → Moment
+abbrev pub moment : ℕ × ℕ × ℕ → ℕ × ℕ × ℕ → ℕ → Zone → Numbers
 moment date clock n z =
     record { year = date.0; month = date.1; day = date.2; hour = clock.0; minute = clock.1; second = clock.2; nanosecond = n; zone = z }
 

@@ -1,9 +1,10 @@
 -- The digits of a number without zeros before them, and its sign.
 use Rattle.std.proofs.Common.{◌≡◌, ◌≢◌, ℕ, suc, ◌-◌, ◌<◌, ◌≤◌, ◌^◌, ℤ, pos, negsuc, unsigned_abs, List, [], ◌∷◌, ◌+◌, ◌/◌, ◌%◌, ◌++◌, length, get_or, drop, replicate, refl, sym, ap, ◌∙◌, arith, inl, inr, lit<}
+use Rattle.std.proofs.lemmas.List.{append_assoc}
 use Rattle.std.specs.Prelude.{decimal}
 use Rattle.std.specs.Fmt.{signed_decimal}
 use Rattle.std.proofs.lemmas.Bool.{cases_lt}
-use Rattle.std.proofs.lemmas.Fmt.{length-decimal-le, decimal_nonempty, decimal_step, decimal_digit, first_decimal, decimal_is_IsNumeral}
+use Rattle.std.proofs.lemmas.Fmt.{length-decimal-le, decimal_nonempty, decimal_digit, first_decimal, decimal_is_IsNumeral}
 use Rattle.std.proofs.lemmas.Str.Parse.{digit_at}
 use Rattle.cal_time.specs.DateText.{digits_at_least}
 use Rattle.cal_text.proofs.DigitTexts.{full-width}
@@ -50,9 +51,12 @@ pub signed-some : (bytes : List ℕ) (j : ℤ) → unsigned_abs j < 10 ^ 9 → b
 signed-some bytes (pos n) small e = omega (arith, ap length e, decimal-some n small)
 signed-some bytes (negsuc k) small e = omega (arith, ap length e)
 
--- the last digit after the others
-pub decimal-last : (n d : ℕ) → 10 ≤ n → n < 2 ^ 64 → d ≡ 48 + n % 10 → decimal n ≡ decimal (n / 10) ++ d ∷ []
-decimal-last n d many small e = decimal_step n many small ∙ ap (λ x. decimal (n / 10) ++ x ∷ []) (sym e)
+-- no number of 64 bits has more than 20 digits
+pub few_digits : (n : ℕ) → n < 2 ^ 64 → length (decimal n) ≤ 20
+few_digits n small = length-decimal-le 20 n (lit< tt) (omega (arith, small)) small
 
-pub decimal-one : (n d : ℕ) → n < 10 → d ≡ 48 + n → decimal n ≡ d ∷ []
-decimal-one n d few e = decimal_digit n few ∙ ap (λ x. x ∷ []) (sym e)
+-- one digit
+pub one_digit : (n : ℕ) → n < 10 → (48 + n) ∷ [] ≡ digits_at_least 1 n
+one_digit n low = sym (decimal_digit n low) ∙ decimal-width n (omega arith)
+
+pub ruleset week_digits = (one_digit, append_assoc)

@@ -6,13 +6,16 @@ use Rattle.std.proofs.lemmas.Int.{ints}
 use Rattle.std.proofs.lemmas.List.{append_assoc, take_all}
 use Rattle.std.specs.Str.Parse.{digits_value}
 use Rattle.cal_time.specs.CalendarDay.{calendar_day}
-use Rattle.cal_time.specs.Date.{IsDate, year_at, month_at, day_of_month_at}
+use Rattle.cal_time.specs.Date.{year_at, month_at, day_of_month_at}
 use Rattle.cal_time.specs.DateText.{digits_at_least}
 use Rattle.cal_time.specs.Digits.{nine_digits, without_last_zeros}
-use Rattle.cal_time.specs.Time.{IsTime, hour_of, minute_of, second_of, nanosecond_of}
+use Rattle.cal_time.specs.Time.{hour_of, minute_of, second_of, nanosecond_of}
+use Rattle.cal_datetime.specs.DateTime.{IsDateTime, date_at, time_at}
+use Rattle.cal_datetime.specs.DateTimeLaws.{IsTime-time_at}
+use Rattle.cal_datetime.specs.OffsetDateTime.{Shown}
 use Rattle.cal_text.specs.DateForms.{year_text}
-use Rattle.cal_text.specs.declared.rfc3339.moment.Zone.{Zone}
-use Rattle.cal_text.specs.declared.rfc3339.moment.Zone.TheVariants.{Utc, East, West}
+use Rattle.cal_text.specs.declared.rfc3339.numbers.Zone.{Zone}
+use Rattle.cal_text.specs.declared.rfc3339.numbers.Zone.TheVariants.{Utc, East, West}
 use Rattle.cal_text.specs.Rfc3339.{fraction_text, offset_text, moment_text, HasMomentText}
 use Rattle.cal_text.specs.Rfc3339Form.{IsFraction, IsZone, IsOffsetOf, IsMomentText}
 use Rattle.cal_text.proofs.Ranges.{month_at-below, day_of_month_at-below}
@@ -84,10 +87,13 @@ joined : (ys ms ds hs ns ss fs os : List ℕ) → ys ++ 45 ∷ [] ++ ms ++ 45 �
     ≡ (ys ++ 45 ∷ [] ++ ms ++ 45 ∷ [] ++ ds) ++ 84 ∷ ((hs ++ 58 ∷ [] ++ ns ++ 58 ∷ [] ++ ss) ++ (fs ++ os))
 joined ys ms ds hs ns ss fs os = simp append_assoc
 
-pub printed : (n t : ℕ) (o : ℤ) → IsDate n → IsTime t → HasMomentText n o → IsMomentText (moment_text n t o) n t o
-printed n t o date time has =
+pub printed : (m : Shown) → IsDateTime m.local → HasMomentText m → IsMomentText (moment_text m) m
+printed m in_range has =
+    let n = date_at m.local in
+    let t = time_at m.local in
+    let o = m.offset in
     let y = unsigned_abs (year_at n) in
-    let below = time.below_day in
+    let below = (IsTime-time_at m.local).below_day in
     let ns : nanosecond_of t < 1000000000 = omega arith in
     let year : year_at n ≡ pos y = year-is (year_at n) has.from_year_0 in (
       record {
@@ -123,6 +129,7 @@ printed n t o date time has =
             (digits_at_least 2 (second_of t)) (fraction_text (nanosecond_of t)) (offset_text o);
       },
       record {
+        in_range = in_range;
         date = ap (λ z. calendar_day z (month_at n) (day_of_month_at n)) year;
         hour = omega (arith, below);
         minute = omega arith;

@@ -8,7 +8,7 @@ use Rattle.cal_time.specs.Date.{IsDate}
 use Rattle.cal_time.specs.DateText.{digits_at_least}
 use Rattle.cal_text.specs.declared.form.Form.{Form}
 use Rattle.cal_text.specs.declared.form.Form.TheVariants.{Calendar, Ordinal, Week}
-use Rattle.cal_text.specs.declared.rfc3339.moment.Moment.{Moment}
+use Rattle.cal_text.specs.declared.rfc3339.numbers.Numbers.{Numbers}
 use Rattle.cal_text.specs.DateForms.{year_text, form_text, rest_of, year_of, IsWrittenYear, IsForm, HasForm, IsDateText}
 use Rattle.cal_text.specs.JulianForm.{IsJulianForm}
 use Rattle.cal_text.specs.Rfc3339Form.{IsSeparator, HasMomentForm, clock_digits}
@@ -124,7 +124,7 @@ pub record IsMomentShape (bytes : List ℕ) : Type 0 where
 year-first : (ys ms ds rest : List ℕ) → (ys ++ 45 ∷ [] ++ ms ++ 45 ∷ [] ++ ds) ++ rest ≡ ys ++ (45 ∷ (ms ++ (45 ∷ (ds ++ rest))))
 year-first ys ms ds rest = simp append_assoc
 
-pub moment-shape : (bytes : List ℕ) (m : Moment) → HasMomentForm bytes m → IsMomentShape bytes
+pub moment-shape : (bytes : List ℕ) (m : Numbers) → HasMomentForm bytes m → IsMomentShape bytes
 moment-shape bytes m h =
     let ys = digits_at_least 4 m.year in
     let small : m.year < 10 ^ 9 = omega (arith, h.numbers.year) in

@@ -1,6 +1,7 @@
 -- A Unix time in text, cut at its sign.
-use Rattle.std.proofs.Common.{◌≡◌, ◌≢◌, ◌⊎◌, ℕ, suc, ◌+◌, ◌*◌, ◌/◌, ◌%◌, ◌<◌, ◌≤◌, ◌^◌, ℤ, pos, negsuc, neg_ℤ, ◌+ℤ◌, ◌-ℤ◌, ◌*ℤ◌, unsigned_abs, FitsSigned, to_z, of_z, w32, w64, List, ◌∷◌, ◌++◌, length, get_or, drop, refl, sym, ap, subst, ◌∙◌, arith, Some, inl, inr}
+use Rattle.std.proofs.Common.{◌≡◌, ◌≢◌, ◌⊎◌, ℕ, suc, ◌+◌, ◌*◌, ◌/◌, ◌%◌, ◌<◌, ◌≤◌, ◌^◌, ℤ, pos, negsuc, neg_ℤ, unsigned_abs, FitsSigned, to_z, of_z, List, ◌∷◌, ◌++◌, length, get_or, drop, refl, sym, ap, subst, ◌∙◌, arith, Some, inl, inr}
 use Rattle.std.specs.Prelude.{decimal}
+use Rattle.std.specs.Int.{w128}
 use Rattle.std.proofs.lemmas.Int.{ints, to_z-of_z}
 use Rattle.std.proofs.lemmas.Fmt.{decimal_nonempty, decimal_is_IsNumeral}
 use Rattle.std.proofs.lemmas.List.{get_or_append_left, length-append, drop_more}
@@ -8,7 +9,6 @@ use Rattle.std.proofs.lemmas.Str.Parse.{digit_at}
 use Rattle.cal_time.specs.SignedDuration.{second}
 use Rattle.cal_text.specs.Rfc3339Form.{IsFraction}
 use Rattle.cal_text.specs.UnixText.{HasUnixForm}
-use Rattle.cal_text.proofs.YearTexts.{plain-cast}
 
 -- what a text has after its sign
 pub record IsPositive (text fraction : List ℕ) (v : ℤ) : Type 0 where
@@ -50,38 +50,16 @@ cut_unix text (negsuc k) h =
       signed = inr (record { k = k; is = refl; sign = ap (λ all. get_or all 1 0) h.bytes_are; rest = ap (drop 2) h.bytes_are });
     }
 
--- the numbers of a text as one, with its sign
-cast64 : (s : ℕ) → s < 10 ^ 18 → to_z w64 s ≡ pos s
-cast64 s h = grind (arith, ints)
+-- what a text says fits into 128 bits
+fits : (v : ℤ) → unsigned_abs v < 10 ^ 28 → FitsSigned w128 v
+fits (pos n) h = record { sfits = grind (arith, ints) }
+fits (negsuc n) h = record { sfits = grind (arith, ints) }
 
-negated64 : (s : ℕ) → s < 10 ^ 18 → to_z w64 (of_z w64 (pos 0 -ℤ to_z w64 s)) ≡ neg_ℤ (pos s)
-negated64 s h =
-    let same : pos 0 -ℤ to_z w64 s ≡ neg_ℤ (pos s) = ap (λ z. pos 0 -ℤ z) (cast64 s h) ∙ omega (arith, ints) in
-    let fits : FitsSigned w64 (neg_ℤ (pos s)) = record { sfits = grind (arith, ints) } in
-    ap (λ z. to_z w64 (of_z w64 z)) same ∙ to_z-of_z w64 (neg_ℤ (pos s)) fits
+pub wide : (v : ℤ) → unsigned_abs v < 10 ^ 28 → to_z w128 (of_z w128 v) ≡ v
+wide v h = to_z-of_z w128 v (fits v h)
 
-cast32 : (n : ℕ) → n < 1000000000 → to_z w32 n ≡ pos n
-cast32 n h = plain-cast n (omega (arith, h))
-
-negated32 : (n : ℕ) → n < 1000000000 → to_z w32 (of_z w32 (pos 0 -ℤ to_z w32 n)) ≡ neg_ℤ (pos n)
-negated32 n h =
-    let same : pos 0 -ℤ to_z w32 n ≡ neg_ℤ (pos n) = ap (λ z. pos 0 -ℤ z) (cast32 n h) ∙ omega (arith, ints) in
-    let fits : FitsSigned w32 (neg_ℤ (pos n)) = record { sfits = grind (arith, ints) } in
-    ap (λ z. to_z w32 (of_z w32 z)) same ∙ to_z-of_z w32 (neg_ℤ (pos n)) fits
-
-sum-positive : (s n : ℕ) → pos s *ℤ pos second +ℤ pos n ≡ pos (s * second + n)
-sum-positive s n = omega (arith, ints)
-
-sum-negative : (s n : ℕ) → neg_ℤ (pos s) *ℤ pos second +ℤ neg_ℤ (pos n) ≡ neg_ℤ (pos (s * second + n))
-sum-negative s n = omega (arith, ints)
-
-pub positive_value : (s n : ℕ) (r : ℤ) → s < 10 ^ 18 → n < 1000000000 → r ≡ to_z w64 s *ℤ pos second +ℤ to_z w32 n → r ≡ pos (s * second + n)
-positive_value s n r hs hn e = e ∙ ap (λ z. z *ℤ pos second +ℤ to_z w32 n) (cast64 s hs) ∙ ap (λ z. pos s *ℤ pos second +ℤ z) (cast32 n hn) ∙ sum-positive s n
-
-pub negative_value : (s n : ℕ) (r : ℤ) → s < 10 ^ 18 → n < 1000000000
-    → r ≡ to_z w64 (of_z w64 (pos 0 -ℤ to_z w64 s)) *ℤ pos second +ℤ to_z w32 (of_z w32 (pos 0 -ℤ to_z w32 n)) → r ≡ neg_ℤ (pos (s * second + n))
-negative_value s n r hs hn e =
-    e ∙ ap (λ z. z *ℤ pos second +ℤ to_z w32 (of_z w32 (pos 0 -ℤ to_z w32 n))) (negated64 s hs) ∙ ap (λ z. neg_ℤ (pos s) *ℤ pos second +ℤ z) (negated32 n hn) ∙ sum-negative s n
+pub wide-form : (text : List ℕ) (v : ℤ) → HasUnixForm text v → to_z w128 (of_z w128 v) ≡ v
+wide-form text v h = wide v (omega (arith, h.seconds))
 
 -- so the text has the form
 pub record IsNumbers (s n : ℕ) (rest : List ℕ) : Type 0 where

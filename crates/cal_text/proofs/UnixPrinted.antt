@@ -1,21 +1,29 @@
 -- The text of a Unix time says that time.
-use Rattle.std.proofs.Common.{ℕ, ◌%◌, ◌<◌, ◌≤◌, ℤ, unsigned_abs, ◌-ℤ◌, refl, sym, arith}
+use Rattle.std.proofs.Common.{◌%◌, ◌<◌, ◌≤◌, ℤ, pos, negsuc, neg_ℤ, unsigned_abs, ◌*ℤ◌, ◌≤ℤ◌, refl, arith}
 use Rattle.std.proofs.lemmas.Int.{ints}
-use Rattle.cal_time.specs.Date.{IsDate, julian_day_at}
-use Rattle.cal_time.specs.SignedDuration.{day, second}
+use Rattle.cal_time.specs.SignedDuration.{second}
+use Rattle.cal_time.specs.UtcOffset.{IsOffset}
+use Rattle.cal_datetime.specs.DateTime.{IsDateTime}
+use Rattle.cal_datetime.specs.OffsetDateTime.{Shown, instant, unix_nanoseconds}
 use Rattle.cal_text.specs.Rfc3339.{fraction_text}
-use Rattle.cal_text.specs.Unix.{unix_time, epoch_day}
 use Rattle.cal_text.specs.UnixText.{HasUnixForm, unix_text}
 use Rattle.cal_text.proofs.PrintedMoments.{fraction, fraction-long}
-use Rattle.cal_text.proofs.UnixTimes.{unix-sum, days-small, offset-low, offset-high}
 
--- the time of a day of the range
-pub unix-small : (n t : ℕ) (o : ℤ) → IsDate n → t < day → unsigned_abs o ≤ 93599 → unsigned_abs (unix_time n t o) < 40000000000000000000000
-unix-small n t o date below offset =
-    let small = days-small n t (julian_day_at n -ℤ epoch_day) date below refl in
-    let low = offset-low o offset in
-    let high = offset-high o offset in
-    omega (arith, ints, sym (unix-sum n t o (julian_day_at n -ℤ epoch_day) refl), small.0, small.1, low, high)
+offset-low : (o : ℤ) → unsigned_abs o ≤ 93599 → neg_ℤ (pos 93599000000000) ≤ℤ (o *ℤ pos second)
+offset-low (pos n) h = omega (arith, ints)
+offset-low (negsuc n) h = omega (arith, ints)
+
+offset-high : (o : ℤ) → unsigned_abs o ≤ 93599 → (o *ℤ pos second) ≤ℤ pos 93599000000000
+offset-high (pos n) h = omega (arith, ints)
+offset-high (negsuc n) h = omega (arith, ints)
+
+-- the time of a moment
+pub unix-small : (m : Shown) → IsDateTime m.local → IsOffset m.offset → unsigned_abs (unix_nanoseconds (instant m)) < 40000000000000000000000
+unfolding instant
+unix-small m range o =
+    let low = offset-low m.offset o.magnitude in
+    let high = offset-high m.offset o.magnitude in
+    omega (arith, ints, range.not_before, range.not_after, low, high)
 
 pub printed : (v : ℤ) → unsigned_abs v < 40000000000000000000000 → HasUnixForm (unix_text v) v
 printed v small =

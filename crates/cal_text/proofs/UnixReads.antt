@@ -1,53 +1,56 @@
--- A Unix time in text is that of one day and time, or of none.
-use Rattle.std.proofs.Common.{◌≡◌, ℕ, ℤ, pos, ◌+ℤ◌, ◌*ℤ◌, Some, List, sym, subst, ◌∙◌, arith}
+-- A Unix time in text is that of one moment at UTC, or of none.
+use Rattle.std.proofs.Common.{◌≡◌, ℕ, ℤ, pos, negsuc, ◌+ℤ◌, ◌*ℤ◌, Some, Result, Ok, List, refl, sym, subst, ap, ◌∙◌, arith, inl, inr}
+use Rattle.std.proofs.lemmas.Bool.{cases_lt}
 use Rattle.std.proofs.lemmas.Int.{ints}
-use Rattle.cal_time.specs.Pair.{moment, HasMoment, NoPair}
 use Rattle.cal_time.specs.SignedDuration.{second}
-use Rattle.cal_time.specs.Time.{IsTime}
-use Rattle.cal_text.specs.Unix.{epoch, unix_time}
+use Rattle.cal_datetime.specs.DateTime.{IsDateTime, last_date_time}
+use Rattle.cal_datetime.specs.OffsetDateTime.{Shown, instant, unix_epoch, unix_nanoseconds}
 use Rattle.cal_text.specs.UnixText.{HasUnixForm, IsUnixText, IsUnixFormOfNone}
 
--- the moment of a Unix time, at UTC
-abbrev pub moment_of : ℤ → ℤ
-moment_of v = (epoch +ℤ v) +ℤ (pos 0 *ℤ pos second)
+-- the moment at UTC of a Unix time
+abbrev pub at_utc : ℤ → Shown
+at_utc v = record { local = unix_epoch +ℤ v; offset = pos 0 }
 
-to_unix : (n t : ℕ) (v : ℤ) → moment n t ≡ moment_of v → unix_time n t (pos 0) ≡ v
-to_unix n t v e = omega (arith, ints, e)
+says : (v : ℤ) → unix_nanoseconds (instant (at_utc v)) ≡ v
+unfolding instant
+says v = omega (arith, ints)
 
-of_unix : (n t : ℕ) (v : ℤ) → unix_time n t (pos 0) ≡ v → moment n t ≡ moment_of v
-of_unix n t v e = omega (arith, ints, e)
+local-is : (m : Shown) → m.offset ≡ pos 0 → m.local ≡ unix_epoch +ℤ unix_nanoseconds (instant m)
+unfolding instant
+local-is m e = let none = ap (λ o. o *ℤ pos second) e in omega (arith, ints, none)
 
-same_day : (n t m s : ℕ) → IsTime t → IsTime s → moment n t ≡ moment m s → n ≡ m
-same_day n t m s ht hs e = omega (arith, ints, e, ht.below_day, hs.below_day)
-
-same_time : (n t m s : ℕ) → IsTime t → IsTime s → moment n t ≡ moment m s → t ≡ s
-same_time n t m s ht hs e = omega (arith, ints, e, ht.below_day, hs.below_day)
+is-at_utc : (m : Shown) → m.offset ≡ pos 0 → m ≡ at_utc (unix_nanoseconds (instant m))
+is-at_utc m e = let local = local-is m e in λ i. record { local = local i; offset = e i }
 
 abbrev pub IsOnly : List ℕ → ℤ → Type 0
 IsOnly text v = (u : ℤ) → HasUnixForm text u → Some v ≡ Some u
 
-one : (a b : ℤ) → Some a ≡ Some b → a ≡ b
+one : {A : Type 0} (a b : A) → Some a ≡ Some b → a ≡ b
 one a b e = cc
 
--- the pair at the moment has the text, and no other
-pub text_of_pair : (text : List ℕ) (v : ℤ) (n t : ℕ) → HasUnixForm text v → HasMoment (moment_of v) n t → IsUnixText text n t
-text_of_pair text v n t form at =
-    record { date = at.date; time = at.time; form = subst (HasUnixForm text) (sym (to_unix n t v at.moment_is)) form }
+pub one_value : {A E : Type 0} (a b : A) → ◌≡◌ {A = Result A E} (Ok a) (Ok b) → a ≡ b
+one_value a b e = cc
 
-pub moment_of_text : (text : List ℕ) (v : ℤ) (n t : ℕ) → IsOnly text v → IsUnixText text n t → HasMoment (moment_of v) n t
-moment_of_text text v n t every is =
-    record { date = is.date; time = is.time; moment_is = of_unix n t v (sym (one v (unix_time n t (pos 0)) (every (unix_time n t (pos 0)) is.form))) }
+-- a number is that of a date-time, or of none
+pub in_range : (z : ℤ) → ¬ ¬ IsDateTime z → IsDateTime z
+in_range (pos n) h = elim (cases_lt last_date_time n) as (λ _. IsDateTime (pos n)) [
+  | inl more ↦ absurd (h (λ k. omega (arith, ints, k.not_after, more)))
+  | inr few ↦ record { not_before = omega (arith, ints); not_after = omega (arith, ints, few) }
+]
+in_range (negsuc n) h = absurd (h (λ k. omega (arith, ints, k.not_before)))
 
-pub pair_of_text : (z : ℤ) (p : ℕ × ℕ) (n t : ℕ) → HasMoment z p.0 p.1 → HasMoment z n t → ◌≡◌ {A = ℕ × ℕ} p (n, t)
-pair_of_text z p n t at is =
-    let same : moment p.0 p.1 ≡ moment n t = at.moment_is ∙ sym is.moment_is in
-    let days = same_day p.0 p.1 n t at.time is.time same in
-    let times = same_time p.0 p.1 n t at.time is.time same in
-    λ i. (days i, times i)
+-- the moment of the number has the text, and no other
+pub text_of : {E : Type 0} (text : List ℕ) (v : ℤ) (m : Shown) → HasUnixForm text v → IsDateTime (unix_epoch +ℤ v) → ◌≡◌ {A = Result Shown E} (Ok m) (Ok (at_utc v)) → IsUnixText text m
+text_of text v m form range e =
+    subst (IsUnixText text) (sym (one_value m (at_utc v) e)) (record { in_range = range; at_utc = refl; form = subst (HasUnixForm text) (sym (says v)) form })
 
--- or nothing is at it
-pub of_none : (text : List ℕ) (v : ℤ) → HasUnixForm text v → NoPair (moment_of v) → IsUnixFormOfNone text
-of_none text v form none = (v, form, λ n t date time e. none n t (record { date = date; time = time; moment_is = of_unix n t v e }))
+pub range_of : (text : List ℕ) (v : ℤ) (m : Shown) → IsOnly text v → IsUnixText text m → IsDateTime (unix_epoch +ℤ v)
+range_of text v m every is =
+    subst IsDateTime (local-is m is.at_utc ∙ ap (λ u. unix_epoch +ℤ u) (sym (one v _ (every _ is.form)))) is.in_range
 
-pub some_at : (text : List ℕ) (v : ℤ) (n t : ℕ) → IsOnly text v → HasMoment (moment_of v) n t → ¬ IsUnixFormOfNone text
-some_at text v n t every at none = none.2 n t at.date at.time (to_unix n t v at.moment_is ∙ one v none.0 (every none.0 none.1))
+pub moment_of : (text : List ℕ) (v : ℤ) (m : Shown) → IsOnly text v → IsUnixText text m → at_utc v ≡ m
+moment_of text v m every is = ap at_utc (one v _ (every _ is.form)) ∙ sym (is-at_utc m is.at_utc)
+
+-- or there is none
+pub some_at : (text : List ℕ) (v : ℤ) → IsOnly text v → IsDateTime (unix_epoch +ℤ v) → ¬ IsUnixFormOfNone text
+some_at text v every range none = none.2 (subst (λ u. IsDateTime (unix_epoch +ℤ u)) (one v none.0 (every none.0 none.1)) range)

@@ -7,10 +7,16 @@ use Rattle.cal_time.specs.declared.error.ComponentRange.{ComponentRange}
 use Rattle.cal_time.specs.Refusals.{julian_day_out_of_range, year_out_of_range, day_out_of_range, ordinal_out_of_range, week_out_of_range, weekday_out_of_range}
 use Rattle.cal_time.specs.Time.{hour_out_of_range, minute_out_of_range, second_out_of_range}
 use Rattle.cal_time.specs.UtcOffset.{offset_hour_out_of_range, offset_minute_out_of_range}
+use Rattle.cal_datetime.specs.OffsetDateTime.{Shown}
 use Rattle.cal_text.specs.declared.any.DateOrMoment.{DateOrMoment}
-use Rattle.cal_text.specs.declared.any.DateOrMoment.TheVariants.{Calendar, Ordinal, Week, JulianDay, Rfc3339, Unix}
+use Rattle.cal_text.specs.declared.any.DateOrMoment.TheVariants.{Date, Moment}
+use Rattle.cal_text.specs.declared.any.DateForm.{DateForm}
+use Rattle.cal_text.specs.declared.any.DateForm.TheVariants as date_form
+use Rattle.cal_text.specs.declared.any.MomentForm.{MomentForm}
+use Rattle.cal_text.specs.declared.any.MomentForm.TheVariants.{Rfc3339, Unix}
 use Rattle.cal_text.specs.declared.form.Form.{Form}
-use Rattle.cal_text.specs.declared.rfc3339.moment.Moment.{Moment}
+use Rattle.cal_text.specs.declared.form.Form.TheVariants as numbers
+use Rattle.cal_text.specs.declared.rfc3339.numbers.Numbers.{Numbers}
 use Rattle.cal_text.specs.DateForms.{ordinal_text, week_text, HasForm}
 use Rattle.cal_text.specs.JulianForm.{julian_text, IsJulianForm, IsJulianFormOfNone}
 use Rattle.cal_text.specs.Reading.{HasFormThat, LacksMonth, LacksYear, LacksDay, LacksOrdinal, LacksWeek, LacksWeekday}
@@ -18,19 +24,33 @@ use Rattle.cal_text.specs.Rfc3339Form.{IsMomentText, HasMomentForm, HasMomentTha
 use Rattle.cal_text.specs.Rfc3339Form as moment
 use Rattle.cal_text.specs.UnixText.{IsUnixText, HasUnixForm, IsUnixFormOfNone, timestamp_out_of_range}
 
+-- the text of a date in each form
+abbrev pub date_text : DateForm → ℕ → List ℕ
+date_text date_form.Calendar n = text n
+date_text date_form.Ordinal n = ordinal_text n
+date_text date_form.Week n = week_text n
+date_text date_form.JulianDay n = julian_text n
+
+-- the bytes are a text of this moment, in this form
+abbrev pub IsTextOfMoment : List ℕ → MomentForm → Shown → Type 0
+IsTextOfMoment bytes Rfc3339 m = IsMomentText bytes m
+IsTextOfMoment bytes Unix m = IsUnixText bytes m
+
 -- the bytes are a text of this date or this moment, in the form that is named
 abbrev pub IsTextOf : List ℕ → DateOrMoment → Type 0
-IsTextOf bytes (Calendar n) = IsDate n × (bytes ≡ text n)
-IsTextOf bytes (Ordinal n) = IsDate n × (bytes ≡ ordinal_text n)
-IsTextOf bytes (Week n) = IsDate n × (bytes ≡ week_text n)
-IsTextOf bytes (JulianDay n) = IsDate n × (bytes ≡ julian_text n)
-IsTextOf bytes (Rfc3339 n t o) = IsDate n × IsMomentText bytes n t o
-IsTextOf bytes (Unix n t) = IsUnixText bytes n t
+IsTextOf bytes (Date form n) = IsDate n × (bytes ≡ date_text form n)
+IsTextOf bytes (Moment form m) = IsTextOfMoment bytes form m
+
+-- the name of a form of ISO 8601, whatever its numbers
+abbrev pub name_of : Form → DateForm
+name_of (numbers.Calendar y m d) = date_form.Calendar
+name_of (numbers.Ordinal y o) = date_form.Ordinal
+name_of (numbers.Week y w d) = date_form.Week
 
 -- the bytes have one of the forms, whatever its numbers
 abbrev pub HasAnyForm : List ℕ → Type 0
 HasAnyForm bytes =
-    ((f : Form) × HasForm bytes f) ⊎ ((j : ℤ) × IsJulianForm bytes j) ⊎ ((m : Moment) × HasMomentForm bytes m) ⊎ ((v : ℤ) × HasUnixForm bytes v)
+    ((f : Form) × HasForm bytes f) ⊎ ((j : ℤ) × IsJulianForm bytes j) ⊎ ((m : Numbers) × HasMomentForm bytes m) ⊎ ((v : ℤ) × HasUnixForm bytes v)
 
 -- the component at fault of bytes that have the form of a date
 abbrev pub IsDateFault : List ℕ → ComponentRange → Type 0

@@ -2,14 +2,11 @@
 -- forms of these texts, whose numbers need not be those of a day.
 use Rattle.std.specs.Prelude.{◌≡◌, ◌⊎◌, ℕ, ◌+◌, ◌^◌, ◌<◌, ◌≤◌, ℤ, List, ◌++◌, codes, unsigned_abs}
 use Rattle.cal_time.specs.Date.{year_at, ordinal_at, weekday_at}
-use Rattle.cal_time.specs.DateText.{digits_at_least, sign_text, text}
+use Rattle.cal_time.specs.DateText.{digits_at_least, text}
+pub use Rattle.cal_time.specs.DateText.{year_text}
 use Rattle.cal_time.specs.IsoWeekDate.{iso_year_at, iso_week_at}
 use Rattle.cal_text.specs.declared.form.Form.{Form}
 use Rattle.cal_text.specs.declared.form.Form.TheVariants.{Calendar, Ordinal, Week}
-
--- a year as the text of a date prints it: its sign, and at least four digits
-abbrev pub year_text : ℤ → List ℕ
-year_text y = sign_text y ++ digits_at_least 4 (unsigned_abs y)
 
 -- what comes after the year and a hyphen: a month and a day of the month, an ordinal, a week and a weekday by its number
 abbrev pub month_and_day_text : ℕ → ℕ → List ℕ

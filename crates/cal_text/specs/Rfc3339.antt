@@ -1,10 +1,12 @@
--- The text of a moment (RFC 3339, internet date and time format): a date, a time of day and an offset from UTC.
+-- The text of a moment (RFC 3339, internet date and time format): what a clock shows at an offset from UTC.
 use Rattle.std.specs.Prelude.{◌≡◌, ◌==◌, ℕ, ◌/◌, ◌%◌, ◌<◌, ℤ, pos, ◌≤ℤ◌, List, [], ◌++◌, codes, unsigned_abs, if◌then◌else◌}
 use Rattle.cal_time.specs.Date.{year_at, month_at, day_of_month_at}
 use Rattle.cal_time.specs.DateText.{digits_at_least}
 use Rattle.cal_time.specs.Digits.{nine_digits, without_last_zeros}
 use Rattle.cal_time.specs.Time.{hour_of, minute_of, second_of, nanosecond_of}
 use Rattle.cal_time.specs.UtcOffset.{sign}
+use Rattle.cal_datetime.specs.DateTime.{date_at, time_at}
+use Rattle.cal_datetime.specs.OffsetDateTime.{Shown}
 use Rattle.cal_text.specs.DateForms.{year_text}
 
 -- the nanoseconds past the second: nothing for 0, or else a point and nine digits without the zeros that they end in
@@ -17,16 +19,19 @@ offset_text o =
     if unsigned_abs o == 0 then codes "Z"
     else sign o ++ digits_at_least 2 (unsigned_abs o / 3600) ++ codes ":" ++ digits_at_least 2 (unsigned_abs o / 60 % 60)
 
--- the text of day n and time t at that offset: all parts but the year, the fraction and the offset have two digits
-abbrev pub moment_text : ℕ → ℕ → ℤ → List ℕ
-moment_text n t o =
+-- the text of a day and a time of day at an offset: all parts but the year, the fraction and the offset have two digits
+abbrev pub parts_text : ℕ → ℕ → ℤ → List ℕ
+parts_text n t o =
     year_text (year_at n) ++ codes "-" ++ digits_at_least 2 (month_at n) ++ codes "-" ++ digits_at_least 2 (day_of_month_at n)
     ++ codes "T" ++ digits_at_least 2 (hour_of t) ++ codes ":" ++ digits_at_least 2 (minute_of t) ++ codes ":" ++ digits_at_least 2 (second_of t)
     ++ fraction_text (nanosecond_of t) ++ offset_text o
 
--- RFC 3339 has a text for the day at the offset: a year of four digits, whole minutes, and less than a day
-pub record HasMomentText (n : ℕ) (o : ℤ) : Type 0 where
-  pub from_year_0 : pos 0 ≤ℤ year_at n
-  pub to_year_9999 : year_at n ≤ℤ pos 9999
-  pub whole_minutes : unsigned_abs o % 60 ≡ 0
-  pub below_day : unsigned_abs o < 86400
+abbrev pub moment_text : Shown → List ℕ
+moment_text m = parts_text (date_at m.local) (time_at m.local) m.offset
+
+-- RFC 3339 has a text for the moment: a year of four digits, and an offset of whole minutes, less than a day
+pub record HasMomentText (m : Shown) : Type 0 where
+  pub from_year_0 : pos 0 ≤ℤ year_at (date_at m.local)
+  pub to_year_9999 : year_at (date_at m.local) ≤ℤ pos 9999
+  pub whole_minutes : unsigned_abs m.offset % 60 ≡ 0
+  pub below_day : unsigned_abs m.offset < 86400

@@ -8,9 +8,11 @@ use Rattle.cal_time.specs.declared.error.ComponentRange.{ComponentRange}
 use Rattle.cal_time.specs.Refusals.{day_out_of_range}
 use Rattle.cal_time.specs.Time.{time_of, hour_out_of_range, minute_out_of_range, second_out_of_range}
 use Rattle.cal_time.specs.UtcOffset.{offset_hour_out_of_range, offset_minute_out_of_range}
-use Rattle.cal_text.specs.declared.rfc3339.moment.Moment.{Moment}
-use Rattle.cal_text.specs.declared.rfc3339.moment.Zone.{Zone}
-use Rattle.cal_text.specs.declared.rfc3339.moment.Zone.TheVariants.{Utc, East, West}
+use Rattle.cal_datetime.specs.DateTime.{IsDateTime, date_at, time_at}
+use Rattle.cal_datetime.specs.OffsetDateTime.{Shown}
+use Rattle.cal_text.specs.declared.rfc3339.numbers.Numbers.{Numbers}
+use Rattle.cal_text.specs.declared.rfc3339.numbers.Zone.{Zone}
+use Rattle.cal_text.specs.declared.rfc3339.numbers.Zone.TheVariants.{Utc, East, West}
 use Rattle.cal_text.specs.Reading.{IsMonth}
 
 -- ---- parts
@@ -51,7 +53,7 @@ IsZone zone (West h m) = (h < 100) × (m < 100) × (zone ≡ 45 ∷ (digits_at_l
 
 -- ---- the whole
 -- its numbers have no more digits than the form has
-pub record IsMoment (m : Moment) : Type 0 where
+pub record IsMomentForm (m : Numbers) : Type 0 where
   pub year : m.year < 10000
   pub month : m.month < 100
   pub day : m.day < 100
@@ -61,8 +63,8 @@ pub record IsMoment (m : Moment) : Type 0 where
   pub nanosecond : m.nanosecond < 1000000000
 
 -- the bytes have the form, with these numbers
-pub record HasMomentForm (bytes : List ℕ) (m : Moment) : Type 0 where
-  pub numbers : IsMoment m
+pub record HasMomentForm (bytes : List ℕ) (m : Numbers) : Type 0 where
+  pub numbers : IsMomentForm m
   pub separator : ℕ
   pub fraction : List ℕ
   pub zone : List ℕ
@@ -71,44 +73,45 @@ pub record HasMomentForm (bytes : List ℕ) (m : Moment) : Type 0 where
   pub is_zone : IsZone zone m.zone
   pub bytes_are : bytes ≡ date_digits m.year m.month m.day ++ separator ∷ (clock_digits m.hour m.minute m.second ++ (fraction ++ zone))
 
--- ---- the day, the time of day and the offset that have the numbers
+-- ---- the moment that has the numbers
 abbrev pub IsOffsetOf : Zone → ℤ → Type 0
 IsOffsetOf Utc o = o ≡ pos 0
 IsOffsetOf (East h m) o = (h ≤ 23) × (m ≤ 59) × (o ≡ pos (3600 * h + 60 * m))
 IsOffsetOf (West h m) o = (h ≤ 23) × (m ≤ 59) × (o ≡ neg_ℤ (pos (3600 * h + 60 * m)))
 
-pub record IsAt (m : Moment) (n t : ℕ) (o : ℤ) : Type 0 where
-  pub date : HasCalendarDate (pos m.year) m.month m.day n
+pub record IsAt (m : Numbers) (at : Shown) : Type 0 where
+  pub in_range : IsDateTime at.local
+  pub date : HasCalendarDate (pos m.year) m.month m.day (date_at at.local)
   pub hour : m.hour ≤ 23
   pub minute : m.minute ≤ 59
   pub second : m.second ≤ 59
-  pub time : t ≡ time_of m.hour m.minute m.second m.nanosecond
-  pub offset : IsOffsetOf m.zone o
+  pub time : time_at at.local ≡ time_of m.hour m.minute m.second m.nanosecond
+  pub offset : IsOffsetOf m.zone at.offset
 
--- the bytes are a text of day n and time t at that offset
-abbrev pub IsMomentText : List ℕ → ℕ → ℕ → ℤ → Type 0
-IsMomentText bytes n t o = (m : Moment) × HasMomentForm bytes m × IsAt m n t o
+-- the bytes are a text of this moment
+abbrev pub IsMomentText : List ℕ → Shown → Type 0
+IsMomentText bytes at = (m : Numbers) × HasMomentForm bytes m × IsAt m at
 
 -- ---- the first component at fault
-abbrev pub LacksMonth : Moment → Type 0
+abbrev pub LacksMonth : Numbers → Type 0
 LacksMonth m = ¬ IsMonth m.month
 
-abbrev pub LacksDay : Moment → Type 0
+abbrev pub LacksDay : Numbers → Type 0
 LacksDay m = IsMonth m.month × ¬ IsDayOfMonth (pos m.year) m.month m.day
 
-abbrev pub HasDay : Moment → Type 0
+abbrev pub HasDay : Numbers → Type 0
 HasDay m = IsMonth m.month × IsDayOfMonth (pos m.year) m.month m.day
 
-abbrev pub LacksHour : Moment → Type 0
+abbrev pub LacksHour : Numbers → Type 0
 LacksHour m = HasDay m × (23 < m.hour)
 
-abbrev pub LacksMinute : Moment → Type 0
+abbrev pub LacksMinute : Numbers → Type 0
 LacksMinute m = HasDay m × (m.hour ≤ 23) × (59 < m.minute)
 
-abbrev pub LacksSecond : Moment → Type 0
+abbrev pub LacksSecond : Numbers → Type 0
 LacksSecond m = HasDay m × (m.hour ≤ 23) × (m.minute ≤ 59) × (59 < m.second)
 
-abbrev pub HasClock : Moment → Type 0
+abbrev pub HasClock : Numbers → Type 0
 HasClock m = HasDay m × (m.hour ≤ 23) × (m.minute ≤ 59) × (m.second ≤ 59)
 
 abbrev pub IsPastHours : Zone → Type 0
@@ -121,15 +124,15 @@ IsPastMinutes Utc = ⊥
 IsPastMinutes (East h m) = (h ≤ 23) × (59 < m)
 IsPastMinutes (West h m) = (h ≤ 23) × (59 < m)
 
-abbrev pub LacksOffsetHour : Moment → Type 0
+abbrev pub LacksOffsetHour : Numbers → Type 0
 LacksOffsetHour m = HasClock m × IsPastHours m.zone
 
-abbrev pub LacksOffsetMinute : Moment → Type 0
+abbrev pub LacksOffsetMinute : Numbers → Type 0
 LacksOffsetMinute m = HasClock m × IsPastMinutes m.zone
 
 -- the bytes have the form of a moment that lacks this
-abbrev pub HasMomentThat : (Moment → Type 0) → List ℕ → Type 0
-HasMomentThat Lacks bytes = (m : Moment) × HasMomentForm bytes m × Lacks m
+abbrev pub HasMomentThat : (Numbers → Type 0) → List ℕ → Type 0
+HasMomentThat Lacks bytes = (m : Numbers) × HasMomentForm bytes m × Lacks m
 
 -- why moments are refused
 abbrev pub IsMomentReason : Option ComponentRange → Type 0

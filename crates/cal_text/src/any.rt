@@ -9,25 +9,42 @@ use crate::any::by_form::{date_in, julian_day_in, moment_in, unix_time_in};
 use crate::date::place::begins_with;
 use crate::error::Unreadable;
 use crate::rfc3339::is_separator;
-use cal_time::{Date, Time, UtcOffset};
+use cal_datetime::OffsetDateTime;
+use cal_time::Date;
 
 mod by_form;
 
-/// A date or a moment, by the form of the text that it was read from.
+/// A form in which a date is written.
+#[derive(Clone, Copy, Debug, PartialEq, Eq)]
+pub enum DateForm {
+    /// A calendar date, as `2024-02-29`.
+    Calendar,
+    /// An ordinal date, as `2024-060`.
+    Ordinal,
+    /// A week date, as `2024-W09-4`.
+    Week,
+    /// A date by its Julian day, as `J2460370`.
+    JulianDay,
+}
+
+/// A form in which a moment is written.
+#[derive(Clone, Copy, Debug, PartialEq, Eq)]
+pub enum MomentForm {
+    /// A moment of RFC 3339, as `2024-02-29T23:59:59.25+01:00`.
+    Rfc3339,
+    /// A Unix time, as `@1709164800.5`, which is a moment at UTC.
+    Unix,
+}
+
+/// A date or a moment, and the form of the text that it was read from.
+///
+/// Moments of one form are equal where they are the same instant.
 #[derive(Clone, Copy, Debug, PartialEq, Eq)]
 pub enum DateOrMoment {
-    /// A calendar date, as `2024-02-29`.
-    Calendar(Date),
-    /// An ordinal date, as `2024-060`.
-    Ordinal(Date),
-    /// A week date, as `2024-W09-4`.
-    Week(Date),
-    /// A date by its Julian day, as `J2460370`.
-    JulianDay(Date),
-    /// A moment of RFC 3339, as `2024-02-29T23:59:59.25+01:00`.
-    Rfc3339(Date, Time, UtcOffset),
-    /// A Unix time, as `@1709164800.5`, by its date and its time of day at UTC.
-    Unix(Date, Time),
+    /// A date, in one of four forms.
+    Date(DateForm, Date),
+    /// A moment, in one of two forms.
+    Moment(MomentForm, OffsetDateTime),
 }
 
 /// The date or the moment that the text is, and the form in which it is written.

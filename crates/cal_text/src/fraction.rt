@@ -1,9 +1,26 @@
 //! Fractions of a second, as a point and digits.
-ghost use Rattle.std.specs.Prelude.{◌≡◌, ℕ, List, ◌<◌, ◌≤◌, ◌++◌, length, take, get_or};
+ghost use Rattle.std.specs.Prelude.{◌≡◌, ◌+◌, ℕ, List, ◌<◌, ◌≤◌, ◌++◌, length, take, get_or};
 ghost use Rattle.std.specs.Str.Parse.{AllDigits};
+ghost use Rattle.cal_time.specs.ShortText.{HasRoom};
+ghost use Rattle.cal_text.specs.Rfc3339.{fraction_text};
 ghost use Rattle.cal_text.specs.Rfc3339Form.{IsFraction, IsDigit, IsDigitOrPoint, nanoseconds_of};
 
 use crate::digits::number_of;
+use cal_time::ShortText;
+
+/// Appends a fraction of a second, by its nanoseconds.
+pub(crate) fn push_fraction(text: &mut ShortText, nanosecond: u32)
+    requires room { HasRoom 10 text.old }
+    requires below { nanosecond < 1_000_000_000 }
+    ensures appended { text.new ≡ text.old ++ fraction_text nanosecond }
+    ensures short { length text.new ≤ length text.old + 10 }
+{
+    if nanosecond == 0 {
+        return;
+    }
+    text.push(".");
+    text.push_decimals(0, nanosecond);
+}
 
 /// The nanoseconds of the fraction at the front of the text, and where it ends. Without digits after the point it has none.
 pub(crate) fn fraction_of(text: &[u8]) -> (u32, usize)

@@ -1,6 +1,6 @@
 //! Dates in text by their Julian day.
-ghost use Rattle.std.specs.Prelude.{◌≡◌, ◌≢◌, ◌⊎◌, ℕ, ℤ, ◌<◌, ◌^◌, ◌∷◌, ◌↔◌, length, decimal, IfOk, IfErr, IfSome, IsErr, Ok, Some, None, unsigned_abs};
-ghost use Rattle.std.specs.Fmt.{signed_decimal};
+ghost use Rattle.std.specs.Prelude.{◌≡◌, ◌≢◌, ◌⊎◌, ℕ, ℤ, ◌<◌, ◌≤◌, ◌^◌, ◌∷◌, ◌↔◌, length, decimal, IfOk, IfErr, IfSome, IsErr, Ok, Some, None, unsigned_abs};
+ghost use Rattle.std.specs.Fmt.{padded, signed_decimal};
 ghost use Rattle.cal_time.specs.Date.{IsDate};
 ghost use Rattle.cal_time.specs.Refusals.{julian_day_out_of_range};
 ghost use Rattle.cal_text.specs.JulianForm.{julian_text, IsJulianForm, IsJulianFormOfNone};
@@ -8,30 +8,33 @@ ghost use Rattle.cal_text.specs.Reading.{component_of, IsRefusedFor, IsRefusedFo
 
 use crate::digits::number_of;
 use crate::error::Unreadable;
-use crate::line::Line;
-use cal_time::Date;
+use cal_time::{Date, ShortText};
 use std::fmt;
 
-/// A date that prints its Julian day after a letter J, as `J2460370`.
+/// A date that prints its Julian day after a letter J, as `J2460370`. Under a width the whole text is padded.
 #[derive(Clone, Copy, Debug, PartialEq, Eq)]
 pub struct JulianText(pub Date);
 
 impl JulianText {
-    /// The text in bytes.
-    pub fn line(self) -> Line
-        ensures { result ≡ julian_text self.0 }
+    /// The text in place, of at most 12 bytes.
+    pub fn text(self) -> ShortText
+        ensures text { result ≡ julian_text self.0 }
+        ensures short { length result ≤ 12 }
     {
-        let mut line = Line::of(b"J");
-        line.push_signed(self.0.to_julian_day());
-        line
+        let mut text = ShortText::new();
+        text.push("J");
+        text.push_signed(self.0.to_julian_day());
+        text
     }
 }
 
 impl fmt::Display for JulianText {
     ghost output = { λ t. Some (julian_text t.0) };
 
+    ghost styled_output = { λ t spec. Some (padded spec (julian_text t.0)) };
+
     fn fmt<W: fmt::Write>(&self, f: &mut fmt::Formatter<W>) -> fmt::Result {
-        write!(f, "J{}", self.0.to_julian_day())
+        f.pad(self.text().as_str())
     }
 }
 

@@ -1,6 +1,7 @@
 //! What follows from reading: a text belongs to one day, has one form, and belongs to one moment.
-ghost use Rattle.std.specs.Prelude.{◌≡◌, ℕ, ℤ};
+ghost use Rattle.std.specs.Prelude.{◌≡◌, ℕ};
 ghost use Rattle.cal_time.specs.Date.{IsDate};
+ghost use Rattle.cal_datetime.specs.OffsetDateTime.{Shown};
 ghost use Rattle.cal_text.specs.declared.form.Form.{Form};
 ghost use Rattle.cal_text.specs.declared.any.DateOrMoment.{DateOrMoment};
 ghost use Rattle.cal_text.specs.AnyForm.{IsTextOf};
@@ -12,7 +13,8 @@ use crate::date::read;
 use crate::error::Unreadable;
 use crate::form::{Form, form_of};
 use crate::rfc3339;
-use cal_time::{Date, Time, UtcOffset};
+use cal_datetime::OffsetDateTime;
+use cal_time::Date;
 
 /// No two days share a text, be it of one form or of two.
 pub(crate) fn one_day(text: &[u8]) -> Result<Date, Unreadable>
@@ -37,9 +39,8 @@ pub(crate) fn one_reading(text: &[u8]) -> Result<DateOrMoment, Unreadable>
 }
 
 /// No two moments share a text.
-pub(crate) fn one_moment(text: &[u8]) -> Result<(Date, Time, UtcOffset), Unreadable>
-    ensures { (m n s t : ℕ) → (o p : ℤ) → IsDate m → IsDate n → IsMomentText text.now m s o → IsMomentText text.now n t p
-        → (m ≡ n) × (s ≡ t) × (o ≡ p) }
+pub(crate) fn one_moment(text: &[u8]) -> Result<OffsetDateTime, Unreadable>
+    ensures { (m n : Shown) → IsMomentText text.now m → IsMomentText text.now n → m ≡ n }
 {
     rfc3339::read(text)
 }

@@ -11,15 +11,12 @@ mod form;
 mod fraction;
 pub mod julian_day;
 mod laws;
-mod line;
-mod print;
 pub mod rfc3339;
 pub mod unix;
 mod year;
 
-pub use any::{DateOrMoment, read_any};
+pub use any::{DateForm, DateOrMoment, MomentForm, read_any};
 pub use error::Unreadable;
-pub use line::Line;
 
 #[cfg(test)]
 mod tests;

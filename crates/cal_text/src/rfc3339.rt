@@ -1,30 +1,30 @@
 //! Moments in text: RFC 3339.
-ghost use Rattle.std.specs.Prelude.{◌≡◌, ◌⊎◌, ℕ, ℤ, ◌↔◌, IfOk, IfErr, IsErr, Ok};
-ghost use Rattle.cal_time.specs.Date.{IsDate};
+ghost use Rattle.std.specs.Prelude.{◌≡◌, ◌↔◌, IfOk, IfErr, IsErr, Ok};
 ghost use Rattle.cal_time.specs.Month.{month_out_of_range};
 ghost use Rattle.cal_time.specs.Refusals.{day_out_of_range};
 ghost use Rattle.cal_time.specs.Time.{hour_out_of_range, minute_out_of_range, second_out_of_range};
 ghost use Rattle.cal_time.specs.UtcOffset.{offset_hour_out_of_range, offset_minute_out_of_range};
-ghost use Rattle.cal_text.specs.declared.rfc3339.moment.Moment.{Moment};
+ghost use Rattle.cal_datetime.specs.OffsetDateTime.{Shown};
+ghost use Rattle.cal_text.specs.declared.rfc3339.numbers.Numbers.{Numbers};
 ghost use Rattle.cal_text.specs.Reading.{component_of, IsRefusedFor, IsRefusedForForm};
 ghost use Rattle.cal_text.specs.Rfc3339Form.{HasMomentForm, HasMomentThat, IsMomentText, IsMomentReason, LacksMonth, LacksDay, LacksHour, LacksMinute, LacksSecond, LacksOffsetHour, LacksOffsetMinute};
 
 use crate::error::Unreadable;
-use crate::rfc3339::form::moment_of;
-use crate::rfc3339::of_moment::parts_of;
+use crate::rfc3339::form::numbers_of;
+use crate::rfc3339::of_numbers::moment_of;
 use crate::rfc3339::place::first_wrong_byte;
-use cal_time::{Date, Time, UtcOffset};
+use cal_datetime::OffsetDateTime;
 
 mod form;
-mod moment;
-mod of_moment;
+mod numbers;
+mod of_numbers;
 mod place;
 mod text;
 
 pub(crate) use form::is_separator;
 pub use text::Text;
 
-/// The date, the time of day and the offset from UTC of a text of RFC 3339, as `2024-02-29T23:59:59.25+01:00`.
+/// The moment that a text of RFC 3339 is, as `2024-02-29T23:59:59.25+01:00`.
 ///
 /// The year has four digits, from 0000 to 9999. A `T`, a `t` or one space is between the date and the time. The second may have a
 /// fraction of any number of digits, of which the first nine count. The offset is `Z`, `z`, or a sign, hours and minutes;
@@ -33,14 +33,14 @@ pub use text::Text;
 /// A text of another form is refused with the place of the first byte that no such text has there. Otherwise the first component
 /// at fault is the reason: `month`, `day`, `hour`, `minute`, `second` (60 too, as no leap second is counted), `offset hour` above
 /// 23, or `offset minute`.
-pub fn read(text: &[u8]) -> Result<(Date, Time, UtcOffset), Unreadable>
-    ensures every { (n t : ℕ) → (o : ℤ) → IsDate n → IsMomentText text.now n t o → result ≡ Ok (n, t, o) }
-    ensures has { IfOk result (λ r. IsDate r.0 × IsMomentText text.now r.0 r.1 r.2) }
+pub fn read(text: &[u8]) -> Result<OffsetDateTime, Unreadable>
+    ensures every { (m : Shown) → IsMomentText text.now m → result ≡ Ok m }
+    ensures has { IfOk result (IsMomentText text.now) }
 
     // It is refused exactly where it is the text of no moment: for its form, or for the first component at fault.
-    ensures refused { IsErr result ↔ ((n t : ℕ) → (o : ℤ) → IsDate n → ¬ IsMomentText text.now n t o) }
+    ensures refused { IsErr result ↔ ((m : Shown) → ¬ IsMomentText text.now m) }
     ensures reason { IfErr result (λ e. IsMomentReason (component_of e)) }
-    ensures form { IsRefusedForForm result ↔ ((m : Moment) → ¬ HasMomentForm text.now m) }
+    ensures form { IsRefusedForForm result ↔ ((m : Numbers) → ¬ HasMomentForm text.now m) }
     ensures month { IsRefusedFor month_out_of_range result ↔ HasMomentThat LacksMonth text.now }
     ensures day { IsRefusedFor day_out_of_range result ↔ HasMomentThat LacksDay text.now }
     ensures hour { IsRefusedFor hour_out_of_range result ↔ HasMomentThat LacksHour text.now }
@@ -49,9 +49,9 @@ pub fn read(text: &[u8]) -> Result<(Date, Time, UtcOffset), Unreadable>
     ensures offset_hour { IsRefusedFor offset_hour_out_of_range result ↔ HasMomentThat LacksOffsetHour text.now }
     ensures offset_minute { IsRefusedFor offset_minute_out_of_range result ↔ HasMomentThat LacksOffsetMinute text.now }
 {
-    match moment_of(text) {
-        Some(moment) => match parts_of(moment) {
-            Ok(parts) => Ok(parts),
+    match numbers_of(text) {
+        Some(numbers) => match moment_of(numbers) {
+            Ok(moment) => Ok(moment),
             Err(error) => Err(Unreadable::OutOfRange(error)),
         },
         None => Err(Unreadable::UnexpectedByte(first_wrong_byte(text))),

@@ -2,6 +2,7 @@
 use crate::date::{CalendarText, OrdinalText, WeekText, read};
 use crate::julian_day::JulianText;
 use crate::{Unreadable, julian_day};
+use cal_datetime::OffsetDateTime;
 use cal_time::{Date, Month, SignedDuration, Time, UtcOffset};
 use std::alloc::Global;
 use std::fmt::{Debug, Display};
@@ -16,6 +17,16 @@ mod unix_times;
 /// Stops the test unless the two are equal. One function for all is proved once, where `assert_eq!` is proved at each place.
 fn same<T: Copy + Debug + PartialEq>(rt: &impl Abort, found: T, wanted: T) {
     assert!(rt; found == wanted, "{found:?} and not {wanted:?}");
+}
+
+/// A moment that was read, by its three parts: moments alone are equal at two offsets too.
+fn parts_of(
+    found: Result<OffsetDateTime, Unreadable>,
+) -> Result<(Date, Time, UtcOffset), Unreadable> {
+    match found {
+        Ok(moment) => Ok((moment.date(), moment.time(), moment.offset())),
+        Err(error) => Err(error),
+    }
 }
 
 /// Stops the test unless this is what was read in the row, which is a text or what was changed in one.
@@ -234,6 +245,9 @@ fn texts_of_dates(rt: HostRuntime) -> Result<(), Fail> {
         prints(&rt, rt.alloc(), &CalendarText(date), calendar)?;
         prints(&rt, rt.alloc(), &OrdinalText(date), ordinal)?;
         prints(&rt, rt.alloc(), &WeekText(date), week)?;
+        same(&rt, CalendarText(date).text().as_str(), calendar);
+        same(&rt, OrdinalText(date).text().as_str(), ordinal);
+        same(&rt, WeekText(date).text().as_str(), week);
     }
     Ok(())
 }
@@ -258,6 +272,12 @@ fn texts_of_dates_in_fields(rt: HostRuntime) -> Result<(), Fail> {
         rt.alloc(),
         &WeekText(first),
         ["   -999999-W01-1", "-999999-W01-1***"],
+    )?;
+    prints_padded(
+        &rt,
+        rt.alloc(),
+        &JulianText(first),
+        ["     J-363521074", "J-363521074*****"],
     )
 }
 
@@ -295,6 +315,7 @@ fn julian_days(rt: HostRuntime) -> Result<(), Fail> {
         };
         reads(&rt, text, &julian_day::read(text.as_bytes()), &Ok(date));
         prints(&rt, rt.alloc(), &JulianText(date), text)?;
+        same(&rt, JulianText(date).text().as_str(), text);
     }
     for text in ["J366963560", "J-363521075", "J999999999"] {
         out_of_range(

@@ -6,17 +6,18 @@ pub mod Parts
 pub mod Walks
 -- what the contracts of the calls are said in, for the crates above
 pub use Rattle.cal_units.specs.Counted
+pub use Rattle.cal_units.specs.Digits
 pub use Rattle.cal_units.specs.Lengths
 pub use Rattle.cal_units.specs.Month
 pub use Rattle.cal_units.specs.MonthCycle
 pub use Rattle.cal_units.specs.Name
 pub use Rattle.cal_units.specs.Refusal
+pub use Rattle.cal_units.specs.ShortText
 pub use Rattle.cal_units.specs.Walk
 pub use Rattle.cal_units.specs.Weekday
 pub use Rattle.cal_units.specs.WeekdayCycle
 pub use Rattle.cal_units.specs.Weeks
 pub use Rattle.cal_span.specs.SignedDuration
-pub use Rattle.cal_clock.specs.Digits
 pub use Rattle.cal_clock.specs.Time
 pub use Rattle.cal_clock.specs.UtcOffset
 pub use Rattle.cal_date.specs.CalendarDay

@@ -1,2 +1,5 @@
-pub mod Weeks
+pub mod Digits
 pub mod Pairs
+pub mod Weeks
+pub mod YearTexts
+pub mod Zeros

@@ -7,7 +7,9 @@ pub mod Name
 pub mod Order
 pub mod Places
 pub mod Refusal
+pub mod ShortText
 pub mod Walk
 pub mod Weekday
 pub mod WeekdayCycle
 pub mod Weeks
+pub mod YearText

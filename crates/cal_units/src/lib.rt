@@ -6,12 +6,12 @@
 
 mod counted;
 mod cycle;
-pub mod digits;
 pub mod error;
 pub mod iter;
 mod laws;
 mod month;
 mod steps;
+mod text;
 pub mod util;
 mod weekday;
 
@@ -19,4 +19,5 @@ pub use counted::{Counted, extent, is_rising};
 pub use cycle::Cycle;
 pub use month::Month;
 pub use steps::nth_in;
+pub use text::ShortText;
 pub use weekday::Weekday;

@@ -1,8 +1,9 @@
 //! The months.
-ghost use Rattle.std.specs.Prelude.{◌≡◌, ◌+◌, ◌%◌, ◌≤◌, ◌==◌, Some};
+ghost use Rattle.std.specs.Prelude.{◌≡◌, ◌≤◌, length, ◌+◌, ◌%◌, ◌≤◌, ◌==◌, Some};
 ghost use Rattle.std.specs.Cmp.{partial_order_from_own_ties};
 ghost use Rattle.std.specs.Cmp.Rules.{comparing};
 ghost use Rattle.std.specs.Fmt.{padded};
+ghost use Rattle.std.specs.Str.{IsAscii};
 ghost use Rattle.std.specs.Ordering.{nat_cmp, on, as_partial_cmp};
 ghost use Rattle.std.proofs.Common.{rules};
 ghost use Rattle.cal_units.specs.Lengths.{days_in_month};
@@ -90,8 +91,11 @@ impl Month {
         MonthIter::new(start)
     }
 
-    fn as_str(self) -> &'static str
-        ensures { result.now ≡ name self }
+    /// The English name, as the month prints it: `Month::May.name()` is `May`.
+    pub fn name(self) -> &'static str
+        ensures text { result.now ≡ name self }
+        ensures short { length result.now ≤ 9 }
+        ensures ascii { IsAscii result.now }
     {
         match self {
             Month::January => "January",
@@ -191,7 +195,7 @@ impl fmt::Display for Month {
     ghost styled_output = { λ m spec. Some (padded spec (name m)) };
 
     fn fmt<W: fmt::Write>(&self, f: &mut fmt::Formatter<W>) -> fmt::Result {
-        f.pad(self.as_str())
+        f.pad(self.name())
     }
 }
 

@@ -1,7 +1,8 @@
 //! The weekdays.
-ghost use Rattle.std.specs.Prelude.{◌≡◌, ◌+◌, ◌%◌, ◌==◌, Some};
+ghost use Rattle.std.specs.Prelude.{◌≡◌, ◌≤◌, length, ◌+◌, ◌%◌, ◌==◌, Some};
 ghost use Rattle.std.specs.Cmp.Rules.{comparing};
 ghost use Rattle.std.specs.Fmt.{padded};
+ghost use Rattle.std.specs.Str.{IsAscii};
 ghost use Rattle.std.specs.Ordering.{on};
 ghost use Rattle.std.proofs.Common.{rules};
 ghost use Rattle.cal_units.specs.Name.{Reads};
@@ -103,8 +104,11 @@ impl Weekday {
         WeekdayIter::new(start)
     }
 
-    fn as_str(self) -> &'static str
-        ensures { result.now ≡ name self }
+    /// The English name, as the weekday prints it: `Weekday::Friday.name()` is `Friday`.
+    pub fn name(self) -> &'static str
+        ensures text { result.now ≡ name self }
+        ensures short { length result.now ≤ 9 }
+        ensures ascii { IsAscii result.now }
     {
         match self {
             Weekday::Monday => "Monday",
@@ -170,7 +174,7 @@ impl fmt::Display for Weekday {
     ghost styled_output = { λ w spec. Some (padded spec (name w)) };
 
     fn fmt<W: fmt::Write>(&self, f: &mut fmt::Formatter<W>) -> fmt::Result {
-        f.pad(self.as_str())
+        f.pad(self.name())
     }
 }
 

@@ -1,24 +1,14 @@
--- A date or a moment is moved to one day and one time.
-use Rattle.std.proofs.Common.{◌≡◌, ℕ, ℤ, sym, ◌∙◌, arith}
+-- A date or a moment is moved to one moment.
+use Rattle.std.proofs.Common.{◌≡◌, ℤ, pos, sym, ap, ◌∙◌, arith}
 use Rattle.std.proofs.lemmas.Int.{ints}
-use Rattle.cal_time.specs.Pair.{HasMoment}
+use Rattle.cal_datetime.specs.DateTime.{date_time}
+use Rattle.cal_datetime.specs.OffsetDateTime.{Shown}
 use Rattle.cal_text.specs.declared.any.DateOrMoment.{DateOrMoment}
-use Rattle.cal_text.specs.declared.any.DateOrMoment.TheVariants.{Calendar, Ordinal, Week, JulianDay, Rfc3339, Unix}
-use Rattle.caldate.specs.Answers.{IsDayLater, IsLater}
+use Rattle.cal_text.specs.declared.any.DateOrMoment.TheVariants.{Date, Moment}
+use Rattle.caldate.specs.Answers.{IsLater}
 
-one_pair : (z : ℤ) (n t m u : ℕ) → HasMoment z n t → HasMoment z m u → (n ≡ m) × (t ≡ u)
-one_pair z n t m u h k =
-    let before = h.time in
-    let below = k.time in
-    (omega (arith, ints, h.moment_is, k.moment_is), omega (arith, ints, h.moment_is, k.moment_is))
-
-one_day : (from : ℕ) (d : ℤ) (n t m u : ℕ) → IsDayLater from d n t → IsDayLater from d m u → (n ≡ m) × (t ≡ u)
-one_day from d n t m u h k = (omega (arith, ints, h.moved, k.moved), h.midnight ∙ sym k.midnight)
-
-pub one_later : (found : DateOrMoment) (d : ℤ) (n t m u : ℕ) → IsLater found d n t → IsLater found d m u → (n ≡ m) × (t ≡ u)
-one_later (Calendar from) d n t m u h k = one_day from d n t m u h k
-one_later (Ordinal from) d n t m u h k = one_day from d n t m u h k
-one_later (Week from) d n t m u h k = one_day from d n t m u h k
-one_later (JulianDay from) d n t m u h k = one_day from d n t m u h k
-one_later (Rfc3339 from s o) d n t m u h k = one_pair _ n t m u h k
-one_later (Unix from s) d n t m u h k = one_pair _ n t m u h k
+pub one_later : (found : DateOrMoment) (d : ℤ) (m k : Shown) → IsLater found d m → IsLater found d k → m ≡ k
+one_later (Date form from) d m k h i =
+    let same : h.day ≡ i.day = omega (arith, ints, h.moved, i.moved) in
+    h.midnight ∙ ap (λ day. record { local = date_time day 0; offset = pos 0 }) same ∙ sym i.midnight
+one_later (Moment form from) d m k h i = h.moved ∙ sym i.moved

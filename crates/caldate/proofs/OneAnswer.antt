@@ -1,62 +1,49 @@
 -- What is answered to a text is one, but for the place in an unreadable one.
-use Rattle.std.proofs.Common.{◌≡◌, ◌⊎◌, ℕ, ◌≤◌, ℤ, pos, List, length, [], ◌∷◌, ◌++◌, codes, Option, Some, None, Result, Ok, Err, inl, inr, refl, ap, sym, subst, ◌∙◌, arith}
+use Rattle.std.proofs.Common.{◌≡◌, ◌⊎◌, ℕ, ◌≤◌, List, length, [], ◌∷◌, ◌++◌, codes, Option, Some, None, Result, Ok, Err, inl, inr, refl, ap, sym, subst, ◌∙◌, arith}
 use Rattle.std.specs.Prelude.{◌↔◌, IsOk}
 use Rattle.std.specs.Io.KnownBytes.{Appends, Consumes, IsAtEnd}
 use Rattle.std.proofs.lemmas.Bool.{false≢true}
 use Rattle.std.proofs.lemmas.List.{append-nil}
 use Rattle.cal_time.specs.declared.error.ComponentRange.{ComponentRange}
+use Rattle.cal_datetime.specs.OffsetDateTime.{Shown}
 use Rattle.cal_text.specs.AnyForm.{IsTextOf, IsFault, HasAnyForm}
 use Rattle.cal_text.specs.Reading.{IsRefusedFor, IsRefusedForForm}
 use Rattle.cal_text.specs.declared.any.DateOrMoment.{DateOrMoment}
-use Rattle.cal_text.specs.declared.any.DateOrMoment.TheVariants as read
+use Rattle.cal_text.specs.declared.any.MomentForm.TheVariants.{Rfc3339, Unix}
 use Rattle.cal_text.specs.declared.error.Unreadable.{Unreadable}
 use Rattle.cal_text.specs.declared.error.Unreadable.TheVariants.{UnexpectedByte, OutOfRange}
-use Rattle.caldate.specs.Answers.{IsInForm, IsAlike, IsAnswerTo, IsAnswer, IsTooLong, IsUnreadable, refused_text, time_of}
+use Rattle.caldate.specs.Answers.{IsInForm, IsAnswerTo, IsAnswer, IsTooLong, IsUnreadable, refused_text, moment_of, form_read, on_day}
 use Rattle.caldate.specs.Lines.{lines_of, text_of}
 use Rattle.caldate.specs.Runs.{Ended, IsAllowed}
 use Rattle.caldate.specs.Standing.{AreReplies}
 use Rattle.caldate.specs.declared.fault.Fault.{Fault}
 use Rattle.caldate.specs.declared.request.Filter.{Filter}
 use Rattle.caldate.specs.declared.request.Form.{Form}
-use Rattle.caldate.specs.declared.request.Form.TheVariants.{Calendar, Ordinal, Week, JulianDay, Weekday, Rfc3339, Unix}
+use Rattle.caldate.specs.declared.request.Form.TheVariants.{Date, Weekday, Moment}
 use Rattle.caldate.specs.declared.request.Request.{Request}
 use Rattle.caldate.specs.declared.request.Request.TheVariants.{To, Add, Next, Last, Until}
 use Rattle.caldate.proofs.Laters.{one_later}
 
 -- ---- the answer to what was read
-in_form : (form : Form) (n t : ℕ) (o : ℤ) (a b : List ℕ) → IsInForm form n t o a → IsInForm form n t o b → a ≡ b
-in_form Calendar n t o a b h k = h ∙ sym k
-in_form Ordinal n t o a b h k = h ∙ sym k
-in_form Week n t o a b h k = h ∙ sym k
-in_form JulianDay n t o a b h k = h ∙ sym k
-in_form Weekday n t o a b h k = h ∙ sym k
-in_form Rfc3339 n t o a b h k = h.1 ∙ sym k.1
-in_form Unix n t o a b h k = h ∙ sym k
+in_form : (form : Form) (m : Shown) (a b : List ℕ) → IsInForm form m a → IsInForm form m b → a ≡ b
+in_form (Date form) m a b h k = h ∙ sym k
+in_form Weekday m a b h k = h ∙ sym k
+in_form (Moment Rfc3339) m a b h k = h.1 ∙ sym k.1
+in_form (Moment Unix) m a b h k = h ∙ sym k
 
-alike : (found : DateOrMoment) (n t : ℕ) (a b : List ℕ) → IsAlike found n t a → IsAlike found n t b → a ≡ b
-alike (read.Calendar _) n t a b h k = in_form Calendar n t (pos 0) a b h k
-alike (read.Ordinal _) n t a b h k = in_form Ordinal n t (pos 0) a b h k
-alike (read.Week _) n t a b h k = in_form Week n t (pos 0) a b h k
-alike (read.JulianDay _) n t a b h k = in_form JulianDay n t (pos 0) a b h k
-alike (read.Rfc3339 _ _ o) n t a b h k = in_form Rfc3339 n t o a b h k
-alike (read.Unix _ _) n t a b h k = in_form Unix n t (pos 0) a b h k
-
-alike_at : (found : DateOrMoment) (n t m u : ℕ) (a b : List ℕ) → n ≡ m → t ≡ u → IsAlike found n t a → IsAlike found m u b → a ≡ b
-alike_at found n t m u a b e f h k =
-    alike found m u a b (subst (λ u. IsAlike found m u a) f (subst (λ m. IsAlike found m t a) e h)) k
+in_form_at : (form : Form) (m n : Shown) (a b : List ℕ) → m ≡ n → IsInForm form m a → IsInForm form n b → a ≡ b
+in_form_at form m n a b e h k = in_form form n a b (subst (λ m. IsInForm form m a) e h) k
 
 some_one : {A : Type 0} (a b : A) → Some a ≡ Some b → a ≡ b
 some_one a b e = cc
 
 one_answer_to : (q : Request) (found : DateOrMoment) (a b : List ℕ) → IsAnswerTo q found a → IsAnswerTo q found b → a ≡ b
-one_answer_to (To form) found a b h k = in_form form _ _ _ a b h k
-one_answer_to (Add d) found a b h k =
-    let same = one_later found d h.0 h.1 k.0 k.1 h.2 k.2 in
-    alike_at found h.0 h.1 k.0 k.1 a b same.0 same.1 h.3 k.3
+one_answer_to (To form) found a b h k = in_form form (moment_of found) a b h k
+one_answer_to (Add d) found a b h k = in_form_at (form_read found) h.0 k.0 a b (one_later found d h.0 k.0 h.1 k.1) h.2 k.2
 one_answer_to (Next w n) found a b h k =
-    alike_at found h.0 (time_of found) k.0 (time_of found) a b (some_one h.0 k.0 (sym h.1 ∙ k.1)) refl h.2 k.2
+    in_form_at (form_read found) _ _ a b (ap (on_day (moment_of found)) (some_one h.0 k.0 (sym h.1 ∙ k.1))) h.2 k.2
 one_answer_to (Last w n) found a b h k =
-    alike_at found h.0 (time_of found) k.0 (time_of found) a b (some_one h.0 k.0 (sym h.1 ∙ k.1)) refl h.2 k.2
+    in_form_at (form_read found) _ _ a b (ap (on_day (moment_of found)) (some_one h.0 k.0 (sym h.1 ∙ k.1))) h.2 k.2
 one_answer_to (Until target) found a b h k = h ∙ sym k
 
 -- ---- the words for what a reader says of the text

@@ -8,9 +8,11 @@ use Rattle.cal_time.specs.SignedDuration.{second}
 use Rattle.cal_time.specs.declared.Weekday.{Weekday}
 use Rattle.cal_time.specs.declared.Weekday.TheVariants as weekday
 use Rattle.cal_text.specs.AnyForm.{IsTextOf}
+use Rattle.cal_text.specs.declared.any.DateForm.TheVariants.{Calendar, Ordinal, Week, JulianDay}
 use Rattle.cal_text.specs.declared.any.DateOrMoment.{DateOrMoment}
+use Rattle.cal_text.specs.declared.any.MomentForm.TheVariants.{Rfc3339, Unix}
 use Rattle.caldate.specs.declared.request.Form.{Form}
-use Rattle.caldate.specs.declared.request.Form.TheVariants.{Calendar, Ordinal, Week, JulianDay, Weekday as WeekdayName, Rfc3339, Unix}
+use Rattle.caldate.specs.declared.request.Form.TheVariants as form
 use Rattle.caldate.specs.declared.request.Verb.{Verb}
 use Rattle.caldate.specs.declared.request.Verb.TheVariants as verb
 use Rattle.caldate.specs.declared.request.Request.{Request}
@@ -54,13 +56,13 @@ verb_of word =
 
 abbrev pub form_of : List ℕ → Option Form
 form_of word =
-    if bytes_eq word (codes "calendar") then Some Calendar else
-    if bytes_eq word (codes "ordinal") then Some Ordinal else
-    if bytes_eq word (codes "week") then Some Week else
-    if bytes_eq word (codes "julian") then Some JulianDay else
-    if bytes_eq word (codes "weekday") then Some WeekdayName else
-    if bytes_eq word (codes "rfc3339") then Some Rfc3339 else
-    if bytes_eq word (codes "unix") then Some Unix else
+    if bytes_eq word (codes "calendar") then Some (form.Date Calendar) else
+    if bytes_eq word (codes "ordinal") then Some (form.Date Ordinal) else
+    if bytes_eq word (codes "week") then Some (form.Date Week) else
+    if bytes_eq word (codes "julian") then Some (form.Date JulianDay) else
+    if bytes_eq word (codes "weekday") then Some form.Weekday else
+    if bytes_eq word (codes "rfc3339") then Some (form.Moment Rfc3339) else
+    if bytes_eq word (codes "unix") then Some (form.Moment Unix) else
     None
 
 -- a name in any case of its letters, or its first three letters so

@@ -1,19 +1,20 @@
 //! What the text of a line is answered.
-ghost use Rattle.std.specs.Prelude.{◌≡◌, ◌+◌, ◌*◌, ◌<◌, ◌≤◌, ◌++◌, ℕ, List, Some, false, true, codes, length, unsigned_abs, MatchOption};
-ghost use Rattle.cal_time.specs.SignedDuration.{second};
+ghost use Rattle.std.specs.Prelude.{◌≡◌, ◌+◌, ◌≤◌, ◌++◌, ℕ, List, Some, false, true, codes, length, MatchOption};
+ghost use Rattle.cal_datetime.specs.OffsetDateTime.{Shown};
+ghost use Rattle.cal_text.specs.AnyForm.{date_text};
 ghost use Rattle.cal_text.specs.Reading.{component_of};
-ghost use Rattle.caldate.specs.Answers.{HasAnswer, IsAlike, IsAnswerTo, IsDayLater, IsInForm, IsLater, LacksAnswer, refused_text, until_text, why_text, day_of, time_of, offset_of, is_date, unix_time_of};
+ghost use Rattle.caldate.specs.Answers.{HasAnswer, IsAnswerTo, IsDayLater, IsInForm, IsLater, IsMomentLater, LacksAnswer, refused_text, until_text, why_text, moment_of, form_read, on_day, is_date};
 ghost use Rattle.caldate.specs.Room.{HasRoom, longest_answer};
 ghost use Rattle.caldate.specs.Runs.{AppendsThat};
 
 use crate::gathered::Gathered;
 use crate::request::{Form, Request};
-use crate::text::{push_decimal, push_duration, push_weekday};
+use cal_datetime::OffsetDateTime;
 use cal_text::date::{CalendarText, OrdinalText, WeekText};
 use cal_text::julian_day::JulianText;
-use cal_text::{DateOrMoment, Line, Unreadable, read_any, rfc3339, unix};
+use cal_text::{DateForm, DateOrMoment, MomentForm, Unreadable, read_any, rfc3339, unix};
 use cal_time::error::ComponentRange;
-use cal_time::{Date, SignedDuration, Time, UtcOffset, add_to_pair};
+use cal_time::{Date, ShortText, SignedDuration, Time};
 
 /// The most bytes that the text of a line may have.
 const LONGEST_TEXT: usize = 4096;
@@ -47,7 +48,7 @@ fn push_why(gathered: &mut Gathered, error: Unreadable)
     match error {
         Unreadable::UnexpectedByte(place) => {
             gathered.push(b"unreadable at ");
-            push_decimal(gathered, place as u64);
+            gathered.push_number(place as u64);
         }
         Unreadable::OutOfRange(component) => push_refusal(gathered, component),
     }
@@ -73,19 +74,26 @@ fn push_answer_to(gathered: &mut Gathered, request: &Request, found: &DateOrMome
     ensures none { result ≡ false → (gathered.new ≡ gathered.old ++ codes "none") × ((words : List ℕ) → ¬ IsAnswerTo request.now found.now words) }
     ensures short { length gathered.new ≤ length gathered.old + longest_answer }
 {
-    let (date, time, offset) = parts_of(found);
+    let moment = moment_of(found);
+    let form = form_read(found);
     match request {
-        Request::To(form) => push_in_form(gathered, *form, date, time, offset),
+        Request::To(form) => push_in_form(gathered, *form, moment),
         Request::Add(duration) => match later(found, *duration) {
-            Some(pair) => push_alike(gathered, found, pair.0, pair.1),
+            Some(later) => push_in_form(gathered, form, later),
             None => push_none(gathered),
         },
-        Request::Next(weekday, count) => match date.checked_nth_next_occurrence(*weekday, *count) {
-            Some(day) => push_alike(gathered, found, day, time),
+        Request::Next(weekday, count) => match moment
+            .date()
+            .checked_nth_next_occurrence(*weekday, *count)
+        {
+            Some(day) => push_in_form(gathered, form, on_day(moment, day)),
             None => push_none(gathered),
         },
-        Request::Last(weekday, count) => match date.checked_nth_prev_occurrence(*weekday, *count) {
-            Some(day) => push_alike(gathered, found, day, time),
+        Request::Last(weekday, count) => match moment
+            .date()
+            .checked_nth_prev_occurrence(*weekday, *count)
+        {
+            Some(day) => push_in_form(gathered, form, on_day(moment, day)),
             None => push_none(gathered),
         },
         Request::Until(target) => {
@@ -106,113 +114,92 @@ fn push_none(gathered: &mut Gathered) -> bool
     false
 }
 
-/// The day, the time of day and the offset from UTC. A date is midnight at UTC.
-fn parts_of(found: &DateOrMoment) -> (Date, Time, UtcOffset)
-    ensures day { result.0 ≡ day_of found.now }
-    ensures time { result.1 ≡ time_of found.now }
-    ensures offset { result.2 ≡ offset_of found.now }
+/// The moment. A date is midnight at UTC.
+fn moment_of(found: &DateOrMoment) -> OffsetDateTime
+    ensures { result ≡ moment_of found.now }
 {
     match found {
-        DateOrMoment::Calendar(date) => (*date, Time::MIDNIGHT, UtcOffset::UTC),
-        DateOrMoment::Ordinal(date) => (*date, Time::MIDNIGHT, UtcOffset::UTC),
-        DateOrMoment::Week(date) => (*date, Time::MIDNIGHT, UtcOffset::UTC),
-        DateOrMoment::JulianDay(date) => (*date, Time::MIDNIGHT, UtcOffset::UTC),
-        DateOrMoment::Rfc3339(date, time, offset) => (*date, *time, *offset),
-        DateOrMoment::Unix(date, time) => (*date, *time, UtcOffset::UTC),
+        DateOrMoment::Date(_, date) => OffsetDateTime::new_utc(*date, Time::MIDNIGHT),
+        DateOrMoment::Moment(_, moment) => *moment,
     }
 }
 
-/// Gathers a day, a time of day and an offset in the form, and returns whether it has a text of them.
-fn push_in_form(
-    gathered: &mut Gathered,
-    form: Form,
-    date: Date,
-    time: Time,
-    offset: UtcOffset,
-) -> bool
+/// The form in which it was read.
+fn form_read(found: &DateOrMoment) -> Form
+    ensures { result ≡ form_read found.now }
+{
+    match found {
+        DateOrMoment::Date(form, _) => Form::Date(*form),
+        DateOrMoment::Moment(form, _) => Form::Moment(*form),
+    }
+}
+
+/// The day at the same time of day and the same offset.
+fn on_day(moment: OffsetDateTime, date: Date) -> OffsetDateTime
+    ensures { result ≡ on_day moment date }
+{
+    OffsetDateTime::new_in_offset(date, moment.time(), moment.offset())
+}
+
+/// Gathers a moment in the form, and returns whether it has a text of it.
+fn push_in_form(gathered: &mut Gathered, form: Form, moment: OffsetDateTime) -> bool
     requires { HasRoom longest_answer gathered.old }
-    ensures has { result ≡ true → AppendsThat (IsInForm form date time offset) gathered.old gathered.new }
-    ensures none { result ≡ false → (gathered.new ≡ gathered.old ++ codes "none") × ((words : List ℕ) → ¬ IsInForm form date time offset words) }
+    ensures has { result ≡ true → AppendsThat (IsInForm form moment) gathered.old gathered.new }
+    ensures none { result ≡ false → (gathered.new ≡ gathered.old ++ codes "none") × ((words : List ℕ) → ¬ IsInForm form moment words) }
     ensures short { length gathered.new ≤ length gathered.old + longest_answer }
 {
     match form {
-        Form::Calendar => gathered.push(CalendarText(date).line().as_bytes()),
-        Form::Ordinal => gathered.push(OrdinalText(date).line().as_bytes()),
-        Form::Week => gathered.push(WeekText(date).line().as_bytes()),
-        Form::JulianDay => gathered.push(JulianText(date).line().as_bytes()),
-        Form::Weekday => push_weekday(gathered, date.weekday()),
-        Form::Rfc3339 => match rfc3339::Text::new(date, time, offset) {
-            Some(text) => gathered.push(text.line().as_bytes()),
-            None => return push_none(gathered),
+        Form::Date(form) => gathered.push(text_of_date(form, moment.date()).as_bytes()),
+        Form::Weekday => gathered.push(moment.date().weekday().name().as_bytes()),
+        Form::Moment(form) => match form {
+            MomentForm::Rfc3339 => match rfc3339::Text::new(moment) {
+                Some(text) => gathered.push(text.text().as_bytes()),
+                None => return push_none(gathered),
+            },
+            MomentForm::Unix => gathered.push(unix::Text::new(moment).text().as_bytes()),
         },
-        Form::Unix => gathered.push(unix::Text::new(date, time, offset).line().as_bytes()),
     }
     true
 }
 
-/// Gathers a day and a time of day in the form, and at the offset, of what was read, and returns whether it has a text of them.
-fn push_alike(gathered: &mut Gathered, found: &DateOrMoment, date: Date, time: Time) -> bool
-    requires { HasRoom longest_answer gathered.old }
-    ensures has { result ≡ true → AppendsThat (IsAlike found.now date time) gathered.old gathered.new }
-    ensures none { result ≡ false → (gathered.new ≡ gathered.old ++ codes "none") × ((words : List ℕ) → ¬ IsAlike found.now date time words) }
-    ensures short { length gathered.new ≤ length gathered.old + longest_answer }
+/// The text of a date in the form.
+fn text_of_date(form: DateForm, date: Date) -> ShortText
+    ensures text { result ≡ date_text form date }
+    ensures short { length result ≤ 38 }
 {
-    match found {
-        DateOrMoment::Calendar(_) => push_in_form(
-            gathered,
-            Form::Calendar,
-            date,
-            time,
-            UtcOffset::UTC,
-        ),
-        DateOrMoment::Ordinal(_) => push_in_form(
-            gathered,
-            Form::Ordinal,
-            date,
-            time,
-            UtcOffset::UTC,
-        ),
-        DateOrMoment::Week(_) => push_in_form(gathered, Form::Week, date, time, UtcOffset::UTC),
-        DateOrMoment::JulianDay(_) => push_in_form(
-            gathered,
-            Form::JulianDay,
-            date,
-            time,
-            UtcOffset::UTC,
-        ),
-        DateOrMoment::Rfc3339(_, _, offset) => push_in_form(
-            gathered,
-            Form::Rfc3339,
-            date,
-            time,
-            *offset,
-        ),
-        DateOrMoment::Unix(_, _) => push_in_form(gathered, Form::Unix, date, time, UtcOffset::UTC),
+    match form {
+        DateForm::Calendar => CalendarText(date).text(),
+        DateForm::Ordinal => OrdinalText(date).text(),
+        DateForm::Week => WeekText(date).text(),
+        DateForm::JulianDay => JulianText(date).text(),
     }
 }
 
-/// The day and the time of day so much later, or `None` where they are past either end of the range.
-fn later(found: &DateOrMoment, duration: SignedDuration) -> Option<(Date, Time)>
-    ensures { MatchOption result ((n t : ℕ) → ¬ IsLater found.now duration n t) (λ pair. IsLater found.now duration pair.0 pair.1) }
+/// The moment so much later, or `None` where it is past either end of the range.
+fn later(found: &DateOrMoment, duration: SignedDuration) -> Option<OffsetDateTime>
+    ensures { MatchOption result ((m : Shown) → ¬ IsLater found.now duration m) (IsLater found.now duration) }
 {
     match found {
-        DateOrMoment::Calendar(date) => day_later(*date, duration),
-        DateOrMoment::Ordinal(date) => day_later(*date, duration),
-        DateOrMoment::Week(date) => day_later(*date, duration),
-        DateOrMoment::JulianDay(date) => day_later(*date, duration),
-        DateOrMoment::Rfc3339(date, time, _) => add_to_pair(*date, *time, duration),
-        DateOrMoment::Unix(date, time) => add_to_pair(*date, *time, duration),
+        DateOrMoment::Date(_, date) => day_later(*date, duration),
+        DateOrMoment::Moment(_, moment) => moment_later(*moment, duration),
     }
 }
 
 /// The midnight of the day that is as many whole days later.
-fn day_later(date: Date, duration: SignedDuration) -> Option<(Date, Time)>
-    ensures { MatchOption result ((n t : ℕ) → ¬ IsDayLater date duration n t) (λ pair. IsDayLater date duration pair.0 pair.1) }
+fn day_later(date: Date, duration: SignedDuration) -> Option<OffsetDateTime>
+    ensures { MatchOption result ((m : Shown) → ¬ IsDayLater date duration m) (IsDayLater date duration) }
 {
     match date.checked_add(duration) {
-        Some(day) => Some((day, Time::MIDNIGHT)),
+        Some(day) => Some(OffsetDateTime::new_utc(day, Time::MIDNIGHT)),
         None => None,
     }
+}
+
+/// The moment that is all of the duration later.
+fn moment_later(moment: OffsetDateTime, duration: SignedDuration) -> Option<OffsetDateTime>
+    ensures { MatchOption result ((m : Shown) → ¬ IsMomentLater moment duration m) (IsMomentLater moment duration) }
+{
+    moment.checked_add(duration)
 }
 
 /// Gathers the days between two dates, else the duration between two moments.
@@ -221,12 +208,14 @@ fn push_until(gathered: &mut Gathered, from: &DateOrMoment, to: &DateOrMoment)
     ensures text { gathered.new ≡ gathered.old ++ until_text from.now to.now }
     ensures short { length gathered.new ≤ length gathered.old + longest_answer }
 {
+    let start = moment_of(from);
+    let end = moment_of(to);
     if is_date(from) && is_date(to) {
-        let (start, _, _) = parts_of(from);
-        let (end, _, _) = parts_of(to);
-        gathered.push(Line::of_number(end.to_julian_day() - start.to_julian_day()).as_bytes());
+        let mut days = ShortText::new();
+        days.push_signed(end.date().to_julian_day() - start.date().to_julian_day());
+        gathered.push(days.as_bytes());
     } else {
-        push_duration(gathered, unix_time_of(to) - unix_time_of(from));
+        gathered.push((end - start).text().as_bytes());
     }
 }
 
@@ -234,17 +223,7 @@ fn is_date(found: &DateOrMoment) -> bool
     ensures { result ≡ is_date found.now }
 {
     match found {
-        DateOrMoment::Rfc3339(_, _, _) => false,
-        DateOrMoment::Unix(_, _) => false,
-        _ => true,
+        DateOrMoment::Date(_, _) => true,
+        DateOrMoment::Moment(_, _) => false,
     }
-}
-
-/// The Unix time, which is less than 40000000000000 seconds from its epoch.
-fn unix_time_of(found: &DateOrMoment) -> SignedDuration
-    ensures value { result ≡ unix_time_of found.now }
-    ensures range { unsigned_abs result < 40000000000000 * second }
-{
-    let (date, time, offset) = parts_of(found);
-    unix::duration_of(date, time, offset)
 }

@@ -6,7 +6,6 @@ ghost use Rattle.caldate.specs.Runs.{Shown};
 use crate::fault::{Fault, is_closed};
 use crate::gathered::Gathered;
 use crate::output::write_all;
-use crate::text::push_decimal;
 use std::io::Write;
 
 /// How the program ends.
@@ -63,7 +62,7 @@ fn push_words(words: &mut Gathered, outcome: Result<(), Fault>)
         Err(Fault::Write(_)) => words.push(b"caldate: cannot write\n"),
         Err(Fault::Unanswered(line)) => {
             words.push(b"caldate: line ");
-            push_decimal(words, line.number);
+            words.push_number(line.number);
             words.push(b": ");
             words.push(line.reason.as_bytes());
             words.push(b": ");

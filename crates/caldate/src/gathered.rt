@@ -1,7 +1,8 @@
 //! Replies that go out in one write.
-ghost use Rattle.std.specs.Prelude.{◌≡◌, ◌↔◌, ◌+◌, ◌≤◌, ◌++◌, [], length, drop, take, IsTrue};
+ghost use Rattle.std.specs.Prelude.{◌≡◌, ◌↔◌, ◌+◌, ◌≤◌, ◌++◌, [], length, decimal, drop, take, IsTrue};
 ghost use Rattle.caldate.specs.Room.{HasRoom, longest_reply};
 
+use cal_time::ShortText;
 use std::marker::Model;
 
 /// The most bytes that go out in one write.
@@ -77,6 +78,18 @@ impl Gathered {
         let end = self.filled + bytes.len();
         self.buffer[self.filled..end].copy_from_slice(bytes);
         self.filled = end;
+    }
+
+    /// Appends the digits of a number.
+    #[tactic(auto, using(crate::proofs::Texts::few_digits))]
+    pub fn push_number(&mut self, number: u64)
+        requires { HasRoom 20 self.old }
+        ensures appended { self.new ≡ self.old ++ decimal number }
+        ensures short { length self.new ≤ length self.old + 20 }
+    {
+        let mut text = ShortText::new();
+        text.push_number(number);
+        self.push(text.as_bytes());
     }
 
     /// Keeps the first bytes alone.

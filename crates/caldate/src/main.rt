@@ -24,7 +24,6 @@ mod shown;
 mod spelling;
 #[cfg(test)]
 mod tests;
-mod text;
 mod unanswered;
 
 use std::io;

@@ -1,24 +1,16 @@
 //! What is asked of the lines.
-use cal_text::DateOrMoment;
+use cal_text::{DateForm, DateOrMoment, MomentForm};
 use cal_time::{SignedDuration, Weekday};
 
-/// A form in which a day or a moment is written.
+/// A form in which a date or a moment is written.
 #[derive(Clone, Copy)]
 pub enum Form {
-    /// As `2024-02-29`.
-    Calendar,
-    /// As `2024-060`.
-    Ordinal,
-    /// As `2024-W09-4`.
-    Week,
-    /// As `J2460370`.
-    JulianDay,
+    /// As `2024-02-29`, `2024-060`, `2024-W09-4` or `J2460370`.
+    Date(DateForm),
     /// As `Thursday`.
     Weekday,
-    /// As `2024-02-29T00:00:00Z`.
-    Rfc3339,
-    /// As `@1709164800`.
-    Unix,
+    /// As `2024-02-29T00:00:00Z` or `@1709164800`.
+    Moment(MomentForm),
 }
 
 /// What is done to each line.

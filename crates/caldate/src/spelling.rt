@@ -5,6 +5,7 @@ ghost use Rattle.caldate.specs.Requests.{arguments_of, asks_for_help, verb_of, n
 
 use crate::lines::place_of;
 use crate::request::{Form, Verb};
+use cal_text::{DateForm, MomentForm};
 use cal_time::Weekday;
 use std::str;
 
@@ -63,19 +64,19 @@ pub fn form_of(word: &[u8]) -> Option<Form>
     ensures { result ≡ form_of word.now }
 {
     if word == b"calendar".as_slice() {
-        Some(Form::Calendar)
+        Some(Form::Date(DateForm::Calendar))
     } else if word == b"ordinal".as_slice() {
-        Some(Form::Ordinal)
+        Some(Form::Date(DateForm::Ordinal))
     } else if word == b"week".as_slice() {
-        Some(Form::Week)
+        Some(Form::Date(DateForm::Week))
     } else if word == b"julian".as_slice() {
-        Some(Form::JulianDay)
+        Some(Form::Date(DateForm::JulianDay))
     } else if word == b"weekday".as_slice() {
         Some(Form::Weekday)
     } else if word == b"rfc3339".as_slice() {
-        Some(Form::Rfc3339)
+        Some(Form::Moment(MomentForm::Rfc3339))
     } else if word == b"unix".as_slice() {
-        Some(Form::Unix)
+        Some(Form::Moment(MomentForm::Unix))
     } else {
         None
     }

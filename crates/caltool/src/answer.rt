@@ -1,6 +1,6 @@
 //! What a line is answered.
 ghost use Rattle.std.specs.Prelude.{◌≡◌, ◌+◌, ◌≤◌, ◌++◌, length};
-ghost use Rattle.cal_time.specs.Time.{nanosecond_of};
+ghost use Rattle.std.specs.Fmt.{signed_decimal};
 ghost use Rattle.cal_time.specs.Weekday.{place};
 ghost use Rattle.caltool.specs.Answers.{answer_of, add_answer, calendar_answer, clock_text, day_text, iso_answer, julian_answer, later_text, moment_answer, moved_text, ordinal_answer, pair_text, refused_text, reply_to, show_answer, week_text};
 ghost use Rattle.caltool.specs.Room.{HasRoom, longest_answer, longest_reply};
@@ -8,9 +8,8 @@ ghost use Rattle.caltool.specs.Room.{HasRoom, longest_answer, longest_reply};
 use crate::command::{Command, parse};
 use crate::find::{find_calendar_date, find_iso_week_date, find_julian_day, find_ordinal_date};
 use crate::gathered::Gathered;
-use crate::text::{push_date, push_number, push_signed, push_time, push_weekday};
 use cal_time::error::ComponentRange;
-use cal_time::{Date, SignedDuration, Time, Weekday, add_to_pair};
+use cal_time::{Date, ShortText, SignedDuration, Time, Weekday, add_to_pair};
 
 /// Gathers what is written for a line: its answer, and a line end.
 pub fn reply(gathered: &mut Gathered, line: &[u8])
@@ -137,8 +136,7 @@ fn write_clock(gathered: &mut Gathered, date: Date, hour: u8, minute: u8, second
 }
 
 fn write_later(gathered: &mut Gathered, date: Date, time: Time, seconds: i64)
-    requires whole { nanosecond_of time ≡ 0 }
-    requires room { HasRoom longest_answer gathered.old }
+    requires { HasRoom longest_answer gathered.old }
     ensures text { gathered.new ≡ gathered.old ++ later_text seconds date time }
     ensures short { length gathered.new ≤ length gathered.old + longest_answer }
 {
@@ -154,20 +152,19 @@ fn write_moved(gathered: &mut Gathered, date: Date, seconds: i64)
     ensures short { length gathered.new ≤ length gathered.old + longest_answer }
 {
     match date.checked_add(SignedDuration::seconds(seconds)) {
-        Some(moved) => push_date(gathered, moved),
+        Some(moved) => gathered.push(moved.text().as_bytes()),
         None => gathered.push(b"none"),
     }
 }
 
 fn write_pair(gathered: &mut Gathered, date: Date, time: Time)
-    requires whole { nanosecond_of time ≡ 0 }
-    requires room { HasRoom longest_answer gathered.old }
+    requires { HasRoom longest_answer gathered.old }
     ensures text { gathered.new ≡ gathered.old ++ pair_text date time }
     ensures short { length gathered.new ≤ length gathered.old + longest_answer }
 {
-    push_date(gathered, date);
+    gathered.push(date.text().as_bytes());
     gathered.push(b" ");
-    push_time(gathered, time);
+    gathered.push(time.text().as_bytes());
 }
 
 fn write_day(gathered: &mut Gathered, date: Date)
@@ -175,11 +172,11 @@ fn write_day(gathered: &mut Gathered, date: Date)
     ensures text { gathered.new ≡ gathered.old ++ day_text date }
     ensures short { length gathered.new ≤ length gathered.old + longest_answer }
 {
-    push_signed(gathered, date.year());
+    push_number(gathered, date.year());
     gathered.push(b" ordinal ");
-    push_number(gathered, 1, u32::from(date.ordinal()));
+    push_number(gathered, i32::from(date.ordinal()));
     gathered.push(b" julian ");
-    push_signed(gathered, date.to_julian_day());
+    push_number(gathered, date.to_julian_day());
 }
 
 fn write_week(gathered: &mut Gathered, date: Date)
@@ -188,15 +185,25 @@ fn write_week(gathered: &mut Gathered, date: Date)
     ensures short { length gathered.new ≤ length gathered.old + longest_answer }
 {
     let (year, week, weekday) = date.to_iso_week_date();
-    push_date(gathered, date);
+    gathered.push(date.text().as_bytes());
     gathered.push(b" iso ");
-    push_signed(gathered, year);
+    push_number(gathered, year);
     gathered.push(b" ");
-    push_number(gathered, 1, u32::from(week));
+    push_number(gathered, i32::from(week));
     gathered.push(b" ");
-    push_number(gathered, 1, u32::from(weekday.number_from_monday()));
+    push_number(gathered, i32::from(weekday.number_from_monday()));
     gathered.push(b" ");
-    push_weekday(gathered, weekday);
+    gathered.push(weekday.name().as_bytes());
+}
+
+fn push_number(gathered: &mut Gathered, number: i32)
+    requires { HasRoom 11 gathered.old }
+    ensures text { gathered.new ≡ gathered.old ++ signed_decimal number }
+    ensures short { length gathered.new ≤ length gathered.old + 11 }
+{
+    let mut text = ShortText::new();
+    text.push_signed(number);
+    gathered.push(text.as_bytes());
 }
 
 fn write_refusal(gathered: &mut Gathered, error: ComponentRange)

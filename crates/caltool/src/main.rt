@@ -16,7 +16,6 @@ mod program;
 mod run;
 #[cfg(test)]
 mod tests;
-mod text;
 
 use std::io;
 use std::process::ExitCode;

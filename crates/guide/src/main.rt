@@ -1,8 +1,10 @@
 //! The code of the guide for users of `cal_time`, a module for each task.
 #![tactic(auto)]
 
+mod bills;
 mod callers;
 mod clauses;
+mod datetimes;
 mod days;
 mod generic;
 mod making;
@@ -11,7 +13,9 @@ mod names;
 mod order;
 mod parts;
 mod printing;
+mod recurrences;
 mod refusals;
+mod schedules;
 mod texts;
 mod walking;
 
@@ -22,6 +26,7 @@ fn main(rt: HostRuntime) -> io::Result<()> {
     refusals::show(&rt)?;
     parts::show(&rt)?;
     moving::show(&rt)?;
+    datetimes::show(&rt)?;
     walking::show(&rt)?;
     order::show(&rt)?;
     printing::show(&rt)?;
@@ -30,5 +35,8 @@ fn main(rt: HostRuntime) -> io::Result<()> {
     callers::show(&rt)?;
     days::show(&rt)?;
     names::show(&rt)?;
-    texts::show(&rt)
+    texts::show(&rt)?;
+    schedules::show(&rt)?;
+    bills::show(&rt)?;
+    recurrences::show(&rt)
 }

@@ -2,9 +2,10 @@
 ghost use Rattle.std.specs.Prelude.{◌≡◌, IfSome};
 ghost use Rattle.cal_time.specs.DateText.{text};
 
+use cal_datetime::OffsetDateTime;
 use cal_text::rfc3339::{self, Text};
-use cal_text::{DateOrMoment, date, read_any, unix};
-use cal_time::{Date, UtcOffset};
+use cal_text::{DateForm, DateOrMoment, MomentForm, date, read_any, unix};
+use cal_time::Date;
 use std::io;
 
 /// Reads a date in any of the three forms of ISO 8601, and prints its calendar date or why there is none.
@@ -15,16 +16,15 @@ fn show_date(rt: &impl Print, text: &str) -> io::Result<()> {
     }
 }
 
-/// Prints the Unix time of a moment in text, and the moment at UTC.
+/// Prints how long after 1970-01-01 0:00 UTC a moment in text is, and the moment at UTC.
 fn show_moment(rt: &impl Print, text: &str) -> io::Result<()> {
-    let (date, time, offset) = match rfc3339::read(text.as_bytes()) {
+    let moment = match rfc3339::read(text.as_bytes()) {
         Ok(moment) => moment,
         Err(error) => return println!(rt; "{text}: {error}"),
     };
-    let since_1970 = unix::duration_of(date, time, offset);
-    println!(rt; "{since_1970}")?;
-    if let Some((date, time)) = unix::pair_of(since_1970, UtcOffset::UTC) {
-        if let Some(text) = Text::new(date, time, UtcOffset::UTC) {
+    println!(rt; "{}", moment - OffsetDateTime::unix_epoch())?;
+    if let Some(at_utc) = moment.checked_to_utc() {
+        if let Some(text) = Text::new(at_utc) {
             println!(rt; "{text}")?;
         }
     }
@@ -37,8 +37,11 @@ fn calendar_day(bytes: &[u8]) -> Option<Date>
 {
     match read_any(bytes) {
         Ok(found) => match found {
-            DateOrMoment::Calendar(date) => Some(date),
-            _ => None,
+            DateOrMoment::Date(form, date) => match form {
+                DateForm::Calendar => Some(date),
+                _ => None,
+            },
+            DateOrMoment::Moment(..) => None,
         },
         Err(_) => None,
     }
@@ -51,11 +54,11 @@ fn show_any(rt: &impl Print, text: &str) -> io::Result<()> {
         Err(error) => return println!(rt; "{text}: {error}"),
     };
     match found {
-        DateOrMoment::Rfc3339(date, time, offset) => {
-            println!(rt; "{}", unix::Text::new(date, time, offset))
-        }
-        DateOrMoment::Unix(date, time) => println!(rt; "{date} {time}"),
-        found => println!(rt; "{found:?}"),
+        DateOrMoment::Date(form, date) => println!(rt; "{form:?} {date}"),
+        DateOrMoment::Moment(form, moment) => match form {
+            MomentForm::Rfc3339 => println!(rt; "{}", unix::Text::new(moment)),
+            MomentForm::Unix => println!(rt; "{} {}", moment.date(), moment.time()),
+        },
     }
 }
 

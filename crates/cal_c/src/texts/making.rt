@@ -3,18 +3,19 @@ ghost use Rattle.std.specs.Prelude.{◌≡◌};
 ghost use Rattle.cal_time.specs.DateText.{text};
 ghost use Rattle.cal_time.specs.Time.{IsTime};
 ghost use Rattle.cal_time.specs.UtcOffset.{IsOffset};
+ghost use Rattle.cal_datetime.specs.OffsetDateTime.{instant, unix_nanoseconds};
 ghost use Rattle.cal_text.specs.DateForms.{ordinal_text, week_text};
 ghost use Rattle.cal_text.specs.JulianForm.{julian_text};
 ghost use Rattle.cal_text.specs.Rfc3339.{HasMomentText, moment_text};
-ghost use Rattle.cal_text.specs.Unix.{unix_time};
 ghost use Rattle.cal_text.specs.UnixText.{unix_text};
 ghost use Rattle.cal_c.specs.Statuses.{bad_date, bad_time, bad_offset, bad_weekday, month_refused, past_range};
 ghost use Rattle.cal_c.specs.Texts.{month_name, text_done, text_refused, weekday_name};
-ghost use Rattle.cal_c.specs.Values.{IsJulianDay, IsMonth, IsWeekday, day_of};
+ghost use Rattle.cal_c.specs.Values.{IsJulianDay, IsMonth, IsWeekday, day_of, moment_of};
 
 use crate::status::{BAD_DATE, BAD_OFFSET, BAD_TIME, BAD_WEEKDAY, MONTH, PAST_RANGE};
 use crate::texts::TextResult;
-use crate::values::{date_of, offset_of, time_of};
+use crate::values::{date_of, month_of, offset_of, time_of, weekday_of};
+use cal_datetime::OffsetDateTime;
 use cal_text::date::{CalendarText, OrdinalText, WeekText};
 use cal_text::julian_day::JulianText;
 use cal_text::{rfc3339, unix};
@@ -26,7 +27,7 @@ pub extern "C" fn fots_date_calendar_text(date: i32) -> TextResult
     ensures value { IsJulianDay date → result ≡ text_done (text (day_of date)) }
 {
     match date_of(date) {
-        Some(date) => TextResult::of(CalendarText(date).line().as_bytes()),
+        Some(date) => TextResult::of(CalendarText(date).text().as_bytes()),
         None => TextResult::refused(BAD_DATE),
     }
 }
@@ -38,7 +39,7 @@ pub extern "C" fn fots_date_ordinal_text(date: i32) -> TextResult
     ensures value { IsJulianDay date → result ≡ text_done (ordinal_text (day_of date)) }
 {
     match date_of(date) {
-        Some(date) => TextResult::of(OrdinalText(date).line().as_bytes()),
+        Some(date) => TextResult::of(OrdinalText(date).text().as_bytes()),
         None => TextResult::refused(BAD_DATE),
     }
 }
@@ -50,7 +51,7 @@ pub extern "C" fn fots_date_week_text(date: i32) -> TextResult
     ensures value { IsJulianDay date → result ≡ text_done (week_text (day_of date)) }
 {
     match date_of(date) {
-        Some(date) => TextResult::of(WeekText(date).line().as_bytes()),
+        Some(date) => TextResult::of(WeekText(date).text().as_bytes()),
         None => TextResult::refused(BAD_DATE),
     }
 }
@@ -62,7 +63,7 @@ pub extern "C" fn fots_date_julian_text(date: i32) -> TextResult
     ensures value { IsJulianDay date → result ≡ text_done (julian_text (day_of date)) }
 {
     match date_of(date) {
-        Some(date) => TextResult::of(JulianText(date).line().as_bytes()),
+        Some(date) => TextResult::of(JulianText(date).text().as_bytes()),
         None => TextResult::refused(BAD_DATE),
     }
 }
@@ -75,10 +76,10 @@ pub extern "C" fn fots_moment_text(date: i32, time: u64, offset: i32) -> TextRes
     ensures bad_date { ¬ IsJulianDay date → result ≡ text_refused bad_date }
     ensures bad_time { IsJulianDay date → ¬ IsTime time → result ≡ text_refused bad_time }
     ensures bad_offset { IsJulianDay date → IsTime time → ¬ IsOffset offset → result ≡ text_refused bad_offset }
-    ensures past_range { IsJulianDay date → IsTime time → IsOffset offset → ¬ HasMomentText (day_of date) offset
+    ensures past_range { IsJulianDay date → IsTime time → IsOffset offset → ¬ HasMomentText (moment_of date time offset)
         → result ≡ text_refused past_range }
-    ensures value { IsJulianDay date → IsTime time → IsOffset offset → HasMomentText (day_of date) offset
-        → result ≡ text_done (moment_text (day_of date) time offset) }
+    ensures value { IsJulianDay date → IsTime time → IsOffset offset → HasMomentText (moment_of date time offset)
+        → result ≡ text_done (moment_text (moment_of date time offset)) }
 {
     let Some(date) = date_of(date) else {
         return TextResult::refused(BAD_DATE);
@@ -86,11 +87,19 @@ pub extern "C" fn fots_moment_text(date: i32, time: u64, offset: i32) -> TextRes
     let Some(time) = time_of(time) else {
         return TextResult::refused(BAD_TIME);
     };
-    let Some(offset) = offset_of(offset) else {
-        return TextResult::refused(BAD_OFFSET);
-    };
-    match rfc3339::Text::new(date, time, offset) {
-        Some(text) => TextResult::of(text.line().as_bytes()),
+    match offset_of(offset) {
+        Some(offset) => text_of(OffsetDateTime::new_in_offset(date, time, offset)),
+        None => TextResult::refused(BAD_OFFSET),
+    }
+}
+
+/// The text of RFC 3339 of a moment, or past the range where it has none.
+fn text_of(moment: OffsetDateTime) -> TextResult
+    ensures past_range { ¬ HasMomentText moment → result ≡ text_refused past_range }
+    ensures value { HasMomentText moment → result ≡ text_done (moment_text moment) }
+{
+    match rfc3339::Text::new(moment) {
+        Some(text) => TextResult::of(text.text().as_bytes()),
         None => TextResult::refused(PAST_RANGE),
     }
 }
@@ -102,7 +111,7 @@ pub extern "C" fn fots_unix_text(date: i32, time: u64, offset: i32) -> TextResul
     ensures bad_time { IsJulianDay date → ¬ IsTime time → result ≡ text_refused bad_time }
     ensures bad_offset { IsJulianDay date → IsTime time → ¬ IsOffset offset → result ≡ text_refused bad_offset }
     ensures value { IsJulianDay date → IsTime time → IsOffset offset
-        → result ≡ text_done (unix_text (unix_time (day_of date) time offset)) }
+        → result ≡ text_done (unix_text (unix_nanoseconds (instant (moment_of date time offset)))) }
 {
     let Some(date) = date_of(date) else {
         return TextResult::refused(BAD_DATE);
@@ -111,48 +120,40 @@ pub extern "C" fn fots_unix_text(date: i32, time: u64, offset: i32) -> TextResul
         return TextResult::refused(BAD_TIME);
     };
     match offset_of(offset) {
-        Some(offset) => TextResult::of(unix::Text::new(date, time, offset).line().as_bytes()),
+        Some(offset) => unix_text_of(OffsetDateTime::new_in_offset(date, time, offset)),
         None => TextResult::refused(BAD_OFFSET),
     }
 }
 
+/// The Unix time of a moment.
+fn unix_text_of(moment: OffsetDateTime) -> TextResult
+    ensures { result ≡ text_done (unix_text (unix_nanoseconds (instant moment))) }
+{
+    TextResult::of(unix::Text::new(moment).text().as_bytes())
+}
+
 /// The English name of a month. Refused as `month`. That of 2 is February.
+#[tactic(auto, using(crate::proofs::TextBytes::names))]
 #[unsafe(no_mangle)]
 pub extern "C" fn fots_month_name(month: u32) -> TextResult
     ensures month { ¬ IsMonth month → result ≡ text_refused month_refused }
     ensures value { IsMonth month → result ≡ text_done (month_name month) }
 {
-    TextResult::of(match month {
-        1 => b"January",
-        2 => b"February",
-        3 => b"March",
-        4 => b"April",
-        5 => b"May",
-        6 => b"June",
-        7 => b"July",
-        8 => b"August",
-        9 => b"September",
-        10 => b"October",
-        11 => b"November",
-        12 => b"December",
-        _ => return TextResult::refused(MONTH),
-    })
+    match month_of(month) {
+        Some(month) => TextResult::of(month.name().as_bytes()),
+        None => TextResult::refused(MONTH),
+    }
 }
 
 /// The English name of a weekday. That of 4 is Thursday.
+#[tactic(auto, using(crate::proofs::TextBytes::names))]
 #[unsafe(no_mangle)]
 pub extern "C" fn fots_weekday_name(weekday: u32) -> TextResult
     ensures bad_weekday { ¬ IsWeekday weekday → result ≡ text_refused bad_weekday }
     ensures value { IsWeekday weekday → result ≡ text_done (weekday_name weekday) }
 {
-    TextResult::of(match weekday {
-        1 => b"Monday",
-        2 => b"Tuesday",
-        3 => b"Wednesday",
-        4 => b"Thursday",
-        5 => b"Friday",
-        6 => b"Saturday",
-        7 => b"Sunday",
-        _ => return TextResult::refused(BAD_WEEKDAY),
-    })
+    match weekday_of(weekday) {
+        Some(weekday) => TextResult::of(weekday.name().as_bytes()),
+        None => TextResult::refused(BAD_WEEKDAY),
+    }
 }

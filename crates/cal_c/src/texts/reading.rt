@@ -1,25 +1,26 @@
 //! What texts read as.
-ghost use Rattle.std.specs.Prelude.{◌≡◌, ◌+ℤ◌, ◌*ℤ◌, ℕ, ℤ, pos};
+ghost use Rattle.std.specs.Prelude.{◌≡◌, ◌+ℤ◌, ℕ, ℤ};
 ghost use Rattle.cal_time.specs.Date.{IsDate};
-ghost use Rattle.cal_time.specs.SignedDuration.{second};
 ghost use Rattle.cal_time.specs.Time.{IsTime};
 ghost use Rattle.cal_time.specs.UtcOffset.{IsOffset};
+ghost use Rattle.cal_datetime.specs.DateTime.{IsDateTime};
+ghost use Rattle.cal_datetime.specs.OffsetDateTime.{Shown, instant, local_at, unix_epoch, unix_nanoseconds};
 ghost use Rattle.cal_text.specs.DateForms.{IsDateText};
 ghost use Rattle.cal_text.specs.JulianForm.{julian_text, IsJulianForm, IsJulianFormOfNone};
 ghost use Rattle.cal_text.specs.Reading.{HasFormThat, LacksMonth, LacksYear, LacksDay, LacksOrdinal, LacksWeek, LacksWeekday};
 ghost use Rattle.cal_text.specs.Rfc3339Form as moments;
 ghost use Rattle.cal_text.specs.Rfc3339Form.{HasMomentThat, IsMomentText, LacksHour, LacksMinute, LacksSecond, LacksOffsetHour, LacksOffsetMinute};
-ghost use Rattle.cal_text.specs.Unix.{epoch, unix_time};
 ghost use Rattle.cal_text.specs.UnixText.{HasUnixForm, IsUnixText, IsUnixFormOfNone};
-ghost use Rattle.cal_c.specs.Results.{duration_done, duration_refused, pair_refused, IsPairAt};
-ghost use Rattle.cal_c.specs.Statuses.{bad_date, bad_time, bad_offset, bad_duration, year_refused, month_refused, julian_day_refused, day_refused, ordinal_refused, week_refused, weekday_refused, hour_refused, minute_refused, second_refused, offset_hour_refused, offset_minute_refused, timestamp_refused};
+ghost use Rattle.cal_c.specs.Results.{duration_done, duration_refused, local_done, pair_refused};
+ghost use Rattle.cal_c.specs.Statuses.{bad_date, bad_time, bad_offset, bad_duration, past_range, year_refused, month_refused, julian_day_refused, day_refused, ordinal_refused, week_refused, weekday_refused, hour_refused, minute_refused, second_refused, offset_hour_refused, offset_minute_refused, timestamp_refused};
 ghost use Rattle.cal_c.specs.Texts.{read_date_done, read_date_refused, read_moment_done, read_moment_refused, HasDateForm, HasFormOfMoment, IsUnreadableDate, IsUnreadableMoment};
-ghost use Rattle.cal_c.specs.Values.{IsDurationPair, IsJulianDay, day_of, nanoseconds_in};
+ghost use Rattle.cal_c.specs.Values.{IsDurationPair, IsJulianDay, moment_of, nanoseconds_in};
 
 use crate::results::{Duration, DurationResult, PairResult};
-use crate::status::{BAD_DATE, BAD_DURATION, BAD_OFFSET, BAD_TIME};
+use crate::status::{BAD_DATE, BAD_DURATION, BAD_OFFSET, BAD_TIME, PAST_RANGE};
 use crate::texts::{ReadDateResult, ReadMomentResult};
 use crate::values::{date_of, duration_of, offset_of, time_of};
+use cal_datetime::OffsetDateTime;
 use cal_text::{date, julian_day, rfc3339, unix};
 use cal_time::UtcOffset;
 
@@ -57,7 +58,7 @@ pub extern "C" fn fots_julian_day_read(text: &[u8]) -> ReadDateResult
 /// The date, the time and the offset of a text of RFC 3339, as `2024-02-29T23:59:59.25+01:00`.
 #[unsafe(no_mangle)]
 pub extern "C" fn fots_moment_read(text: &[u8]) -> ReadMomentResult
-    ensures moment { (n t : ℕ) → (o : ℤ) → IsDate n → IsMomentText text.now n t o → result ≡ read_moment_done n t o }
+    ensures moment { (m : Shown) → IsMomentText text.now m → result ≡ read_moment_done m }
     ensures form { ¬ HasFormOfMoment text.now → IsUnreadableMoment result }
     ensures month { HasMomentThat moments.LacksMonth text.now → result ≡ read_moment_refused month_refused }
     ensures day { HasMomentThat moments.LacksDay text.now → result ≡ read_moment_refused day_refused }
@@ -68,7 +69,7 @@ pub extern "C" fn fots_moment_read(text: &[u8]) -> ReadMomentResult
     ensures offset_minute { HasMomentThat LacksOffsetMinute text.now → result ≡ read_moment_refused offset_minute_refused }
 {
     match rfc3339::read(text) {
-        Ok(parts) => ReadMomentResult::of(parts.0, parts.1, parts.2),
+        Ok(moment) => ReadMomentResult::of(moment),
         Err(error) => ReadMomentResult::refused(error),
     }
 }
@@ -76,12 +77,12 @@ pub extern "C" fn fots_moment_read(text: &[u8]) -> ReadMomentResult
 /// The date and the time, at UTC, whose Unix time the text is, as `@1709164800.5`.
 #[unsafe(no_mangle)]
 pub extern "C" fn fots_unix_read(text: &[u8]) -> ReadMomentResult
-    ensures moment { (n t : ℕ) → IsUnixText text.now n t → result ≡ read_moment_done n t (pos 0) }
+    ensures moment { (m : Shown) → IsUnixText text.now m → result ≡ read_moment_done m }
     ensures form { ((v : ℤ) → ¬ HasUnixForm text.now v) → IsUnreadableMoment result }
     ensures timestamp { IsUnixFormOfNone text.now → result ≡ read_moment_refused timestamp_refused }
 {
     match unix::read(text) {
-        Ok(pair) => ReadMomentResult::of(pair.0, pair.1, UtcOffset::UTC),
+        Ok(moment) => ReadMomentResult::of(moment),
         Err(error) => ReadMomentResult::refused(error),
     }
 }
@@ -92,7 +93,8 @@ pub extern "C" fn fots_unix_time(date: i32, time: u64, offset: i32) -> DurationR
     ensures bad_date { ¬ IsJulianDay date → result ≡ duration_refused bad_date }
     ensures bad_time { IsJulianDay date → ¬ IsTime time → result ≡ duration_refused bad_time }
     ensures bad_offset { IsJulianDay date → IsTime time → ¬ IsOffset offset → result ≡ duration_refused bad_offset }
-    ensures value { IsJulianDay date → IsTime time → IsOffset offset → result ≡ duration_done (unix_time (day_of date) time offset) }
+    ensures value { IsJulianDay date → IsTime time → IsOffset offset
+        → result ≡ duration_done (unix_nanoseconds (instant (moment_of date time offset))) }
 {
     let Some(date) = date_of(date) else {
         return DurationResult::refused(BAD_DATE);
@@ -101,7 +103,10 @@ pub extern "C" fn fots_unix_time(date: i32, time: u64, offset: i32) -> DurationR
         return DurationResult::refused(BAD_TIME);
     };
     match offset_of(offset) {
-        Some(offset) => DurationResult::of(unix::duration_of(date, time, offset)),
+        Some(offset) => {
+            let moment = OffsetDateTime::new_in_offset(date, time, offset);
+            DurationResult::of(moment - OffsetDateTime::unix_epoch())
+        }
         None => DurationResult::refused(BAD_OFFSET),
     }
 }
@@ -111,14 +116,32 @@ pub extern "C" fn fots_unix_time(date: i32, time: u64, offset: i32) -> DurationR
 pub extern "C" fn fots_unix_pair(duration: Duration, offset: i32) -> PairResult
     ensures bad_duration { ¬ IsDurationPair duration → result ≡ pair_refused bad_duration }
     ensures bad_offset { IsDurationPair duration → ¬ IsOffset offset → result ≡ pair_refused bad_offset }
-    ensures pair { IsDurationPair duration → IsOffset offset
-        → IsPairAt ((epoch +ℤ nanoseconds_in duration) +ℤ (offset *ℤ pos second)) result }
+    ensures past_range { IsDurationPair duration → IsOffset offset
+        → ¬ IsDateTime (local_at unix_epoch offset +ℤ nanoseconds_in duration) → result ≡ pair_refused past_range }
+    ensures pair { IsDurationPair duration → IsOffset offset → IsDateTime (local_at unix_epoch offset +ℤ nanoseconds_in duration)
+        → result ≡ local_done (local_at unix_epoch offset +ℤ nanoseconds_in duration) }
 {
     let Some(duration) = duration_of(duration) else {
         return PairResult::refused(BAD_DURATION);
     };
-    match offset_of(offset) {
-        Some(offset) => PairResult::of_option(unix::pair_of(duration, offset)),
-        None => PairResult::refused(BAD_OFFSET),
+    let Some(offset) = offset_of(offset) else {
+        return PairResult::refused(BAD_OFFSET);
+    };
+    match epoch_at(offset).checked_add(duration) {
+        Some(moment) => PairResult::of_option(Some((moment.date(), moment.time()))),
+        None => PairResult::refused(PAST_RANGE),
+    }
+}
+
+/// 1970-01-01 0:00 UTC, as a clock at that offset shows it.
+fn epoch_at(offset: UtcOffset) -> OffsetDateTime
+    ensures { result ≡ record { local = local_at unix_epoch offset; offset = offset } }
+{
+    // That the offset is in its range is known from calls alone. This costs nothing.
+    let _ = offset.whole_seconds();
+    let epoch = OffsetDateTime::unix_epoch();
+    match epoch.checked_to_offset(offset) {
+        Some(shown) => shown,
+        None => epoch,
     }
 }

@@ -2,11 +2,11 @@
 ghost use Rattle.std.specs.Prelude.{◌≡◌, ◌≢◌, ◌↔◌, IfOk, Ok, get_or};
 ghost use Rattle.cal_time.specs.declared.error.ComponentRange.{ComponentRange};
 ghost use Rattle.cal_text.specs.declared.any.DateOrMoment.{DateOrMoment};
-ghost use Rattle.cal_text.specs.AnyForm.{IsTextOf, IsFault, HasAnyForm};
+ghost use Rattle.cal_text.specs.AnyForm.{IsTextOf, IsFault, HasAnyForm, name_of};
 ghost use Rattle.cal_text.specs.Reading.{component_of, IsRefusedFor, IsRefusedForForm};
 ghost use Rattle.cal_text.specs.Rfc3339Form.{IsSeparator};
 
-use crate::any::DateOrMoment;
+use crate::any::{DateForm, DateOrMoment, MomentForm};
 use crate::date::form_and_date;
 use crate::date::place::first_wrong_byte;
 use crate::error::Unreadable;
@@ -22,12 +22,12 @@ pub(super) fn julian_day_in(text: &[u8]) -> Result<DateOrMoment, Unreadable>
     ensures component { (why : ComponentRange) → IsRefusedFor why result ↔ IsFault text.now why }
 {
     match julian_day::read(text) {
-        Ok(date) => Ok(DateOrMoment::JulianDay(date)),
+        Ok(date) => Ok(DateOrMoment::Date(DateForm::JulianDay, date)),
         Err(error) => Err(error),
     }
 }
 
-/// The date and the time of the Unix time that the text is.
+/// The moment of the Unix time that the text is.
 pub(super) fn unix_time_in(text: &[u8]) -> Result<DateOrMoment, Unreadable>
     requires { get_or text.now 0 0 ≡ 64 }
     ensures every { (found : DateOrMoment) → IsTextOf text.now found → result ≡ Ok found }
@@ -36,7 +36,7 @@ pub(super) fn unix_time_in(text: &[u8]) -> Result<DateOrMoment, Unreadable>
     ensures component { (why : ComponentRange) → IsRefusedFor why result ↔ IsFault text.now why }
 {
     match unix::read(text) {
-        Ok(found) => Ok(DateOrMoment::Unix(found.0, found.1)),
+        Ok(moment) => Ok(DateOrMoment::Moment(MomentForm::Unix, moment)),
         Err(error) => Err(error),
     }
 }
@@ -51,7 +51,7 @@ pub(super) fn moment_in(text: &[u8]) -> Result<DateOrMoment, Unreadable>
     ensures component { (why : ComponentRange) → IsRefusedFor why result ↔ IsFault text.now why }
 {
     match rfc3339::read(text) {
-        Ok(found) => Ok(DateOrMoment::Rfc3339(found.0, found.1, found.2)),
+        Ok(moment) => Ok(DateOrMoment::Moment(MomentForm::Rfc3339, moment)),
         Err(error) => Err(further(error, text)),
     }
 }
@@ -78,11 +78,18 @@ pub(super) fn date_in(text: &[u8]) -> Result<DateOrMoment, Unreadable>
     ensures component { (why : ComponentRange) → IsRefusedFor why result ↔ IsFault text.now why }
 {
     match form_and_date(text) {
-        Ok(found) => match found.0 {
-            Form::Calendar(..) => Ok(DateOrMoment::Calendar(found.1)),
-            Form::Ordinal(..) => Ok(DateOrMoment::Ordinal(found.1)),
-            Form::Week(..) => Ok(DateOrMoment::Week(found.1)),
-        },
+        Ok(found) => Ok(DateOrMoment::Date(name_of(found.0), found.1)),
         Err(error) => Err(error),
+    }
+}
+
+/// The name of a form, whatever its numbers.
+fn name_of(form: Form) -> DateForm
+    ensures { result ≡ name_of form }
+{
+    match form {
+        Form::Calendar(..) => DateForm::Calendar,
+        Form::Ordinal(..) => DateForm::Ordinal,
+        Form::Week(..) => DateForm::Week,
     }
 }

@@ -2,21 +2,21 @@
 ghost use Rattle.std.specs.Prelude.{◌≡◌, ◌⊎◌, ℕ, List, ◌+◌, ◌<◌, ◌≤◌, ◌^◌, ◌∷◌, ◌++◌, length, take, get_or, IfSome, IsTrue, ◌↔◌, Some};
 ghost use Rattle.std.specs.Str.Parse.{AllDigits};
 ghost use Rattle.cal_time.specs.DateText.{digits_at_least};
-ghost use Rattle.cal_text.specs.declared.rfc3339.moment.Moment.{Moment};
-ghost use Rattle.cal_text.specs.declared.rfc3339.moment.Zone.{Zone};
+ghost use Rattle.cal_text.specs.declared.rfc3339.numbers.Numbers.{Numbers};
+ghost use Rattle.cal_text.specs.declared.rfc3339.numbers.Zone.{Zone};
 ghost use Rattle.cal_text.specs.Rfc3339Form.{IsSeparator, IsFraction, IsDigit, IsDigitOrPoint, IsZone, nanoseconds_of, HasMomentForm};
 
 use crate::digits::number_of;
 use crate::form::numbers_around;
 use crate::fraction::fraction_of;
-use crate::rfc3339::moment::{Moment, Zone};
+use crate::rfc3339::numbers::{Numbers, Zone};
 
 /// The bytes of `2024-02-29T23:59:59`.
 const LENGTH_TO_SECONDS: usize = 19;
 
 /// The numbers of the moment whose form the text has.
-pub(super) fn moment_of(text: &[u8]) -> Option<Moment>
-    ensures every { (m : Moment) → HasMomentForm text.now m → result ≡ Some m }
+pub(super) fn numbers_of(text: &[u8]) -> Option<Numbers>
+    ensures every { (m : Numbers) → HasMomentForm text.now m → result ≡ Some m }
     ensures has { IfSome result (HasMomentForm text.now) }
 {
     if text.len() < LENGTH_TO_SECONDS || !is_separator(text[10]) {
@@ -26,7 +26,7 @@ pub(super) fn moment_of(text: &[u8]) -> Option<Moment>
     let (hour, minute, second) = three_numbers(&text[11..LENGTH_TO_SECONDS], 2, b':')?;
     let (nanosecond, end) = fraction_of(&text[LENGTH_TO_SECONDS..]);
     let zone = zone_of(&text[LENGTH_TO_SECONDS + end..])?;
-    Some(Moment {
+    Some(Numbers {
         year,
         month,
         day,

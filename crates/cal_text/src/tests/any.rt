@@ -1,6 +1,7 @@
 //! Texts read in whichever form they come.
 use crate::tests::{out_of_range, reads, wrong_at};
-use crate::{DateOrMoment, read_any};
+use crate::{DateForm, DateOrMoment, MomentForm, read_any};
+use cal_datetime::OffsetDateTime;
 use cal_time::{Date, Month, Time, UtcOffset};
 use std::test::Fail;
 
@@ -15,22 +16,30 @@ fn texts_in_any_form(rt: HostRuntime) -> Result<(), Fail> {
     let Ok(hour_east) = UtcOffset::from_hms(1, 0, 0) else {
         return Err(Fail::from("an offset"));
     };
+    let utc = OffsetDateTime::new_utc(date, time);
+    let east = OffsetDateTime::new_in_offset(date, time, hour_east);
     for (text, found) in [
-        ("2024-02-29", DateOrMoment::Calendar(date)),
-        ("2024-060", DateOrMoment::Ordinal(date)),
-        ("2024-W09-4", DateOrMoment::Week(date)),
-        ("J2460370", DateOrMoment::JulianDay(date)),
+        ("2024-02-29", DateOrMoment::Date(DateForm::Calendar, date)),
+        ("2024-060", DateOrMoment::Date(DateForm::Ordinal, date)),
+        ("2024-W09-4", DateOrMoment::Date(DateForm::Week, date)),
+        ("J2460370", DateOrMoment::Date(DateForm::JulianDay, date)),
         (
             "2024-02-29T00:00:00.5+01:00",
-            DateOrMoment::Rfc3339(date, time, hour_east),
+            DateOrMoment::Moment(MomentForm::Rfc3339, east),
         ),
         (
             "2024-02-29 00:00:00.500z",
-            DateOrMoment::Rfc3339(date, time, UtcOffset::UTC),
+            DateOrMoment::Moment(MomentForm::Rfc3339, utc),
         ),
-        ("@1709164800.5", DateOrMoment::Unix(date, time)),
-        ("+999999-12-31", DateOrMoment::Calendar(Date::MAX)),
-        ("-999999-001", DateOrMoment::Ordinal(Date::MIN)),
+        ("@1709164800.5", DateOrMoment::Moment(MomentForm::Unix, utc)),
+        (
+            "+999999-12-31",
+            DateOrMoment::Date(DateForm::Calendar, Date::MAX),
+        ),
+        (
+            "-999999-001",
+            DateOrMoment::Date(DateForm::Ordinal, Date::MIN),
+        ),
     ] {
         reads(&rt, text, &read_any(text.as_bytes()), &Ok(found));
     }

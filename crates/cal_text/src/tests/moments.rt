@@ -1,7 +1,8 @@
 //! Moments of RFC 3339, read and printed.
 use crate::Unreadable;
-use crate::rfc3339::{Text, read};
-use crate::tests::{out_of_range, reads, same, wrong_at};
+use crate::rfc3339::{self, Text};
+use crate::tests::{out_of_range, parts_of, reads, same, wrong_at};
+use cal_datetime::OffsetDateTime;
 use cal_time::{Date, Month, Time, UtcOffset};
 use std::process::Abort;
 use std::test::Fail;
@@ -24,6 +25,16 @@ fn moment(rt: &impl Abort, numbers: Numbers) -> (Date, Time, UtcOffset) {
         panic!(rt; "{hours}:{minutes} is refused");
     };
     (date, time, offset)
+}
+
+/// What a text reads as, by the three parts.
+fn read(text: &[u8]) -> Result<(Date, Time, UtcOffset), Unreadable> {
+    parts_of(rfc3339::read(text))
+}
+
+/// The text of the moment that has the three parts.
+fn printed(parts: (Date, Time, UtcOffset)) -> Option<Text> {
+    Text::new(OffsetDateTime::new_in_offset(parts.0, parts.1, parts.2))
 }
 
 /// The examples of the standard, but those with a leap second, come first.
@@ -169,15 +180,15 @@ fn moments_printed(rt: HostRuntime) -> Result<(), Fail> {
             "2024-02-29T09:05:07.000000001-00:30",
         ),
     ] {
-        let (date, time, offset) = moment(&rt, numbers);
-        let Some(printed) = Text::new(date, time, offset) else {
+        let parts = moment(&rt, numbers);
+        let Some(printed) = printed(parts) else {
             return Err(Fail::from("a text"));
         };
         same(&rt, format!(in rt.alloc(); "{printed}")?.as_str(), text);
-        reads(&rt, text, &read(text.as_bytes()), &Ok((date, time, offset)));
+        reads(&rt, text, &read(text.as_bytes()), &Ok(parts));
     }
-    let (date, time, offset) = moment(&rt, ((2024, 2, 29), (0, 0, 0, 0), (0, 0)));
-    let Some(printed) = Text::new(date, time, offset) else {
+    let midnight = moment(&rt, ((2024, 2, 29), (0, 0, 0, 0), (0, 0)));
+    let Some(printed) = printed(midnight) else {
         return Err(Fail::from("a text"));
     };
     same(
@@ -191,16 +202,16 @@ fn moments_printed(rt: HostRuntime) -> Result<(), Fail> {
 #[test]
 fn moments_without_a_text(rt: HostRuntime) {
     let (date, time, offset) = moment(&rt, ((2024, 2, 29), (0, 0, 0, 0), (23, 59)));
-    assert!(rt; Text::new(date, time, offset).is_some());
+    assert!(rt; printed((date, time, offset)).is_some());
     for (year, month, day) in [(10_000, 1, 1), (-1, 12, 31)] {
-        let (date, time, offset) = moment(&rt, ((year, month, day), (0, 0, 0, 0), (0, 0)));
-        assert!(rt; Text::new(date, time, offset).is_none());
+        let parts = moment(&rt, ((year, month, day), (0, 0, 0, 0), (0, 0)));
+        assert!(rt; printed(parts).is_none());
     }
     for seconds in [86_400, -86_400, 1, -1, 3_601, 93_599] {
         let Ok(offset) = UtcOffset::from_whole_seconds(seconds) else {
             panic!(rt; "{seconds} is refused");
         };
-        assert!(rt; Text::new(date, time, offset).is_none());
+        assert!(rt; printed((date, time, offset)).is_none());
     }
 }
 
@@ -230,7 +241,7 @@ fn moments_printed_and_read(rt: HostRuntime) -> Result<(), Fail> {
                     (0, 0),
                 ),
             );
-            let Some(printed) = Text::new(date, time, offset) else {
+            let Some(printed) = printed((date, time, offset)) else {
                 return Err(Fail::from("a text"));
             };
             let text = format!(in rt.alloc(); "{printed}")?;

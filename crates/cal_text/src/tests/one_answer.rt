@@ -2,7 +2,8 @@
 ghost use Rattle.cal_text.specs.Reading.{AreAlikeButForPlace};
 
 use crate::{DateOrMoment, Unreadable, date, julian_day, read_any, rfc3339, unix};
-use cal_time::{Date, Time, UtcOffset};
+use cal_datetime::OffsetDateTime;
+use cal_time::Date;
 
 /// What two calls give.
 type Twice<T> = (Result<T, Unreadable>, Result<T, Unreadable>);
@@ -19,13 +20,13 @@ fn of_julian_day(text: &[u8]) -> Twice<Date>
     (julian_day::read(text), julian_day::read(text))
 }
 
-fn of_rfc3339(text: &[u8]) -> Twice<(Date, Time, UtcOffset)>
+fn of_rfc3339(text: &[u8]) -> Twice<OffsetDateTime>
     ensures { AreAlikeButForPlace result.0 result.1 }
 {
     (rfc3339::read(text), rfc3339::read(text))
 }
 
-fn of_unix(text: &[u8]) -> Twice<(Date, Time)>
+fn of_unix(text: &[u8]) -> Twice<OffsetDateTime>
     ensures { AreAlikeButForPlace result.0 result.1 }
 {
     (unix::read(text), unix::read(text))

@@ -1,18 +1,20 @@
 //! Unix times read.
-ghost use Rattle.std.specs.Prelude.{◌≡◌, ℕ, ℤ, List, ◌+◌, ◌<◌, ◌≤◌, ◌^◌, ◌++◌, ◌↔◌, length, get_or, decimal, IfSome, IsTrue, Some};
+ghost use Rattle.std.specs.Prelude.{◌≡◌, ℕ, ℤ, pos, neg_ℤ, List, ◌+◌, ◌*◌, ◌<◌, ◌≤◌, ◌^◌, ◌++◌, ◌↔◌, length, get_or, decimal, IfSome, IsTrue, Some};
 ghost use Rattle.std.specs.Str.Parse.{AllDigits, digits_value};
+ghost use Rattle.cal_time.specs.SignedDuration.{second};
 ghost use Rattle.cal_text.specs.Rfc3339Form.{IsFraction};
 ghost use Rattle.cal_text.specs.UnixText.{HasUnixForm};
 
 use crate::date::place::{begins_with, leading};
 use crate::fraction::{fraction_of, leading_digits};
-use cal_time::SignedDuration;
 
 /// A point and nine digits.
 const LONGEST_FRACTION: usize = 10;
 
-/// The Unix time that the text says.
-pub(super) fn unix_of(text: &[u8]) -> Option<SignedDuration>
+const NANOSECONDS_PER_SECOND: i128 = 1_000_000_000;
+
+/// The Unix time that the text says, in nanoseconds.
+pub(super) fn unix_of(text: &[u8]) -> Option<i128>
     ensures every { (v : ℤ) → HasUnixForm text.now v → result ≡ Some v }
     ensures has { IfSome result (HasUnixForm text.now) }
 {
@@ -24,11 +26,25 @@ pub(super) fn unix_of(text: &[u8]) -> Option<SignedDuration>
         return if seconds == 0 && nanosecond == 0 {
             None
         } else {
-            Some(SignedDuration::new(-(seconds as i64), -(nanosecond as i32)))
+            Some(below_zero(seconds, nanosecond))
         };
     }
     let (seconds, nanosecond) = magnitude_of(&text[1..])?;
-    Some(SignedDuration::new(seconds as i64, nanosecond as i32))
+    Some(in_nanoseconds(seconds, nanosecond))
+}
+
+/// So many seconds and nanoseconds below zero.
+fn below_zero(seconds: u64, nanosecond: u32) -> i128
+    ensures { result ≡ neg_ℤ (pos (seconds * second + nanosecond)) }
+{
+    -in_nanoseconds(seconds, nanosecond)
+}
+
+/// So many seconds and nanoseconds together.
+fn in_nanoseconds(seconds: u64, nanosecond: u32) -> i128
+    ensures { result ≡ pos (seconds * second + nanosecond) }
+{
+    i128::from(seconds) * NANOSECONDS_PER_SECOND + i128::from(nanosecond)
 }
 
 /// The seconds and the nanoseconds of a number of at most 18 digits and a fraction of at most nine.

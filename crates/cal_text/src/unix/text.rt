@@ -1,15 +1,15 @@
 //! The text of a Unix time.
-ghost use Rattle.std.specs.Prelude.{◌≡◌, Some};
+ghost use Rattle.std.specs.Prelude.{◌≡◌, ◌≤◌, Some, length};
 ghost use Rattle.std.specs.Fmt.{padded};
-ghost use Rattle.cal_text.specs.Unix.{unix_time};
+ghost use Rattle.cal_datetime.specs.OffsetDateTime.{instant, unix_nanoseconds};
 ghost use Rattle.cal_text.specs.UnixText.{HasUnixForm, unix_text};
 
-use crate::line::Line;
-use crate::unix::duration_of;
-use cal_time::{Date, SignedDuration, Time, UtcOffset};
+use crate::fraction::push_fraction;
+use cal_datetime::OffsetDateTime;
+use cal_time::{ShortText, SignedDuration};
 use std::fmt;
 
-/// A date, a time of day and an offset from UTC that print as their Unix time, as `@1709164800.5`.
+/// A moment that prints as its Unix time, as `@1709164800.5`.
 ///
 /// A time before 1970 has a minus sign. The fraction of the second has no zeros at its end, and is left out where it is zero.
 /// Under a width the whole text is padded.
@@ -19,31 +19,36 @@ pub struct Text {
 }
 
 impl Text {
-    /// The date and the time of day that a clock shows at this offset from UTC, to be printed.
-    pub fn new(date: Date, time: Time, offset: UtcOffset) -> Self
-        ensures value { result.since_epoch ≡ unix_time date time offset }
+    /// The moment, to be printed.
+    pub fn new(moment: OffsetDateTime) -> Self
+        ensures value { result.since_epoch ≡ unix_nanoseconds (instant moment) }
 
         // What it prints says this time.
-        ensures text { HasUnixForm (unix_text result.since_epoch) (unix_time date time offset) }
+        ensures text { HasUnixForm (unix_text result.since_epoch) (unix_nanoseconds (instant moment)) }
     {
+        // How far it is from the epoch at most is known from the calls of its parts alone. These cost nothing.
+        let _ = moment.date();
+        let _ = moment.offset();
         Text {
-            since_epoch: duration_of(date, time, offset),
+            since_epoch: moment - OffsetDateTime::unix_epoch(),
         }
     }
 
-    /// The text in bytes.
-    pub fn line(self) -> Line
-        ensures { result ≡ unix_text self.since_epoch }
+    /// The text in place, of at most 32 bytes.
+    #[tactic(auto, using(crate::proofs::NumberTexts::few_digits))]
+    pub fn text(self) -> ShortText
+        ensures text { result ≡ unix_text self.since_epoch }
+        ensures short { length result ≤ 32 }
     {
         let (seconds, nanosecond) = self.since_epoch.unsigned_abs();
-        let mut line = Line::new();
-        line.push(b"@");
+        let mut text = ShortText::new();
+        text.push("@");
         if self.since_epoch.is_negative() {
-            line.push(b"-");
+            text.push("-");
         }
-        line.push_decimal(seconds);
-        line.push_fraction(nanosecond);
-        line
+        text.push_number(seconds);
+        push_fraction(&mut text, nanosecond);
+        text
     }
 }
 
@@ -53,7 +58,6 @@ impl fmt::Display for Text {
     ghost styled_output = { λ t spec. Some (padded spec (unix_text t.since_epoch)) };
 
     fn fmt<W: fmt::Write>(&self, f: &mut fmt::Formatter<W>) -> fmt::Result {
-        let line = self.line();
-        f.pad(line.as_str())
+        f.pad(self.text().as_str())
     }
 }

@@ -19,6 +19,7 @@ fn texts_of_dates(rt: HostRuntime) -> Result<(), Fail> {
     ] {
         same(&rt, format!(in rt.alloc(); "{date}")?.as_str(), text);
         same(&rt, format!(in rt.alloc(); "{date:?}")?.as_str(), text);
+        same(&rt, date.text().as_str(), text);
     }
     Ok(())
 }
@@ -32,6 +33,7 @@ fn texts_of_times(rt: HostRuntime) -> Result<(), Fail> {
     ] {
         same(&rt, format!(in rt.alloc(); "{time}")?.as_str(), text);
         same(&rt, format!(in rt.alloc(); "{time:?}")?.as_str(), text);
+        same(&rt, time.text().as_str(), text);
     }
     Ok(())
 }
@@ -46,6 +48,7 @@ fn texts_of_offsets(rt: HostRuntime) -> Result<(), Fail> {
     ] {
         same(&rt, format!(in rt.alloc(); "{offset}")?.as_str(), text);
         same(&rt, format!(in rt.alloc(); "{offset:?}")?.as_str(), text);
+        same(&rt, offset.text().as_str(), text);
     }
     Ok(())
 }
@@ -66,8 +69,26 @@ fn texts_of_durations(rt: HostRuntime) -> Result<(), Fail> {
         ),
     ] {
         same(&rt, format!(in rt.alloc(); "{duration}")?.as_str(), text);
+        same(&rt, duration.text().as_str(), text);
     }
     Ok(())
+}
+
+// The longest text of each kind, and one that goes on where another ends.
+#[test]
+fn texts_in_place(rt: HostRuntime) {
+    same(&rt, Date::MIN.text().len(), 13);
+    same(&rt, Time::MAX.text().len(), 18);
+    same(
+        &rt,
+        UtcOffset::UTC.text().as_bytes(),
+        b"+00:00:00".as_slice(),
+    );
+    let mut line = date(&rt, 2024, 2, 29).text();
+    line.push("T");
+    line.push(Weekday::Wednesday.name());
+    line.push(Month::September.name());
+    same(&rt, line.as_str(), "2024-02-29TWednesdaySeptember");
 }
 
 // A text fails only where its writer does, so at no hour.

@@ -1,40 +1,71 @@
-use Rattle.std.proofs.Common.{Ok, Some, ap, refl}
+use Rattle.std.proofs.Common.{Ok, Some, ◌+ℤ◌, ap, refl, ◌∙◌}
 use Rattle.std.proofs.lemmas.Bool.{false≢true}
 use Rattle.std.proofs.lemmas.Option.{none-some}
-use Rattle.cal_text.proofs.UnixReads.{text_of_pair, moment_of_text, pair_of_text, of_none, some_at}
+use Rattle.cal_datetime.specs.OffsetDateTime.{unix_epoch}
+use Rattle.cal_text.proofs.Results.{not_ok}
+use Rattle.cal_text.proofs.UnixForms.{wide-form}
+use Rattle.cal_text.proofs.UnixReads.{at_utc, one_value, in_range, text_of, range_of, moment_of, some_at}
 use Rattle.cal_text.proofs.unix.read.Goals as goal
 
-pub returns-in-Some-pair_of-clause-every : goal.returns-in-Some-pair_of-clause-every
-returns-in-Some-pair_of-clause-every c n t is =
-    let at = moment_of_text c.args.text.now c.in-Some.duration n t c.in-Some.ensures.every is in
-    ap Ok (pair_of_text _ c.in-Some-pair_of.pair n t c.in-Some-pair_of.ensures at)
+pub returns-in-Ok-clause-every : goal.returns-in-Ok-clause-every
+returns-in-Ok-clause-every c m is =
+    let text = c.args.text.now in
+    let v = c.in-Some.nanoseconds in
+    let every = c.in-Some.ensures.every in
+    let made = rw (wide-form text v c.in-Some.ensures.has) at c.in-Ok.ensures.value in
+    ap Ok (one_value c.in-Ok.moment (at_utc v) (made (range_of text v m every is)) ∙ moment_of text v m every is)
 
-pub returns-in-Some-pair_of-clause-has : goal.returns-in-Some-pair_of-clause-has
-returns-in-Some-pair_of-clause-has c = text_of_pair c.args.text.now c.in-Some.duration _ _ c.in-Some.ensures.has c.in-Some-pair_of.ensures
+pub returns-in-Ok-clause-has : goal.returns-in-Ok-clause-has
+returns-in-Ok-clause-has c =
+    let text = c.args.text.now in
+    let v = c.in-Some.nanoseconds in
+    let wide = wide-form text v c.in-Some.ensures.has in
+    let made = rw wide at c.in-Ok.ensures.value in
+    let refused = rw wide at c.in-Ok.ensures.refused in
+    let range = in_range (unix_epoch +ℤ v) (λ none. refused.1 none) in
+    text_of text v c.in-Ok.moment c.in-Some.ensures.has range (made range)
 
-pub returns-in-Some-pair_of-clause-refused : goal.returns-in-Some-pair_of-clause-refused
-returns-in-Some-pair_of-clause-refused c = (λ e. absurd (false≢true e), λ none. absurd (none _ _ (returns-in-Some-pair_of-clause-has c)))
+pub returns-in-Ok-clause-refused : goal.returns-in-Ok-clause-refused
+returns-in-Ok-clause-refused c = (λ e. absurd (false≢true e), λ none. absurd (none _ (returns-in-Ok-clause-has c)))
 
-pub returns-in-Some-pair_of-clause-timestamp : goal.returns-in-Some-pair_of-clause-timestamp
-returns-in-Some-pair_of-clause-timestamp c =
-    (λ e. absurd e, λ none. some_at c.args.text.now c.in-Some.duration _ _ c.in-Some.ensures.every c.in-Some-pair_of.ensures none)
+pub returns-in-Ok-clause-timestamp : goal.returns-in-Ok-clause-timestamp
+returns-in-Ok-clause-timestamp c =
+    let text = c.args.text.now in
+    let v = c.in-Some.nanoseconds in
+    let refused = rw (wide-form text v c.in-Some.ensures.has) at c.in-Ok.ensures.refused in
+    let range = in_range (unix_epoch +ℤ v) (λ none. refused.1 none) in
+    (λ e. absurd e, λ none. some_at text v c.in-Some.ensures.every range none)
 
-pub returns-in-None-pair_of-clause-every : goal.returns-in-None-pair_of-clause-every
-returns-in-None-pair_of-clause-every c n t is = absurd (c.in-None-pair_of.ensures n t (moment_of_text c.args.text.now c.in-Some.duration n t c.in-Some.ensures.every is))
+pub returns-in-Err-clause-every : goal.returns-in-Err-clause-every
+returns-in-Err-clause-every c m is =
+    let text = c.args.text.now in
+    let v = c.in-Some.nanoseconds in
+    let made = rw (wide-form text v c.in-Some.ensures.has) at c.in-Err.ensures.value in
+    absurd (not_ok _ _ (made (range_of text v m c.in-Some.ensures.every is)))
 
-pub returns-in-None-pair_of-clause-refused : goal.returns-in-None-pair_of-clause-refused
-returns-in-None-pair_of-clause-refused c =
-    (λ e n t is. c.in-None-pair_of.ensures n t (moment_of_text c.args.text.now c.in-Some.duration n t c.in-Some.ensures.every is), λ none. refl)
+pub returns-in-Err-clause-refused : goal.returns-in-Err-clause-refused
+returns-in-Err-clause-refused c = (
+  λ e m is.
+      let text = c.args.text.now in
+      let v = c.in-Some.nanoseconds in
+      let made = rw (wide-form text v c.in-Some.ensures.has) at c.in-Err.ensures.value in
+      not_ok _ _ (made (range_of text v m c.in-Some.ensures.every is)),
+  λ none. refl,
+)
 
-pub returns-in-None-pair_of-clause-timestamp : goal.returns-in-None-pair_of-clause-timestamp
-returns-in-None-pair_of-clause-timestamp c =
-    (λ e. of_none c.args.text.now c.in-Some.duration c.in-Some.ensures.has c.in-None-pair_of.ensures, λ none. ap Some c.unconditional.ensures)
+pub returns-in-Err-clause-timestamp : goal.returns-in-Err-clause-timestamp
+returns-in-Err-clause-timestamp c =
+    let v = c.in-Some.nanoseconds in
+    let refused = rw (wide-form c.args.text.now v c.in-Some.ensures.has) at c.in-Err.ensures.refused in (
+      λ e. (v, c.in-Some.ensures.has, refused.0 c.in-Err.ensures.reason),
+      λ none. ap Some c.in-Err.ensures.reason,
+    )
 
 pub returns-in-None-clause-every : goal.returns-in-None-clause-every
-returns-in-None-clause-every c n t is = absurd (none-some _ (c.in-None.ensures.every _ is.form))
+returns-in-None-clause-every c m is = absurd (none-some _ (c.in-None.ensures.every _ is.form))
 
 pub returns-in-None-clause-refused : goal.returns-in-None-clause-refused
-returns-in-None-clause-refused c = (λ e n t is. none-some _ (c.in-None.ensures.every _ is.form), λ none. refl)
+returns-in-None-clause-refused c = (λ e m is. none-some _ (c.in-None.ensures.every _ is.form), λ none. refl)
 
 pub returns-in-None-clause-form : goal.returns-in-None-clause-form
 returns-in-None-clause-form c = (λ e v form. none-some _ (c.in-None.ensures.every v form), λ none. refl)

@@ -1,4 +1,4 @@
-use Rattle.std.proofs.Common.{◌≡◌, ℤ, pos, ◌*ℤ◌, Some, to_z, of_z, w64, sym, ap, ◌∙◌}
+use Rattle.std.proofs.Common.{◌≡◌, ◌++◌, ℤ, pos, ◌*ℤ◌, Some, to_z, of_z, w64, sym, ap, ◌∙◌}
 use Rattle.std.proofs.lemmas.Int.{to_z-of_z}
 use Rattle.cal_time.specs.SignedDuration.{second, whole_days}
 use Rattle.caltool.proofs.Days.{day_with-moved, day_with-moved_away}
@@ -10,7 +10,7 @@ returns-in-Some-clause-text c =
     let same : to_z w64 (of_z w64 c.args.seconds) ≡ c.args.seconds = to_z-of_z w64 c.args.seconds c.ranges.seconds in
     let duration = rw same at c.seconds.ensures in
     let is = rw duration at c.in-Some.ensures.day in
-    rw (day_with-moved c.args.date days is.0 ∙ ap Some (sym is.1)) c.push_date.ensures.text
+    rw (day_with-moved c.args.date days is.0 ∙ ap Some (sym is.1)) (c.push.ensures.appended ∙ ap (λ words. c.args.gathered.now ++ words) (c.as_bytes.ensures.bytes ∙ c.text.ensures.text))
 
 pub returns-in-None-clause-text : goal.returns-in-None-clause-text
 returns-in-None-clause-text c =
@@ -18,4 +18,4 @@ returns-in-None-clause-text c =
     let same : to_z w64 (of_z w64 c.args.seconds) ≡ c.args.seconds = to_z-of_z w64 c.args.seconds c.ranges.seconds in
     let duration = rw same at c.seconds.ensures in
     let none = rw duration at c.in-None.ensures.day in
-    rw (day_with-moved_away c.args.date days none) c.push.ensures.appended
+    rw (day_with-moved_away c.args.date days none) c.push-in-None.ensures.appended

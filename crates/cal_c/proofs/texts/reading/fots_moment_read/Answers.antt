@@ -4,8 +4,7 @@ use Rattle.cal_c.proofs.Equals.{no_value, same_value}
 use Rattle.cal_c.proofs.texts.reading.fots_moment_read.Goals as goal
 
 pub returns-in-Ok-clause-moment : goal.returns-in-Ok-clause-moment
-returns-in-Ok-clause-moment c = λ n t o in_range is_text.
-    c.of.ensures ∙ ap (λ parts. read_moment_done parts.0 parts.1 parts.2) (same_value _ _ (c.in-Ok.ensures.every n t o in_range is_text))
+returns-in-Ok-clause-moment c = λ m is_text. c.of.ensures ∙ ap read_moment_done (same_value _ _ (c.in-Ok.ensures.every m is_text))
 
 pub returns-in-Err-clause-moment : goal.returns-in-Err-clause-moment
-returns-in-Err-clause-moment c = λ n t o in_range is_text. absurd (no_value _ _ (c.in-Err.ensures.every n t o in_range is_text))
+returns-in-Err-clause-moment c = λ m is_text. absurd (no_value _ _ (c.in-Err.ensures.every m is_text))

@@ -1,16 +1,23 @@
-use Rattle.std.proofs.Common.{◌+ℤ◌, ◌*ℤ◌, pos, subst}
+use Rattle.std.proofs.Common.{◌+ℤ◌, ap, subst, sym, ◌∙◌}
 use Rattle.std.proofs.lemmas.Int.{to_z-of_z}
-use Rattle.cal_time.specs.Pair.{PairAt}
-use Rattle.cal_time.specs.SignedDuration.{second}
-use Rattle.cal_text.specs.Unix.{epoch}
-use Rattle.cal_c.specs.Values.{nanoseconds_in}
+use Rattle.cal_datetime.specs.DateTime.{IsDateTime}
+use Rattle.cal_datetime.specs.OffsetDateTime.{Shown, local_at, unix_epoch}
 use Rattle.cal_c.proofs.texts.reading.fots_unix_pair.Goals as goal
 
-pub returns-in-Some-offset_of-clause-pair : goal.returns-in-Some-offset_of-clause-pair
-returns-in-Some-offset_of-clause-pair c = λ d o.
-    let f = c.ranges.offset in
+pub returns-in-Some-checked_add-clause-past_range : goal.returns-in-Some-checked_add-clause-past_range
+returns-in-Some-checked_add-clause-past_range c = λ d o out.
+    let g = c.ranges.offset in
+    let duration = c.in-Some.duration in
     let at = simp to_z-of_z at c.in-Some-offset_of.ensures in
-    let r = c.pair_of.result in
-    let one = subst (λ v. PairAt ((epoch +ℤ v) +ℤ (c.in-Some-offset_of.offset *ℤ pos second)) r) c.in-Some.ensures.1 c.pair_of.ensures in
-    let two = subst (λ s. PairAt ((epoch +ℤ nanoseconds_in c.args.duration) +ℤ (s *ℤ pos second)) r) at.1 one in
-    (r, two, c.of_option.ensures)
+    let same = ap (λ (m : Shown). m.local +ℤ duration) c.epoch_at.ensures ∙ ap (λ o. local_at unix_epoch o +ℤ duration) at.1
+    ∙ ap (λ v. local_at unix_epoch c.args.offset +ℤ v) c.in-Some.ensures.1 in
+    absurd (out (subst IsDateTime same c.in-Some-checked_add.ensures.value.0))
+
+pub returns-in-None-clause-pair : goal.returns-in-None-clause-pair
+returns-in-None-clause-pair c = λ d o is.
+    let g = c.ranges.offset in
+    let duration = c.in-Some.duration in
+    let at = simp to_z-of_z at c.in-Some-offset_of.ensures in
+    let same = ap (λ (m : Shown). m.local +ℤ duration) c.epoch_at.ensures ∙ ap (λ o. local_at unix_epoch o +ℤ duration) at.1
+    ∙ ap (λ v. local_at unix_epoch c.args.offset +ℤ v) c.in-Some.ensures.1 in
+    absurd (c.in-None.ensures.value (subst IsDateTime (sym same) is))

@@ -1,8 +1,10 @@
-use Rattle.std.proofs.Common.{ap, ◌∙◌, pos}
+use Rattle.std.proofs.Common.{ap, ◌∙◌}
 use Rattle.cal_c.specs.Texts.{read_moment_done}
-use Rattle.cal_c.proofs.Equals.{same_value}
+use Rattle.cal_c.proofs.Equals.{no_value, same_value}
 use Rattle.cal_c.proofs.texts.reading.fots_unix_read.Goals as goal
 
 pub returns-in-Ok-clause-moment : goal.returns-in-Ok-clause-moment
-returns-in-Ok-clause-moment c = λ n t is_text.
-    c.of.ensures ∙ ap (λ pair. read_moment_done pair.0 pair.1 (pos 0)) (same_value _ _ (c.in-Ok.ensures.every n t is_text))
+returns-in-Ok-clause-moment c = λ m is_text. c.of.ensures ∙ ap read_moment_done (same_value _ _ (c.in-Ok.ensures.every m is_text))
+
+pub returns-in-Err-clause-moment : goal.returns-in-Err-clause-moment
+returns-in-Err-clause-moment c = λ m is_text. absurd (no_value _ _ (c.in-Err.ensures.every m is_text))

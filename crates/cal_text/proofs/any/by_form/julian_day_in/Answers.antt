@@ -1,6 +1,7 @@
 use Rattle.std.proofs.Common.{ℕ, sym, ◌∙◌, inl, inr}
 use Rattle.std.proofs.lemmas.Option.{none-some}
-use Rattle.cal_text.specs.declared.any.DateOrMoment.TheVariants.{JulianDay}
+use Rattle.cal_text.specs.declared.any.DateOrMoment.TheVariants.{Date}
+use Rattle.cal_text.specs.declared.any.DateForm.TheVariants.{JulianDay}
 use Rattle.cal_text.specs.AnyForm.{IsFault}
 use Rattle.cal_text.proofs.AnyForms.{julian-found, julian-any, julian-fault, same_reason, reason_of}
 use Rattle.cal_text.proofs.Results.{same_mapped, not_ok}
@@ -8,7 +9,7 @@ use Rattle.cal_text.proofs.any.by_form.julian_day_in.Goals as goal
 
 pub returns-in-Ok-clause-every : goal.returns-in-Ok-clause-every
 returns-in-Ok-clause-every c =
-    julian-found c.args.text.now _ c.requires (λ n date e. same_mapped {A = ℕ} (λ x. JulianDay x) c.in-Ok.date n (c.in-Ok.ensures.every n date e))
+    julian-found c.args.text.now _ c.requires (λ n date e. same_mapped {A = ℕ} (λ x. Date JulianDay x) c.in-Ok.date n (c.in-Ok.ensures.every n date e))
 
 pub returns-in-Ok-clause-component : goal.returns-in-Ok-clause-component
 returns-in-Ok-clause-component c why = (λ e. absurd e, λ is. c.in-Ok.ensures.julian_day.1 (julian-fault c.args.text.now why c.requires is).1)

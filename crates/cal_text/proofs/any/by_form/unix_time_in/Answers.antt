@@ -1,6 +1,7 @@
-use Rattle.std.proofs.Common.{ℕ, sym, ◌∙◌, inl, inr}
+use Rattle.std.proofs.Common.{sym, ◌∙◌, inl, inr}
 use Rattle.std.proofs.lemmas.Option.{none-some}
-use Rattle.cal_text.specs.declared.any.DateOrMoment.TheVariants.{Unix}
+use Rattle.cal_text.specs.declared.any.DateOrMoment.TheVariants.{Moment}
+use Rattle.cal_text.specs.declared.any.MomentForm.TheVariants.{Unix}
 use Rattle.cal_text.specs.AnyForm.{IsFault}
 use Rattle.cal_text.proofs.AnyForms.{unix-found, unix-any, unix-fault, same_reason, reason_of}
 use Rattle.cal_text.proofs.Results.{same_mapped, not_ok}
@@ -8,14 +9,14 @@ use Rattle.cal_text.proofs.any.by_form.unix_time_in.Goals as goal
 
 pub returns-in-Ok-clause-every : goal.returns-in-Ok-clause-every
 returns-in-Ok-clause-every c =
-    unix-found c.args.text.now _ c.requires (λ n t is. same_mapped {A = ℕ × ℕ} (λ p. Unix p.0 p.1) c.in-Ok.found (n, t) (c.in-Ok.ensures.every n t is))
+    unix-found c.args.text.now _ c.requires (λ m is. same_mapped (λ x. Moment Unix x) c.in-Ok.moment m (c.in-Ok.ensures.every m is))
 
 pub returns-in-Ok-clause-component : goal.returns-in-Ok-clause-component
 returns-in-Ok-clause-component c why = (λ e. absurd e, λ is. c.in-Ok.ensures.timestamp.1 (unix-fault c.args.text.now why c.requires is).1)
 
 pub returns-in-Err-clause-every : goal.returns-in-Err-clause-every
 returns-in-Err-clause-every c =
-    unix-found c.args.text.now _ c.requires (λ n t is. absurd (not_ok _ _ (c.in-Err.ensures.every n t is)))
+    unix-found c.args.text.now _ c.requires (λ m is. absurd (not_ok _ _ (c.in-Err.ensures.every m is)))
 
 pub returns-in-Err-clause-form : goal.returns-in-Err-clause-form
 returns-in-Err-clause-form c = (

@@ -1,5 +1,3 @@
-use Rattle.std.proofs.Common.{ℕ, ℤ}
-use Rattle.cal_time.specs.Date.{IsDate}
 use Rattle.cal_text.specs.Rfc3339Form.{IsMomentText, IsMomentReason}
 use Rattle.cal_text.proofs.OneAnswer.{alike, follows, or}
 use Rattle.cal_text.proofs.tests.one_answer.of_rfc3339.Goals as goal
@@ -8,8 +6,7 @@ pub returns : goal.returns
 returns c =
     let r = c.read.ensures in
     let s = c.read-2.ensures in
-    alike (λ (v : ℕ × ℕ × ℤ). IsDate v.0 × IsMomentText c.args.text.now v.0 v.1 v.2) IsMomentReason _ _ r.has s.has
-    (λ v h. r.every v.0 v.1 v.2 h.0 h.1) (λ v h. s.every v.0 v.1 v.2 h.0 h.1) r.reason
+    alike (IsMomentText c.args.text.now) IsMomentReason _ _ r.has s.has r.every s.every r.reason
     (λ why. or (follows _ _ _ why (λ h. s.form.1 (r.form.0 h)))
     (or (follows _ _ _ why (λ h. s.month.1 (r.month.0 h)))
     (or (follows _ _ _ why (λ h. s.day.1 (r.day.0 h)))

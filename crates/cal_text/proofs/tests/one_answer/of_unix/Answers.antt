@@ -1,4 +1,4 @@
-use Rattle.std.proofs.Common.{◌≡◌, ◌⊎◌, ℕ, None, Some}
+use Rattle.std.proofs.Common.{◌≡◌, ◌⊎◌, None, Some}
 use Rattle.cal_text.specs.UnixText.{IsUnixText, timestamp_out_of_range}
 use Rattle.cal_text.proofs.OneAnswer.{alike, follows, or}
 use Rattle.cal_text.proofs.tests.one_answer.of_unix.Goals as goal
@@ -7,6 +7,5 @@ pub returns : goal.returns
 returns c =
     let r = c.read.ensures in
     let s = c.read-2.ensures in
-    alike (λ (v : ℕ × ℕ). IsUnixText c.args.text.now v.0 v.1) (λ why. (why ≡ None) ⊎ (why ≡ Some timestamp_out_of_range)) _ _ r.has s.has
-    (λ v h. r.every v.0 v.1 h) (λ v h. s.every v.0 v.1 h) r.reason
+    alike (IsUnixText c.args.text.now) (λ why. (why ≡ None) ⊎ (why ≡ Some timestamp_out_of_range)) _ _ r.has s.has r.every s.every r.reason
     (λ why. or (follows _ _ _ why (λ h. s.form.1 (r.form.0 h))) (follows _ _ _ why (λ h. s.timestamp.1 (r.timestamp.0 h))))

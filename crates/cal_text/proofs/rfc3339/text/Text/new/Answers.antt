@@ -5,5 +5,5 @@ use Rattle.cal_text.proofs.rfc3339.text.Text.new.Goals as goal
 
 pub returns-clause-text : goal.returns-clause-text
 returns-clause-text c =
-    let has : HasMomentText c.args.date c.args.offset = search rules in
-    printed c.args.date c.args.time c.args.offset c.year-year.ensures.in_range c.hour.ensures.range has
+    let has : HasMomentText c.args.moment = search rules in
+    rw (c.date-date.ensures.value, c.time-time.ensures.value, c.offset-offset.ensures.value) (printed c.args.moment c.date-date.ensures.in_range has)

@@ -1,0 +1,161 @@
+// The classes of fotsevindre.hpp: worked rows, the order of values, what is thrown and what is none, and days of <chrono> both ways.
+#include <cstdio>
+#include <map>
+#include <sstream>
+#include <type_traits>
+#include <unordered_set>
+
+#include "fotsevindre.hpp"
+
+using namespace fotsevindre;
+
+namespace {
+
+int failed = 0;
+
+void check(bool holds, const char *what)
+{
+    if (!holds) {
+        failed++;
+        std::printf("failed: %s\n", what);
+    }
+}
+
+// What the call throws: its status, its words and its place.
+template <class Call> void throws(Call call, std::int32_t status, const std::string &words, const char *what)
+{
+    try {
+        call();
+        check(false, what);
+    } catch (const error &thrown) {
+        check(thrown.status() == status && thrown.what() == words, what);
+    }
+}
+
+void dates()
+{
+    const Date day = Date::from_calendar_date(2024, Month::February, 29);
+    check(day == Date::from_ordinal_date(2024, 60) && day == Date::from_iso_week_date(2024, 9, Weekday::Thursday), "made thrice");
+    check(day == Date::from_julian_day(2460370) && day == Date::read("2024-W09-4") && day == Date(day.c()), "the same day");
+    check(day < Date::max() && day > Date::min() && day <= day && day >= day && !(day != day), "the order of dates");
+    check(day.to_calendar_date() == std::tuple(2024, Month::February, 29U), "the calendar date");
+    check(day.to_ordinal_date() == std::tuple(2024, 60U), "the ordinal date");
+    check(day.to_iso_week_date() == std::tuple(2024, 9U, Weekday::Thursday), "the week date");
+    check(day.year() == 2024 && day.month() == Month::February && day.day() == 29 && day.ordinal() == 60 && day.iso_week() == 9,
+        "parts");
+    check(day.weekday() == Weekday::Thursday && to_string(day.weekday()) == "Thursday" && to_string(day.month()) == "February",
+        "names");
+    check(to_string(day + Duration::days(366)) == "2025-03-01" && day - Duration::hours(47) == Date::read("2024-02-28"), "moves");
+    check(Date::max() - day == Duration::days(364503189), "the days between");
+    check(day.next_day() == Date::read("2024-03-01") && Date::max().next_day() == std::nullopt, "the day after");
+    check(day.previous_day() == Date::read("2024-02-28") && Date::min().previous_day() == std::nullopt, "the day before");
+    check(day.checked_add_days(-60) == Date::read("2023-12-31") && Date::max().checked_add(Duration::days(1)) == std::nullopt,
+        "none");
+    check(Date::min().checked_sub(Duration::days(1)) == std::nullopt, "none");
+    check(Date::max().saturating_add(Duration::days(1)) == Date::max()
+        && Date::min().saturating_sub(Duration::days(1)) == Date::min(),
+        "held");
+    check(day.checked_next_occurrence(Weekday::Monday) == Date::read("2024-03-04"), "the next Monday");
+    check(day.checked_prev_occurrence(Weekday::Monday) == Date::read("2024-02-26"), "the Monday before");
+    check(day.replace_year(2020) == Date::read("2020-02-29") && day.replace_month(Month::May) == Date::read("2024-05-29"),
+        "replaced");
+    check(day.replace_day(1) == Date::read("2024-02-01") && day.replace_ordinal(366) == Date::read("2024-12-31"), "replaced");
+    check(day.ordinal_text() == "2024-060" && day.week_text() == "2024-W09-4", "texts");
+    std::ostringstream printed;
+    printed << day << ' ' << day.month() << ' ' << day.weekday();
+    check(printed.str() == "2024-02-29 February Thursday", "printed");
+    check(std::map<Date, int>{{day, 1}}.count(day) == 1 && std::unordered_set<Date>{day}.count(day) == 1, "as keys");
+}
+
+void refusals()
+{
+    throws([] { Date::from_calendar_date(2023, 2, 29); }, FOTS_DAY, "day was not in range", "29 February of 2023");
+    throws([] { Date::read("2024-02-3"); }, FOTS_UNREADABLE, "unexpected byte at 9", "a text that ends too early");
+    throws([] { Date::read(""); }, FOTS_UNREADABLE, "unexpected byte at 0", "no text");
+    throws([] { Date::read(std::string_view()); }, FOTS_UNREADABLE, "unexpected byte at 0", "no text at all");
+    throws([] { Date::max() + Duration::days(1); }, FOTS_PAST_RANGE, "past the range", "a day after the last one");
+    throws([] { Date(fots_date{FOTS_NOTHING}); }, FOTS_BAD_DATE, "bad date", "no date");
+    throws([] { Time::from_hms(24, 0, 0); }, FOTS_HOUR, "hour was not in range", "hour 24");
+    throws([] { Time(FOTS_NO_TIME); }, FOTS_BAD_TIME, "bad time", "no time");
+    throws([] { UtcOffset::from_hms(26, 0, 0); }, FOTS_OFFSET_HOUR, "offset hour was not in range", "26 hours");
+    throws([] { UtcOffset(fots_offset{FOTS_NOTHING}); }, FOTS_BAD_OFFSET, "bad offset", "no offset");
+    throws([] { Duration(fots_duration{1, -1}); }, FOTS_BAD_DURATION, "bad duration", "no duration");
+    throws([] { Duration::seconds(1) / 0; }, FOTS_PAST_RANGE, "past the range", "a second by 0");
+    try {
+        Date::from_calendar_date(2023, 2, 29);
+    } catch (const error &thrown) {
+        check(std::string(thrown.name()) == "day" && thrown.is_conditional() && thrown.place() == SIZE_MAX, "the name and the mark");
+    }
+}
+
+void others()
+{
+    const Time late = Time::from_hms(23, 0, 0);
+    check(late + Duration::hours(26) == Time::from_hms(1, 0, 0) && late - Duration::hours(24) == late, "round the clock");
+    check(Time::from_hms(0, 0, 0) - late == -Duration::hours(23), "a difference");
+    const Time one = Time::from_hms_nano(1, 2, 3, 4);
+    check(one.hour() == 1 && one.minute() == 2 && one.second() == 3 && one.nanosecond() == 4 && one < late, "the parts of a time");
+    check(-UtcOffset::from_hms(-5, 30, 0) == UtcOffset::from_whole_seconds(19800) && UtcOffset::utc().whole_seconds() == 0,
+        "offsets");
+    check(UtcOffset::from_hms(-1, 30, 0).as_hms() == std::tuple(-1, -30, 0), "the parts of an offset");
+    check(Duration::milliseconds(-1500).c().nanoseconds == -500000000 && Duration::of(-1, 1) == Duration::nanoseconds(-999999999),
+        "durations");
+    check(Duration::weeks(1) == Duration::days(7) && Duration::minutes(60) == Duration::hours(1)
+        && Duration::microseconds(2).whole_seconds() == 0, "units");
+    check(Duration::hours(47).whole_days() == 1 && Duration::days(-13).whole_weeks() == -1
+        && Duration::minutes(-90).whole_hours() == -1, "whole units");
+    check(Duration::seconds(90).whole_minutes() == 1
+        && (3 * Duration::seconds(5) - Duration::seconds(1)) / 7 + Duration::seconds(0) == Duration::seconds(2), "reckoned");
+    check((-Duration::seconds(1)).abs() > Duration::seconds(0) && Duration::nanoseconds(5).subsec_nanoseconds() == 5, "magnitudes");
+    const auto later = add_to_pair(Date::read("2020-12-31"), late, Duration::hours(2));
+    check(later == std::pair(Date::read("2021-01-01"), Time::from_hms(1, 0, 0)), "two hours later");
+    check(sub_from_pair(later->first, later->second, Duration::hours(2)) == std::pair(Date::read("2020-12-31"), late), "and back");
+    check(add_to_pair(Date::max(), late, Duration::hours(2)) == std::nullopt, "past the last moment");
+    const auto [date, time, offset] = read_rfc3339("2024-02-29T23:59:59.25+01:00");
+    check(rfc3339_text(date, time, offset) == "2024-02-29T23:59:59.25+01:00", "RFC 3339 both ways");
+    check(rfc3339_text(Date::max(), time, offset) == std::nullopt, "no text of RFC 3339");
+    const Duration since = unix_duration(date, time, offset);
+    check(since == Duration::of(1709247599, 250000000) && unix_pair(since, offset) == std::pair(date, time),
+        "the Unix time both ways");
+}
+
+#if __cplusplus >= 202002L
+void days_of_chrono()
+{
+    using namespace std::chrono;
+    const sys_days leap_day = 2024y / February / 29;
+    check(Date::from_sys_days(leap_day) == Date::read("2024-02-29") && Date::read("2024-02-29").to_sys_days() == leap_day,
+        "both ways");
+    check(Date::from_sys_days(sys_days{}) == Date::read("1970-01-01"), "the first day of Unix time");
+    check(Date::from_sys_days(Date::max().to_sys_days()) == Date::max()
+        && Date::from_sys_days(Date::min().to_sys_days()) == Date::min(), "the ends");
+    throws([] { Date::from_sys_days(Date::max().to_sys_days() + days(1)); }, FOTS_JULIAN_DAY, "julian_day was not in range",
+        "past the last day");
+    throws([] { Date::from_sys_days(sys_days::max()); }, FOTS_JULIAN_DAY, "julian_day was not in range", "the last day of chrono");
+    // Each day of the years that chrono has, one in 89, by the calendar of chrono.
+    for (sys_days day = sys_days(year::min() / January / 1); day <= sys_days(year::max() / December / 31); day += days(89)) {
+        const year_month_day calendar(day);
+        const auto [found, month, of_month] = Date::from_sys_days(day).to_calendar_date();
+        check(found == int(calendar.year()) && static_cast<unsigned>(month) == unsigned(calendar.month())
+            && of_month == unsigned(calendar.day())
+            && static_cast<unsigned>(Date::from_sys_days(day).weekday()) == weekday(day).iso_encoding(), "a day of chrono");
+    }
+}
+#endif
+
+} // namespace
+
+static_assert(!std::is_convertible_v<UtcOffset, Date> && !std::is_convertible_v<int, Date> && !std::is_default_constructible_v<Date>);
+static_assert(sizeof(Date) == sizeof(fots_date) && std::is_trivially_copyable_v<Date> && std::is_trivially_copyable_v<Duration>);
+
+int main()
+{
+    dates();
+    refusals();
+    others();
+#if __cplusplus >= 202002L
+    days_of_chrono();
+#endif
+    std::printf("classes in C++: %d failed\n", failed);
+    return failed != 0;
+}

@@ -1,0 +1,83 @@
+"""Tests of the columns with arrays of numpy: days of numpy, whole numbers of any bits, arrays in steps, and what is refused."""
+
+import unittest
+
+import numpy
+
+import fotsevindre
+from fotsevindre import Date
+
+EPOCH = 2440588
+
+
+class Numpy(unittest.TestCase):
+    def test_days_of_numpy(self):
+        days = numpy.array(["2024-02-29", "1969-12-31", "NaT", "-0001-12-31"], dtype="datetime64[D]")
+        rows, refused = fotsevindre.dates_to_calendar_dates(days)
+        self.assertEqual([(row.year, row.month, row.day) for row in (rows[0], rows[1], rows[3])], [(2024, 2, 29), (1969, 12, 31), (-1,
+            12, 31)])
+        self.assertEqual((refused, isinstance(fotsevindre.status_error(rows[2].status), ValueError)), (1, True))
+        past = numpy.array([2**62, -2**62, 2**63 - 1], dtype="int64").view("datetime64[D]")
+        self.assertEqual(fotsevindre.dates_weekdays(past)[1], 3)
+        self.assertTrue((past.view("int64") == [2**62, -2**62, 2**63 - 1]).all())
+        every = numpy.arange("1600-01-01", "2400-01-01", 7, dtype="datetime64[D]")
+        rows, refused = fotsevindre.dates_to_calendar_dates(every)
+        calendar = numpy.asarray(rows)
+        months = every.astype("datetime64[M]")
+        self.assertEqual(refused, 0)
+        self.assertTrue((calendar["year"] == every.astype("datetime64[Y]").astype(int) + 1970).all())
+        self.assertTrue((calendar["month"] == months.astype(int) % 12 + 1).all())
+        self.assertTrue((calendar["day"] == (every - months).astype(int) + 1).all())
+
+    def test_days_moved(self):
+        days = numpy.array(["2024-02-29", "2024-12-31"], dtype="datetime64[D]")
+        rows, refused = fotsevindre.dates_add_days(days, numpy.array([1, -366], dtype="timedelta64[D]"))
+        self.assertEqual((refused, [str(Date.from_julian_day(row.date)) for row in rows]), (0, ["2024-03-01", "2023-12-31"]))
+        found = (numpy.asarray(rows)["date"].astype("int64") - EPOCH).view("datetime64[D]")
+        self.assertTrue((found == days + numpy.array([1, -366])).all())
+
+    def test_whole_numbers_of_any_bits(self):
+        for bits in ("int8", "uint8", "int16", "uint16", "int32", "uint32", "int64", "uint64", ">i4", ">u8"):
+            rows, refused = fotsevindre.dates_from_calendar_dates(*(numpy.array([number, number], dtype=bits) for number in (24, 2,
+                29)))
+            self.assertEqual((refused, Date.from_julian_day(rows[1].date)), (0, Date.from_calendar_date(24, 2, 29)), bits)
+        fits = numpy.array([2000], dtype="int32")
+        for months in (numpy.array([-1]), numpy.array([2**32])):
+            with self.assertRaises(OverflowError):
+                fotsevindre.dates_from_calendar_dates(fits, months, fits)
+        with self.assertRaises(OverflowError):
+            fotsevindre.dates_from_julian_days(numpy.array([2**63], dtype="uint64"))
+
+    def test_arrays_in_steps(self):
+        table = numpy.array([[2451545, 0], [2451546, 0], [2451547, 0]])
+        for view, numbers in [(table[:, 0], [2451545, 2451546, 2451547]), (table[::-2, 0], [2451547, 2451545]), (table[:0, 0], [])]:
+            rows, refused = fotsevindre.dates_from_julian_days(view)
+            self.assertEqual((refused, [row.date for row in rows]), (0, numbers))
+        frozen = numpy.array([2451545], dtype="int32")
+        frozen.flags.writeable = False
+        self.assertEqual(fotsevindre.dates_to_ordinal_dates(frozen)[0][0].ordinal, 1)
+
+    def test_what_is_refused(self):
+        for wrong, words in [
+            (numpy.array(["2024-02-29T12"], dtype="datetime64[h]"), "datetime64\\[h\\]"), (numpy.array([1.0]), "float64"),
+            (numpy.array([True]), "bool"), (numpy.array([[1]]), "one dimension"), (numpy.array(["2024"]), "whole numbers"),
+            (numpy.array([None]), "whole numbers"),
+        ]:
+            with self.assertRaisesRegex(TypeError, words):
+                fotsevindre.dates_to_ordinal_dates(wrong)
+        days = numpy.array(["2024-02-29"], dtype="datetime64[D]")
+        for wrong in (days, days.astype("timedelta64[D]")):
+            with self.assertRaises(TypeError):
+                fotsevindre.dates_to_ordinal_dates(days[:, None])
+            with self.assertRaises(TypeError):
+                fotsevindre.dates_from_ordinal_dates(wrong, wrong)
+        with self.assertRaisesRegex(TypeError, "timedelta64\\[h\\]"):
+            fotsevindre.dates_add_days(days, numpy.array([1], dtype="timedelta64[h]"))
+
+    def test_numbers_of_numpy(self):
+        date = Date.from_calendar_date(numpy.int32(2024), numpy.uint8(2), numpy.int64(29))
+        self.assertEqual((date, date.replace_day(numpy.int16(1))), (Date.read("2024-02-29"), Date.read("2024-02-01")))
+
+
+if __name__ == "__main__":
+    unittest.main()

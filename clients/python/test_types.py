@@ -1,0 +1,35 @@
+"""What a checker of types makes of calls: it takes all of these but the marked ones. Nothing runs this file."""
+
+import datetime
+from typing import Optional, Tuple
+
+from fotsevindre import Date, Days, Month, SignedDuration, Time, UtcOffset, Weekday, add_to_pair, rfc3339_text
+
+day: Date = Date.from_calendar_date(2024, Month.February, 29)
+same: Date = Date.from_calendar_date(2024, 2, 29)
+last: Date = Date.MAX
+no_time: SignedDuration = SignedDuration.ZERO
+later: Date = day + SignedDuration.days(366) + datetime.timedelta(days=1)
+between: SignedDuration = last - day
+next_day: Optional[Date] = day.next_day()
+parts: Tuple[int, Month, int] = day.to_calendar_date()
+days: Days = day.iter_to(last)
+first: Date = days[0]
+count: int = len(days[1:]) + day.year() + day.month()
+is_less: bool = day < last and day.weekday() == Weekday.Friday and UtcOffset.UTC >= UtcOffset.UTC
+pair: Optional[Tuple[Date, Time]] = add_to_pair(day, Time.MIDNIGHT, no_time * 2 / 3)
+text: Optional[str] = rfc3339_text(day, Time.MAX, UtcOffset.UTC)
+date: datetime.date = day.replace(year=2025, day=1).to_date()
+
+Date.from_calendar_date("2024", 2, 29)  # refused
+Date.from_calendar_date(2024.0, 2, 29)  # refused
+Date.from_calendar_date(2024, 2)  # refused
+Date.from_iso_week_date(2024, 9, 4)  # refused
+day + 1  # refused
+day < Time.MIDNIGHT  # refused
+day.year == 2024  # refused
+day.next_day().year()  # refused
+day.next_occurrence(1)  # refused
+SignedDuration.days(1.5)  # refused
+Time.MIDNIGHT + datetime.timedelta(hours=1)  # refused
+same.to_calendar_date()[0].upper()  # refused

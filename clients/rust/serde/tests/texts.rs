@@ -1,0 +1,58 @@
+//! Values in JSON, and what is refused there.
+
+use fotsevindre::{Date, Month, Time, UtcOffset, Weekday};
+use serde::{Deserialize, Serialize};
+
+#[derive(Serialize, Deserialize, Debug, PartialEq)]
+struct Everything {
+    #[serde(with = "fotsevindre_serde::text")]
+    date: Date,
+    #[serde(with = "fotsevindre_serde::text")]
+    time: Time,
+    #[serde(with = "fotsevindre_serde::text")]
+    offset: UtcOffset,
+    #[serde(with = "fotsevindre_serde::text")]
+    month: Month,
+    #[serde(with = "fotsevindre_serde::text")]
+    weekday: Weekday,
+    #[serde(default, with = "fotsevindre_serde::option")]
+    until: Option<Date>,
+}
+
+#[test]
+fn both_ways() {
+    let value = Everything {
+        date: Date::MAX,
+        time: Time::MAX,
+        offset: UtcOffset::from_hms(-5, 30, 0).unwrap(),
+        month: Month::May,
+        weekday: Weekday::Friday,
+        until: Some(Date::MIN),
+    };
+    let text = r#"{"date":"+999999-12-31","time":"23:59:59.999999999","offset":"-05:30:00","month":"May","weekday":"Friday","until":"-999999-01-01"}"#;
+    assert_eq!(serde_json::to_string(&value).unwrap(), text);
+    assert_eq!(serde_json::from_str::<Everything>(text).unwrap(), value);
+    let none = Everything { until: None, ..value };
+    let text = text.replace(r#""-999999-01-01""#, "null");
+    assert_eq!(serde_json::to_string(&none).unwrap(), text);
+    assert_eq!(serde_json::from_str::<Everything>(&text).unwrap(), none);
+    assert_eq!(serde_json::from_str::<Everything>(&text.replace(r#","until":null"#, "")).unwrap(), none);
+}
+
+#[derive(Deserialize, Debug)]
+struct Day {
+    #[serde(rename = "day", with = "fotsevindre_serde::text")]
+    _day: Date,
+}
+
+#[test]
+fn refusals() {
+    for (text, words) in [
+        (r#"{"day":"2023-02-29"}"#, "day was not in range"),
+        (r#"{"day":"2024-02-3"}"#, "unexpected byte at 9"),
+        (r#"{"day":2460370}"#, "expected a text"),
+    ] {
+        let error = serde_json::from_str::<Day>(text).unwrap_err().to_string();
+        assert!(error.contains(words), "{error}");
+    }
+}

@@ -1,0 +1,59 @@
+//! Texts of this crate's own, read byte by byte.
+
+use crate::error::Unreadable;
+
+/// What is left of a text.
+pub(crate) struct Reader<'a> {
+    bytes: &'a [u8],
+    place: usize,
+}
+
+impl<'a> Reader<'a> {
+    pub(crate) fn new(text: &'a str) -> Self {
+        Self { bytes: text.as_bytes(), place: 0 }
+    }
+
+    /// The refusal of the byte that comes next, or of the end.
+    pub(crate) fn unexpected(&self) -> Unreadable {
+        Unreadable::UnexpectedByte(self.place)
+    }
+
+    /// Takes the byte that comes next where it is this one.
+    pub(crate) fn takes(&mut self, byte: u8) -> bool {
+        let is_next = self.bytes.get(self.place) == Some(&byte);
+        self.place += usize::from(is_next);
+        is_next
+    }
+
+    /// Takes this byte.
+    pub(crate) fn byte(&mut self, byte: u8) -> Result<(), Unreadable> {
+        if self.takes(byte) {
+            Ok(())
+        } else {
+            Err(self.unexpected())
+        }
+    }
+
+    /// The digit that comes next, which is then taken, or `None`.
+    pub(crate) fn digit(&mut self) -> Option<u8> {
+        let digit = self.bytes.get(self.place).filter(|byte| byte.is_ascii_digit())?;
+        self.place += 1;
+        Some(digit - b'0')
+    }
+
+    /// The number of two digits.
+    pub(crate) fn two_digits(&mut self) -> Result<u8, Unreadable> {
+        let tens = self.digit().ok_or_else(|| self.unexpected())?;
+        let ones = self.digit().ok_or_else(|| self.unexpected())?;
+        Ok(tens * 10 + ones)
+    }
+
+    /// That nothing is left.
+    pub(crate) fn end(&self) -> Result<(), Unreadable> {
+        if self.place == self.bytes.len() {
+            Ok(())
+        } else {
+            Err(self.unexpected())
+        }
+    }
+}

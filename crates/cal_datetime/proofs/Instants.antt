@@ -1,0 +1,86 @@
+-- The instants of date-times at an offset, and the Unix times of instants.
+use Rattle.std.proofs.Common.{◌≡◌, ℕ, ◌/◌, ◌<◌, sym, arith, ℤ, pos, negsuc, neg_ℤ, unsigned_abs, ◌+ℤ◌, ◌-ℤ◌, ◌*ℤ◌, ◌≤ℤ◌, ◌<ℤ◌}
+use Rattle.std.proofs.lemmas.Int.{ints}
+use Rattle.std.specs.Int.{int_div_euclid, int_rem_euclid}
+use Rattle.cal_time.specs.SignedDuration.{second, day, IsDuration}
+use Rattle.cal_time.specs.Date.{first_julian_day, IsDate, HasJulianDay, NoDate}
+use Rattle.cal_time.specs.Move.{IsDateNumber}
+use Rattle.cal_time.specs.UtcOffset.{IsOffset, greatest}
+use Rattle.cal_datetime.specs.DateTime.{IsDateTime, date_time}
+use Rattle.cal_datetime.specs.OffsetDateTime.{Shown, IsInstant, instant, local_at, epoch_day, unix_epoch, unix_seconds}
+
+-- what a clock at another offset shows
+pub local-ahead : (m : Shown) (ahead offset : ℤ) → ahead ≡ offset *ℤ pos second -ℤ m.offset *ℤ pos second → m.local +ℤ ahead ≡ local_at (instant m) offset
+unfolding instant
+local-ahead m ahead offset e = omega (arith, ints, e)
+
+-- the seconds of an offset, in nanoseconds
+pub IsInstant-less : (l o : ℤ) → IsDateTime l → IsOffset o → IsInstant (l -ℤ o *ℤ pos second)
+IsInstant-less l o h k =
+    let low : neg_ℤ (pos greatest) ≤ℤ o = omega (arith, ints, k.magnitude) in
+    let high : o ≤ℤ pos greatest = omega (arith, ints, k.magnitude) in
+    record { not_before = omega (arith, ints, h.not_before); not_after = omega (arith, ints, h.not_after) }
+
+pub ruleset instants = (IsInstant-less)
+
+-- the day of a Julian day
+pub julian_day-in_range : (n : ℕ) (j : ℤ) → IsDate n → HasJulianDay j n → IsDateNumber (j -ℤ first_julian_day)
+julian_day-in_range n j h e = record { not_before = omega (arith, ints, e); not_after = omega (arith, ints, e, h) }
+
+pub julian_day-none : (j : ℤ) → NoDate (HasJulianDay j) → ¬ IsDateNumber (j -ℤ first_julian_day)
+julian_day-none j none h =
+    none (unsigned_abs (j -ℤ first_julian_day)) (omega (arith, ints, h.not_before, h.not_after)) (omega (arith, ints, h.not_before))
+
+-- the date-time at UTC of a number of seconds and nanoseconds, from its day and its time
+pub unix_date_time : (seconds days past nanoseconds : ℤ) (n t : ℕ) → seconds ≡ days *ℤ pos 86_400 +ℤ past → pos n ≡ epoch_day +ℤ days → pos t ≡ past *ℤ pos second +ℤ nanoseconds
+    → date_time n t ≡ unix_epoch +ℤ (seconds *ℤ pos second +ℤ nanoseconds)
+unix_date_time seconds days past nanoseconds n t e f g = omega (arith, ints, e, f, g)
+
+pub unix_none : (seconds days past nanoseconds : ℤ) (t : ℕ) → seconds ≡ days *ℤ pos 86_400 +ℤ past → pos t ≡ past *ℤ pos second +ℤ nanoseconds → t < day
+    → ¬ IsDateNumber (epoch_day +ℤ days) → ¬ IsDateTime (unix_epoch +ℤ (seconds *ℤ pos second +ℤ nanoseconds))
+unix_none seconds days past nanoseconds t e g below none h =
+    none (record { not_before = omega (arith, ints, h.not_before, e, g, below); not_after = omega (arith, ints, h.not_after, e, g, below) })
+
+-- a number is its quotient and its remainder by a day of seconds
+pub days-and_past : (z : ℤ) → z ≡ int_div_euclid z (pos 86_400) *ℤ pos 86_400 +ℤ int_rem_euclid z (pos 86_400)
+days-and_past (pos n) = omega (arith, ints)
+days-and_past (negsuc n) = omega (arith, ints)
+
+-- a quotient by a second is known by its bounds
+pub div_euclid-one : (z q : ℤ) → (q *ℤ pos second) ≤ℤ z → z <ℤ (q *ℤ pos second +ℤ pos second) → int_div_euclid z (pos second) ≡ q
+div_euclid-one (pos a) (pos b) low high = omega (arith, ints)
+div_euclid-one (pos a) (negsuc b) low high = omega (arith, ints)
+div_euclid-one (negsuc a) (pos b) low high = omega (arith, ints)
+div_euclid-one (negsuc a) (negsuc b) low high = omega (arith, ints)
+
+-- the seconds that have passed, from those of the day and the time
+pub unix_seconds-is : (m : Shown) (q : ℤ) (n t : ℕ) → m.local ≡ date_time n t → q ≡ ((pos n -ℤ epoch_day) *ℤ pos 86_400 +ℤ pos (t / second)) -ℤ m.offset
+    → q ≡ unix_seconds (instant m)
+unfolding instant
+unix_seconds-is m q n t e f = sym (div_euclid-one _ q (omega (arith, ints, e, f)) (omega (arith, ints, e, f)))
+
+-- a number is its quotient and its remainder by a second
+pub seconds-and_past : (z : ℤ) → z ≡ int_div_euclid z (pos second) *ℤ pos second +ℤ int_rem_euclid z (pos second)
+seconds-and_past (pos n) = omega (arith, ints)
+seconds-and_past (negsuc n) = omega (arith, ints)
+
+-- the duration between two instants
+pub apart-is_duration : (l m o p : ℤ) → IsDateTime l → IsDateTime m → IsOffset o → IsOffset p → IsDuration ((l -ℤ m) +ℤ (o *ℤ pos second -ℤ p *ℤ pos second))
+apart-is_duration l m o p h k i j =
+    let a : neg_ℤ (pos greatest) ≤ℤ o = omega (arith, ints, i.magnitude) in
+    let b : o ≤ℤ pos greatest = omega (arith, ints, i.magnitude) in
+    let c : neg_ℤ (pos greatest) ≤ℤ p = omega (arith, ints, j.magnitude) in
+    let d : p ≤ℤ pos greatest = omega (arith, ints, j.magnitude) in
+    record {
+      at_least = omega (arith, ints, h.not_before, k.not_after);
+      at_most = omega (arith, ints, h.not_after, k.not_before);
+    }
+
+pub instants-apart : (m k : Shown) → (m.local -ℤ k.local) +ℤ (k.offset *ℤ pos second -ℤ m.offset *ℤ pos second) ≡ instant m -ℤ instant k
+unfolding instant
+instants-apart m k = omega (arith, ints)
+
+-- the clock of a date-time shows its own instant again
+pub own_clock : (m k : Shown) → instant k ≡ instant m → local_at (instant k) m.offset ≡ m.local
+unfolding instant
+own_clock m k e = omega (arith, ints, e)

@@ -1,0 +1,4 @@
+pub mod DateTimes
+pub mod Instants
+pub mod Texts
+pub mod OneAnswer

@@ -1,0 +1,36 @@
+use Rattle.std.proofs.Common.{arith, pos, ◌+ℤ◌, ◌*ℤ◌, ◌-ℤ◌, FitsSigned, w64}
+use Rattle.std.proofs.lemmas.Int.{ints, to_z-of_z}
+use Rattle.cal_datetime.proofs.Instants.{unix_seconds-is}
+use Rattle.cal_datetime.proofs.offset_date_time.OffsetDateTime.unix_timestamp.Goals as goal
+
+pub returns : goal.returns
+returns c =
+    let day = c.days_since_epoch.ensures in
+    let clock = c.whole_seconds.ensures in
+    let offset = c.seconds_of.ensures in
+    let days = c.days_since_epoch.result in
+    let past = c.whole_seconds.result in
+    let ahead = c.seconds_of.result in
+    let a : FitsSigned w64 days = omega (arith, ints, day.range) in
+    let b : FitsSigned w64 past = omega (arith, ints, clock.range) in
+    let o : FitsSigned w64 ahead = omega (arith, ints, offset.least, offset.most) in
+    let m : FitsSigned w64 (days *ℤ pos 86_400) = omega (arith, ints, day.range) in
+    let s : FitsSigned w64 (days *ℤ pos 86_400 +ℤ past) = omega (arith, ints, day.range, clock.range) in
+    let e : FitsSigned w64 ((days *ℤ pos 86_400 +ℤ past) -ℤ ahead) = omega (arith, ints, day.range, clock.range, offset.least, offset.most) in
+    simp to_z-of_z (unix_seconds-is c.args.self _ c.date.result c.time.result
+    (rw (c.date.ensures.value, c.time.ensures.value) c.time.ensures.whole)
+    (omega (arith, ints, day.value, clock.value, offset.value, c.offset.ensures.value)))
+
+pub overflow_sub-result : goal.overflow_sub-result
+overflow_sub-result c =
+    let day = c.days_since_epoch.ensures in
+    let clock = c.whole_seconds.ensures in
+    let offset = c.seconds_of.ensures in
+    let days = c.days_since_epoch.result in
+    let past = c.whole_seconds.result in
+    let a : FitsSigned w64 days = omega (arith, ints, day.range) in
+    let b : FitsSigned w64 past = omega (arith, ints, clock.range) in
+    let o : FitsSigned w64 c.seconds_of.result = omega (arith, ints, offset.least, offset.most) in
+    let m : FitsSigned w64 (days *ℤ pos 86_400) = omega (arith, ints, day.range) in
+    let s : FitsSigned w64 (days *ℤ pos 86_400 +ℤ past) = omega (arith, ints, day.range, clock.range) in
+    simp to_z-of_z (omega (arith, ints, day.range, clock.range, offset.least, offset.most))

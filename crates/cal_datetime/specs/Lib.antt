@@ -1,0 +1,4 @@
+pub mod DateTime
+pub mod DateTimeLaws
+pub mod OffsetDateTime
+pub mod OffsetDateTimeLaws

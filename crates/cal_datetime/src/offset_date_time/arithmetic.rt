@@ -1,0 +1,113 @@
+//! Date-times at an offset moved on and back by durations, and the durations between them.
+ghost use Rattle.std.specs.Prelude.{◌≡◌, ◌+ℤ◌, ◌-ℤ◌, IfSome, SomeIff};
+ghost use Rattle.cal_datetime.specs.DateTime.{IsDateTime, nearest};
+ghost use Rattle.cal_datetime.specs.OffsetDateTime.{instant};
+
+use crate::OffsetDateTime;
+use crate::offset_date_time::ahead;
+use cal_time::SignedDuration;
+use std::ops::{Add, AddAssign, Sub, SubAssign};
+
+impl OffsetDateTime {
+    /// The date-time that much later, at the same offset, or `None` where it is out of the range.
+    #[tactic(auto, unfolding(crate::specs::OffsetDateTime::instant))]
+    pub fn checked_add(self, duration: SignedDuration) -> Option<Self>
+        ensures value { let local = self.local +ℤ duration
+            in SomeIff result (IsDateTime local) (record { local = local; offset = self.offset }) }
+        ensures instant { IfSome result (λ later. instant later ≡ instant self +ℤ duration) }
+    {
+        match self.local().checked_add(duration) {
+            Some(local) => Some(local.assume_offset(self.offset())),
+            None => None,
+        }
+    }
+
+    /// The date-time that much earlier, at the same offset, or `None` where it is out of the range.
+    #[tactic(auto, unfolding(crate::specs::OffsetDateTime::instant))]
+    pub fn checked_sub(self, duration: SignedDuration) -> Option<Self>
+        ensures value { let local = self.local -ℤ duration
+            in SomeIff result (IsDateTime local) (record { local = local; offset = self.offset }) }
+        ensures instant { IfSome result (λ earlier. instant earlier ≡ instant self -ℤ duration) }
+    {
+        match self.local().checked_sub(duration) {
+            Some(local) => Some(local.assume_offset(self.offset())),
+            None => None,
+        }
+    }
+
+    /// The date-time that much later, or the end of the range that is nearest to it, at the same offset.
+    pub fn saturating_add(self, duration: SignedDuration) -> Self
+        ensures { result ≡ record { local = nearest (self.local +ℤ duration); offset = self.offset } }
+    {
+        self.local()
+            .saturating_add(duration)
+            .assume_offset(self.offset())
+    }
+
+    /// The date-time that much earlier, or the end of the range that is nearest to it, at the same offset.
+    pub fn saturating_sub(self, duration: SignedDuration) -> Self
+        ensures { result ≡ record { local = nearest (self.local -ℤ duration); offset = self.offset } }
+    {
+        self.local()
+            .saturating_sub(duration)
+            .assume_offset(self.offset())
+    }
+}
+
+impl Add<SignedDuration> for OffsetDateTime {
+    type Output = Self;
+
+    ghost can_add = { λ m v. IsDateTime (m.local +ℤ v) };
+
+    ghost add_gives = { λ m v moved. (moved ≡ record { local = m.local +ℤ v; offset = m.offset }) × (instant moved ≡ instant m +ℤ v) };
+
+    /// The date-time that much later, for a caller who knows that it is in the range.
+    fn add(self, duration: SignedDuration) -> Self {
+        self.checked_add(duration).unwrap()
+    }
+}
+
+impl AddAssign<SignedDuration> for OffsetDateTime {
+    ghost can_add_assign = { λ m v. IsDateTime (m.local +ℤ v) };
+
+    ghost add_assign_gives = { λ m v moved. (moved ≡ record { local = m.local +ℤ v; offset = m.offset }) × (instant moved ≡ instant m +ℤ v) };
+
+    fn add_assign(&mut self, duration: SignedDuration) {
+        *self = *self + duration;
+    }
+}
+
+impl Sub<SignedDuration> for OffsetDateTime {
+    type Output = Self;
+
+    ghost can_sub = { λ m v. IsDateTime (m.local -ℤ v) };
+
+    ghost sub_gives = { λ m v moved. (moved ≡ record { local = m.local -ℤ v; offset = m.offset }) × (instant moved ≡ instant m -ℤ v) };
+
+    /// The date-time that much earlier, for a caller who knows that it is in the range.
+    fn sub(self, duration: SignedDuration) -> Self {
+        self.checked_sub(duration).unwrap()
+    }
+}
+
+impl SubAssign<SignedDuration> for OffsetDateTime {
+    ghost can_sub_assign = { λ m v. IsDateTime (m.local -ℤ v) };
+
+    ghost sub_assign_gives = { λ m v moved. (moved ≡ record { local = m.local -ℤ v; offset = m.offset }) × (instant moved ≡ instant m -ℤ v) };
+
+    fn sub_assign(&mut self, duration: SignedDuration) {
+        *self = *self - duration;
+    }
+}
+
+impl Sub for OffsetDateTime {
+    type Output = SignedDuration;
+
+    ghost sub_gives = { λ a b v. v ≡ instant a -ℤ instant b };
+
+    /// The duration from the other instant to this one, below zero where the other is later.
+    #[tactic(auto, unfolding(crate::specs::OffsetDateTime::instant))]
+    fn sub(self, other: Self) -> SignedDuration {
+        self.local() - other.local() + ahead(other.offset(), self.offset())
+    }
+}

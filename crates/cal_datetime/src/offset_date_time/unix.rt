@@ -1,0 +1,162 @@
+//! Unix times: seconds and nanoseconds since 1970-01-01 0:00 UTC, of which each day has 86400 seconds.
+ghost use Rattle.std.specs.Prelude.{◌≡◌, ◌↔◌, ◌/◌, ◌^◌, ◌<◌, ◌<ℤ◌, ◌≤ℤ◌, unsigned_abs, pos, neg_ℤ, ◌+ℤ◌, ◌-ℤ◌, ◌*ℤ◌, Ok, IfOk, IfErr, IsSome, IfSome};
+ghost use Rattle.cal_time.specs.Date.{first_julian_day};
+ghost use Rattle.cal_time.specs.Move.{IsDateNumber};
+ghost use Rattle.cal_time.specs.Refusal.{IsRefused};
+ghost use Rattle.cal_time.specs.SignedDuration.{second};
+ghost use Rattle.cal_time.specs.UtcOffset.{greatest};
+ghost use Rattle.cal_datetime.specs.DateTime.{IsDateTime};
+ghost use Rattle.cal_datetime.specs.OffsetDateTime.{instant, IsInstant, epoch_day, unix_epoch, unix_nanoseconds, unix_seconds, timestamp_out_of_range};
+
+use crate::OffsetDateTime;
+use cal_time::error::{Component, ComponentRange};
+use cal_time::{Counted, Date, SignedDuration, Time, UtcOffset};
+
+/// The Julian day of 1970-01-01.
+const EPOCH_DAY: i64 = 2_440_588;
+
+const SECONDS_PER_DAY: i64 = 86_400;
+
+const NANOSECONDS_PER_SECOND: i128 = 1_000_000_000;
+
+/// The instant of 1970-01-01 0:00 UTC.
+const EPOCH: i128 = 31_619_087_596_800_000_000_000;
+
+impl OffsetDateTime {
+    /// 1970-01-01 0:00 UTC, whose Unix time is 0.
+    pub fn unix_epoch() -> Self
+        ensures value { result ≡ record { local = unix_epoch; offset = pos 0 } }
+        ensures instant { instant result ≡ unix_epoch }
+    {
+        Self::new_utc(date_of(0).unwrap(), Time::MIDNIGHT)
+    }
+
+    /// The date-time at UTC that many seconds after 1970-01-01 0:00, or before where they are below zero.
+    pub fn from_unix_timestamp(timestamp: i64) -> Result<Self, ComponentRange>
+        ensures value { let local = unix_epoch +ℤ timestamp *ℤ pos second
+            in IsDateTime local → result ≡ Ok (record { local = local; offset = pos 0 }) }
+        ensures instant { IfOk result (λ m. instant m ≡ unix_epoch +ℤ timestamp *ℤ pos second) }
+        ensures refused { IsRefused timestamp_out_of_range result ↔ ¬ IsDateTime (unix_epoch +ℤ timestamp *ℤ pos second) }
+        ensures reason { IfErr result (λ e. e ≡ timestamp_out_of_range) }
+    {
+        at_utc(timestamp, 0)
+    }
+
+    /// The date-time at UTC that many nanoseconds after 1970-01-01 0:00, or before where they are below zero.
+    pub fn from_unix_timestamp_nanos(timestamp: i128) -> Result<Self, ComponentRange>
+        ensures value { let local = unix_epoch +ℤ timestamp
+            in IsDateTime local → result ≡ Ok (record { local = local; offset = pos 0 }) }
+        ensures instant { IfOk result (λ m. instant m ≡ unix_epoch +ℤ timestamp) }
+        ensures refused { IsRefused timestamp_out_of_range result ↔ ¬ IsDateTime (unix_epoch +ℤ timestamp) }
+        ensures reason { IfErr result (λ e. e ≡ timestamp_out_of_range) }
+    {
+        let nanoseconds = timestamp.rem_euclid(NANOSECONDS_PER_SECOND) as i32;
+        match i64::try_from(timestamp.div_euclid(NANOSECONDS_PER_SECOND)) {
+            Ok(seconds) => at_utc(seconds, nanoseconds),
+            Err(_) => Err(ComponentRange::unconditional(Component::Timestamp)),
+        }
+    }
+
+    /// The seconds from 1970-01-01 0:00 UTC that have passed, below zero before it: a part of a second counts as a whole one
+    /// there.
+    pub fn unix_timestamp(self) -> i64
+        ensures { result ≡ unix_seconds (instant self) }
+    {
+        let seconds = days_since_epoch(self.date()) * SECONDS_PER_DAY + whole_seconds(self.time());
+        seconds - seconds_of(self.offset())
+    }
+
+    /// The nanoseconds from 1970-01-01 0:00 UTC on, below zero before it.
+    pub fn unix_timestamp_nanos(self) -> i128
+        ensures { result ≡ unix_nanoseconds (instant self) }
+    {
+        self.instant() - EPOCH
+    }
+
+    /// The nanoseconds of UTC from the first date-time of the range on. Two products and two sums give it, and no quotient.
+    #[tactic(auto, using(crate::proofs::Instants::instants), unfolding(crate::specs::OffsetDateTime::instant))]
+    pub(super) fn instant(self) -> i128
+        ensures value { result ≡ instant self }
+        ensures parts { result ≡ self.local -ℤ self.offset *ℤ pos second }
+        ensures range { IsInstant result }
+    {
+        let local = self.local().number();
+        local - i128::from(self.offset().whole_seconds()) * NANOSECONDS_PER_SECOND
+    }
+}
+
+/// The date of that Julian day, or `None` where it is out of the range.
+fn at_julian_day(julian_day: i32) -> Option<Date>
+    ensures some { IsSome result ↔ IsDateNumber (julian_day -ℤ first_julian_day) }
+    ensures number { IfSome result (λ n. pos n ≡ julian_day -ℤ first_julian_day) }
+{
+    match Date::from_julian_day(julian_day) {
+        Ok(date) => Some(date),
+        Err(_) => None,
+    }
+}
+
+/// The date so many days after 1970-01-01, or `None` where it is out of the range.
+fn date_of(days: i64) -> Option<Date>
+    requires { unsigned_abs days < 2 ^ 62 }
+    ensures some { IsSome result ↔ IsDateNumber (epoch_day +ℤ days) }
+    ensures number { IfSome result (λ n. pos n ≡ epoch_day +ℤ days) }
+{
+    match i32::try_from(days + EPOCH_DAY) {
+        Ok(julian_day) => at_julian_day(julian_day),
+        Err(_) => None,
+    }
+}
+
+/// The days from 1970-01-01 to the date, below zero before it.
+fn days_since_epoch(date: Date) -> i64
+    ensures value { result ≡ pos date -ℤ epoch_day }
+    ensures range { (neg_ℤ (pos 400_000_000) ≤ℤ result) × (result ≤ℤ pos 400_000_000) }
+{
+    i64::from(date.to_julian_day()) - EPOCH_DAY
+}
+
+/// The whole seconds since midnight.
+fn whole_seconds(time: Time) -> i64
+    ensures value { result ≡ pos (time / second) }
+    ensures range { (pos 0 ≤ℤ result) × (result <ℤ pos 86_400) }
+{
+    let _ = time.hour();
+    (time.number() as u64 / 1_000_000_000) as i64
+}
+
+/// The seconds of an offset.
+fn seconds_of(offset: UtcOffset) -> i64
+    ensures value { result ≡ offset }
+    ensures least { neg_ℤ (pos greatest) ≤ℤ result }
+    ensures most { result ≤ℤ pos greatest }
+{
+    i64::from(offset.whole_seconds())
+}
+
+/// The time of so many seconds and nanoseconds past midnight.
+fn time_of(seconds: i64, nanoseconds: i32) -> Time
+    requires not_before { pos 0 ≤ℤ seconds × pos 0 ≤ℤ nanoseconds }
+    requires within_day { seconds <ℤ pos 86_400 }
+    requires within_second { nanoseconds <ℤ pos second }
+    ensures { pos result ≡ seconds *ℤ pos second +ℤ nanoseconds }
+{
+    Time::MIDNIGHT + SignedDuration::new(seconds, nanoseconds)
+}
+
+/// The date-time at UTC so many seconds after 1970-01-01 0:00, and nanoseconds after that.
+fn at_utc(seconds: i64, nanoseconds: i32) -> Result<OffsetDateTime, ComponentRange>
+    requires { pos 0 ≤ℤ nanoseconds × nanoseconds <ℤ pos second }
+    ensures value { let local = unix_epoch +ℤ (seconds *ℤ pos second +ℤ nanoseconds)
+        in IsDateTime local → result ≡ Ok (record { local = local; offset = pos 0 }) }
+    ensures instant { IfOk result (λ m. instant m ≡ unix_epoch +ℤ (seconds *ℤ pos second +ℤ nanoseconds)) }
+    ensures refused { IsRefused timestamp_out_of_range result
+        ↔ ¬ IsDateTime (unix_epoch +ℤ (seconds *ℤ pos second +ℤ nanoseconds)) }
+    ensures reason { IfErr result (λ e. e ≡ timestamp_out_of_range) }
+{
+    let time = time_of(seconds.rem_euclid(SECONDS_PER_DAY), nanoseconds);
+    match date_of(seconds.div_euclid(SECONDS_PER_DAY)) {
+        Some(date) => Ok(OffsetDateTime::new_utc(date, time)),
+        None => Err(ComponentRange::unconditional(Component::Timestamp)),
+    }
+}

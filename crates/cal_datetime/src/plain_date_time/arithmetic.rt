@@ -1,0 +1,115 @@
+//! Date-times moved on and back by durations, and the durations between them.
+ghost use Rattle.std.specs.Prelude.{◌≡◌, ◌+ℤ◌, ◌-ℤ◌, SomeIff};
+ghost use Rattle.cal_datetime.specs.DateTime.{IsDateTime, nearest};
+
+use crate::PlainDateTime;
+use crate::laws::{first, last};
+use cal_time::{SignedDuration, add_to_pair, sub_from_pair};
+use std::ops::{Add, AddAssign, Sub, SubAssign};
+
+impl PlainDateTime {
+    /// The date-time that much later, or `None` where it is out of the range.
+    ///
+    /// It is exact, to the nanosecond: 2020-12-31 23:00 and two hours are 2021-01-01 1:00.
+    pub fn checked_add(self, duration: SignedDuration) -> Option<Self>
+        ensures value { SomeIff result (IsDateTime (self +ℤ duration)) (self +ℤ duration) }
+        ensures in_range { IsDateTime self }
+    {
+        match add_to_pair(self.date, self.time, duration) {
+            Some((date, time)) => Some(Self::new(date, time)),
+            None => None,
+        }
+    }
+
+    /// The date-time that much earlier, or `None` where it is out of the range.
+    ///
+    /// It is exact, to the nanosecond: 2021-01-01 1:00 less two hours is 2020-12-31 23:00.
+    pub fn checked_sub(self, duration: SignedDuration) -> Option<Self>
+        ensures value { SomeIff result (IsDateTime (self -ℤ duration)) (self -ℤ duration) }
+        ensures in_range { IsDateTime self }
+    {
+        match sub_from_pair(self.date, self.time, duration) {
+            Some((date, time)) => Some(Self::new(date, time)),
+            None => None,
+        }
+    }
+
+    /// The date-time that much later, or the end of the range that is nearest to it.
+    pub fn saturating_add(self, duration: SignedDuration) -> Self
+        ensures { result ≡ nearest (self +ℤ duration) }
+    {
+        match self.checked_add(duration) {
+            Some(moved) => moved,
+            None if duration.is_negative() => first(),
+            None => last(),
+        }
+    }
+
+    /// The date-time that much earlier, or the end of the range that is nearest to it.
+    pub fn saturating_sub(self, duration: SignedDuration) -> Self
+        ensures { result ≡ nearest (self -ℤ duration) }
+    {
+        match self.checked_sub(duration) {
+            Some(moved) => moved,
+            None if duration.is_negative() => last(),
+            None => first(),
+        }
+    }
+}
+
+impl Add<SignedDuration> for PlainDateTime {
+    type Output = Self;
+
+    ghost can_add = { λ m v. IsDateTime (m +ℤ v) };
+
+    ghost add_gives = { λ m v moved. moved ≡ m +ℤ v };
+
+    /// The date-time that much later, for a caller who knows that it is in the range.
+    fn add(self, duration: SignedDuration) -> Self {
+        self.checked_add(duration).unwrap()
+    }
+}
+
+impl AddAssign<SignedDuration> for PlainDateTime {
+    ghost can_add_assign = { λ m v. IsDateTime (m +ℤ v) };
+
+    ghost add_assign_gives = { λ m v moved. moved ≡ m +ℤ v };
+
+    fn add_assign(&mut self, duration: SignedDuration) {
+        *self = *self + duration;
+    }
+}
+
+impl Sub<SignedDuration> for PlainDateTime {
+    type Output = Self;
+
+    ghost can_sub = { λ m v. IsDateTime (m -ℤ v) };
+
+    ghost sub_gives = { λ m v moved. moved ≡ m -ℤ v };
+
+    /// The date-time that much earlier, for a caller who knows that it is in the range.
+    fn sub(self, duration: SignedDuration) -> Self {
+        self.checked_sub(duration).unwrap()
+    }
+}
+
+impl SubAssign<SignedDuration> for PlainDateTime {
+    ghost can_sub_assign = { λ m v. IsDateTime (m -ℤ v) };
+
+    ghost sub_assign_gives = { λ m v moved. moved ≡ m -ℤ v };
+
+    fn sub_assign(&mut self, duration: SignedDuration) {
+        *self = *self - duration;
+    }
+}
+
+impl Sub for PlainDateTime {
+    type Output = SignedDuration;
+
+    ghost sub_gives = { λ a b v. (v ≡ a -ℤ b) × IsDateTime a × IsDateTime b };
+
+    /// The duration from the other to this one, below zero where the other is later.
+    fn sub(self, other: Self) -> SignedDuration {
+        (self.date - other.date) + (self.time - other.time)
+    }
+}

@@ -1,0 +1,64 @@
+-- The first and the last days of months and weeks.
+use Rattle.std.proofs.Common.{◌≡◌, ℕ, ◌+◌, ◌≤◌, sym, ap, ◌∙◌, subst, arith, ℤ, pos, ◌+ℤ◌, ◌-ℤ◌, ◌*ℤ◌, ◌≤ℤ◌, inl, inr}
+use Rattle.std.proofs.lemmas.Bool.{cases_lt}
+use Rattle.std.proofs.lemmas.Bool.Decides.{nat_tests}
+use Rattle.std.proofs.lemmas.Int.{ints}
+use Rattle.cal_time.specs.Date.{year_at, month_at, day_of_month_at, weekday_at, IsDate, HasCalendarDate}
+use Rattle.cal_time.specs.Days.{day_of_month_at-range}
+use Rattle.cal_time.specs.IsoWeekDate.{iso_year_at, iso_week_at, thursday_of, weekdays_upto, HasIsoWeekDate}
+use Rattle.cal_time.specs.Laws.{weekday_at-is}
+use Rattle.cal_time.specs.Lengths.{days_in_month}
+use Rattle.cal_time.specs.Parts.{day_of_month_at-rises}
+use Rattle.cal_schedule.specs.Months.{month_number_at}
+use Rattle.cal_schedule.proofs.MonthMoves.{month_numbers-rise, same_month, days_apart, number_from}
+
+-- a month has 28 days at least
+pub days_in_month-least : (y : ℤ) (m : ℕ) → 28 ≤ days_in_month y m
+unfolding days_in_month
+days_in_month-least y m = grind (arith, nat_tests)
+
+pub ruleset lengths = (days_in_month-least)
+
+-- December has 31
+pub december : (y : ℤ) → days_in_month y 12 ≡ 31
+unfolding days_in_month
+december y = grind (arith, nat_tests)
+
+-- the first of a month comes after no day of that month or of a later one, and its last before no day of it or of an earlier one
+pub first-least : (r n : ℕ) (y : ℤ) (m : ℕ) → HasCalendarDate y m 1 r → (y *ℤ pos 12 +ℤ pos m -ℤ pos 1) ≤ℤ month_number_at n → r ≤ n
+first-least r n y m e h =
+    let month = number_from r y m 1 e in
+    elim (cases_lt n r) as (λ _. r ≤ n) [
+      | inl less ↦
+          let same = same_month n r (omega (arith, ints, h, month, month_numbers-rise n r (omega arith))) in
+          absurd (omega (arith, day_of_month_at-rises n r less same.year same.month, (day_of_month_at-range n).0, ap (λ c. c.day) e))
+      | inr most ↦ most
+    ]
+
+pub last-greatest : (r n : ℕ) (y : ℤ) (m : ℕ) → HasCalendarDate y m (days_in_month y m) r → month_number_at n ≤ℤ (y *ℤ pos 12 +ℤ pos m -ℤ pos 1) → n ≤ r
+last-greatest r n y m e h =
+    let month = number_from r y m (days_in_month y m) e in
+    elim (cases_lt r n) as (λ _. n ≤ r) [
+      | inl less ↦
+          let same = same_month r n (omega (arith, ints, h, month, month_numbers-rise r n (omega arith))) in
+          let length : days_in_month y m ≡ days_in_month (year_at n) (month_at n) =
+          ap (λ z. days_in_month z m) (sym (ap (λ c. c.year) e) ∙ same.year) ∙ ap (days_in_month (year_at n)) (sym (ap (λ c. c.month) e) ∙ same.month) in
+          absurd (omega (arith, day_of_month_at-rises r n less same.year same.month, (day_of_month_at-range n).1, ap (λ c. c.day) e))
+      | inr most ↦ most
+    ]
+
+-- the last of a month, by another name of the year and the month
+pub last-same : (y z : ℤ) (m k n : ℕ) → y ≡ z → m ≡ k → HasCalendarDate y m (days_in_month y m) n → HasCalendarDate z k (days_in_month z k) n
+last-same y z m k n e f h = subst (λ i. HasCalendarDate z i (days_in_month z i) n) f (subst (λ x. HasCalendarDate x m (days_in_month x m) n) e h)
+
+-- it comes as many days after a day of its month as are left
+pub last-apart : (r n : ℕ) → IsDate r → HasCalendarDate (year_at n) (month_at n) (days_in_month (year_at n) (month_at n)) r
+    → r + day_of_month_at n ≡ n + days_in_month (year_at n) (month_at n)
+last-apart r n h e = omega (arith, days_apart r n h (number_from r _ _ _ e), ap (λ c. c.day) e)
+
+-- days as far apart as their weekdays are of one week
+pub same_week : (r n w : ℕ) → weekday_at r ≡ w → r + weekday_at n ≡ n + w → HasIsoWeekDate (iso_year_at n) (iso_week_at n) w r
+unfolding iso_year_at iso_week_at
+same_week r n w e h =
+    let thursday : thursday_of r ≡ thursday_of n = omega (arith, weekday_at-is r, weekday_at-is n) in
+    (ap year_at thursday, ap (weekdays_upto 3) thursday, e)

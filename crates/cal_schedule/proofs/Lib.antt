@@ -1,0 +1,12 @@
+pub mod MonthMoves
+pub mod RulePeriods
+pub mod Rules
+pub mod Untils
+pub mod Ends
+pub mod WeekdaysOfMonths
+pub mod MoneyDays
+pub mod OneAnswer
+pub mod WorkdaysLaws
+pub mod WorkdaysRanks
+pub mod WorkdaysSearch
+pub mod WorkdaysWeeks

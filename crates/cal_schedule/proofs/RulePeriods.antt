@@ -1,0 +1,229 @@
+-- After 400 years the days of a rule come back.
+use Rattle.std.proofs.Common.{◌≡◌, ℕ, zero, suc, ◌+◌, ◌-◌, ◌*◌, ◌/◌, ◌%◌, ◌≤◌, refl, sym, ap, ◌∙◌, arith, ℤ, pos, ◌+ℤ◌, ◌-ℤ◌, ◌*ℤ◌, ◌≤ℤ◌, if◌then◌else◌, List, Option, Some, None, true, false, Bool, ◌&&◌}
+use Rattle.std.proofs.lemmas.Int.{ints}
+use Rattle.std.proofs.lemmas.Bool.{and_parts, and_from, eqb-true, eq-eqb, leb-true, le-leb}
+use Rattle.std.proofs.Math.Nat.{add-mul-mod_self_right}
+use Rattle.cal_time.specs.CalendarDay.{calendar_day, is_first_of_january}
+use Rattle.cal_time.specs.Date.{first_year, day_at, year_at, month_at, day_of_month_at, ordinal_at, weekday_at}
+use Rattle.cal_time.specs.Days.{day_at-first, day_at-period, days_in_month-period, month_at-range, weekday_at-period}
+use Rattle.cal_time.specs.Lengths.{days_in_month, days_in_year}
+use Rattle.cal_time.specs.Parts.{year_at-rises}
+use Rattle.cal_time.specs.Weekday.{place}
+use Rattle.cal_time.specs.WeekdayCycle.{place-below}
+use Rattle.cal_time.specs.declared.Weekday.{Weekday}
+use Rattle.cal_schedule.specs.declared.rule.kinds.Frequency.{Frequency}
+use Rattle.cal_schedule.specs.declared.rule.kinds.Frequency.TheVariants.{Daily, Weekly, Monthly, Yearly}
+use Rattle.cal_schedule.specs.declared.rule.kinds.ByDay.{ByDay}
+use Rattle.cal_schedule.specs.declared.rule.kinds.ByDay.TheVariants.{Every, Nth}
+use Rattle.cal_schedule.specs.declared.rule.kinds.Rule.{Rule}
+use Rattle.cal_schedule.specs.Months.{month_number_at}
+use Rattle.cal_schedule.specs.Rule.{allows, is_as_start, is_by, is_empty, is_in_months, is_month_day, is_nth_of, is_on, is_on_days, is_weekday, is_yearly, step, turn_at, turns_past}
+use Rattle.cal_schedule.proofs.MonthMoves.{month_numbers-rise}
+
+-- two days that a rule tells apart by nothing but their number and their year
+pub record IsAlike (m n : ℕ) : Type 0 where
+  pub month : month_at m ≡ month_at n
+  pub day : day_of_month_at m ≡ day_of_month_at n
+  pub length : days_in_month (year_at m) (month_at m) ≡ days_in_month (year_at n) (month_at n)
+  pub weekday : weekday_at m ≡ weekday_at n
+  pub ordinal : ordinal_at m ≡ ordinal_at n
+  pub days : days_in_year (year_at m) ≡ days_in_year (year_at n)
+
+ordinal_at-suc : (n : ℕ) → ordinal_at (suc n) ≡ (if is_first_of_january (day_at (suc n)) then 1 else ordinal_at n + 1)
+unfolding ordinal_at
+ordinal_at-suc n = refl
+
+ordinal_at-zero : ordinal_at 0 ≡ 1
+unfolding ordinal_at
+ordinal_at-zero = refl
+
+ordinal_at-period : (n : ℕ) → ordinal_at (n + 146097) ≡ ordinal_at n
+ordinal_at-period zero =
+    let first : day_at (suc 146096) ≡ calendar_day (year_at 0 +ℤ pos 400) (month_at 0) (day_of_month_at 0) = day_at-period 0 in
+    let january : calendar_day (year_at 0 +ℤ pos 400) (month_at 0) (day_of_month_at 0) ≡ calendar_day (first_year +ℤ pos 400) 1 1 = ap (λ d. calendar_day (d.year +ℤ pos 400) d.month d.day) day_at-first in
+    ordinal_at-suc 146096 ∙ ap (λ d. if is_first_of_january d then 1 else ordinal_at 146096 + 1) (first ∙ january) ∙ sym ordinal_at-zero
+ordinal_at-period (suc n) =
+    let e : suc n + 146097 ≡ suc (n + 146097) = omega arith in
+    let here : day_at (suc (n + 146097)) ≡ calendar_day (year_at (suc n) +ℤ pos 400) (month_at (suc n)) (day_of_month_at (suc n)) = ap day_at (sym e) ∙ day_at-period (suc n) in
+    ap ordinal_at e ∙ ordinal_at-suc (n + 146097) ∙ ap (λ d. if is_first_of_january d then 1 else ordinal_at (n + 146097) + 1) here
+    ∙ ap (λ o. if is_first_of_january (day_at (suc n)) then 1 else o + 1) (ordinal_at-period n) ∙ sym (ordinal_at-suc n)
+
+days_in_year-period : (y : ℤ) → days_in_year (y +ℤ pos 400) ≡ days_in_year y
+days_in_year-period y = grind (arith, ints)
+
+-- one period, and more of them
+record IsPeriods (n j k : ℕ) : Type 0 where
+  alike : IsAlike k n
+  year : year_at k ≡ year_at n +ℤ pos (400 * j)
+
+IsPeriods-one : (n : ℕ) → IsPeriods n 1 (n + 146097)
+IsPeriods-one n =
+    let e = day_at-period n in
+    record {
+      alike = record {
+        month = ap (λ d. d.month) e;
+        day = ap (λ d. d.day) e;
+        length = ap (λ d. days_in_month d.year d.month) e ∙ days_in_month-period (year_at n) (month_at n);
+        weekday = weekday_at-period n;
+        ordinal = ordinal_at-period n;
+        days = ap (λ d. days_in_year d.year) e ∙ days_in_year-period (year_at n);
+      };
+      year = ap (λ d. d.year) e;
+    }
+
+IsAlike-and : (l m n : ℕ) → IsAlike l m → IsAlike m n → IsAlike l n
+IsAlike-and l m n a b = record {
+  month = a.month ∙ b.month;
+  day = a.day ∙ b.day;
+  length = a.length ∙ b.length;
+  weekday = a.weekday ∙ b.weekday;
+  ordinal = a.ordinal ∙ b.ordinal;
+  days = a.days ∙ b.days;
+}
+
+IsAlike-same : (m n : ℕ) → m ≡ n → IsAlike m n
+IsAlike-same m n e = record {
+  month = ap month_at e;
+  day = ap day_of_month_at e;
+  length = ap (λ k. days_in_month (year_at k) (month_at k)) e;
+  weekday = ap weekday_at e;
+  ordinal = ap ordinal_at e;
+  days = ap (λ k. days_in_year (year_at k)) e;
+}
+
+periods : (n j : ℕ) → IsPeriods n j (n + 146097 * j)
+periods n zero =
+    let e : n + 146097 * 0 ≡ n = omega arith in
+    record { alike = IsAlike-same _ _ e; year = omega (arith, ints, ap year_at e) }
+periods n (suc j) =
+    let e : n + 146097 * suc j ≡ n + 146097 * j + 146097 = omega arith in
+    let less = periods n j in
+    let last = IsPeriods-one (n + 146097 * j) in
+    record {
+      alike = IsAlike-and _ _ _ (IsAlike-same _ _ e) (IsAlike-and _ _ _ last.alike less.alike);
+      year = omega (arith, ints, ap year_at e, less.year, last.year);
+    }
+
+-- the turns rise, and a period has whole ones
+year_low : (n : ℕ) → first_year ≤ℤ year_at n
+year_low n = omega (arith, ints, year_at-rises 0 n (omega arith), ap (λ d. d.year) day_at-first)
+
+pub pos-months : (w : Weekday) (n : ℕ) → pos (turn_at Monthly w n) ≡ month_number_at n -ℤ first_year *ℤ pos 12
+unfolding turn_at
+pos-months w n = omega (arith, ints, year_low n, (month_at-range n).0)
+
+pub pos-years : (w : Weekday) (n : ℕ) → pos (turn_at Yearly w n) ≡ year_at n -ℤ first_year
+unfolding turn_at
+pos-years w n = omega (arith, ints, year_low n)
+
+daily-is : (w : Weekday) (n : ℕ) → turn_at Daily w n ≡ n
+unfolding turn_at
+daily-is w n = refl
+
+pub weeks-is : (w : Weekday) (n : ℕ) → turn_at Weekly w n ≡ (n + 7 - place w) / 7
+unfolding turn_at
+weeks-is w n = refl
+
+pub turn_at-rises : (f : Frequency) (w : Weekday) (m n : ℕ) → m ≤ n → turn_at f w m ≤ turn_at f w n
+turn_at-rises Daily w m n h = omega (arith, daily-is w m, daily-is w n)
+turn_at-rises Weekly w m n h = omega (arith, weeks-is w m, weeks-is w n, place-below w)
+turn_at-rises Monthly w m n h = omega (arith, ints, pos-months w m, pos-months w n, month_numbers-rise m n h)
+turn_at-rises Yearly w m n h = omega (arith, ints, pos-years w m, pos-years w n, year_at-rises m n h)
+
+abbrev turns_in : Frequency → ℕ
+turns_in Daily = 146097
+turns_in Weekly = 20871
+turns_in Monthly = 4800
+turns_in Yearly = 400
+
+turn_at-periods : (f : Frequency) (w : Weekday) (n j : ℕ) → turn_at f w (n + 146097 * j) ≡ turn_at f w n + turns_in f * j
+turn_at-periods Daily w n j = omega (arith, daily-is w n, daily-is w (n + 146097 * j))
+turn_at-periods Weekly w n j = omega (arith, weeks-is w n, weeks-is w (n + 146097 * j), place-below w)
+turn_at-periods Monthly w n j = omega (arith, ints, pos-months w n, pos-months w (n + 146097 * j), (periods n j).year, (periods n j).alike.month)
+turn_at-periods Yearly w n j = omega (arith, ints, pos-years w n, pos-years w (n + 146097 * j), (periods n j).year)
+
+-- what the rule says of days that are alike
+pub is_in_months-alike : (rule : Rule) (m n : ℕ) → month_at m ≡ month_at n → is_in_months rule m ≡ is_in_months rule n
+unfolding is_in_months
+is_in_months-alike rule m n e = rw e refl
+
+is_month_day-alike : (m n : ℕ) → IsAlike m n → (k : ℤ) → is_month_day m k ≡ is_month_day n k
+unfolding is_month_day
+is_month_day-alike m n h k = rw (h.day, h.length) refl
+
+is_nth_of-alike : (b : Bool) (m n : ℕ) → IsAlike m n → (k : ℤ) → is_nth_of b m k ≡ is_nth_of b n k
+unfolding is_nth_of
+is_nth_of-alike true m n h k = rw (h.ordinal, h.days) refl
+is_nth_of-alike false m n h k = rw (h.day, h.length) refl
+
+is_weekday-alike : (b : Bool) (m n : ℕ) → IsAlike m n → (by : ByDay) → is_weekday b m by ≡ is_weekday b n by
+unfolding is_weekday
+is_weekday-alike b m n h (Every w) = rw h.weekday refl
+is_weekday-alike b m n h (Nth k w) = rw (h.weekday, is_nth_of-alike b m n h k) refl
+
+is_as_start-alike : (f : Frequency) (start m n : ℕ) → IsAlike m n → is_as_start f start m ≡ is_as_start f start n
+is_as_start-alike Daily start m n h = refl
+is_as_start-alike Weekly start m n h = rw h.weekday refl
+is_as_start-alike Monthly start m n h = rw h.day refl
+is_as_start-alike Yearly start m n h = rw h.day refl
+
+allows-alike : {X : Type 0} (s t : X → Bool) (xs : List X) → ((x : X) → s x ≡ t x) → allows s xs ≡ allows t xs
+allows-alike s t xs h = ap (λ test. allows test xs) (λ i x. h x i)
+
+is_on_days-alike : (rule : Rule) (m n : ℕ) → IsAlike m n → is_on_days rule m ≡ is_on_days rule n
+unfolding is_on_days
+is_on_days-alike rule m n h =
+    let b = is_yearly rule.frequency && is_empty rule.months.now in
+    rw (
+      is_as_start-alike rule.frequency rule.start m n h,
+      allows-alike (is_month_day m) (is_month_day n) rule.month_days.now (is_month_day-alike m n h),
+      allows-alike (is_weekday b m) (is_weekday b n) rule.weekdays.now (is_weekday-alike b m n h),
+    ) refl
+
+is_by-earlier : (last : Option ℕ) (m n : ℕ) → m ≤ n → is_by last n ≡ true → is_by last m ≡ true
+is_by-earlier None m n h on = refl
+is_by-earlier (Some last) m n h on = le-leb m last (omega (arith, leb-true n last on))
+
+turns_past-periods : (rule : Rule) (n : ℕ) → rule.start ≤ n → turns_past rule (n + 146097 * step rule) ≡ turns_past rule n
+unfolding turns_past
+turns_past-periods rule n h =
+    let f = rule.frequency in
+    let w = rule.week_start in
+    let rises = turn_at-rises f w rule.start n h in
+    let sum : turn_at f w (n + 146097 * step rule) - turn_at f w rule.start ≡ turn_at f w n - turn_at f w rule.start + turns_in f * step rule =
+    omega (arith, turn_at-periods f w n (step rule), rises) in
+    ap (λ k. k % step rule) sum ∙ add-mul-mod_self_right (turn_at f w n - turn_at f w rule.start) (turns_in f) (step rule)
+
+-- what makes a day one of the rule's
+pub record IsOn (rule : Rule) (n : ℕ) : Type 0 where
+  pub start : rule.start ≤ n
+  pub by : is_by rule.until n ≡ true
+  pub turn : turns_past rule n ≡ 0
+  pub months : is_in_months rule n ≡ true
+  pub days : is_on_days rule n ≡ true
+
+pub IsOn-is_on : (rule : Rule) (n : ℕ) → is_on rule n ≡ true → IsOn rule n
+unfolding is_on
+IsOn-is_on rule n h =
+    let a = and_parts _ _ h in
+    let b = and_parts _ _ a.1 in
+    let c = and_parts _ _ b.1 in
+    let d = and_parts _ _ c.1 in
+    record { start = leb-true rule.start n a.0; by = b.0; turn = eqb-true _ _ c.0; months = d.0; days = d.1 }
+
+is_on-IsOn : (rule : Rule) (n : ℕ) → IsOn rule n → is_on rule n ≡ true
+unfolding is_on
+is_on-IsOn rule n h = and_from _ _ (le-leb rule.start n h.start) (and_from _ _ h.by (and_from _ _ (eq-eqb _ _ h.turn) (and_from _ _ h.months h.days)))
+
+-- a day of the rule has one so many periods before it, if that comes after the start
+pub is_on-period : (rule : Rule) (n : ℕ) → rule.start ≤ n → is_on rule (n + 146097 * step rule) ≡ true → is_on rule n ≡ true
+is_on-period rule n h on =
+    let is = IsOn-is_on rule (n + 146097 * step rule) on in
+    let same = (periods n (step rule)).alike in
+    is_on-IsOn rule n (record {
+      start = h;
+      by = is_by-earlier rule.until n (n + 146097 * step rule) (omega arith) is.by;
+      turn = sym (turns_past-periods rule n h) ∙ is.turn;
+      months = sym (is_in_months-alike rule _ n same.month) ∙ is.months;
+      days = sym (is_on_days-alike rule _ n same) ∙ is.days;
+    })

@@ -1,0 +1,195 @@
+-- The next day of a rule: what is skipped, and where the search ends.
+use Rattle.std.proofs.Common.{◌≡◌, ℕ, zero, suc, ◌+◌, ◌-◌, ◌*◌, ◌/◌, ◌%◌, ◌<◌, ◌≤◌, min, sym, ap, ◌∙◌, subst, arith, pos, ◌+ℤ◌, ◌-ℤ◌, ◌*ℤ◌, Option, Some, None, true, false, inl, inr, [], ◌∷◌, filter, slice_get}
+use Rattle.std.specs.Prelude.{MatchOption, IfSome}
+use Rattle.std.proofs.lemmas.Int.{ints}
+use Rattle.std.proofs.lemmas.Bool.{cases_lt, false_from_ne_true, false≢true}
+use Rattle.std.proofs.lemmas.Nat.{div-add-mod'}
+use Rattle.std.proofs.Math.Nat.{mul-le-mul_left}
+use Rattle.cal_time.specs.Date.{last_day, IsDate, year_at, month_at, day_of_month_at}
+use Rattle.cal_time.specs.Days.{day_of_month_at-range, month_at-range}
+use Rattle.cal_time.specs.Filters.{IsFirstDay, filter-first, filter-none, first_passing, none_passing}
+use Rattle.cal_time.specs.Lengths.{days_in_month}
+use Rattle.cal_time.specs.Occurrence.{days_from}
+use Rattle.cal_time.specs.Parts.{day_of_month_at-rises}
+use Rattle.cal_time.specs.declared.Weekday.{Weekday}
+use Rattle.cal_schedule.specs.declared.rule.kinds.Frequency.TheVariants.{Monthly, Yearly}
+use Rattle.cal_schedule.specs.declared.rule.kinds.Rule.{Rule}
+use Rattle.cal_schedule.specs.Months.{month_number_at}
+use Rattle.cal_schedule.specs.Rule.{days_after, days_left, days_of, is_in_months, is_on, step, turn_at, turns_past}
+use Rattle.cal_schedule.specs.RuleSearch.{IsFirstOf, IsNextFrom, IsSkip, NoDayBetween}
+use Rattle.cal_schedule.proofs.MonthMoves.{IsMonthNumber-date, same_month}
+use Rattle.cal_schedule.proofs.RulePeriods.{IsOn-is_on, is_in_months-alike, is_on-period, pos-months, pos-years, turn_at-rises}
+
+is_off : (rule : Rule) (n : ℕ) → ¬ (is_on rule n ≡ true) → is_on rule n ≡ false
+is_off rule n h = false_from_ne_true (is_on rule n) h
+
+-- the first day of a month, and of a year
+pub first_day-month : (w : Weekday) (p x : ℕ) → pos p ≡ month_number_at x +ℤ pos 11999988 → IsDate x
+    → day_of_month_at x ≡ min 1 (days_in_month (year_at x) (month_at x)) → IsFirstOf Monthly w p (Some x)
+first_day-month w p x e h day =
+    let at : turn_at Monthly w x ≡ p = omega (arith, ints, pos-months w x) in (
+      h,
+      omega arith,
+      λ k less.
+          elim (cases_lt (turn_at Monthly w k) p) as (λ _. turn_at Monthly w k < p) [
+            | inl before ↦ before
+            | inr most ↦
+                let same = same_month k x (omega (arith, ints, pos-months w k, pos-months w x, turn_at-rises Monthly w k x (omega arith))) in
+                absurd (omega (arith, day_of_month_at-rises k x less same.year same.month, (day_of_month_at-range k).0, (day_of_month_at-range x).0))
+          ],
+    )
+
+pub no_month : (w : Weekday) (p : ℕ) → 23999988 ≤ p → IsFirstOf Monthly w p None
+no_month w p h = λ k date. omega (arith, ints, pos-months w k, (IsMonthNumber-date k date).not_after)
+
+pub first_of_year : (w : Weekday) (t : ℕ) (r : Option ℕ) → IsFirstOf Monthly w (12 * t) r → IsFirstOf Yearly w t r
+first_of_year w t None h = λ k date. omega (arith, ints, pos-months w k, pos-years w k, (month_at-range k).0, h k date)
+first_of_year w t (Some x) h = (
+  h.0,
+  omega (arith, ints, pos-months w x, pos-years w x, (month_at-range x).1, h.1),
+  λ k less. omega (arith, ints, pos-months w k, pos-years w k, (month_at-range k).0, h.2 k less),
+)
+
+-- past a multiple there is none before the next
+none_within : (a b i : ℕ) → 0 < a % i → a ≤ b → b < a + (i - a % i) → b % i ≡ 0 → ⊥
+none_within a b i some h g e =
+    let first : i * (a / i) + a % i ≡ a = omega (arith, div-add-mod' a i) in
+    let second : i * (b / i) ≡ b = omega (arith, div-add-mod' b i) in
+    elim (cases_lt (a / i) (b / i)) as (λ _. ⊥) [
+      | inl less ↦
+          let more : a / i + 1 ≤ b / i = omega arith in
+          omega (arith, mul-le-mul_left i more)
+      | inr most ↦ omega (arith, mul-le-mul_left i most)
+    ]
+
+turns_past-none : (rule : Rule) (n k : ℕ) → rule.start ≤ n → n ≤ k → 0 < turns_past rule n
+    → turn_at rule.frequency rule.week_start k < turn_at rule.frequency rule.week_start n + (step rule - turns_past rule n) → ¬ (turns_past rule k ≡ 0)
+unfolding turns_past
+turns_past-none rule n k start h some less = λ e.
+    let a = turn_at-rises rule.frequency rule.week_start rule.start n start in
+    let b = turn_at-rises rule.frequency rule.week_start n k h in
+    none_within _ _ (step rule) some (omega arith) (omega arith) e
+
+-- so the rule has none before its next turn, nor in a month that it does not take
+pub skip-turn : (rule : Rule) (n t : ℕ) (r : Option ℕ) → rule.start ≤ n → 0 < turns_past rule n
+    → t ≡ turn_at rule.frequency rule.week_start n + (step rule - turns_past rule n) → turns_past rule n < step rule
+    → IsFirstOf rule.frequency rule.week_start t r → IsSkip rule n r
+skip-turn rule n t None start some e less h = λ k low high.
+    is_off rule k (λ on. turns_past-none rule n k start low some (omega (arith, h k (omega arith))) (IsOn-is_on rule k on).turn)
+skip-turn rule n t (Some x) start some e less h = (
+  elim (cases_lt n x) as (λ _. n < x) [
+    | inl before ↦ before
+    | inr most ↦ absurd (omega (arith, h.1, turn_at-rises rule.frequency rule.week_start x n most))
+  ],
+  h.0,
+  λ k low high. is_off rule k (λ on. turns_past-none rule n k start low some (omega (arith, h.2 k high)) (IsOn-is_on rule k on).turn),
+)
+
+off_month : (rule : Rule) (w : Weekday) (n k : ℕ) → is_in_months rule n ≡ false → n ≤ k → turn_at Monthly w k < turn_at Monthly w n + 1 → is_on rule k ≡ false
+off_month rule w n k off h less =
+    let same = same_month k n (omega (arith, ints, pos-months w k, pos-months w n, turn_at-rises Monthly w n k h)) in
+    is_off rule k (λ on. false≢true (sym off ∙ sym (is_in_months-alike rule k n same.month) ∙ (IsOn-is_on rule k on).months))
+
+pub skip-month : (rule : Rule) (w : Weekday) (n t : ℕ) (r : Option ℕ) → is_in_months rule n ≡ false → t ≡ turn_at Monthly w n + 1 → IsFirstOf Monthly w t r → IsSkip rule n r
+skip-month rule w n t None off e h = λ k low high. off_month rule w n k off low (omega (arith, h k (omega arith)))
+skip-month rule w n t (Some x) off e h = (
+  elim (cases_lt n x) as (λ _. n < x) [
+    | inl before ↦ before
+    | inr most ↦ absurd (omega (arith, h.1, turn_at-rises Monthly w x n most))
+  ],
+  h.0,
+  λ k low high. off_month rule w n k off low (omega (arith, h.2 k high)),
+)
+
+pub skip-day : (rule : Rule) (n t : ℕ) (r : Option ℕ) → is_on rule n ≡ false → t ≡ n + 1 → MatchOption r (¬ IsDate t) (λ x. IsDate t × (x ≡ t)) → IsSkip rule n r
+skip-day rule n t None off e h = λ k low high. elim (cases_lt last_day t) as (λ _. is_on rule k ≡ false) [
+  | inl past ↦ let same : k ≡ n = omega arith in ap (is_on rule) same ∙ off
+  | inr within ↦ absurd (h within)
+]
+skip-day rule n t (Some x) off e h = (omega (arith, h.1), omega (arith, h.0, h.1), λ k low high. let same : k ≡ n = omega (arith, h.1) in ap (is_on rule) same ∙ off)
+
+-- from day to day
+pub none-joined : (rule : Rule) (l m n : ℕ) → NoDayBetween rule l m → NoDayBetween rule m n → NoDayBetween rule l n
+none-joined rule l m n a b = λ k low high. elim (cases_lt k m) as (λ _. is_on rule k ≡ false) [
+  | inl before ↦ a k low before
+  | inr most ↦ b k most high
+]
+
+-- so many periods with no day of the rule are all that there are: a later one has one so much earlier
+none_ever : (rule : Rule) (m n : ℕ) → 1 ≤ step rule → rule.start ≤ m → m + 146097 * step rule ≤ n → NoDayBetween rule m n
+    → (fuel k : ℕ) → k < fuel → m ≤ k → is_on rule k ≡ false
+none_ever rule m n some start past none zero k less low = absurd (omega arith)
+none_ever rule m n some start past none (suc fuel) k less low = elim (cases_lt k n) as (λ _. is_on rule k ≡ false) [
+  | inl before ↦ none k low before
+  | inr most ↦
+      let back = k - 146097 * step rule in
+      let e : back + 146097 * step rule ≡ k = omega arith in
+      is_off rule k (λ on. false≢true (sym (none_ever rule m n some start past none fuel back (omega arith) (omega arith))
+      ∙ is_on-period rule back (omega arith) (ap (is_on rule) e ∙ on)))
+]
+
+pub none_left : (rule : Rule) (m n : ℕ) → 1 ≤ step rule → rule.start ≤ m → m + 146097 * step rule ≤ n → NoDayBetween rule m n → IsNextFrom rule m None
+none_left rule m n some start past none = λ k low high. none_ever rule m n some start past none (k + 1) k (omega arith) low
+
+-- one step of the search
+pub next_none : (rule : Rule) (m n : ℕ) → NoDayBetween rule m n → IsSkip rule n None → IsNextFrom rule m None
+next_none rule m n a b = none-joined rule m n (last_day + 1) a b
+
+-- the list of the days after a day, from the first of them
+pub first_after : (rule : Rule) (n m : ℕ) (r : Option ℕ) → NoDayBetween rule (n + 1) m → n < m → IsNextFrom rule m r
+    → MatchOption r (days_after rule n ≡ []) (λ x. days_after rule n ≡ x ∷ days_after rule x)
+first_after rule n m None none after h =
+    filter-none (is_on rule) (n + 1) (last_day - n) (λ k low high. none-joined rule (n + 1) m (last_day + 1) none h k low (omega arith))
+first_after rule n m (Some x) none after h =
+    let count : n + 1 + (last_day - n) - (x + 1) ≡ last_day - x = omega (arith, h.0, h.1) in
+    filter-first (is_on rule) (n + 1) (last_day - n) x (record {
+      not_before = omega (arith, h.0);
+      within = omega (arith, h.1);
+      passes = h.2;
+      none_before = none-joined rule (n + 1) m x none h.3;
+    }) ∙ ap (λ c. x ∷ filter (is_on rule) (days_from (x + 1) c)) count
+
+get-first : (rule : Rule) (n : ℕ) (r : Option ℕ) → MatchOption r (days_after rule n ≡ []) (λ x. days_after rule n ≡ x ∷ days_after rule x) → r ≡ slice_get (days_after rule n) 0
+get-first rule n None h = ap (λ l. slice_get l 0) (sym h)
+get-first rule n (Some x) h = ap (λ l. slice_get l 0) (sym h)
+
+pub next_day : (rule : Rule) (n m : ℕ) (r : Option ℕ) → NoDayBetween rule (n + 1) m → n < m → IsNextFrom rule m r → r ≡ slice_get (days_after rule n) 0
+next_day rule n m r none after h = get-first rule n r (first_after rule n m r none after h)
+
+pub next_found : (rule : Rule) (n m : ℕ) (r : Option ℕ) → n < m → IsNextFrom rule m r → IfSome r (λ x. (n < x) × IsDate x × (is_on rule x ≡ true))
+next_found rule n m None after h = tt
+next_found rule n m (Some x) after h = (omega (arith, h.0), h.1, h.2)
+
+pub before_start : (rule : Rule) (n : ℕ) → NoDayBetween rule n rule.start
+before_start rule n = λ k low high. is_off rule k (λ on. omega (arith, (IsOn-is_on rule k on).start))
+
+pub none_empty : (rule : Rule) (n m : ℕ) → m ≤ n → NoDayBetween rule n m
+none_empty rule n m h = λ k low high. absurd (omega arith)
+
+pub no_next : (rule : Rule) (n : ℕ) → last_day < n + 1 → None ≡ slice_get (days_after rule n) 0
+no_next rule n h = ap (λ l. slice_get l 0) (sym (filter-none (is_on rule) (n + 1) (last_day - n) (λ k low high. absurd (omega arith))))
+
+-- the days that are left, from the first that comes after a day
+left_of : (rule : Rule) (n x : ℕ) → IsFirstDay (is_on rule) (n + 1) (last_day - n) x → days_after rule n ≡ x ∷ days_after rule x
+left_of rule n x h =
+    let count : n + 1 + (last_day - n) - (x + 1) ≡ last_day - x = omega (arith, h.not_before, h.within) in
+    filter-first (is_on rule) (n + 1) (last_day - n) x h ∙ ap (λ c. x ∷ filter (is_on rule) (days_from (x + 1) c)) count
+
+pub left_after : (rule : Rule) (n : ℕ) (r : Option ℕ) → r ≡ slice_get (days_after rule n) 0 → days_left rule r ≡ days_after rule n
+left_after rule n None e = sym (filter-none (is_on rule) (n + 1) (last_day - n) (none_passing (is_on rule) (n + 1) (last_day - n) (sym e)))
+left_after rule n (Some x) e = sym (left_of rule n x (first_passing (is_on rule) (n + 1) (last_day - n) (Some x) e))
+
+-- and all of them, from the first one on
+pub left_from_start : (rule : Rule) (r : Option ℕ) → IsNextFrom rule rule.start r → days_left rule r ≡ days_of rule
+left_from_start rule None h =
+    sym (filter-none (is_on rule) 0 (last_day + 1) (λ k low high. none-joined rule 0 rule.start (last_day + 1) (before_start rule 0) h k low (omega arith)))
+left_from_start rule (Some x) h =
+    let count : 0 + (last_day + 1) - (x + 1) ≡ last_day - x = omega (arith, h.1) in
+    sym (filter-first (is_on rule) 0 (last_day + 1) x (record {
+      not_before = omega arith;
+      within = omega (arith, h.1);
+      passes = h.2;
+      none_before = none-joined rule 0 rule.start x (before_start rule 0) h.3;
+    }) ∙ ap (λ c. x ∷ filter (is_on rule) (days_from (x + 1) c)) count)
+
+pub ruleset firsts = (first_day-month, no_month, first_of_year, arith)

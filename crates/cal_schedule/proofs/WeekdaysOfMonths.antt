@@ -1,0 +1,213 @@
+-- The days of a month that have a weekday, by their places in the month, and the days next to a day that have one.
+use Rattle.std.proofs.Common.{◌≡◌, ℕ, zero, suc, ◌+◌, ◌-◌, ◌*◌, ◌/◌, ◌%◌, ◌<◌, ◌≤◌, ◌==◌, refl, sym, ap, ◌∙◌, subst, add-zero, arith, ℤ, inl, inr, Bool, true, false, if◌then◌else◌, nat_le, filter, slice_get, Option, Some, None}
+use Rattle.std.specs.Prelude.{SomeIff}
+use Rattle.std.specs.Ordering.{int_eq}
+use Rattle.std.proofs.lemmas.Bool.{cases_lt, cases_Bool}
+use Rattle.std.proofs.lemmas.Bool.Decides.{nat_tests, Decides-int_eq}
+use Rattle.std.proofs.lemmas.Int.{ints}
+use Rattle.cal_time.specs.CalendarDay.{calendar_day}
+use Rattle.cal_time.specs.Date.{last_day, year_at, month_at, day_of_month_at, weekday_at, IsDate, IsYear, HasCalendarDate}
+use Rattle.cal_time.specs.Days.{day_of_month_at-range, year_at-range, days-follow}
+use Rattle.cal_time.specs.IsoWeekDate.{count_before}
+use Rattle.cal_time.specs.Laws.{weekday_at-is, kth-next_occurrences, kth-prev_occurrences}
+use Rattle.cal_time.specs.Lengths.{days_in_month}
+use Rattle.cal_time.specs.Occurrence.{days_from, days_before_back, is_on, next_occurrences, prev_occurrences, kth}
+use Rattle.cal_time.specs.Parts.{day_of_month_at-rises}
+use Rattle.cal_schedule.specs.Months.{month_number_at}
+use Rattle.cal_schedule.specs.Weekdays.{is_weekday_of_month, IsWeekdayOf, IsNthWeekday, IsLastWeekday, occurrences_from, occurrences_upto}
+use Rattle.cal_schedule.proofs.MonthMoves.{days_apart, first_before, number_from}
+
+-- a day of the range has a year of the range
+pub year_of : (y : ℤ) (m w k : ℕ) → IsDate k → IsWeekdayOf y m w k → IsYear y
+year_of y m w k h is = subst IsYear is.year (year_at-range k h)
+
+-- counts
+count_before-suc : (test : ℕ → Bool) (n : ℕ) → count_before test (suc n) ≡ count_before test n + (if test n then 1 else 0)
+unfolding count_before
+count_before-suc test n = refl
+
+count_before-none : (test : ℕ → Bool) (n : ℕ) → ((k : ℕ) → k < n → test k ≡ false) → count_before test n ≡ 0
+unfolding count_before
+count_before-none test zero none = refl
+count_before-none test (suc n) none =
+    let before : count_before test n ≡ 0 = count_before-none test n (λ k h. none k (omega arith)) in
+    rw (none n (omega arith)) (omega arith)
+
+-- no day before the first of the month is one of its days
+before_month : (w : ℕ) (y : ℤ) (m f k : ℕ) → HasCalendarDate y m 1 f → k < f → is_weekday_of_month w y m k ≡ false
+before_month w y m f k e h =
+    elim (cases_Bool (int_eq (year_at k) y)) [
+      | inr not ↦ rw not refl
+      | inl same ↦ elim (cases_Bool (month_at k == m)) [
+        | inr not ↦ rw (same, not) refl
+        | inl alike ↦
+            let years : year_at k ≡ year_at f = (Decides-int_eq (year_at k) y).0 same ∙ sym (ap (λ c. c.year) e) in
+            let at : month_at k ≡ m = grind (arith, nat_tests) in
+            let months : month_at k ≡ month_at f = at ∙ sym (ap (λ c. c.month) e) in
+            absurd (omega (arith, day_of_month_at-rises k f h years months, (day_of_month_at-range k).0, ap (λ c. c.day) e))
+      ]
+    ]
+
+in_month : (w : ℕ) (y : ℤ) (m d n : ℕ) → HasCalendarDate y m d n → is_weekday_of_month w y m n ≡ (n % 7 == w)
+in_month w y m d n e =
+    let same : month_at n ≡ m = ap (λ c. c.month) e in
+    let alike : (month_at n == m) ≡ true = grind (arith, nat_tests) in
+    rw ((Decides-int_eq (year_at n) y).1 (ap (λ c. c.year) e), alike, weekday_at-is n) refl
+
+one_more : (c' c d j w : ℕ) → w < 7 → c' ≡ c + (if (d + j) % 7 == w then 1 else 0) → c + (d + 6 - w) / 7 ≡ (d + j + 6 - w) / 7 → c' + (d + 6 - w) / 7 ≡ (d + suc j + 6 - w) / 7
+one_more c' c d j w below e f = grind (arith, nat_tests)
+
+-- how many of the first days of the month have the weekday
+count_in_month : (y : ℤ) (m f w j : ℕ) → HasCalendarDate y m 1 f → w < 7 → j ≤ days_in_month y m
+    → count_before (is_weekday_of_month w y m) (f + j) + (f + 6 - w) / 7 ≡ (f + j + 6 - w) / 7
+count_in_month y m f w zero e below within =
+    let none : count_before (is_weekday_of_month w y m) f ≡ 0 = count_before-none (is_weekday_of_month w y m) f (λ k h. before_month w y m f k e h) in
+    simp add-zero (omega arith)
+count_in_month y m f w (suc j) e below within =
+    let test = is_weekday_of_month w y m in
+    let before : count_before test (f + j) + (f + 6 - w) / 7 ≡ (f + j + 6 - w) / 7 = count_in_month y m f w j e below (omega arith) in
+    let step : count_before test (suc (f + j)) ≡ count_before test (f + j) + (if (f + j) % 7 == w then 1 else 0) =
+    count_before-suc test (f + j) ∙ rw (in_month w y m (j + 1) (f + j) (days-follow y m f j e (omega arith))) refl in
+    let sums : f + suc j ≡ suc (f + j) = omega arith in
+    ap (λ n. count_before test n + (f + 6 - w) / 7) sums ∙ one_more (count_before test (suc (f + j))) (count_before test (f + j)) f j w below step before
+
+-- a day of the month and the first one
+counted : (y : ℤ) (m f w d n : ℕ) → HasCalendarDate y m 1 f → HasCalendarDate y m d n → w < 7
+    → (f + d ≡ n + 1) × (count_before (is_weekday_of_month w y m) (n + 1) + (f + 6 - w) / 7 ≡ (n + 7 - w) / 7)
+counted y m f w d n e h below =
+    let first : HasCalendarDate (year_at n) (month_at n) 1 f =
+    e ∙ ap (λ z. calendar_day z m 1) (sym (ap (λ c. c.year) h)) ∙ ap (λ k. calendar_day (year_at n) k 1) (sym (ap (λ c. c.month) h)) in
+    let day : day_of_month_at n ≡ d = ap (λ c. c.day) h in
+    let sums : f + d ≡ n + 1 = omega (arith, first_before f n first) in
+    let most : day_of_month_at n ≤ days_in_month (year_at n) (month_at n) = (day_of_month_at-range n).1 in
+    let length : days_in_month (year_at n) (month_at n) ≡ days_in_month y m =
+    ap (λ z. days_in_month z (month_at n)) (ap (λ c. c.year) h) ∙ ap (days_in_month y) (ap (λ c. c.month) h) in
+    let count = count_in_month y m f w d e below (omega arith) in
+    let numbers : f + d + 6 - w ≡ n + 7 - w = omega arith in
+    (sums, ap (λ k. count_before (is_weekday_of_month w y m) k + (f + 6 - w) / 7) (sym sums) ∙ count ∙ ap (λ k. k / 7) numbers)
+
+-- a month has 31 days at most
+pub days_in_month-most : (y : ℤ) (m : ℕ) → days_in_month y m ≤ 31
+unfolding days_in_month
+days_in_month-most y m = grind (arith, nat_tests)
+
+-- the day of the month of the k-th, and the k-th by its day of the month
+pub record IsPlaceOf (f w k d : ℕ) : Type 0 where
+  pub day : d + 6 ≡ 7 * k + (w + 7 - f % 7) % 7
+  pub least : 1 ≤ k
+  pub most : k ≤ 5
+
+pub nth-place : (y : ℤ) (m f w k n : ℕ) → HasCalendarDate y m 1 f → w < 7 → IsNthWeekday y m w k n
+    → HasCalendarDate y m (day_of_month_at n) n × IsPlaceOf f w k (day_of_month_at n)
+nth-place y m f w k n e below h =
+    let at : HasCalendarDate y m (day_of_month_at n) n =
+    ap (λ z. calendar_day z (month_at n) (day_of_month_at n)) h.is.year ∙ ap (λ i. calendar_day y i (day_of_month_at n)) h.is.month in
+    let count = counted y m f w (day_of_month_at n) n e at below in
+    let weekday : n % 7 ≡ w = sym (weekday_at-is n) ∙ h.is.weekday in
+    let range = day_of_month_at-range n in
+    let length = days_in_month-most (year_at n) (month_at n) in (
+      at,
+      record {
+        day = omega (arith, count.0, count.1, h.nth, weekday);
+        least = omega (arith, count.0, count.1, h.nth, weekday, range.0);
+        most = omega (arith, count.0, count.1, h.nth, weekday, range.1, length);
+      },
+    )
+
+pub place-nth : (y : ℤ) (m f w k d n : ℕ) → HasCalendarDate y m 1 f → HasCalendarDate y m d n → w < 7 → d + 6 ≡ 7 * k + (w + 7 - f % 7) % 7 → IsNthWeekday y m w k n
+place-nth y m f w k d n e at below day =
+    let count = counted y m f w d n e at below in
+    record {
+      is = record { year = ap (λ c. c.year) at; month = ap (λ c. c.month) at; weekday = weekday_at-is n ∙ omega (arith, count.0) };
+      nth = omega (arith, count.0, count.1);
+    }
+
+-- the last one, from the last day of the month
+pub last-place : (y : ℤ) (m t w r : ℕ) → IsDate t → IsDate r → w < 7 → HasCalendarDate y m (days_in_month y m) t
+    → HasCalendarDate y m (days_in_month y m - (weekday_at t + 7 - w) % 7) r → IsLastWeekday y m w r
+last-place y m t w r dates date below end at =
+    let weekday = weekday_at-is t in
+    let day : day_of_month_at r ≡ days_in_month y m - (weekday_at t + 7 - w) % 7 = ap (λ c. c.day) at in
+    let length : day_of_month_at t ≡ days_in_month y m = ap (λ c. c.day) end in
+    let some : 1 ≤ day_of_month_at r = (day_of_month_at-range r).0 in
+    let month = number_from t y m _ end in
+    let here : r + day_of_month_at t ≡ t + day_of_month_at r = days_apart r t date (number_from r y m _ at ∙ sym month) in
+    record {
+      is = record { year = ap (λ c. c.year) at; month = ap (λ c. c.month) at; weekday = weekday_at-is r ∙ omega (arith, here, length, day, weekday, some) };
+      last = λ k later is.
+          let same : month_number_at t ≡ month_number_at k = omega (arith, ints, is.year, is.month, month) in
+          let there : t + day_of_month_at k ≡ k + day_of_month_at t = days_apart t k dates same in
+          let most : day_of_month_at k ≤ days_in_month (year_at k) (month_at k) = (day_of_month_at-range k).1 in
+          let lengths : days_in_month (year_at k) (month_at k) ≡ days_in_month y m =
+          ap (λ z. days_in_month z (month_at k)) is.year ∙ ap (days_in_month y) is.month in
+          omega (arith, here, there, length, day, weekday, some, weekday_at-is k, is.weekday, most, lengths);
+    }
+
+-- the days from one on that have the weekday begin with that one, or are those after it
+from-on : (w n count : ℕ) → is_on w n ≡ true → slice_get (filter (is_on w) (days_from n (suc count))) 0 ≡ Some n
+unfolding days_from
+from-on w n count h = rw h refl
+
+from-off : (w n count : ℕ) → is_on w n ≡ false → filter (is_on w) (days_from n (suc count)) ≡ filter (is_on w) (days_from (n + 1) count)
+unfolding days_from
+from-off w n count h = rw h refl
+
+back-on : (w n : ℕ) → is_on w n ≡ true → slice_get (filter (is_on w) (days_before_back (suc n))) 0 ≡ Some n
+unfolding days_before_back
+back-on w n h = rw h refl
+
+back-off : (w n : ℕ) → is_on w n ≡ false → filter (is_on w) (days_before_back (suc n)) ≡ filter (is_on w) (days_before_back n)
+unfolding days_before_back
+back-off w n h = rw h refl
+
+pub from-here : (w n : ℕ) → IsDate n → weekday_at n ≡ w → Some n ≡ slice_get (occurrences_from w n) 0
+from-here w n h e =
+    let on : is_on w n ≡ true = grind (arith, nat_tests) in
+    let count : last_day + 1 - n ≡ suc (last_day - n) = omega arith in
+    sym (ap (λ c. slice_get (filter (is_on w) (days_from n c)) 0) count ∙ from-on w n (last_day - n) on)
+
+pub from-next : (w n : ℕ) → IsDate n → ¬ (weekday_at n ≡ w) → next_occurrences w n ≡ occurrences_from w n
+from-next w n h other =
+    let off : is_on w n ≡ false = grind (arith, nat_tests) in
+    let count : last_day + 1 - n ≡ suc (last_day - n) = omega arith in
+    sym (ap (λ c. filter (is_on w) (days_from n c)) count ∙ from-off w n (last_day - n) off)
+
+pub upto-here : (w n : ℕ) → weekday_at n ≡ w → Some n ≡ slice_get (occurrences_upto w n) 0
+upto-here w n e =
+    let on : is_on w n ≡ true = grind (arith, nat_tests) in
+    let next : n + 1 ≡ suc n = omega arith in
+    sym (ap (λ c. slice_get (filter (is_on w) (days_before_back c)) 0) next ∙ back-on w n on)
+
+pub upto-previous : (w n : ℕ) → ¬ (weekday_at n ≡ w) → prev_occurrences w n ≡ occurrences_upto w n
+upto-previous w n other =
+    let off : is_on w n ≡ false = grind (arith, nat_tests) in
+    let next : n + 1 ≡ suc n = omega arith in
+    sym (ap (λ c. filter (is_on w) (days_before_back c)) next ∙ back-off w n off)
+
+-- and where it is
+iff : (a b x y : ℕ) (r : Option ℕ) → r ≡ (if nat_le a b then Some x else None) → x ≡ y → SomeIff r (a ≤ b) y
+iff a b x y r e same =
+    elim (cases_lt b a) as (λ _. SomeIff r (a ≤ b) y) [
+      | inl past ↦ let none : nat_le a b ≡ false = grind (arith, nat_tests) in rw (e, none) (λ h. omega arith)
+      | inr within ↦ let some : nat_le a b ≡ true = grind (arith, nat_tests) in rw (e, some) (within, same)
+    ]
+
+pub next-place : (w n : ℕ) (r : Option ℕ) → w < 7 → ¬ (weekday_at n ≡ w) → r ≡ kth 1 (next_occurrences w n)
+    → SomeIff r (n + (w + 7 - weekday_at n) % 7 ≤ last_day) (n + (w + 7 - weekday_at n) % 7)
+next-place w n r below other e =
+    let k = (w + 7 - weekday_at n) % 7 in
+    let is = weekday_at-is n in
+    let some : 1 ≤ k = omega arith in
+    let there : (weekday_at n + k) % 7 ≡ w = omega arith in
+    let plain : k + 7 * 0 ≡ k = omega arith in
+    iff _ _ _ _ r (e ∙ kth-next_occurrences w n k 0 some (omega arith) there ∙ ap (λ j. if nat_le (n + j) last_day then Some (n + j) else None) plain) refl
+
+pub previous-place : (w n : ℕ) (r : Option ℕ) → w < 7 → ¬ (weekday_at n ≡ w) → r ≡ kth 1 (prev_occurrences w n)
+    → SomeIff r ((weekday_at n + 7 - w) % 7 ≤ n) (n - (weekday_at n + 7 - w) % 7)
+previous-place w n r below other e =
+    let k = (weekday_at n + 7 - w) % 7 in
+    let is = weekday_at-is n in
+    let some : 1 ≤ k = omega arith in
+    let there : (w + k) % 7 ≡ weekday_at n = omega arith in
+    let plain : k + 7 * 0 ≡ k = omega arith in
+    iff _ _ _ _ r (e ∙ kth-prev_occurrences w n k 0 some (omega arith) below there ∙ ap (λ j. if nat_le j n then Some (n - j) else None) plain) refl

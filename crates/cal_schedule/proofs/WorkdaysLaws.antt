@@ -1,0 +1,40 @@
+-- What several calls come to.
+use Rattle.std.proofs.Common.{◌≡◌, ℕ, ◌+◌, ◌-◌, refl, ap, ◌∙◌, arith, length, slice_get, Some, true, add-one, inl, inr, pos, ◌-ℤ◌}
+use Rattle.std.proofs.lemmas.Bool.{cases_lt, and_from, eq-eqb}
+use Rattle.std.proofs.lemmas.Bool.Decides.{Decides-int_eq}
+use Rattle.std.proofs.lemmas.Int.{ints}
+use Rattle.cal_time.specs.Date.{last_day, year_at, month_at, IsDate}
+use Rattle.cal_time.specs.IsoWeekDate.{count_before}
+use Rattle.cal_schedule.specs.Workdays.{WorkWeek, is_workday, workdays_from, workdays_back, workdays_within}
+use Rattle.cal_schedule.specs.WorkdaysConvention.{following, preceding, is_in_month_of, first_in_month_of, adjusted}
+use Rattle.cal_schedule.specs.declared.workdays.convention.Convention.{Convention}
+use Rattle.cal_schedule.specs.declared.workdays.convention.Convention.TheVariants.{Unadjusted, Following, ModifiedFollowing, Preceding, ModifiedPreceding}
+use Rattle.cal_schedule.proofs.WorkdaysRanks.{count-yes, nth-from, nth-back}
+use Rattle.cal_schedule.proofs.WorkdaysSearch.{length-within, none-within}
+
+-- a working day is the first from itself on, and the last up to itself
+from-here : (w : WorkWeek) (n : ℕ) → IsDate n → is_workday w n ≡ true → slice_get (workdays_from w n) 0 ≡ Some n
+from-here w n h on = nth-from (is_workday w) n (last_day + 1 - n) 0 n (omega arith) (omega arith) on (omega arith)
+
+back-here : (w : WorkWeek) (n : ℕ) → is_workday w n ≡ true → slice_get (workdays_back w (n + 1)) 0 ≡ Some n
+back-here w n on = nth-back (is_workday w) (n + 1) 0 n (omega arith) on (omega (arith, ap (count_before (is_workday w)) (add-one n), count-yes (is_workday w) n on))
+
+-- and is in its own month
+in-own : (n : ℕ) → is_in_month_of n n ≡ true
+in-own n = and_from _ _ ((Decides-int_eq (year_at n) (year_at n)).1 refl) (eq-eqb (month_at n) (month_at n) refl)
+
+pub adjusted-kept : (w : WorkWeek) (convention : Convention) (n : ℕ) → IsDate n → is_workday w n ≡ true → adjusted w convention n ≡ Some n
+adjusted-kept w Unadjusted n h on = refl
+adjusted-kept w Following n h on = from-here w n h on
+adjusted-kept w Preceding n h on = back-here w n on
+adjusted-kept w ModifiedFollowing n h on = ap (λ r. first_in_month_of n r (preceding w n)) (from-here w n h on) ∙ rw (in-own n) refl
+adjusted-kept w ModifiedPreceding n h on = ap (λ r. first_in_month_of n r (following w n)) (back-here w n on) ∙ rw (in-own n) refl
+
+-- the number of working days between two days is the difference of their ranks
+pub between-is : (w : WorkWeek) (m n : ℕ)
+    → (pos (length (workdays_within w m n)) -ℤ pos (length (workdays_within w n m))) ≡ pos (count_before (is_workday w) n) -ℤ pos (count_before (is_workday w) m)
+between-is w m n =
+    elim (cases_lt m n) [
+      | inl less ↦ omega (arith, ints, length-within w m n (omega arith), none-within w n m (omega arith))
+      | inr most ↦ omega (arith, ints, length-within w n m most, none-within w m n most)
+    ]

@@ -1,0 +1,207 @@
+-- The days that pass a test, by how many of them come before.
+use Rattle.std.proofs.Common.{◌≡◌, ℕ, zero, suc, ◌+◌, ◌*◌, ◌<◌, ◌≤◌, refl, sym, ap, ◌∙◌, arith, ◌∷◌, filter, length, slice_get, Some, None, Bool, true, false, inl, inr, add-one}
+use Rattle.std.proofs.Math.Nat.{suc-mul, zero-mul}
+use Rattle.std.proofs.lemmas.Bool.{cases_lt, cases_Bool, false≢true}
+use Rattle.std.proofs.lemmas.Option.{slice_get_past}
+use Rattle.std.specs.Int.{from_bool}
+use Rattle.cal_time.specs.IsoWeekDate.{count_before}
+use Rattle.cal_time.specs.Occurrence.{days_from, days_before_back}
+
+-- one day more
+pub count-none : (test : ℕ → Bool) → count_before test 0 ≡ 0
+unfolding count_before
+count-none test = refl
+
+pub count-yes : (test : ℕ → Bool) (n : ℕ) → test n ≡ true → count_before test (suc n) ≡ count_before test n + 1
+unfolding count_before
+count-yes test n h = rw h refl
+
+pub count-no : (test : ℕ → Bool) (n : ℕ) → test n ≡ false → count_before test (suc n) ≡ count_before test n
+unfolding count_before
+count-no test n h = rw h (omega arith)
+
+-- by the number of a `bool`
+pub count-next : (test : ℕ → Bool) (n : ℕ) (b : Bool) (k : ℕ) → b ≡ test n → k ≡ from_bool b → count_before test (n + 1) ≡ count_before test n + k
+count-next test n true k e f = let one : k ≡ 1 = f in omega (arith, ap (count_before test) (add-one n), count-yes test n (sym e))
+count-next test n false k e f = let none : k ≡ 0 = f in omega (arith, ap (count_before test) (add-one n), count-no test n (sym e))
+
+pub bit-most : (b : Bool) (k : ℕ) → k ≡ from_bool b → k ≤ 1
+bit-most true k f = let one : k ≡ 1 = f in omega arith
+bit-most false k f = let none : k ≡ 0 = f in omega arith
+
+count-grows : (test : ℕ → Bool) (n : ℕ) → count_before test n ≤ count_before test (suc n)
+count-grows test n =
+    elim (cases_Bool (test n)) [
+      | inl hit ↦ omega (arith, count-yes test n hit)
+      | inr miss ↦ omega (arith, count-no test n miss)
+    ]
+
+-- the numbers of them rise
+pub count-rises : (test : ℕ → Bool) (m n : ℕ) → m ≤ n → count_before test m ≤ count_before test n
+count-rises test m zero h = let e : m ≡ 0 = omega arith in omega (arith, ap (count_before test) e)
+count-rises test m (suc n) h =
+    elim (cases_lt n m) as (λ _. count_before test m ≤ count_before test (suc n)) [
+      | inl past ↦ let e : m ≡ suc n = omega arith in omega (arith, ap (count_before test) e)
+      | inr within ↦ omega (arith, count-rises test m n within, count-grows test n)
+    ]
+
+pub count-less : (test : ℕ → Bool) (m n : ℕ) → test m ≡ true → m < n → count_before test m < count_before test n
+count-less test m n on h = omega (arith, count-yes test m on, count-rises test (suc m) n (omega arith))
+
+-- and are at most as many as the days
+pub count-most : (test : ℕ → Bool) (n : ℕ) → count_before test n ≤ n
+count-most test zero = omega (arith, count-none test)
+count-most test (suc n) =
+    elim (cases_Bool (test n)) [
+      | inl hit ↦ omega (arith, count-yes test n hit, count-most test n)
+      | inr miss ↦ omega (arith, count-no test n miss, count-most test n)
+    ]
+
+-- whole weeks, where the test has their period
+count-week : (test : ℕ → Bool) → ((n : ℕ) → test (n + 7) ≡ test n) → (n : ℕ) → count_before test (n + 7) ≡ count_before test n + count_before test 7
+count-week test same zero =
+    let e : zero + 7 ≡ 7 = omega arith in
+    omega (arith, ap (count_before test) e, count-none test)
+count-week test same (suc n) =
+    let e : suc n + 7 ≡ suc (n + 7) = omega arith in
+    elim (cases_Bool (test n)) [
+      | inl hit ↦ omega (arith, ap (count_before test) e, count-yes test (n + 7) (same n ∙ hit), count-yes test n hit, count-week test same n)
+      | inr miss ↦ omega (arith, ap (count_before test) e, count-no test (n + 7) (same n ∙ miss), count-no test n miss, count-week test same n)
+    ]
+
+pub count-weeks : (test : ℕ → Bool) → ((n : ℕ) → test (n + 7) ≡ test n) → (q n : ℕ) → count_before test (q * 7 + n) ≡ q * count_before test 7 + count_before test n
+count-weeks test same zero n =
+    let e : zero * 7 + n ≡ n = omega arith in
+    omega (arith, ap (count_before test) e, zero-mul (count_before test 7))
+count-weeks test same (suc q) n =
+    let e : suc q * 7 + n ≡ (q * 7 + n) + 7 = omega arith in
+    omega (arith, ap (count_before test) e, count-week test same (q * 7 + n), count-weeks test same q n, suc-mul q (count_before test 7))
+
+-- one step of the lists
+from-yes : (test : ℕ → Bool) (n count : ℕ) → test n ≡ true → filter test (days_from n (suc count)) ≡ n ∷ filter test (days_from (n + 1) count)
+unfolding days_from
+from-yes test n count h = rw h refl
+
+from-no : (test : ℕ → Bool) (n count : ℕ) → test n ≡ false → filter test (days_from n (suc count)) ≡ filter test (days_from (n + 1) count)
+unfolding days_from
+from-no test n count h = rw h refl
+
+back-yes : (test : ℕ → Bool) (n : ℕ) → test n ≡ true → filter test (days_before_back (suc n)) ≡ n ∷ filter test (days_before_back n)
+unfolding days_before_back
+back-yes test n h = rw h refl
+
+back-no : (test : ℕ → Bool) (n : ℕ) → test n ≡ false → filter test (days_before_back (suc n)) ≡ filter test (days_before_back n)
+unfolding days_before_back
+back-no test n h = rw h refl
+
+-- how long they are
+none-from : (test : ℕ → Bool) (n : ℕ) → length (filter test (days_from n 0)) ≡ 0
+unfolding days_from
+none-from test n = refl
+
+none-back : (test : ℕ → Bool) → length (filter test (days_before_back 0)) ≡ 0
+unfolding days_before_back
+none-back test = refl
+
+pub length-from : (test : ℕ → Bool) (n count : ℕ) → length (filter test (days_from n count)) + count_before test n ≡ count_before test (n + count)
+length-from test n zero =
+    let e : n + zero ≡ n = omega arith in
+    omega (arith, ap (count_before test) e, none-from test n)
+length-from test n (suc count) =
+    let e : n + suc count ≡ n + 1 + count = omega arith in
+    let f : n + 1 ≡ suc n = omega arith in
+    elim (cases_Bool (test n)) [
+      | inl hit ↦ omega (arith, ap (count_before test) e, ap (count_before test) f, count-yes test n hit, ap length (from-yes test n count hit), length-from test (n + 1) count)
+      | inr miss ↦ omega (arith, ap (count_before test) e, ap (count_before test) f, count-no test n miss, ap length (from-no test n count miss), length-from test (n + 1) count)
+    ]
+
+length-back : (test : ℕ → Bool) (n : ℕ) → length (filter test (days_before_back n)) ≡ count_before test n
+length-back test zero = omega (arith, none-back test, count-none test)
+length-back test (suc n) =
+    elim (cases_Bool (test n)) [
+      | inl hit ↦ omega (arith, count-yes test n hit, ap length (back-yes test n hit), length-back test n)
+      | inr miss ↦ omega (arith, count-no test n miss, ap length (back-no test n miss), length-back test n)
+    ]
+
+-- a day that passes is not one that does not
+apart : (test : ℕ → Bool) (m n : ℕ) → test m ≡ false → test n ≡ true → m ≡ n → ⊥
+apart test m n miss on e = false≢true (sym miss ∙ ap test e ∙ on)
+
+-- and stands apart from it
+after-no : (test : ℕ → Bool) (n x : ℕ) → test n ≡ false → test x ≡ true → n ≤ x → n < x
+after-no test n x miss on h =
+    elim (cases_lt n x) as (λ _. n < x) [ inl less ↦ less | inr most ↦ absurd (apart test n x miss on (omega arith)) ]
+
+before-no : (test : ℕ → Bool) (n x : ℕ) → test n ≡ false → test x ≡ true → x ≤ n → x < n
+before-no test n x miss on h =
+    elim (cases_lt x n) as (λ _. x < n) [ inl less ↦ less | inr most ↦ absurd (apart test n x miss on (omega arith)) ]
+
+-- days of one rank are one day, and a day of a greater rank comes later
+same-rank : (test : ℕ → Bool) (n x : ℕ) → test n ≡ true → n ≤ x → count_before test x ≡ count_before test n → n ≡ x
+same-rank test n x hit h e =
+    elim (cases_lt n x) as (λ _. n ≡ x) [ inl less ↦ absurd (omega (arith, count-less test n x hit less)) | inr most ↦ omega arith ]
+
+pub greater-rank : (test : ℕ → Bool) (m n : ℕ) → count_before test m < count_before test n → m < n
+greater-rank test m n h =
+    elim (cases_lt m n) as (λ _. m < n) [ inl less ↦ less | inr most ↦ absurd (omega (arith, count-rises test n m most)) ]
+
+-- The day that passes with k more before it than before day n is at place k of those from day n on.
+pub nth-from : (test : ℕ → Bool) (n count k x : ℕ) → n ≤ x → x < n + count → test x ≡ true → count_before test x ≡ count_before test n + k
+    → slice_get (filter test (days_from n count)) k ≡ Some x
+nth-from test n zero k x low high on e = absurd (omega arith)
+nth-from test n (suc count) zero x low high on e =
+    let f : n + 1 ≡ suc n = omega arith in
+    elim (cases_Bool (test n)) as (λ _. slice_get (filter test (days_from n (suc count))) 0 ≡ Some x) [
+      | inl hit ↦ ap (λ days. slice_get days 0) (from-yes test n count hit) ∙ ap Some (same-rank test n x hit low (omega arith))
+      | inr miss ↦
+          let later = after-no test n x miss on low in
+          ap (λ days. slice_get days 0) (from-no test n count miss)
+          ∙ nth-from test (n + 1) count 0 x (omega arith) (omega arith) on (omega (arith, ap (count_before test) f, count-no test n miss))
+    ]
+nth-from test n (suc count) (suc k) x low high on e =
+    let f : n + 1 ≡ suc n = omega arith in
+    elim (cases_Bool (test n)) as (λ _. slice_get (filter test (days_from n (suc count))) (suc k) ≡ Some x) [
+      | inl hit ↦
+          let later = greater-rank test n x (omega arith) in
+          ap (λ days. slice_get days (suc k)) (from-yes test n count hit)
+          ∙ nth-from test (n + 1) count k x (omega arith) (omega arith) on (omega (arith, ap (count_before test) f, count-yes test n hit))
+      | inr miss ↦
+          let later = after-no test n x miss on low in
+          ap (λ days. slice_get days (suc k)) (from-no test n count miss)
+          ∙ nth-from test (n + 1) count (suc k) x (omega arith) (omega arith) on (omega (arith, ap (count_before test) f, count-no test n miss))
+    ]
+
+pub none-nth_from : (test : ℕ → Bool) (n count k : ℕ) → count_before test (n + count) ≤ count_before test n + k → slice_get (filter test (days_from n count)) k ≡ None
+none-nth_from test n count k h = slice_get_past (filter test (days_from n count)) k (omega (arith, length-from test n count))
+
+-- The day that passes with k fewer before it, and itself, than before day n is at place k of those before day n, from the nearest.
+pub nth-back : (test : ℕ → Bool) (n k x : ℕ) → x < n → test x ≡ true → count_before test x + (k + 1) ≡ count_before test n
+    → slice_get (filter test (days_before_back n)) k ≡ Some x
+nth-back test zero k x h on e = absurd (omega arith)
+nth-back test (suc n) zero x h on e =
+    elim (cases_Bool (test n)) as (λ _. slice_get (filter test (days_before_back (suc n))) 0 ≡ Some x) [
+      | inl hit ↦
+          let same : n ≡ x = sym (same-rank test x n on (omega arith) (omega (arith, count-yes test n hit))) in
+          ap (λ days. slice_get days 0) (back-yes test n hit) ∙ ap Some same
+      | inr miss ↦
+          ap (λ days. slice_get days 0) (back-no test n miss)
+          ∙ nth-back test n 0 x (before-no test n x miss on (omega arith)) on (omega (arith, count-no test n miss))
+    ]
+nth-back test (suc n) (suc k) x h on e =
+    elim (cases_Bool (test n)) as (λ _. slice_get (filter test (days_before_back (suc n))) (suc k) ≡ Some x) [
+      | inl hit ↦
+          let less : count_before test x < count_before test n = omega (arith, count-yes test n hit) in
+          ap (λ days. slice_get days (suc k)) (back-yes test n hit)
+          ∙ nth-back test n k x (greater-rank test x n less) on (omega (arith, count-yes test n hit))
+      | inr miss ↦
+          ap (λ days. slice_get days (suc k)) (back-no test n miss)
+          ∙ nth-back test n (suc k) x (before-no test n x miss on (omega arith)) on (omega (arith, count-no test n miss))
+    ]
+
+pub none-nth_back : (test : ℕ → Bool) (n k : ℕ) → count_before test n ≤ k → slice_get (filter test (days_before_back n)) k ≡ None
+none-nth_back test n k h = slice_get_past (filter test (days_before_back n)) k (omega (arith, length-back test n))
+
+-- a day comes before one that passes, where no more days pass up to it
+pub below-rank : (test : ℕ → Bool) (m x : ℕ) → test x ≡ true → count_before test (m + 1) ≤ count_before test x → m < x
+below-rank test m x on h =
+    elim (cases_lt m x) as (λ _. m < x) [ inl less ↦ less | inr most ↦ absurd (omega (arith, count-less test x (m + 1) on (omega arith))) ]

@@ -1,0 +1,12 @@
+use Rattle.std.proofs.Common.{◌∷◌, ◌∙◌, sym, ap, arith, length}
+use Rattle.cal_schedule.specs.Rule.{days_left}
+use Rattle.cal_schedule.proofs.Rules.{left_after}
+use Rattle.cal_schedule.proofs.rule.walk.RuleDaysIterator.next.Goals as goal
+
+pub returns-clause-steps : goal.returns-clause-steps
+returns-clause-steps c =
+    let rule = c.self.inside.rule.now in
+    sym c.self.view_is ∙ ap (days_left rule) c.in_ok-item.was ∙ ap (λ days. c.in_ok-item.item ∷ days) (sym (left_after rule c.in_ok-item.item c.next_after-self-inside.result c.next_after-self-inside.ensures.day))
+
+pub returns-clause-goes : goal.returns-clause-goes
+returns-clause-goes c = record { on = λ _. (tt, tt, omega (arith, ap length (returns-clause-steps c))); keeps = tt; rests = λ _. tt }

@@ -1,0 +1,9 @@
+use Rattle.cal_schedule.proofs.WorkdaysWeeks.{workday-by_mark, workday-by_holiday}
+use Rattle.cal_schedule.proofs.workdays.calendar.Workdays.is_workday.Goals as goal
+
+pub returns-then-is_marked-clause-value : goal.returns-then-is_marked-clause-value
+returns-then-is_marked-clause-value c =
+    workday-by_holiday c.args.self.now c.args.date _ _ _ c.number-day.ensures.number c.is_marked.ensures c.if-is_marked.true c.is_holiday.ensures
+
+pub returns-else-is_marked-clause-value : goal.returns-else-is_marked-clause-value
+returns-else-is_marked-clause-value c = workday-by_mark c.args.self.now c.args.date _ _ c.number-day.ensures.number c.is_marked.ensures c.if-is_marked.false

@@ -1,0 +1,9 @@
+pub mod Months
+pub mod Rule
+pub mod RuleSearch
+pub mod Until
+pub mod Weekdays
+pub mod Money
+pub mod Workdays
+pub mod WorkdaysConvention
+pub mod WorkdaysSplit

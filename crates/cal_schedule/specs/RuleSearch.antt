@@ -1,0 +1,25 @@
+-- What the search for a rule's next day answers, step by step.
+use Rattle.std.specs.Prelude.{◌≡◌, ℕ, ◌+◌, ◌<◌, ◌≤◌, true, false, Option, MatchOption}
+use Rattle.cal_time.specs.Date.{last_day, IsDate}
+use Rattle.cal_time.specs.declared.Weekday.{Weekday}
+use Rattle.cal_schedule.specs.declared.rule.kinds.Frequency.{Frequency}
+use Rattle.cal_schedule.specs.declared.rule.kinds.Rule.{Rule}
+use Rattle.cal_schedule.specs.Rule.{is_on, turn_at}
+
+-- no day from day m to the one before day n is one of the rule's
+abbrev pub NoDayBetween : Rule → ℕ → ℕ → Type 0
+NoDayBetween rule m n = (k : ℕ) → m ≤ k → k < n → is_on rule k ≡ false
+
+-- r is the first day of the range that is in that turn or a later one
+abbrev pub IsFirstOf : Frequency → Weekday → ℕ → Option ℕ → Type 0
+IsFirstOf f w t r =
+    MatchOption r ((k : ℕ) → IsDate k → turn_at f w k < t) (λ x. IsDate x × (t ≤ turn_at f w x) × ((k : ℕ) → k < x → turn_at f w k < t))
+
+-- r is a later day than day n, and the rule has none from day n to the one before it; where there is none, it has none at all
+abbrev pub IsSkip : Rule → ℕ → Option ℕ → Type 0
+IsSkip rule n r = MatchOption r (NoDayBetween rule n (last_day + 1)) (λ x. (n < x) × IsDate x × NoDayBetween rule n x)
+
+-- r is the first day of the rule from day n on
+abbrev pub IsNextFrom : Rule → ℕ → Option ℕ → Type 0
+IsNextFrom rule n r =
+    MatchOption r (NoDayBetween rule n (last_day + 1)) (λ x. (n ≤ x) × IsDate x × (is_on rule x ≡ true) × NoDayBetween rule n x)

@@ -1,0 +1,38 @@
+-- A day moved to a working day, by the conventions of financial contracts (the names are those of the ISDA Definitions).
+use Rattle.std.specs.Prelude.{◌≡◌, ℕ, ◌+◌, ◌==◌, ◌&&◌, ◌≤◌, Bool, true, Option, Some, None, slice_get, if◌then◌else◌}
+use Rattle.std.specs.Ordering.{int_eq}
+use Rattle.cal_time.specs.Date.{year_at, month_at}
+use Rattle.cal_schedule.specs.Workdays.{WorkWeek, is_workday, workdays_from, workdays_back}
+use Rattle.cal_schedule.specs.declared.workdays.convention.Convention.{Convention}
+use Rattle.cal_schedule.specs.declared.workdays.convention.Convention.TheVariants.{Unadjusted, Following, ModifiedFollowing, Preceding, ModifiedPreceding}
+
+-- the first working day from day n on, and the last one up to it
+abbrev pub following : WorkWeek → ℕ → Option ℕ
+following w n = slice_get (workdays_from w n) 0
+
+abbrev pub preceding : WorkWeek → ℕ → Option ℕ
+preceding w n = slice_get (workdays_back w (n + 1)) 0
+
+abbrev pub is_in_month_of : ℕ → ℕ → Bool
+is_in_month_of n r = int_eq (year_at r) (year_at n) && (month_at r == month_at n)
+
+-- the first, where it is in the month of day n, or else the second
+abbrev pub first_in_month_of : ℕ → Option ℕ → Option ℕ → Option ℕ
+first_in_month_of n None second = second
+first_in_month_of n (Some r) second = if is_in_month_of n r then Some r else second
+
+-- the day that day n is moved to
+abbrev pub adjusted : WorkWeek → Convention → ℕ → Option ℕ
+adjusted w Unadjusted n = Some n
+adjusted w Following n = following w n
+adjusted w ModifiedFollowing n = first_in_month_of n (following w n) (preceding w n)
+adjusted w Preceding n = preceding w n
+adjusted w ModifiedPreceding n = first_in_month_of n (preceding w n) (following w n)
+
+-- what it always is
+abbrev pub IsAdjusted : WorkWeek → Convention → ℕ → ℕ → Type 0
+IsAdjusted w Unadjusted n r = r ≡ n
+IsAdjusted w Following n r = (is_workday w r ≡ true) × (n ≤ r)
+IsAdjusted w ModifiedFollowing n r = is_workday w r ≡ true
+IsAdjusted w Preceding n r = (is_workday w r ≡ true) × (r ≤ n)
+IsAdjusted w ModifiedPreceding n r = is_workday w r ≡ true

@@ -1,0 +1,129 @@
+//! The first and the last day of the month, the quarter, the year and the week of a day.
+ghost use Rattle.std.specs.Prelude.{◌≡◌, ◌+◌, ◌-◌, ◌*◌, ◌≤◌, IfSome, SomeIff};
+ghost use Rattle.cal_time.specs.Date.{last_day, year_at, month_at, day_of_month_at, weekday_at, IsDate, IsYear, HasCalendarDate};
+ghost use Rattle.cal_time.specs.IsoWeekDate.{iso_year_at, iso_week_at, HasIsoWeekDate};
+ghost use Rattle.cal_time.specs.Lengths.{days_in_month};
+ghost use Rattle.cal_time.specs.Month.{number};
+ghost use Rattle.cal_schedule.specs.Months.{quarter_at};
+
+use cal_time::util::days_in_month;
+use cal_time::{Cycle, Date, Month};
+
+/// The first day of a month of the range.
+#[tactic(auto, using(crate::proofs::Ends::lengths))]
+pub(crate) fn first_in(year: i32, month: Month) -> Date
+    requires { IsYear year }
+    ensures date { HasCalendarDate year (number month) 1 result }
+    ensures range { IsDate result }
+{
+    match Date::from_calendar_date(year, month, 1) {
+        Ok(date) => date,
+        Err(_) => unreachable!(),
+    }
+}
+
+/// The last day of a month of the range.
+#[tactic(auto, using(crate::proofs::Ends::lengths))]
+pub(crate) fn last_in(year: i32, month: Month) -> Date
+    requires { IsYear year }
+    ensures date { HasCalendarDate year (number month) (days_in_month year (number month)) result }
+    ensures range { IsDate result }
+{
+    match Date::from_calendar_date(year, month, days_in_month(month, year)) {
+        Ok(date) => date,
+        Err(_) => unreachable!(),
+    }
+}
+
+/// The first day of the month: of 29 February 2024 it is 1 February 2024.
+pub fn first_of_month(date: Date) -> Date
+    ensures date { HasCalendarDate (year_at date) (month_at date) 1 result }
+    ensures days { result + day_of_month_at date ≡ date + 1 }
+    ensures in_range { IsDate date × IsDate result }
+{
+    first_in(date.year(), date.month())
+}
+
+/// The last day of the month: of 1 February 2024 it is 29 February 2024.
+pub fn last_of_month(date: Date) -> Date
+    ensures date { HasCalendarDate (year_at date) (month_at date) (days_in_month (year_at date) (month_at date)) result }
+    ensures days { result + day_of_month_at date ≡ date + days_in_month (year_at date) (month_at date) }
+    ensures in_range { IsDate date × IsDate result }
+{
+    last_in(date.year(), date.month())
+}
+
+/// The quarter of the year, from 1 to 4: that of 31 March is 1, and that of 1 April is 2.
+pub fn quarter(date: Date) -> u8
+    ensures counted { result ≡ quarter_at date }
+    ensures range { (1 ≤ result) × (result ≤ 4) }
+    ensures in_range { IsDate date }
+{
+    date.month().place() / 3 + 1
+}
+
+/// The first day of the quarter: of 29 February 2024 it is 1 January 2024.
+pub fn first_of_quarter(date: Date) -> Date
+    ensures date { HasCalendarDate (year_at date) (3 * quarter_at date - 2) 1 result }
+    ensures not_after { result ≤ date }
+    ensures in_range { IsDate date × IsDate result }
+{
+    let place = date.month().place();
+    first_in(date.year(), Month::at(place - place % 3))
+}
+
+/// The last day of the quarter: of 29 February 2024 it is 31 March 2024.
+pub fn last_of_quarter(date: Date) -> Date
+    ensures date { HasCalendarDate (year_at date) (3 * quarter_at date) (days_in_month (year_at date) (3 * quarter_at date)) result }
+    ensures not_before { date ≤ result }
+    ensures in_range { IsDate date × IsDate result }
+{
+    let place = date.month().place();
+    last_in(date.year(), Month::at(place - place % 3 + 2))
+}
+
+/// The first day of the year: of 29 February 2024 it is 1 January 2024.
+pub fn first_of_year(date: Date) -> Date
+    ensures date { HasCalendarDate (year_at date) 1 1 result }
+    ensures not_after { result ≤ date }
+    ensures in_range { IsDate date × IsDate result }
+{
+    first_in(date.year(), Month::January)
+}
+
+/// The last day of the year: of 29 February 2024 it is 31 December 2024.
+pub fn last_of_year(date: Date) -> Date
+    ensures date { HasCalendarDate (year_at date) 12 31 result }
+    ensures not_before { date ≤ result }
+    ensures in_range { IsDate date × IsDate result }
+{
+    last_in(date.year(), Month::December)
+}
+
+/// The Monday of the ISO week: of 1 January 2021, a Friday, it is 28 December 2020. The range begins on a Monday, so each day has one.
+pub fn first_of_iso_week(date: Date) -> Date
+    ensures date { HasIsoWeekDate (iso_year_at date) (iso_week_at date) 0 result }
+    ensures days { result + weekday_at date ≡ date }
+    ensures in_range { IsDate date × IsDate result }
+{
+    let back = i32::from(date.weekday().place());
+    match Date::from_julian_day(date.to_julian_day() - back) {
+        Ok(monday) => monday,
+        Err(_) => unreachable!(),
+    }
+}
+
+/// The Sunday of the ISO week: of 1 January 2021, a Friday, it is 3 January 2021.
+///
+/// `None` exactly where the range ends before that Sunday, which is so of its last five days alone: it ends on a Friday.
+pub fn last_of_iso_week(date: Date) -> Option<Date>
+    ensures day { SomeIff result (date + 6 ≤ last_day + weekday_at date) (date + 6 - weekday_at date) }
+    ensures date { IfSome result (HasIsoWeekDate (iso_year_at date) (iso_week_at date) 6) }
+    ensures in_range { IsDate date }
+{
+    let on = 6 - i32::from(date.weekday().place());
+    match Date::from_julian_day(date.to_julian_day() + on) {
+        Ok(sunday) => Some(sunday),
+        Err(_) => None,
+    }
+}

@@ -1,0 +1,30 @@
+//! Schedules over the calendar: months and years added and counted, the ends of periods, weekdays of a month, and the days that
+//! interest is counted by.
+//!
+//! Every call is exact on every day of the calendar, and refuses exactly where the range of years has no answer.
+#![tactic(auto)]
+
+mod bounds;
+mod laws;
+mod money;
+mod months;
+mod period;
+mod rule;
+mod until;
+mod weekdays;
+mod workdays;
+
+pub use bounds::{
+    first_of_iso_week, first_of_month, first_of_quarter, first_of_year, last_of_iso_week,
+    last_of_month, last_of_quarter, last_of_year, quarter,
+};
+pub use money::{DayCount, YearFraction, day_count};
+pub use months::{checked_add_months, checked_add_years, saturating_add_months};
+pub use period::Period;
+pub use rule::{ByDay, Frequency, Rule, RuleDays};
+pub use until::{months_until, period_until, years_until};
+pub use weekdays::{last_weekday_of_month, nth_weekday_of_month, on_or_after, on_or_before};
+pub use workdays::{Convention, Workdays};
+
+#[cfg(test)]
+mod tests;

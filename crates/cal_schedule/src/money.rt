@@ -1,0 +1,140 @@
+//! The fraction of a year that interest is counted by.
+ghost use Rattle.std.specs.Prelude.{◌≡◌, ◌<◌, ◌^◌, pos, neg_ℤ, ◌+ℤ◌, ◌*ℤ◌, ◌≤ℤ◌};
+ghost use Rattle.cal_time.specs.Date.{year_at, IsDate};
+ghost use Rattle.cal_time.specs.IsoWeekDate.{count_before};
+ghost use Rattle.cal_schedule.specs.Money.{actual_days, bond_end, counted_days, days_that, in_leap_year, in_other_year, thirty_days, year_counts};
+
+use crate::until::months_apart;
+use cal_time::Date;
+use cal_time::util::is_leap_year;
+
+/// A convention by which the days of interest are counted, under the names of the 2006 ISDA Definitions.
+///
+/// The first day counts and the last one does not.
+#[derive(Clone, Copy, Debug, PartialEq, Eq)]
+pub enum DayCount {
+    /// Actual/360: the days, over 360.
+    Actual360,
+    /// Actual/365 (Fixed): the days, over 365.
+    Actual365Fixed,
+    /// 30/360, bond basis: each month has 30 days. The 31st counts as the 30th, but as the end only where the beginning is the 30th
+    /// or the 31st.
+    Thirty360,
+    /// 30E/360, Eurobond basis: each month has 30 days, and the 31st counts as the 30th.
+    ThirtyE360,
+    /// Actual/Actual (ISDA): the days in leap years over 366, and the others over 365.
+    ActualActual,
+}
+
+/// A fraction of a year, as two whole numbers.
+#[derive(Clone, Copy, Debug, PartialEq, Eq)]
+pub struct YearFraction {
+    /// What was counted.
+    pub numerator: i64,
+    /// What a year counts.
+    pub denominator: u32,
+}
+
+/// The days from one day to the day before another, below zero the other way round.
+fn actual_days(from: Date, to: Date) -> i64
+    ensures days { result ≡ actual_days from to }
+    ensures least { neg_ℤ (pos (2 ^ 40)) ≤ℤ result }
+    ensures most { result ≤ℤ pos (2 ^ 40) }
+{
+    i64::from(to.to_julian_day()) - i64::from(from.to_julian_day())
+}
+
+/// The same where each month has 30 days, by the days of the month that are given.
+fn thirty_days(from: Date, to: Date, first: u8, last: u8) -> i64
+    ensures { result ≡ thirty_days from to first last }
+{
+    i64::from(months_apart(from, to)) * 30 + i64::from(last) - i64::from(first)
+}
+
+/// The day of the month that the bond basis ends with.
+fn bond_end(first: u8, last: u8) -> u8
+    ensures { result ≡ bond_end first last }
+{
+    if last == 31 && first > 29 { 30 } else { last }
+}
+
+/// The years of the range that come before the year of a day.
+fn years_before(date: Date) -> u32
+    ensures years { pos result ≡ year_at date +ℤ pos 999_999 }
+    ensures most { result < 2_000_000 }
+    ensures in_range { IsDate date }
+{
+    (date.year() + 999_999) as u32
+}
+
+/// The days of leap years that come before a day, from the first of the range on.
+fn leap_days_before(date: Date) -> u32
+    ensures { result ≡ count_before in_leap_year date }
+{
+    let years = years_before(date);
+    let days = 366 * (years / 4 + years / 400 - years / 100);
+    if is_leap_year(date.year()) {
+        days + u32::from(date.ordinal()) - 1
+    } else {
+        days
+    }
+}
+
+/// The days from one day to the day before another that are in leap years.
+fn leap_days(from: Date, to: Date) -> i64
+    ensures days { result ≡ days_that in_leap_year from to }
+    ensures least { neg_ℤ (pos (2 ^ 40)) ≤ℤ result }
+    ensures most { result ≤ℤ pos (2 ^ 40) }
+{
+    i64::from(leap_days_before(to)) - i64::from(leap_days_before(from))
+}
+
+/// Those that are in other years.
+fn other_days(from: Date, to: Date) -> i64
+    ensures days { result ≡ days_that in_other_year from to }
+    ensures least { neg_ℤ (pos (2 ^ 42)) ≤ℤ result }
+    ensures most { result ≤ℤ pos (2 ^ 42) }
+{
+    actual_days(from, to) - leap_days(from, to)
+}
+
+/// The days in leap years over 366 and the others over 365, over the denominator of both.
+fn by_years(from: Date, to: Date) -> i64
+    ensures { result ≡ days_that in_leap_year from to *ℤ pos 365 +ℤ days_that in_other_year from to *ℤ pos 366 }
+{
+    leap_days(from, to) * 365 + other_days(from, to) * 366
+}
+
+/// The fraction of a year from one day to another by a convention: the days that it counts, over those of its year. The other way
+/// round the numbers are below zero.
+///
+/// For actual/actual the denominator is 366 times 365, so that both kinds of year fit. From 1 November 2003 to 1 May 2004 it gives 61
+/// days of 365 and 121 of 366, that is 66491/133590.
+pub fn day_count(from: Date, to: Date, convention: DayCount) -> YearFraction
+    ensures numerator { result.numerator ≡ counted_days convention from to }
+    ensures denominator { result.denominator ≡ year_counts convention }
+{
+    let (first, last) = (from.day(), to.day());
+    match convention {
+        DayCount::Actual360 => YearFraction {
+            numerator: actual_days(from, to),
+            denominator: 360,
+        },
+        DayCount::Actual365Fixed => YearFraction {
+            numerator: actual_days(from, to),
+            denominator: 365,
+        },
+        DayCount::Thirty360 => YearFraction {
+            numerator: thirty_days(from, to, first.min(30), bond_end(first, last)),
+            denominator: 360,
+        },
+        DayCount::ThirtyE360 => YearFraction {
+            numerator: thirty_days(from, to, first.min(30), last.min(30)),
+            denominator: 360,
+        },
+        DayCount::ActualActual => YearFraction {
+            numerator: by_years(from, to),
+            denominator: 133_590,
+        },
+    }
+}

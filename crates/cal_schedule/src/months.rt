@@ -1,0 +1,114 @@
+//! Days moved by months and years.
+ghost use Rattle.std.specs.Prelude.{◌≡◌, ℕ, ◌<◌, ◌≤◌, ◌^◌, min, pos, neg_ℤ, ◌+ℤ◌, ◌-ℤ◌, ◌*ℤ◌, ◌<ℤ◌, ◌≤ℤ◌, Some, IfSome, IfNone};
+ghost use Rattle.cal_time.specs.Date.{first_year, last_year, last_day, IsDate, IsYear, year_at, month_at, day_of_month_at};
+ghost use Rattle.cal_time.specs.Lengths.{days_in_month};
+ghost use Rattle.cal_time.specs.Month.{number};
+ghost use Rattle.cal_schedule.specs.Months.{month_number_at, IsMonthNumber, IsMonthsLater};
+
+use cal_time::util::days_in_month;
+use cal_time::{Cycle, Date, Month};
+
+/// The months of the range of years.
+const MONTHS: i64 = 23_999_988;
+
+/// The months of the range that come before the month of the day, and its day of the month.
+pub(crate) fn place_and_day(date: Date) -> (u32, u8)
+    ensures place { pos result.0 ≡ month_number_at date +ℤ pos 11_999_988 }
+    ensures bound { result.0 < 23_999_988 }
+    ensures day { result.1 ≡ day_of_month_at date }
+    ensures first { 1 ≤ result.1 }
+    ensures in_range { IsDate date }
+{
+    let (year, month, day) = date.to_calendar_date();
+    ((year + 999_999) as u32 * 12 + u32::from(month.place()), day)
+}
+
+/// The year and the month that have so many months of the range before them.
+fn year_and_month(place: u32) -> (i32, Month)
+    requires { place < 23_999_988 }
+    ensures month { result.0 *ℤ pos 12 +ℤ pos (number result.1) ≡ pos place -ℤ pos 11_999_987 }
+    ensures year { IsYear result.0 }
+{
+    ((place / 12) as i32 - 999_999, Month::at((place % 12) as u8))
+}
+
+/// The day of that month that has this day of the month, or the last day of the month where it has no such day.
+pub(crate) fn day_in_month(place: u32, day: u8) -> Date
+    requires month { place < 23_999_988 }
+    requires day { 1 ≤ day }
+    ensures month { pos place ≡ month_number_at result +ℤ pos 11_999_988 }
+    ensures day { day_of_month_at result ≡ min day (days_in_month (year_at result) (month_at result)) }
+    ensures in_range { IsDate result }
+{
+    let (year, month) = year_and_month(place);
+    match Date::from_calendar_date(year, month, day.min(days_in_month(month, year))) {
+        Ok(date) => date,
+        Err(_) => unreachable!(),
+    }
+}
+
+/// The day so many months later, or `None` where that month is not in the range.
+fn moved(date: Date, months: i64) -> Option<Date>
+    requires least { neg_ℤ (pos (2 ^ 40)) ≤ℤ months }
+    requires most { months ≤ℤ pos (2 ^ 40) }
+    ensures every { (n : ℕ) → IsDate n → IsMonthsLater date months n → result ≡ Some n }
+    ensures has { IfSome result (λ n. IsDate n × IsMonthsLater date months n) }
+    ensures some { IfSome result (λ _. IsMonthNumber (month_number_at date +ℤ months)) }
+    ensures none { IfNone result (¬ IsMonthNumber (month_number_at date +ℤ months)) }
+    ensures in_range { IsDate date }
+{
+    let (place, day) = place_and_day(date);
+    let place = i64::from(place) + months;
+    if place < 0 || place >= MONTHS {
+        return None;
+    }
+    Some(day_in_month(place as u32, day))
+}
+
+/// The day so many months later, or earlier where they are below zero: in that month the same day of the month, or the last
+/// day where the month has no such day.
+///
+/// `None` exactly where that month is not in the range of years. One month after 31 January 2023 is 28 February 2023, and
+/// from December of the last year no month is left.
+pub fn checked_add_months(date: Date, months: i32) -> Option<Date>
+    ensures every { (n : ℕ) → IsDate n → IsMonthsLater date months n → result ≡ Some n }
+    ensures has { IfSome result (λ n. IsDate n × IsMonthsLater date months n) }
+    ensures some { IfSome result (λ _. IsMonthNumber (month_number_at date +ℤ months)) }
+    ensures none { IfNone result (¬ IsMonthNumber (month_number_at date +ℤ months)) }
+    ensures in_range { IsDate date }
+{
+    moved(date, i64::from(months))
+}
+
+/// The same, but the first or the last day of the range where that month comes before or after it.
+///
+/// One month after 31 January 2023 is 28 February 2023, and a month after [`Date::MAX`] is `Date::MAX`.
+pub fn saturating_add_months(date: Date, months: i32) -> Date
+    ensures within { IsMonthNumber (month_number_at date +ℤ months) → IsMonthsLater date months result }
+    ensures before { (month_number_at date +ℤ months) <ℤ (first_year *ℤ pos 12) → result ≡ 0 }
+    ensures past { ((last_year +ℤ pos 1) *ℤ pos 12) ≤ℤ (month_number_at date +ℤ months) → result ≡ last_day }
+    ensures in_range { IsDate date × IsDate result }
+{
+    match checked_add_months(date, months) {
+        Some(later) => later,
+        None if months < 0 => Date::MIN,
+        None => Date::MAX,
+    }
+}
+
+/// The day so many years later, or earlier where they are below zero: the same month and day of the month, but 28 February
+/// for the 29th in a year that has none. These are twelve times as many months.
+///
+/// `None` exactly where that year is not in the range. One year after 29 February 2024 is 28 February 2025, and four years
+/// after it are 29 February 2028.
+pub fn checked_add_years(date: Date, years: i32) -> Option<Date>
+    ensures every { (n : ℕ) → IsDate n → IsMonthsLater date (pos 12 *ℤ years) n → result ≡ Some n }
+    ensures has { IfSome result (λ n. IsDate n × IsMonthsLater date (pos 12 *ℤ years) n) }
+    ensures parts { IfSome result (λ n. (year_at n ≡ year_at date +ℤ years) × (month_at n ≡ month_at date)) }
+    ensures some { IfSome result (λ _. IsYear (year_at date +ℤ years)) }
+    ensures none { IfNone result (¬ IsYear (year_at date +ℤ years)) }
+    ensures in_range { IsDate date }
+{
+    let months = 12 * i64::from(years);
+    moved(date, months)
+}

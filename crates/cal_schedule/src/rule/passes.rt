@@ -1,0 +1,200 @@
+//! Whether a day is one of a rule.
+ghost use Rattle.std.specs.Prelude.{◌≡◌, ◌<◌, ◌≤◌, ◌&&◌, ◌==◌};
+ghost use Rattle.std.specs.List.{list_any};
+ghost use Rattle.cal_time.specs.Date.{last_day, IsDate, month_at, ordinal_at, year_at};
+ghost use Rattle.cal_time.specs.Lengths.{days_in_year};
+ghost use Rattle.cal_time.specs.Month.{number as month_number};
+ghost use Rattle.cal_schedule.specs.Rule.{allows, is_as_start, is_by, is_empty, is_in_months, is_month_day, is_nth, is_nth_of, is_on, is_on_days, is_weekday, is_yearly, names_no_day, step, turn_at, turns_past};
+
+use crate::months::place_and_day;
+use crate::rule::kinds::{ByDay, Frequency, Rule};
+use crate::rule::numbers::number;
+use cal_time::util::{days_in_month, days_in_year};
+use cal_time::{Cycle, Date, Month, Weekday};
+
+/// Whether what has these places from the first one and from the last one is the n-th, or from the end where n is below zero.
+fn is_nth(n: i8, ahead: u16, back: u16) -> bool
+    ensures { result ≡ is_nth n ahead back }
+{
+    let n = i32::from(n);
+    if n < 0 {
+        i32::from(back) == -n
+    } else {
+        i32::from(ahead) == n
+    }
+}
+
+/// The number of the month of the day.
+fn month_of(date: Date) -> u8
+    ensures { result ≡ month_at date }
+{
+    date.month().place() + 1
+}
+
+/// Whether the months have that number among them.
+fn any_month(months: &[Month], number: u8) -> bool
+    ensures { result ≡ list_any (λ m. month_number m == number) months.now }
+{
+    months.iter().any(|month| month.place() + 1 == number)
+}
+
+/// Whether the day is that one of its month.
+#[tactic(auto, unfolding(crate::specs::Rule::is_month_day))]
+fn is_month_day(date: Date, day: i8) -> bool
+    ensures { result ≡ is_month_day date day }
+{
+    let length = days_in_month(date.month(), date.year());
+    is_nth(
+        day,
+        u16::from(date.day()),
+        u16::from(length + 1 - date.day()),
+    )
+}
+
+fn any_month_day(days: &[i8], date: Date) -> bool
+    ensures { result ≡ list_any (is_month_day date) days.now }
+{
+    days.iter().any(|day| is_month_day(date, *day))
+}
+
+/// Whether the day is the so-many-th of its weekday in its year, or in its month.
+#[tactic(auto, unfolding(crate::specs::Rule::is_nth_of))]
+fn is_nth_of(of_year: bool, date: Date, n: i8) -> bool
+    ensures { result ≡ is_nth_of of_year date n }
+{
+    let (place, length) = if of_year {
+        (date.ordinal(), days_in_year(date.year()))
+    } else {
+        (
+            u16::from(date.day()),
+            u16::from(days_in_month(date.month(), date.year())),
+        )
+    };
+    is_nth(n, (place + 6) / 7, (length - place) / 7 + 1)
+}
+
+/// Whether the day has that weekday, and is the so-many-th of it.
+#[tactic(auto, unfolding(crate::specs::Rule::is_weekday))]
+fn is_weekday(of_year: bool, date: Date, by: ByDay) -> bool
+    ensures { result ≡ is_weekday of_year date by }
+{
+    match by {
+        ByDay::Every(weekday) => date.weekday() == weekday,
+        ByDay::Nth(n, weekday) => date.weekday() == weekday && is_nth_of(of_year, date, n),
+    }
+}
+
+fn any_weekday(weekdays: &[ByDay], of_year: bool, date: Date) -> bool
+    ensures { result ≡ list_any (is_weekday of_year date) weekdays.now }
+{
+    weekdays.iter().any(|by| is_weekday(of_year, date, *by))
+}
+
+/// The day, the week, the month or the year of the day, counted from the first one of the range.
+#[tactic(auto, unfolding(crate::specs::Rule::turn_at))]
+pub(super) fn turn_of(frequency: Frequency, first: Weekday, date: Date) -> u32
+    ensures turn { result ≡ turn_at frequency first date }
+    ensures most { result ≤ last_day }
+    ensures in_range { IsDate date }
+{
+    match frequency {
+        Frequency::Daily => number(date),
+        Frequency::Weekly => (number(date) + 7 - u32::from(first.place())) / 7,
+        Frequency::Monthly => place_and_day(date).0,
+        Frequency::Yearly => (date.year() + 999_999) as u32,
+    }
+}
+
+impl Rule<'_> {
+    /// The rule takes each so-many-th day, week, month or year.
+    pub(super) fn step(&self) -> u32
+        ensures value { result ≡ step self.now }
+        ensures least { 1 ≤ result }
+    {
+        self.interval.max(1)
+    }
+
+    fn names_no_day(&self) -> bool
+        ensures { result ≡ names_no_day self.now }
+    {
+        self.month_days.is_empty() && self.weekdays.is_empty()
+    }
+
+    fn is_yearly(&self) -> bool
+        ensures { result ≡ is_yearly self.now.frequency }
+    {
+        matches!(self.frequency, Frequency::Yearly)
+    }
+
+    /// Whether the rule takes the month of the day.
+    #[tactic(auto, unfolding(crate::specs::Rule::is_in_months))]
+    pub(super) fn is_in_months(&self, date: Date) -> bool
+        ensures { result ≡ is_in_months self.now date }
+    {
+        let month = month_of(date);
+        if self.months.is_empty() {
+            !(self.is_yearly() && self.names_no_day()) || month == month_of(self.start)
+        } else {
+            any_month(self.months, month)
+        }
+    }
+
+    /// Whether the day is as that of the start, as far as the rule counts by it.
+    fn is_as_start(&self, date: Date) -> bool
+        ensures { result ≡ is_as_start self.now.frequency self.now.start date }
+    {
+        match self.frequency {
+            Frequency::Daily => true,
+            Frequency::Weekly => date.weekday() == self.start.weekday(),
+            Frequency::Monthly | Frequency::Yearly => date.day() == self.start.day(),
+        }
+    }
+
+    /// Whether the day is one of those that the rule names, or has the day of the start.
+    #[tactic(auto, unfolding(crate::specs::Rule::is_on_days))]
+    fn is_on_days(&self, date: Date) -> bool
+        ensures { result ≡ is_on_days self.now date }
+    {
+        if self.names_no_day() {
+            return self.is_as_start(date);
+        }
+        let of_year = self.is_yearly() && self.months.is_empty();
+        (self.month_days.is_empty() || any_month_day(self.month_days, date))
+            && (self.weekdays.is_empty() || any_weekday(self.weekdays, of_year, date))
+    }
+
+    fn is_by_last(&self, date: Date) -> bool
+        ensures { result ≡ is_by self.now.until date }
+    {
+        match self.until {
+            Some(last) => date <= last,
+            None => true,
+        }
+    }
+
+    /// How many of the days, weeks, months or years there are to the day from the last one that the rule takes.
+    #[tactic(auto, unfolding(crate::specs::Rule::turns_past))]
+    pub(super) fn out_of_turn(&self, date: Date) -> u32
+        requires { self.now.start ≤ date }
+        ensures turns { result ≡ turns_past self.now date }
+        ensures less { result < step self.now }
+    {
+        let start = turn_of(self.frequency, self.week_start, self.start);
+        (turn_of(self.frequency, self.week_start, date) - start) % self.step()
+    }
+
+    /// Whether the day is one of the rule's.
+    ///
+    /// A rule of each month's last Friday has 26 January 2024, and not 19 January.
+    #[tactic(auto, unfolding(crate::specs::Rule::is_on))]
+    pub fn contains(&self, date: Date) -> bool
+        ensures value { result ≡ is_on self.now date }
+        ensures in_range { IsDate date }
+    {
+        number(date) >= number(self.start)
+            && self.is_by_last(date)
+            && self.out_of_turn(date) == 0
+            && self.is_in_months(date)
+            && self.is_on_days(date)
+    }
+}

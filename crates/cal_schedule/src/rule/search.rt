@@ -1,0 +1,103 @@
+//! The next day of a rule.
+ghost use Rattle.std.specs.Prelude.{◌≡◌, ◌<◌, ◌≤◌, slice_get, IfSome, false, true};
+ghost use Rattle.cal_time.specs.Date.{IsDate};
+ghost use Rattle.cal_schedule.specs.Rule.{days_after, is_on};
+ghost use Rattle.cal_schedule.specs.RuleSearch.{IsFirstOf, IsNextFrom, IsSkip};
+ghost use Rattle.cal_schedule.specs.declared.rule.kinds.Frequency.TheVariants.{Monthly};
+
+use crate::months::{day_in_month, place_and_day};
+use crate::rule::kinds::{Frequency, Rule};
+use crate::rule::numbers::{at_number, number};
+use crate::rule::passes::turn_of;
+use cal_time::{Cycle, Date, Weekday};
+
+/// The months of the range.
+const MONTHS: u64 = 23_999_988;
+
+/// After 400 years, which are so many days and whole weeks, everything comes back.
+const PERIOD: u64 = 146_097;
+
+/// The first day of the month that has so many months of the range before it.
+fn first_of_month(place: u64, first: Weekday) -> Option<Date>
+    ensures { IsFirstOf Monthly first place result }
+{
+    if place < MONTHS {
+        Some(day_in_month(place as u32, 1))
+    } else {
+        None
+    }
+}
+
+/// The first day of the day, week, month or year that has so many of the range before it.
+#[tactic(auto, unfolding(crate::specs::Rule::turn_at), using(crate::proofs::Rules::firsts))]
+fn first_of(frequency: Frequency, first: Weekday, turn: u64) -> Option<Date>
+    requires some { 1 ≤ turn }
+    requires most { turn < 8_589_934_592 }
+    ensures { IsFirstOf frequency first turn result }
+{
+    match frequency {
+        Frequency::Daily => at_number(turn),
+        Frequency::Weekly => at_number(7 * turn - 7 + u64::from(first.place())),
+        Frequency::Monthly => first_of_month(turn, first),
+        Frequency::Yearly => first_of_month(12 * turn, first),
+    }
+}
+
+impl Rule<'_> {
+    /// A later day, where none from this one to the day before it is one of the rule's.
+    fn skip(&self, day: Date) -> Option<Date>
+        requires start { self.now.start ≤ day }
+        requires off { is_on self.now day ≡ false }
+        ensures { IsSkip self.now day result }
+    {
+        let past = self.out_of_turn(day);
+        if past != 0 {
+            let turn = turn_of(self.frequency, self.week_start, day);
+            let next = u64::from(turn) + u64::from(self.step() - past);
+            return first_of(self.frequency, self.week_start, next);
+        }
+        if self.is_in_months(day) {
+            return at_number(u64::from(number(day)) + 1);
+        }
+        let (place, _) = place_and_day(day);
+        first_of_month(u64::from(place) + 1, self.week_start)
+    }
+
+    /// The first day of the rule from this one on.
+    pub(super) fn next_from(&self, first: Date) -> Option<Date>
+        requires { self.now.start ≤ first }
+        ensures { IsNextFrom self.now first result }
+    {
+        // A day of the rule past so many periods has one of the rule so much earlier.
+        let end = u64::from(number(first)) + PERIOD * u64::from(self.step());
+        let mut day = first;
+        while u64::from(number(day)) < end {
+            if self.contains(day) {
+                return Some(day);
+            }
+            match self.skip(day) {
+                Some(next) => day = next,
+                None => return None,
+            }
+        }
+        None
+    }
+
+    /// The first day of the rule after this day, or `None` exactly where the range has none.
+    ///
+    /// After 26 January 2024 a rule of each month's last Friday has 23 February. A rule of each 30 February has no day, and the
+    /// call says so after a look at 400 years.
+    pub fn next_after(&self, date: Date) -> Option<Date>
+        ensures day { result ≡ slice_get (days_after self.now date) 0 }
+        ensures found { IfSome result (λ n. (date < n) × IsDate n × (is_on self.now n ≡ true)) }
+        ensures in_range { IsDate date }
+    {
+        let Some(next) = at_number(u64::from(number(date)) + 1) else {
+            return None;
+        };
+        if next < self.start {
+            return self.next_from(self.start);
+        }
+        self.next_from(next)
+    }
+}

@@ -1,0 +1,128 @@
+//! The months, the years and the period from one day to another.
+ghost use Rattle.std.specs.Prelude.{◌≡◌, ◌<◌, ◌≤◌, ◌^◌, pos, neg_ℤ, ◌+ℤ◌, ◌-ℤ◌, ◌*ℤ◌, ◌<ℤ◌, ◌≤ℤ◌};
+ghost use Rattle.cal_time.specs.Date.{IsDate};
+ghost use Rattle.cal_schedule.specs.Months.{month_number_at, IsMonthNumber, IsMonthsLater};
+ghost use Rattle.cal_schedule.specs.Until.{months_of, IsGreatest, IsLeast, LeadsTo, LeadsUpTo, LeadsBackTo};
+
+use crate::months::{checked_add_months, place_and_day};
+use crate::period::Period;
+use cal_time::Date;
+
+/// The months from the month of the one day to that of the other.
+pub(crate) fn months_apart(from: Date, to: Date) -> i32
+    ensures number { month_number_at to ≡ month_number_at from +ℤ result }
+    ensures month { IsMonthNumber (month_number_at from +ℤ result) }
+    ensures least { neg_ℤ (pos (2 ^ 25)) ≤ℤ result }
+    ensures most { result ≤ℤ pos (2 ^ 25) }
+    ensures in_range { IsDate from × IsDate to }
+{
+    let (start, _) = place_and_day(from);
+    let (end, _) = place_and_day(to);
+    end as i32 - start as i32
+}
+
+/// The day so many months later, which is known to be in the range.
+fn add_months(date: Date, months: i32) -> Date
+    requires { IsMonthNumber (month_number_at date +ℤ months) }
+    ensures later { IsMonthsLater date months result }
+    ensures range { IsDate result }
+{
+    match checked_add_months(date, months) {
+        Some(later) => later,
+        None => unreachable!(),
+    }
+}
+
+/// The months on to a day that does not come before the first.
+fn months_on(from: Date, to: Date) -> i32
+    requires { from ≤ to }
+    ensures greatest { IsGreatest (LeadsUpTo from to) result }
+    ensures in_range { IsDate from × IsDate to }
+{
+    let months = months_apart(from, to);
+    let later = add_months(from, months);
+    if later <= to {
+        return months;
+    }
+    months - 1
+}
+
+/// The months back to a day that does not come after the first.
+fn months_back(from: Date, to: Date) -> i32
+    requires { to ≤ from }
+    ensures least { IsLeast (LeadsBackTo from to) result }
+    ensures in_range { IsDate from × IsDate to }
+{
+    let months = months_apart(from, to);
+    let earlier = add_months(from, months);
+    if to <= earlier {
+        return months;
+    }
+    months + 1
+}
+
+/// The whole months from one day to another: the greatest number of months that does not lead past `to`, or where `to` comes
+/// before `from` the least that does not lead before it. So both ways are cut toward zero.
+///
+/// From 31 January 2023 to 28 February 2023 it is 1, to 27 February 0, and to 30 December 2022 it is -1.
+pub fn months_until(from: Date, to: Date) -> i32
+    ensures on { from ≤ to → IsGreatest (LeadsUpTo from to) result }
+    ensures back { to < from → IsLeast (LeadsBackTo from to) result }
+    ensures least { from ≤ to → pos 0 ≤ℤ result }
+    ensures most { to < from → result ≤ℤ pos 0 }
+    ensures in_range { IsDate from × IsDate to }
+{
+    if from <= to {
+        months_on(from, to)
+    } else {
+        months_back(from, to)
+    }
+}
+
+/// The years and the months past them that are so many months.
+fn years_and_months(months: i32) -> (i32, i32)
+    ensures sum { months ≡ pos 12 *ℤ result.0 +ℤ result.1 }
+    ensures on { pos 0 ≤ℤ months → (pos 0 ≤ℤ result.0) × (pos 0 ≤ℤ result.1) × (result.1 ≤ℤ pos 11) }
+    ensures back { months ≤ℤ pos 0 → (result.0 ≤ℤ pos 0) × (neg_ℤ (pos 11) ≤ℤ result.1) × (result.1 ≤ℤ pos 0) }
+{
+    (months / 12, months % 12)
+}
+
+/// The whole years from one day to another, as an age is counted: the greatest number of years that does not lead past `to`, or
+/// where `to` comes before `from` the least that does not lead before it.
+///
+/// From 1 June 1980 to 31 May 2024 it is 43, and to 1 June 2024 it is 44. Who was born on 29 February is a year older on the
+/// 28th in a year that has no 29th.
+pub fn years_until(from: Date, to: Date) -> i32
+    ensures on { from ≤ to → IsGreatest (λ years. LeadsUpTo from to (pos 12 *ℤ years)) result }
+    ensures back { to < from → IsLeast (λ years. LeadsBackTo from to (pos 12 *ℤ years)) result }
+    ensures least { from ≤ to → pos 0 ≤ℤ result }
+    ensures most { to < from → result ≤ℤ pos 0 }
+    ensures in_range { IsDate from × IsDate to }
+{
+    let (years, _) = years_and_months(months_until(from, to));
+    years
+}
+
+/// The years, months and days that lead from one day to another: as many months as [`months_until`] says, twelve of them a year,
+/// and then the days that are left. They are added in this order, the years and the months at once. All three are of one sign,
+/// and the months fewer than 12.
+///
+/// From 31 January 2023 to 2 March 2024 it is a year, a month and 2 days, as 13 months lead to 29 February 2024.
+pub fn period_until(from: Date, to: Date) -> Period
+    ensures leads { LeadsTo from to result }
+    ensures on { from ≤ to → IsGreatest (LeadsUpTo from to) (months_of result) }
+    ensures back { to < from → IsLeast (LeadsBackTo from to) (months_of result) }
+    ensures forward { from ≤ to → (pos 0 ≤ℤ result.years) × (pos 0 ≤ℤ result.months) × (result.months ≤ℤ pos 11) × (pos 0 ≤ℤ result.days) }
+    ensures backward { to < from → (result.years ≤ℤ pos 0) × (neg_ℤ (pos 11) ≤ℤ result.months) × (result.months ≤ℤ pos 0) × (result.days ≤ℤ pos 0) }
+    ensures in_range { IsDate from × IsDate to }
+{
+    let whole = months_until(from, to);
+    let day = add_months(from, whole);
+    let (years, months) = years_and_months(whole);
+    Period {
+        years,
+        months,
+        days: to.to_julian_day() - day.to_julian_day(),
+    }
+}

@@ -1,0 +1,55 @@
+//! Days moved to working days.
+ghost use Rattle.std.specs.Prelude.{◌≡◌, ◌≤◌, IfSome, true};
+ghost use Rattle.cal_time.specs.Date.{IsDate};
+ghost use Rattle.cal_schedule.specs.Workdays.{is_workday};
+ghost use Rattle.cal_schedule.specs.WorkdaysConvention.{adjusted, following, preceding, is_in_month_of, first_in_month_of, IsAdjusted};
+
+use crate::workdays::numbers::number;
+use crate::workdays::{Convention, Workdays};
+use cal_time::Date;
+
+/// Whether the other day is in the month of the day.
+fn is_in_month_of(date: Date, other: Date) -> bool
+    ensures { result ≡ is_in_month_of date other }
+{
+    other.year() == date.year() && other.month() == date.month()
+}
+
+/// The first, where it is in the month of the day, or else the second.
+fn first_in_month_of(date: Date, first: Option<Date>, second: Option<Date>) -> Option<Date>
+    ensures { result ≡ first_in_month_of date first second }
+{
+    match first {
+        Some(other) if is_in_month_of(date, other) => Some(other),
+        _ => second,
+    }
+}
+
+impl Workdays<'_> {
+    /// The working day that the day is moved to by the convention, or `None` where the range has no such day.
+    ///
+    /// 31 August 2024 is a Saturday, and the Monday after it is Labor Day in the United States: with its holidays, it is moved to
+    /// 3 September as `Following`, and to 30 August as `ModifiedFollowing`.
+    pub fn adjusted(&self, date: Date, convention: Convention) -> Option<Date>
+        ensures day { result ≡ adjusted self.now convention date }
+        ensures found { IfSome result (λ n. IsAdjusted self.now convention date n × IsDate n) }
+        ensures in_range { IsDate date }
+    {
+        let day = number(date);
+        match convention {
+            Convention::Unadjusted => Some(date),
+            Convention::Following => self.nth_from(day, 0),
+            Convention::ModifiedFollowing => first_in_month_of(
+                date,
+                self.nth_from(day, 0),
+                self.nth_before(day + 1, 0),
+            ),
+            Convention::Preceding => self.nth_before(day + 1, 0),
+            Convention::ModifiedPreceding => first_in_month_of(
+                date,
+                self.nth_before(day + 1, 0),
+                self.nth_from(day, 0),
+            ),
+        }
+    }
+}

@@ -1,0 +1,65 @@
+//! The marks of the week and the holidays.
+ghost use Rattle.std.specs.Prelude.{◌≡◌, ◌<◌, length, slice_index, SomeIff};
+ghost use Rattle.cal_time.specs.Counted.{IsRising};
+ghost use Rattle.cal_time.specs.Date.{julian_day_at, IsDate};
+
+use crate::workdays::numbers::number;
+use cal_time::{Date, is_rising};
+use std::marker::Model;
+
+/// The working days of a calendar: the days of the week that are marked, but for the holidays.
+///
+/// Contracts see it as the marks and the numbers of the holidays.
+#[derive(Drop)]
+pub struct Workdays<'a> {
+    /// Whether each day of the week is worked on, from Monday to Sunday.
+    pub(super) marks: [bool; 7],
+    /// The holidays, in order.
+    pub(super) holidays: &'a [Date],
+}
+
+impl<'a> Model for Workdays<'a> {
+    ghost use Rattle.cal_schedule.specs.Workdays.{WorkWeek};
+    ghost use Rattle.cal_time.specs.Counted.{IsRising};
+    ghost use Rattle.cal_time.specs.Date.{julian_day_at};
+
+    ghost Value = { WorkWeek };
+
+    ghost view = { λ w. record { marks = w.marks; holidays = w.holidays.now } };
+
+    ghost invariant = { λ w. IsRising julian_day_at w.holidays.now };
+}
+
+impl<'a> Workdays<'a> {
+    /// The working days of a week with these marks, from Monday to Sunday, but for the holidays.
+    ///
+    /// `None` exactly where the holidays do not rise: where one is not before the next. A holiday on a day of the week that is
+    /// not marked changes nothing.
+    pub fn new(marks: [bool; 7], holidays: &'a [Date]) -> Option<Self>
+        ensures { SomeIff result (IsRising julian_day_at holidays.now) (record { marks = marks; holidays = holidays.now }) }
+    {
+        if is_rising(holidays) {
+            Some(Workdays { marks, holidays })
+        } else {
+            None
+        }
+    }
+
+    /// How many holidays there are.
+    pub(super) fn holidays_len(&self) -> usize
+        ensures number { result ≡ length self.now.holidays }
+        ensures rising { IsRising julian_day_at self.now.holidays }
+    {
+        self.holidays.len()
+    }
+
+    /// The number of the holiday at that place.
+    pub(super) fn holiday(&self, place: usize) -> u32
+        requires { place < length self.now.holidays }
+        ensures number { result ≡ slice_index self.now.holidays place }
+        ensures in_range { IsDate result }
+    {
+        let holidays = self.holidays;
+        number(holidays[place])
+    }
+}

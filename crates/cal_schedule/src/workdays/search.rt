@@ -1,0 +1,128 @@
+//! Working days found and counted: by whole weeks, and by the holidays in between.
+ghost use Rattle.std.specs.Prelude.{◌≡◌, ℕ, ◌+◌, ◌<◌, ◌≤◌, length, slice_get, IfSome, MatchOption, true};
+ghost use Rattle.cal_time.specs.Counted.{IsRising};
+ghost use Rattle.cal_time.specs.Date.{last_day, julian_day_at, IsDate};
+ghost use Rattle.cal_time.specs.IsoWeekDate.{count_before};
+ghost use Rattle.cal_schedule.specs.Workdays.{is_holiday, is_marked, is_workday, workdays_from, workdays_back, workdays_within};
+ghost use Rattle.cal_schedule.specs.WorkdaysSplit.{IsSplit, IsNthFrom, IsNthBack};
+
+use crate::workdays::Workdays;
+use crate::workdays::numbers::at_number;
+use cal_time::Date;
+
+impl Workdays<'_> {
+    /// How many of the holidays come before the day of that number.
+    fn holidays_before(&self, day: u32) -> usize
+        ensures split { IsSplit self.now.holidays result day }
+        ensures rising { IsRising julian_day_at self.now.holidays }
+    {
+        let (mut low, mut high) = (0, self.holidays_len());
+        while low < high {
+            let middle = low + (high - low) / 2;
+            if self.holiday(middle) < day {
+                low = middle + 1;
+            } else {
+                high = middle;
+            }
+        }
+        low
+    }
+
+    /// Whether the day of that number is a holiday.
+    pub(super) fn is_holiday(&self, day: u32) -> bool
+        ensures { result ≡ is_holiday self.now day }
+    {
+        let place = self.holidays_before(day);
+        place < self.holidays_len() && self.holiday(place) == day
+    }
+
+    /// How many working days there are from the day of the one number to the one before that of the other.
+    pub(super) fn count(&self, from: u32, to: u32) -> u32
+        requires { from ≤ to }
+        ensures number { result ≡ length (workdays_within self.now from to) }
+        ensures most { result ≤ to }
+    {
+        let (start, end) = (self.holidays_before(from), self.holidays_before(to));
+        let mut held = 0;
+        for place in start..end {
+            held += u32::from(self.is_marked(self.holiday(place)));
+        }
+        self.marked_before(to) - self.marked_before(from) - held
+    }
+
+    /// The marked days before the working day that has so many others from the day of that number on before it: those before this
+    /// day, so many more, and one for each marked holiday in between.
+    fn marked_before_nth_from(&self, from: u32, n: u32) -> u64
+        ensures day { (x : ℕ) → is_marked self.now x ≡ true → count_before (is_marked self.now) x ≡ result → IsNthFrom self.now from n x }
+        ensures most { result ≤ from + n + last_day + 1 }
+    {
+        let start = self.holidays_before(from);
+        let mut before = u64::from(self.marked_before(from)) + u64::from(n);
+        for place in start..self.holidays_len() {
+            let holiday = self.holiday(place);
+            if u64::from(self.marked_before(holiday)) > before {
+                return before;
+            }
+            before += u64::from(self.is_marked(holiday));
+        }
+        before
+    }
+
+    /// The marked days before the working day that has so many others between it and the day of that number: one less for each
+    /// marked holiday in between. `None` where there is no such day.
+    fn marked_before_nth_back(&self, to: u32, n: u32) -> Option<u32>
+        requires { to ≤ last_day + 1 }
+        ensures day { MatchOption result (count_before (is_workday self.now) to ≤ n)
+            (λ before. (x : ℕ) → is_marked self.now x ≡ true → count_before (is_marked self.now) x ≡ before → IsNthBack self.now to n x) }
+        ensures most { IfSome result (λ before. before < to) }
+    {
+        let end = self.holidays_before(to);
+        let marked = self.marked_before(to);
+        if marked <= n {
+            return None;
+        }
+        let mut before = marked - n - 1;
+        let mut place = end;
+        while place > 0 {
+            let holiday = self.holiday(place - 1);
+            if self.marked_before(holiday + 1) <= before {
+                return Some(before);
+            }
+            if self.is_marked(holiday) {
+                if before == 0 {
+                    return None;
+                }
+                before -= 1;
+            }
+            place -= 1;
+        }
+        Some(before)
+    }
+
+    /// The working day from the day of that number on that has so many of them before it, or `None` past the last day.
+    pub(super) fn nth_from(&self, from: u32, n: u32) -> Option<Date>
+        requires { from ≤ last_day + 1 }
+        ensures day { result ≡ slice_get (workdays_from self.now from) n }
+        ensures found { IfSome result (λ day. (is_workday self.now day ≡ true) × (from ≤ day) × IsDate day) }
+    {
+        if self.marked_in_week(7) == 0 {
+            return None;
+        }
+        at_number(self.nth_marked(self.marked_before_nth_from(from, n)))
+    }
+
+    /// The working day before the day of that number that has so many of them between the two, or `None` before the first day.
+    pub(super) fn nth_before(&self, to: u32, n: u32) -> Option<Date>
+        requires { to ≤ last_day + 1 }
+        ensures day { result ≡ slice_get (workdays_back self.now to) n }
+        ensures found { IfSome result (λ day. (is_workday self.now day ≡ true) × (day < to) × IsDate day) }
+    {
+        if self.marked_in_week(7) == 0 {
+            return None;
+        }
+        match self.marked_before_nth_back(to, n) {
+            Some(before) => at_number(self.nth_marked(u64::from(before))),
+            None => None,
+        }
+    }
+}

@@ -1,0 +1,66 @@
+//! The marked days of the week, counted by whole weeks.
+ghost use Rattle.std.specs.Prelude.{◌≡◌, ◌^◌, ◌<◌, ◌≤◌, true};
+ghost use Rattle.cal_time.specs.IsoWeekDate.{count_before};
+ghost use Rattle.cal_schedule.specs.Workdays.{is_marked};
+
+use crate::workdays::Workdays;
+
+impl Workdays<'_> {
+    /// Whether the day of that number has a marked day of the week. Day 0 is a Monday.
+    pub(super) fn is_marked(&self, day: u32) -> bool
+        ensures { result ≡ is_marked self.now day }
+    {
+        self.marks[(day % 7) as usize]
+    }
+
+    /// How many days of the week before that place are marked.
+    pub(super) fn marked_in_week(&self, place: u32) -> u32
+        requires { place ≤ 7 }
+        ensures number { result ≡ count_before (is_marked self.now) place }
+        ensures most { result ≤ place }
+    {
+        let mut marked = 0;
+        for day in 0..place {
+            marked += u32::from(self.is_marked(day));
+        }
+        marked
+    }
+
+    /// How many days before that of the number have a marked day of the week.
+    pub(super) fn marked_before(&self, day: u32) -> u32
+        ensures number { result ≡ count_before (is_marked self.now) day }
+        ensures most { result ≤ day }
+    {
+        day / 7 * self.marked_in_week(7) + self.marked_in_week(day % 7)
+    }
+
+    /// The place of the marked day of the week that has so many marked ones before it.
+    fn nth_place(&self, n: u32) -> u32
+        requires { n < count_before (is_marked self.now) 7 }
+        ensures place { result < 7 }
+        ensures marked { is_marked self.now result ≡ true }
+        ensures number { count_before (is_marked self.now) result ≡ n }
+    {
+        let mut left = n;
+        for day in 0..7 {
+            if self.is_marked(day) {
+                if left == 0 {
+                    return day;
+                }
+                left -= 1;
+            }
+        }
+        unreachable!()
+    }
+
+    /// The number of the marked day that has so many marked ones before it.
+    pub(super) fn nth_marked(&self, n: u64) -> u64
+        requires some { 0 < count_before (is_marked self.now) 7 }
+        requires fits { n < 2 ^ 60 }
+        ensures marked { is_marked self.now result ≡ true }
+        ensures number { count_before (is_marked self.now) result ≡ n }
+    {
+        let in_week = u64::from(self.marked_in_week(7));
+        n / in_week * 7 + u64::from(self.nth_place((n % in_week) as u32))
+    }
+}

@@ -1,0 +1,65 @@
+use Rattle.std.proofs.Common.{◌≡◌, ◌≤◌, Some, Ok, Result, ap, sym, subst, inl, inr, ◌∙◌, arith, pos, w32, to_z, of_z}
+use Rattle.std.proofs.lemmas.Bool.{cases_lt}
+use Rattle.cal_time.specs.Date.{HasCalendarDate}
+use Rattle.cal_time.specs.Time.{time_of}
+use Rattle.cal_datetime.specs.DateTime.{date_at}
+use Rattle.cal_datetime.specs.DateTimeLaws.{IsDate-date_at}
+use Rattle.cal_datetime.specs.OffsetDateTime.{Shown}
+use Rattle.cal_text.specs.Rfc3339Form.{IsMomentReason, IsOffsetOf}
+use Rattle.cal_text.proofs.Moments.{made}
+use Rattle.cal_text.proofs.YearTexts.{written-cast}
+use Rattle.cal_text.proofs.rfc3339.of_numbers.moment_of.Goals as goal
+
+pub returns-in-Err-from_hms_nano-clause-reason : goal.returns-in-Err-from_hms_nano-clause-reason
+returns-in-Err-from_hms_nano-clause-reason c =
+    let m = c.args.numbers in
+    let why = c.in-Err-from_hms_nano.ensures in
+    let P = IsMomentReason (Some c.in-Err-from_hms_nano.error) in
+    elim (cases_lt 23 m.hour) as (λ _. P) [
+      | inl hour ↦ inr (inr (inr (inl (ap Some (why.refused.hour.1 hour)))))
+      | inr hour ↦ elim (cases_lt 59 m.minute) as (λ _. P) [
+        | inl minute ↦ inr (inr (inr (inr (inl (ap Some (why.refused.minute.1 (omega (arith, hour), minute)))))))
+        | inr minute ↦ elim (cases_lt 59 m.second) as (λ _. P) [
+          | inl second ↦ inr (inr (inr (inr (inr (inl (ap Some (why.refused.second.1 (omega (arith, hour), omega (arith, minute), second))))))))
+          | inr second ↦
+              let made = why.value (omega (arith, hour)) (omega (arith, minute)) (omega (arith, second)) (omega (arith, c.requires.nanosecond)) in
+              let never : ⊥ = cc in
+              absurd never
+        ]
+      ]
+    ]
+
+pub returns-in-Ok-offset_of-clause-has : goal.returns-in-Ok-offset_of-clause-has
+returns-in-Ok-offset_of-clause-has c =
+    let m = c.args.numbers in
+    let clock = c.in-Ok-from_hms_nano.ensures in
+    let year : to_z w32 (of_z w32 c.from.result) ≡ pos m.year = ap (λ z. to_z w32 (of_z w32 z)) c.from.ensures ∙ written-cast (pos m.year) (omega (arith, c.requires.year)) in
+    let date = rw year at c.in-Ok.ensures.has in
+    let hour : m.hour ≤ 23 = elim (cases_lt 23 m.hour) as (λ _. m.hour ≤ 23) [ inl more ↦ absurd (clock.refused.hour.1 more) | inr low ↦ omega (arith, low) ] in
+    let minute : m.minute ≤ 59 = elim (cases_lt 59 m.minute) as (λ _. m.minute ≤ 59) [ inl more ↦ absurd (clock.refused.minute.1 (hour, more)) | inr low ↦ omega (arith, low) ] in
+    let second : m.second ≤ 59 = elim (cases_lt 59 m.second) as (λ _. m.second ≤ 59) [ inl more ↦ absurd (clock.refused.second.1 (hour, minute, more)) | inr low ↦ omega (arith, low) ] in
+    let made = clock.value hour minute second (omega (arith, c.requires.nanosecond)) in
+    let at = c.new_in_offset.ensures in
+    let time : c.in-Ok-from_hms_nano.time ≡ time_of m.hour m.minute m.second m.nanosecond = cc in
+    record {
+      in_range = at.in_range.0;
+      date = subst (HasCalendarDate (pos m.year) m.month m.day) (sym at.date) date.1;
+      hour = hour;
+      minute = minute;
+      second = second;
+      time = at.time ∙ time;
+      offset = subst (IsOffsetOf m.zone) (sym (ap (λ (s : Shown). s.offset) at.value)) c.in-Ok-offset_of.ensures.has;
+    }
+
+one : {A E : Type 0} (a b : A) → ◌≡◌ {A = Result A E} (Ok a) (Ok b) → a ≡ b
+one a b e = cc
+
+pub returns-in-Ok-offset_of-clause-every : goal.returns-in-Ok-offset_of-clause-every
+returns-in-Ok-offset_of-clause-every c at is =
+    let m = c.args.numbers in
+    let year : to_z w32 (of_z w32 c.from.result) ≡ pos m.year = ap (λ z. to_z w32 (of_z w32 z)) c.from.ensures ∙ written-cast (pos m.year) (omega (arith, c.requires.year)) in
+    let days = rw year at c.in-Ok.ensures.every in
+    let date = one _ _ (days (date_at at.local) (IsDate-date_at at.local is.in_range) is.date) in
+    let time = one _ _ (c.in-Ok-from_hms_nano.ensures.value is.hour is.minute is.second (omega (arith, c.requires.nanosecond))) in
+    let offset = one _ _ (c.in-Ok-offset_of.ensures.every at.offset is.offset) in
+    ap Ok (c.new_in_offset.ensures.value ∙ made at _ _ _ is.in_range date (time ∙ sym is.time) offset)

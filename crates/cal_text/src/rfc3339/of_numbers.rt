@@ -1,0 +1,85 @@
+//! The moment that has the numbers of one in text.
+ghost use Rattle.std.specs.Prelude.{◌≡◌, ◌⊎◌, ◌+◌, ◌*◌, ℤ, ◌≤◌, ◌<◌, ◌↔◌, pos, neg_ℤ, IfOk, IfErr, Ok, Some, if◌then◌else◌};
+ghost use Rattle.cal_time.specs.Month.{month_out_of_range};
+ghost use Rattle.cal_time.specs.Refusal.{IsRefused};
+ghost use Rattle.cal_time.specs.Refusals.{day_out_of_range};
+ghost use Rattle.cal_time.specs.Time.{hour_out_of_range, minute_out_of_range, second_out_of_range};
+ghost use Rattle.cal_time.specs.UtcOffset.{offset_hour_out_of_range, offset_minute_out_of_range};
+ghost use Rattle.cal_datetime.specs.OffsetDateTime.{Shown};
+ghost use Rattle.cal_text.specs.Rfc3339Form.{IsMomentForm, IsAt, IsOffsetOf, IsMomentReason, LacksMonth, LacksDay, LacksHour, LacksMinute, LacksSecond, LacksOffsetHour, LacksOffsetMinute, IsPastHours, IsPastMinutes};
+
+use crate::date::of_form::calendar_date;
+use crate::rfc3339::numbers::{Numbers, Zone};
+use cal_datetime::OffsetDateTime;
+use cal_time::error::{Component, ComponentRange};
+use cal_time::{Time, UtcOffset};
+
+/// The moment that has the numbers, or the first component at fault.
+#[tactic(auto, using(crate::proofs::Moments::parts))]
+pub(super) fn moment_of(numbers: Numbers) -> Result<OffsetDateTime, ComponentRange>
+    requires { IsMomentForm numbers }
+    ensures every { (m : Shown) → IsAt numbers m → result ≡ Ok m }
+    ensures has { IfOk result (IsAt numbers) }
+    ensures reason { IfErr result (λ e. IsMomentReason (Some e)) }
+    ensures month { IsRefused month_out_of_range result ↔ LacksMonth numbers }
+    ensures day { IsRefused day_out_of_range result ↔ LacksDay numbers }
+    ensures hour { IsRefused hour_out_of_range result ↔ LacksHour numbers }
+    ensures minute { IsRefused minute_out_of_range result ↔ LacksMinute numbers }
+    ensures second { IsRefused second_out_of_range result ↔ LacksSecond numbers }
+    ensures offset_hour { IsRefused offset_hour_out_of_range result ↔ LacksOffsetHour numbers }
+    ensures offset_minute { IsRefused offset_minute_out_of_range result ↔ LacksOffsetMinute numbers }
+{
+    let date = match calendar_date(i32::from(numbers.year), numbers.month, numbers.day) {
+        Ok(date) => date,
+        Err(error) => return Err(error),
+    };
+    let time = match Time::from_hms_nano(
+        numbers.hour,
+        numbers.minute,
+        numbers.second,
+        numbers.nanosecond,
+    ) {
+        Ok(time) => time,
+        Err(error) => return Err(error),
+    };
+    match offset_of(numbers.zone) {
+        Ok(offset) => Ok(OffsetDateTime::new_in_offset(date, time, offset)),
+        Err(error) => Err(error),
+    }
+}
+
+/// The offset of these hours and minutes, of which it has less than a day.
+fn offset_of(zone: Zone) -> Result<UtcOffset, ComponentRange>
+    ensures every { (o : ℤ) → IsOffsetOf zone o → result ≡ Ok o }
+    ensures has { IfOk result (IsOffsetOf zone) }
+    ensures reason { IfErr result (λ e. (e ≡ offset_hour_out_of_range) ⊎ (e ≡ offset_minute_out_of_range)) }
+    ensures hour { IsRefused offset_hour_out_of_range result ↔ IsPastHours zone }
+    ensures minute { IsRefused offset_minute_out_of_range result ↔ IsPastMinutes zone }
+{
+    match zone {
+        Zone::Utc => Ok(UtcOffset::UTC),
+        Zone::East(hours, minutes) => offset_at(hours, minutes, false),
+        Zone::West(hours, minutes) => offset_at(hours, minutes, true),
+    }
+}
+
+/// The offset of so many hours and minutes west or east of UTC.
+fn offset_at(hours: u8, minutes: u8, is_west: bool) -> Result<UtcOffset, ComponentRange>
+    ensures value { hours ≤ 23 → minutes ≤ 59
+        → result ≡ Ok (if is_west then neg_ℤ (pos (3600 * hours + 60 * minutes)) else pos (3600 * hours + 60 * minutes)) }
+    ensures reason { IfErr result (λ e. (e ≡ offset_hour_out_of_range) ⊎ (e ≡ offset_minute_out_of_range)) }
+    ensures hour { IsRefused offset_hour_out_of_range result ↔ (23 < hours) }
+    ensures minute { IsRefused offset_minute_out_of_range result ↔ (hours ≤ 23) × (59 < minutes) }
+{
+    if hours > 23 {
+        return Err(ComponentRange::unconditional(Component::OffsetHour));
+    }
+    if minutes > 59 {
+        return Err(ComponentRange::unconditional(Component::OffsetMinute));
+    }
+    let seconds = 3600 * i32::from(hours) + 60 * i32::from(minutes);
+    if is_west {
+        return UtcOffset::from_whole_seconds(-seconds);
+    }
+    UtcOffset::from_whole_seconds(seconds)
+}

@@ -1,0 +1,125 @@
+-- The digits of numbers, one, two or three at a time.
+use Rattle.std.proofs.Common.{◌≡◌, ◌⊎◌, ℕ, zero, suc, ◌+◌, ◌-◌, ◌*◌, ◌/◌, ◌%◌, ◌<◌, ◌≤◌, ◌^◌, List, [], ◌∷◌, ◌++◌, length, replicate, append_assoc, length-append, sym, ap, ◌∙◌, arith, inl, inr}
+use Rattle.std.specs.Prelude.{decimal}
+use Rattle.std.specs.Str.{IsAscii}
+use Rattle.std.proofs.lemmas.Bool.{cases_lt}
+use Rattle.std.proofs.lemmas.Fmt.{decimal_digit, decimal_step, length-decimal-le, IsAscii-decimal}
+use Rattle.std.proofs.lemmas.List.{length-replicate, replicate_more}
+use Rattle.std.proofs.lemmas.Str.{IsAscii-append}
+use Rattle.std.proofs.lemmas.Str.Ascii.{IsAscii-nil, IsAscii-cons, IsAscii-from_all}
+use Rattle.std.proofs.lemmas.List.Elements.{All-from_recursion}
+use Rattle.cal_units.specs.Digits.{digit, two_digits, digits_at_least, nine_digits}
+
+-- a number of two digits or more
+step_of_many : (w n : ℕ) → 10 ≤ n → n < 2 ^ 64
+    → digits_at_least w n ≡ digits_at_least (w - 1) (n / 10) ++ digit (n % 10) ∷ []
+step_of_many w n low high =
+    let step = decimal_step n low high in
+    let shorter : w - length (decimal n) ≡ w - 1 - length (decimal (n / 10)) = omega (arith, ap length step, length-append (decimal (n / 10)) (digit (n % 10) ∷ [])) in
+    ap (λ k. replicate k 48 ++ decimal n) shorter
+    ∙ ap (λ l. replicate (w - 1 - length (decimal (n / 10))) 48 ++ l) step
+    ∙ sym (append_assoc (replicate (w - 1 - length (decimal (n / 10))) 48) (decimal (n / 10)) (digit (n % 10) ∷ []))
+
+-- a digit with zeros before it
+step_of_one : (w n : ℕ) → n < 10 → 1 < w
+    → digits_at_least w n ≡ digits_at_least (w - 1) (n / 10) ++ digit (n % 10) ∷ []
+step_of_one w n low wide =
+    let last : decimal n ≡ digit n ∷ [] = decimal_digit n low in
+    let zero_digit : decimal (n / 10) ≡ 48 ∷ [] = ap decimal (let e : n / 10 ≡ 0 = omega arith in e) ∙ decimal_digit 0 (omega arith) in
+    let same : digit n ∷ [] ≡ digit (n % 10) ∷ [] = ap (λ d. digit d ∷ []) (let e : n ≡ n % 10 = omega arith in e) in
+    let widths : w - length (decimal n) ≡ (w - 1 - length (decimal (n / 10))) + 1 = omega (arith, ap length last, ap length zero_digit) in
+    ap (λ k. replicate k 48 ++ decimal n) widths
+    ∙ ap (λ l. l ++ decimal n) (sym (replicate_more (w - 1 - length (decimal (n / 10))) 48))
+    ∙ ap (λ l. (replicate (w - 1 - length (decimal (n / 10))) 48 ++ 48 ∷ []) ++ l) (last ∙ same)
+    ∙ ap (λ l. (replicate (w - 1 - length (decimal (n / 10))) 48 ++ l) ++ digit (n % 10) ∷ []) (sym zero_digit)
+
+-- the last digit comes after the digits of a tenth, of which one fewer are asked for
+digits_step : (w n : ℕ) → n < 2 ^ 64 → (1 < w) ⊎ (9 < n)
+    → digits_at_least w n ≡ digits_at_least (w - 1) (n / 10) ++ digit (n % 10) ∷ []
+digits_step w n high more = elim (cases_lt n 10) [
+  | inl low ↦ step_of_one w n low (elim more [ inl wide ↦ wide | inr many ↦ absurd (omega (arith, many)) ])
+  | inr low ↦ step_of_many w n low high
+]
+
+-- the last two digits come after the others, of which two fewer are asked for
+pub pair_step : (w n : ℕ) → n < 2 ^ 64 → (2 < w) ⊎ (99 < n)
+    → digits_at_least w n ≡ digits_at_least (w - 2) (n / 100) ++ two_digits (n % 100)
+pair_step w n high more =
+    let last = digits_step w n high (elim more [ inl wide ↦ inl (omega (arith, wide)) | inr many ↦ inr (omega (arith, many)) ]) in
+    let front = digits_step (w - 1) (n / 10) (omega arith) (elim more [ inl wide ↦ inl (omega (arith, wide)) | inr many ↦ inr (omega (arith, many)) ]) in
+    let width : w - 1 - 1 ≡ w - 2 = omega arith in
+    let hundredth : n / 10 / 10 ≡ n / 100 = omega arith in
+    let tens : n / 10 % 10 ≡ n % 100 / 10 = omega arith in
+    let units : n % 10 ≡ n % 100 % 10 = omega arith in
+    last ∙ ap (λ l. l ++ digit (n % 10) ∷ []) front
+    ∙ append_assoc (digits_at_least (w - 1 - 1) (n / 10 / 10)) (digit (n / 10 % 10) ∷ []) (digit (n % 10) ∷ [])
+    ∙ (λ i. digits_at_least (width i) (hundredth i) ++ digit (tens i) ∷ digit (units i) ∷ [])
+
+-- one digit, where no more are asked for
+pub digits_at_least-one : (w n : ℕ) → w ≤ 1 → n < 10 → digits_at_least w n ≡ digit n ∷ []
+digits_at_least-one w n few low =
+    let last : decimal n ≡ digit n ∷ [] = decimal_digit n low in
+    let none : w - length (decimal n) ≡ 0 = omega (arith, ap length last) in
+    ap (λ k. replicate k 48 ++ decimal n) none ∙ last
+
+-- two digits and three
+pub digits_at_least-two : (n : ℕ) → n < 100 → digits_at_least 2 n ≡ two_digits n
+digits_at_least-two n high =
+    digits_step 2 n (omega arith) (inl (omega arith)) ∙ ap (λ l. l ++ digit (n % 10) ∷ []) (digits_at_least-one 1 (n / 10) (omega arith) (omega arith))
+
+pub digits_at_least-three : (n : ℕ) → n < 1000 → digits_at_least 3 n ≡ digit (n / 100) ∷ two_digits (n % 100)
+digits_at_least-three n high =
+    pair_step 3 n (omega arith) (inl (omega arith)) ∙ ap (λ l. l ++ two_digits (n % 100)) (digits_at_least-one 1 (n / 100) (omega arith) (omega arith))
+
+-- and those of a number with no zeros before them
+pub decimal-one : (n : ℕ) → n < 10 → decimal n ≡ digit n ∷ []
+decimal-one n low = decimal_digit n low
+
+pub decimal-two : (n : ℕ) → 10 ≤ n → n < 100 → decimal n ≡ two_digits n
+decimal-two n low high = decimal_step n low (omega arith) ∙ ap (λ ds. ds ++ digit (n % 10) ∷ []) (decimal_digit (n / 10) (omega arith))
+
+pub digits_at_least-none : (n : ℕ) → digits_at_least 0 n ≡ decimal n
+digits_at_least-none n = let none : 0 - length (decimal n) ≡ 0 = omega arith in ap (λ k. replicate k 48 ++ decimal n) none
+
+pub decimal-more : (n : ℕ) → 100 ≤ n → n < 2 ^ 64 → decimal n ≡ decimal (n / 100) ++ two_digits (n % 100)
+decimal-more n low high = sym (digits_at_least-none n) ∙ pair_step 0 n high (inr (omega arith)) ∙ ap (λ l. l ++ two_digits (n % 100)) (digits_at_least-none (n / 100))
+
+-- how many they are
+pub length-one : (n : ℕ) → n < 10 → length (decimal n) ≡ 1
+length-one n low = ap length (decimal-one n low)
+
+pub length-two : (n : ℕ) → 10 ≤ n → n < 100 → length (decimal n) ≡ 2
+length-two n low high = ap length (decimal-two n low high)
+
+pub length-more : (n : ℕ) → 100 ≤ n → n < 2 ^ 64 → length (decimal n) ≡ length (decimal (n / 100)) + 2
+length-more n low high = ap length (decimal-more n low high) ∙ length-append (decimal (n / 100)) (two_digits (n % 100))
+
+pub length-32_bits : (n : ℕ) → n < 2 ^ 32 → length (decimal n) ≤ 10
+length-32_bits n small = length-decimal-le 10 n (omega arith) (omega (arith, small)) (omega (arith, small))
+
+pub length-64_bits : (n : ℕ) → n < 2 ^ 64 → length (decimal n) ≤ 20
+length-64_bits n small = length-decimal-le 20 n (omega arith) (omega (arith, small)) small
+
+-- digits are ASCII
+pub two_digits-ascii : (n : ℕ) → n < 100 → IsAscii (two_digits n)
+two_digits-ascii n high = IsAscii-from_all (two_digits n) (All-from_recursion (λ byte. byte < 128) (two_digits n) (omega arith, (omega arith, tt)))
+
+pub nine_digits-ascii : (n : ℕ) → n < 1_000_000_000 → IsAscii (nine_digits n)
+nine_digits-ascii n high =
+    IsAscii-from_all (nine_digits n) (All-from_recursion (λ byte. byte < 128) (nine_digits n)
+    (omega arith, (omega arith, (omega arith, (omega arith, (omega arith, (omega arith, (omega arith, (omega arith, (omega arith, tt))))))))))
+
+pub digits_at_least-ascii : (w n : ℕ) → n < 2 ^ 64 → IsAscii (digits_at_least w n)
+digits_at_least-ascii w n high = IsAscii-append (replicate (w - length (decimal n)) 48) (decimal n) (zeros-ascii (w - length (decimal n))) (IsAscii-decimal n high)
+  where
+    zeros-ascii : (k : ℕ) → IsAscii (replicate k 48)
+    zeros-ascii zero = IsAscii-nil
+    zeros-ascii (suc k) = IsAscii-cons 48 (replicate k 48) (omega arith) (zeros-ascii k)
+
+pub ruleset pairs = (digits_at_least-two, two_digits-ascii)
+
+pub ruleset threes = (digits_at_least-three, append_assoc)
+
+pub ruleset numbers = (decimal-one, decimal-two, decimal-more, length-one, length-two, length-more, append_assoc)
+
+pub ruleset short_numbers = (length-32_bits, length-64_bits)

@@ -1,0 +1,390 @@
+// The calendar of Fotsevindre for C++17 and later: small classes over the calls of fotsevindre.h, with nothing of their own to link.
+//
+// Values compare, copy as plain numbers and have no default. A call that has no answer throws an error, which says why; those that begin
+// with checked_, and next_day, previous_day and the pairs, return an empty std::optional past the range. What each call takes and refuses
+// is said at the call of the same name in fotsevindre.h.
+#ifndef FOTSEVINDRE_HPP
+#define FOTSEVINDRE_HPP
+
+#include <cstddef>
+#include <cstdint>
+#include <functional>
+#include <optional>
+#include <ostream>
+#include <stdexcept>
+#include <string>
+#include <string_view>
+#include <tuple>
+#include <utility>
+
+#if __cplusplus >= 202002L
+#include <chrono>
+#endif
+
+#include "fotsevindre.h"
+
+namespace fotsevindre {
+
+// Why a call has no answer: a component out of its range, a result past the range, or a text of no form that is read.
+class error : public std::runtime_error {
+public:
+    explicit error(std::int32_t status, std::size_t place = SIZE_MAX)
+        : std::runtime_error(words(status, place)), status_(status), place_(place)
+    {
+    }
+
+    // The status of the call, as FOTS_DAY.
+    std::int32_t status() const noexcept { return status_; }
+
+    // The name of the status: that of the component for a refusal, as "day".
+    const char *name() const noexcept { return fots_status_name(status_); }
+
+    // Whether the range of the component depends on other components.
+    bool is_conditional() const noexcept { return fots_status_is_conditional(status_) != 0; }
+
+    // Where the status is FOTS_UNREADABLE, the place of the first byte that no text has there.
+    std::size_t place() const noexcept { return place_; }
+
+private:
+    static std::string words(std::int32_t status, std::size_t place)
+    {
+        if (status == FOTS_UNREADABLE) {
+            return "unexpected byte at " + std::to_string(place);
+        }
+        return status >= FOTS_YEAR ? std::string(fots_status_name(status)) + " was not in range" : fots_status_name(status);
+    }
+
+    std::int32_t status_;
+    std::size_t place_;
+};
+
+namespace detail {
+
+// Marks a value that a call has answered, and that is not looked at again.
+struct Answered {};
+
+// The result, where there is an answer.
+template <class Result> Result done(Result result)
+{
+    if (result.status != FOTS_DONE) {
+        throw error(result.status);
+    }
+    return result;
+}
+
+template <class Result> Result read(Result result)
+{
+    if (result.status != FOTS_DONE) {
+        throw error(result.status, result.place);
+    }
+    return result;
+}
+
+// Whether there is an answer, or none as it is past the range.
+template <class Result> bool is_in_range(Result result)
+{
+    return result.status != FOTS_PAST_RANGE && (done(result), true);
+}
+
+inline std::string text(fots_text_result result)
+{
+    return std::string(done(result).bytes, result.length);
+}
+
+// Comparison and equality by a key.
+template <class Value> struct Ordered {
+    friend bool operator==(const Value &one, const Value &other) { return one.key() == other.key(); }
+    friend bool operator!=(const Value &one, const Value &other) { return one.key() != other.key(); }
+    friend bool operator<(const Value &one, const Value &other) { return one.key() < other.key(); }
+    friend bool operator<=(const Value &one, const Value &other) { return one.key() <= other.key(); }
+    friend bool operator>(const Value &one, const Value &other) { return one.key() > other.key(); }
+    friend bool operator>=(const Value &one, const Value &other) { return one.key() >= other.key(); }
+};
+
+} // namespace detail
+
+enum class Month : std::uint32_t {
+    January = 1, February, March, April, May, June, July, August, September, October, November, December
+};
+
+enum class Weekday : std::uint32_t { Monday = 1, Tuesday, Wednesday, Thursday, Friday, Saturday, Sunday };
+
+inline std::string to_string(Month month) { return detail::text(fots_month_name(static_cast<std::uint32_t>(month))); }
+inline std::string to_string(Weekday weekday) { return detail::text(fots_weekday_name(static_cast<std::uint32_t>(weekday))); }
+inline std::ostream &operator<<(std::ostream &out, Month month) { return out << to_string(month); }
+inline std::ostream &operator<<(std::ostream &out, Weekday weekday) { return out << to_string(weekday); }
+
+// A signed length of time, exact to the nanosecond.
+class Duration : public detail::Ordered<Duration> {
+public:
+    // The duration of a struct of C; throws where it is none.
+    explicit Duration(fots_duration value) : value_(value) { detail::done(fots_duration_whole_seconds(value)); }
+    Duration(fots_duration value, detail::Answered) noexcept : value_(value) {}
+
+    static Duration of(std::int64_t seconds, std::int32_t nanoseconds) { return from(fots_duration_new(seconds, nanoseconds)); }
+    static Duration weeks(std::int64_t weeks) { return from(fots_duration_weeks(weeks)); }
+    static Duration days(std::int64_t days) { return from(fots_duration_days(days)); }
+    static Duration hours(std::int64_t hours) { return from(fots_duration_hours(hours)); }
+    static Duration minutes(std::int64_t minutes) { return from(fots_duration_minutes(minutes)); }
+    static Duration seconds(std::int64_t seconds) { return from(fots_duration_seconds(seconds)); }
+    static Duration milliseconds(std::int64_t milliseconds) { return from(fots_duration_milliseconds(milliseconds)); }
+    static Duration microseconds(std::int64_t microseconds) { return from(fots_duration_microseconds(microseconds)); }
+    static Duration nanoseconds(std::int64_t nanoseconds) { return from(fots_duration_nanoseconds(nanoseconds)); }
+
+    std::int64_t whole_weeks() const { return detail::done(fots_duration_whole_weeks(value_)).number; }
+    std::int64_t whole_days() const { return detail::done(fots_duration_whole_days(value_)).number; }
+    std::int64_t whole_hours() const { return detail::done(fots_duration_whole_hours(value_)).number; }
+    std::int64_t whole_minutes() const { return detail::done(fots_duration_whole_minutes(value_)).number; }
+    std::int64_t whole_seconds() const noexcept { return value_.seconds; }
+    std::int32_t subsec_nanoseconds() const noexcept { return value_.nanoseconds; }
+    Duration abs() const { return from(fots_duration_abs(value_)); }
+
+    friend Duration operator+(Duration one, Duration other) { return from(fots_duration_checked_add(one.value_, other.value_)); }
+    friend Duration operator-(Duration one, Duration other) { return from(fots_duration_checked_sub(one.value_, other.value_)); }
+    friend Duration operator*(Duration one, std::int32_t factor) { return from(fots_duration_checked_mul(one.value_, factor)); }
+    friend Duration operator*(std::int32_t factor, Duration one) { return one * factor; }
+    friend Duration operator/(Duration one, std::int32_t divisor) { return from(fots_duration_checked_div(one.value_, divisor)); }
+    Duration operator-() const { return from(fots_duration_checked_neg(value_)); }
+
+    fots_duration c() const noexcept { return value_; }
+    std::pair<std::int64_t, std::int32_t> key() const noexcept { return {value_.seconds, value_.nanoseconds}; }
+
+private:
+    static Duration from(fots_duration_result result) { return Duration(detail::done(result).duration, {}); }
+
+    fots_duration value_;
+};
+
+// A time of day, exact to the nanosecond.
+class Time : public detail::Ordered<Time> {
+public:
+    // The time of nanoseconds since midnight.
+    explicit Time(fots_time value) : value_(value) { detail::done(fots_time_hour(value)); }
+    Time(fots_time value, detail::Answered) noexcept : value_(value) {}
+
+    static Time from_hms(std::uint32_t hour, std::uint32_t minute, std::uint32_t second)
+    {
+        return Time(detail::done(fots_time_from_hms(hour, minute, second)).time, {});
+    }
+    static Time from_hms_nano(std::uint32_t hour, std::uint32_t minute, std::uint32_t second, std::uint32_t nanosecond)
+    {
+        return Time(detail::done(fots_time_from_hms_nano(hour, minute, second, nanosecond)).time, {});
+    }
+
+    std::uint32_t hour() const { return detail::done(fots_time_hour(value_)).number; }
+    std::uint32_t minute() const { return detail::done(fots_time_minute(value_)).number; }
+    std::uint32_t second() const { return detail::done(fots_time_second(value_)).number; }
+    std::uint32_t nanosecond() const { return detail::done(fots_time_nanosecond(value_)).number; }
+
+    // The time so much later, or earlier, round the clock.
+    friend Time operator+(Time time, Duration duration) { return Time(detail::done(fots_time_add(time.value_, duration.c())).time, {}); }
+    friend Time operator-(Time time, Duration duration) { return Time(detail::done(fots_time_sub(time.value_, duration.c())).time, {}); }
+    // The plain difference, below zero where the time is earlier.
+    friend Duration operator-(Time time, Time other)
+    {
+        return Duration(detail::done(fots_time_difference(time.value_, other.value_)).duration, {});
+    }
+
+    fots_time c() const noexcept { return value_; }
+    fots_time key() const noexcept { return value_; }
+
+private:
+    fots_time value_;
+};
+
+// An offset from UTC, exact to the second, above 0 to the east.
+class UtcOffset : public detail::Ordered<UtcOffset> {
+public:
+    explicit UtcOffset(fots_offset value) : value_(value) { detail::done(fots_offset_whole_hours(value)); }
+    UtcOffset(fots_offset value, detail::Answered) noexcept : value_(value) {}
+
+    static UtcOffset utc() { return UtcOffset(fots_offset{0}, {}); }
+    static UtcOffset from_hms(std::int32_t hours, std::int32_t minutes, std::int32_t seconds)
+    {
+        return UtcOffset(detail::done(fots_offset_from_hms(hours, minutes, seconds)).offset, {});
+    }
+    static UtcOffset from_whole_seconds(std::int64_t seconds)
+    {
+        return UtcOffset(detail::done(fots_offset_from_whole_seconds(seconds)).offset, {});
+    }
+
+    std::int32_t whole_seconds() const noexcept { return value_.seconds; }
+    // The hours, the minutes past them and the seconds past these, of one sign.
+    std::tuple<std::int32_t, std::int32_t, std::int32_t> as_hms() const
+    {
+        const fots_offset_parts_result parts = detail::done(fots_offset_as_hms(value_));
+        return {parts.hours, parts.minutes, parts.seconds};
+    }
+    UtcOffset operator-() const { return UtcOffset(detail::done(fots_offset_negated(value_)).offset, {}); }
+
+    fots_offset c() const noexcept { return value_; }
+    std::int32_t key() const noexcept { return value_.seconds; }
+
+private:
+    fots_offset value_;
+};
+
+// A day of the proleptic Gregorian calendar, from -999999-01-01 to 999999-12-31.
+class Date : public detail::Ordered<Date> {
+public:
+    explicit Date(fots_date value) : value_(value) { detail::done(fots_date_year(value)); }
+    Date(fots_date value, detail::Answered) noexcept : value_(value) {}
+
+    static Date min() { return Date(fots_date{FOTS_MIN_JULIAN_DAY}, {}); }
+    static Date max() { return Date(fots_date{FOTS_MAX_JULIAN_DAY}, {}); }
+    static Date from_julian_day(std::int64_t julian_day) { return from(fots_date_from_julian_day(julian_day)); }
+    static Date from_calendar_date(std::int32_t year, std::uint32_t month, std::uint32_t day)
+    {
+        return from(fots_date_from_calendar_date(year, month, day));
+    }
+    static Date from_calendar_date(std::int32_t year, Month month, std::uint32_t day)
+    {
+        return from_calendar_date(year, static_cast<std::uint32_t>(month), day);
+    }
+    static Date from_ordinal_date(std::int32_t year, std::uint32_t ordinal) { return from(fots_date_from_ordinal_date(year, ordinal)); }
+    static Date from_iso_week_date(std::int32_t year, std::uint32_t week, Weekday weekday)
+    {
+        return from(fots_date_from_iso_week_date(year, week, static_cast<std::uint32_t>(weekday)));
+    }
+    // The date of a calendar date, an ordinal date or an ISO week date in text.
+    static Date read(std::string_view text) { return Date(detail::read(fots_date_read(data(text), text.size())).date, {}); }
+
+    std::int32_t to_julian_day() const noexcept { return value_.julian_day; }
+    std::tuple<std::int32_t, Month, std::uint32_t> to_calendar_date() const
+    {
+        const fots_calendar_date_result found = detail::done(fots_date_to_calendar_date(value_));
+        return {found.year, static_cast<Month>(found.month), found.day};
+    }
+    std::tuple<std::int32_t, std::uint32_t> to_ordinal_date() const
+    {
+        const fots_ordinal_date_result found = detail::done(fots_date_to_ordinal_date(value_));
+        return {found.year, found.ordinal};
+    }
+    std::tuple<std::int32_t, std::uint32_t, Weekday> to_iso_week_date() const
+    {
+        const fots_iso_week_date_result found = detail::done(fots_date_to_iso_week_date(value_));
+        return {found.year, found.week, static_cast<Weekday>(found.weekday)};
+    }
+
+    std::int32_t year() const { return detail::done(fots_date_year(value_)).number; }
+    Month month() const { return static_cast<Month>(detail::done(fots_date_month(value_)).number); }
+    std::uint32_t day() const { return detail::done(fots_date_day(value_)).number; }
+    std::uint32_t ordinal() const { return detail::done(fots_date_ordinal(value_)).number; }
+    std::uint32_t iso_week() const { return detail::done(fots_date_iso_week(value_)).number; }
+    Weekday weekday() const { return static_cast<Weekday>(detail::done(fots_date_weekday(value_)).number); }
+
+    std::optional<Date> next_day() const { return if_any(fots_date_next_day(value_)); }
+    std::optional<Date> previous_day() const { return if_any(fots_date_previous_day(value_)); }
+    std::optional<Date> checked_add_days(std::int64_t days) const { return if_any(fots_date_add_days(value_, days)); }
+    std::optional<Date> checked_add(Duration duration) const { return if_any(fots_date_checked_add(value_, duration.c())); }
+    std::optional<Date> checked_sub(Duration duration) const { return if_any(fots_date_checked_sub(value_, duration.c())); }
+    Date saturating_add(Duration duration) const { return from(fots_date_saturating_add(value_, duration.c())); }
+    Date saturating_sub(Duration duration) const { return from(fots_date_saturating_sub(value_, duration.c())); }
+    std::optional<Date> checked_next_occurrence(Weekday weekday) const
+    {
+        return if_any(fots_date_next_occurrence(value_, static_cast<std::uint32_t>(weekday)));
+    }
+    std::optional<Date> checked_prev_occurrence(Weekday weekday) const
+    {
+        return if_any(fots_date_prev_occurrence(value_, static_cast<std::uint32_t>(weekday)));
+    }
+
+    Date replace_year(std::int32_t year) const { return from(fots_date_replace_year(value_, year)); }
+    Date replace_month(Month month) const { return from(fots_date_replace_month(value_, static_cast<std::uint32_t>(month))); }
+    Date replace_day(std::uint32_t day) const { return from(fots_date_replace_day(value_, day)); }
+    Date replace_ordinal(std::uint32_t ordinal) const { return from(fots_date_replace_ordinal(value_, ordinal)); }
+
+    // The day so many whole days of the duration later, or earlier, cut toward zero.
+    friend Date operator+(Date date, Duration duration) { return from(fots_date_checked_add(date.value_, duration.c())); }
+    friend Date operator-(Date date, Duration duration) { return from(fots_date_checked_sub(date.value_, duration.c())); }
+    friend Duration operator-(Date date, Date other)
+    {
+        return Duration(detail::done(fots_date_duration_since(date.value_, other.value_)).duration, {});
+    }
+
+    // The calendar date in text, as 2024-02-29, the ordinal date, as 2024-060, and the ISO week date, as 2024-W09-4.
+    std::string calendar_text() const { return detail::text(fots_date_calendar_text(value_)); }
+    std::string ordinal_text() const { return detail::text(fots_date_ordinal_text(value_)); }
+    std::string week_text() const { return detail::text(fots_date_week_text(value_)); }
+
+#if __cplusplus >= 202002L
+    // The date of a day of <chrono>; FOTS_JULIAN_DAY where no date has it.
+    static Date from_sys_days(std::chrono::sys_days day)
+    {
+        return from_julian_day(std::int64_t{day.time_since_epoch().count()} + unix_epoch);
+    }
+    // The day of <chrono>, which has every date.
+    std::chrono::sys_days to_sys_days() const
+    {
+        return std::chrono::sys_days(std::chrono::days(value_.julian_day - unix_epoch));
+    }
+#endif
+
+    fots_date c() const noexcept { return value_; }
+    std::int32_t key() const noexcept { return value_.julian_day; }
+
+private:
+    // The Julian day of 1970-01-01.
+    static constexpr std::int32_t unix_epoch = 2440588;
+
+    static const char *data(std::string_view text) noexcept { return text.empty() ? "" : text.data(); }
+    static Date from(fots_date_result result) { return Date(detail::done(result).date, {}); }
+    static std::optional<Date> if_any(fots_date_result result)
+    {
+        return detail::is_in_range(result) ? std::optional<Date>(Date(result.date, {})) : std::nullopt;
+    }
+
+    fots_date value_;
+};
+
+inline std::string to_string(Date date) { return date.calendar_text(); }
+inline std::ostream &operator<<(std::ostream &out, Date date) { return out << date.calendar_text(); }
+
+// The date and the time so much later, to the nanosecond, or none past the range.
+inline std::optional<std::pair<Date, Time>> add_to_pair(Date date, Time time, Duration duration)
+{
+    const fots_pair_result pair = fots_add_to_pair(date.c(), time.c(), duration.c());
+    return detail::is_in_range(pair) ? std::optional(std::pair(Date(pair.date, {}), Time(pair.time, {}))) : std::nullopt;
+}
+
+// The same, earlier.
+inline std::optional<std::pair<Date, Time>> sub_from_pair(Date date, Time time, Duration duration)
+{
+    const fots_pair_result pair = fots_sub_from_pair(date.c(), time.c(), duration.c());
+    return detail::is_in_range(pair) ? std::optional(std::pair(Date(pair.date, {}), Time(pair.time, {}))) : std::nullopt;
+}
+
+// The text of RFC 3339, as 2024-02-29T23:59:59.25+01:00, or none where it has none.
+inline std::optional<std::string> rfc3339_text(Date date, Time time, UtcOffset offset)
+{
+    const fots_text_result text = fots_moment_text(date.c(), time.c(), offset.c());
+    return detail::is_in_range(text) ? std::optional(std::string(text.bytes, text.length)) : std::nullopt;
+}
+
+// The date, the time and the offset of a text of RFC 3339.
+inline std::tuple<Date, Time, UtcOffset> read_rfc3339(std::string_view text)
+{
+    const fots_read_moment_result found = detail::read(fots_moment_read(text.empty() ? "" : text.data(), text.size()));
+    return {Date(found.date, {}), Time(found.time, {}), UtcOffset(found.offset, {})};
+}
+
+// The Unix time, as a duration from 1970-01-01 00:00 UTC on.
+inline Duration unix_duration(Date date, Time time, UtcOffset offset)
+{
+    return Duration(detail::done(fots_unix_time(date.c(), time.c(), offset.c())).duration, {});
+}
+
+// The date and the time of a Unix time, as a clock shows them at the offset, or none where no day of the range has it.
+inline std::optional<std::pair<Date, Time>> unix_pair(Duration duration, UtcOffset offset)
+{
+    const fots_pair_result pair = fots_unix_pair(duration.c(), offset.c());
+    return detail::is_in_range(pair) ? std::optional(std::pair(Date(pair.date, {}), Time(pair.time, {}))) : std::nullopt;
+}
+
+} // namespace fotsevindre
+
+template <> struct std::hash<fotsevindre::Date> {
+    std::size_t operator()(fotsevindre::Date date) const noexcept { return std::hash<std::int32_t>()(date.key()); }
+};
+
+#endif
