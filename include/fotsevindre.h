@@ -8,6 +8,7 @@
  *   fots_offset     an offset from UTC, by its seconds, above 0 to the east: from {-93599} to {93599}.
  *   fots_duration   a signed length of time, as whole seconds and the nanoseconds past them: from -999999999 to 999999999, and
  *                   never against the sign of the seconds. {-1, -500000000} are -1.5 seconds.
+ *   fots_moment     what a clock at an offset shows: a date, that offset and a time of day, each as above.
  *   month           from January, 1, to December, 12.
  *   weekday         from Monday, 1, to Sunday, 7.
  *
@@ -23,8 +24,8 @@
  *
  * Other calls take every number, and so what was not looked at, too: fots_is_leap_year, fots_days_in_year, fots_weeks_in_year and
  * fots_month_length as a year; those that make or scale a duration; the n of fots_month_nth_next and its like. A refused
- * fots_duration_compare is below 0, as less is. There the status comes first. A struct of zero bytes is a value: the date {0} is
- * -4713-11-24, and a result of zero bytes has the status FOTS_DONE.
+ * fots_duration_compare or fots_moment_compare is below 0, as less is. There the status comes first. A struct of zero bytes is a
+ * value: the date {0} is -4713-11-24, and a result of zero bytes has the status FOTS_DONE.
  *
  * An argument that is no value of its type comes first, in the order of the parameters, as FOTS_BAD_DATE and the like, or
  * FOTS_MONTH; then what the call itself refuses, in the order of the parameters.
@@ -66,6 +67,13 @@ typedef struct fots_duration {
     int32_t nanoseconds;
 } fots_duration;
 
+/* In this order its parts take 16 bytes. */
+typedef struct fots_moment {
+    fots_date date;
+    fots_offset offset;
+    fots_time time;
+} fots_moment;
+
 #define FOTS_MIN_JULIAN_DAY (-363521074)
 #define FOTS_MAX_JULIAN_DAY 366963559
 #define FOTS_MIN_YEAR (-999999)
@@ -91,6 +99,7 @@ enum fots_status {
     FOTS_BAD_WEEKDAY = 6,
     FOTS_BAD_COUNT = 7, /* a count above 255 */
     FOTS_UNREADABLE = 8, /* the bytes have none of the forms that the call reads */
+    FOTS_BAD_MOMENT = 9,
     FOTS_YEAR = 16,
     FOTS_MONTH = 17,
     FOTS_JULIAN_DAY = 18,
@@ -125,6 +134,7 @@ static inline const char *fots_status_name(int32_t status)
     case FOTS_BAD_WEEKDAY: return "bad weekday";
     case FOTS_BAD_COUNT: return "bad count";
     case FOTS_UNREADABLE: return "unreadable";
+    case FOTS_BAD_MOMENT: return "bad moment";
     case FOTS_YEAR: return "year";
     case FOTS_MONTH: return "month";
     case FOTS_JULIAN_DAY: return "julian_day";
@@ -242,6 +252,11 @@ typedef struct fots_pair_result {
     fots_date date; /* or {FOTS_NOTHING} */
     fots_time time; /* or FOTS_NO_TIME */
 } fots_pair_result;
+
+typedef struct fots_moment_result {
+    int32_t status;
+    fots_moment moment; /* or {{FOTS_NOTHING}, {FOTS_NOTHING}, FOTS_NO_TIME} */
+} fots_moment_result;
 
 /* A text. */
 typedef struct fots_text_result {
@@ -538,6 +553,49 @@ fots_duration_result fots_unix_time(fots_date date, fots_time time, fots_offset 
 /* The date and the time of day that a clock shows at the offset, of a Unix time; FOTS_BAD_DURATION or FOTS_BAD_OFFSET, and
  * FOTS_PAST_RANGE where no day of the range has it. Those of {1709164800, 0} at 3600 are 2460370 and 3600000000000, 1:00. */
 fots_pair_result fots_unix_pair(fots_duration duration, fots_offset offset);
+
+/* ---- moments: a date and a time of day that a clock shows at an offset
+ *
+ * Two that show different clocks can be of one instant. A local date and time with no offset is moved, compared and measured as a moment
+ * at the offset 0. The parts of a moment are its fields. All but the first refuse a moment that is none as FOTS_BAD_MOMENT. */
+
+/* The moment of these; FOTS_BAD_DATE, FOTS_BAD_TIME or FOTS_BAD_OFFSET. That of 2460370, 86399250000000 and 3600 is
+ * {2460370, 3600, 86399250000000}: 2024-02-29 23:59:59.25 at +01:00. */
+fots_moment_result fots_moment_new(fots_date date, fots_time time, fots_offset offset);
+
+/* The same instant, as a clock at that offset shows it; FOTS_BAD_OFFSET, and FOTS_PAST_RANGE where its date there is past an end of
+ * the range. That of {2460370, 3600, 86399250000000} at 0 is {2460370, 0, 82799250000000}. */
+fots_moment_result fots_moment_to_offset(fots_moment moment, fots_offset offset);
+
+/* The same date and time of day at another offset, so another instant; FOTS_BAD_OFFSET. */
+fots_moment_result fots_moment_replace_offset(fots_moment moment, fots_offset offset);
+
+/* The moment so much later, or earlier, to the nanosecond and at the same offset; FOTS_BAD_DURATION, and FOTS_PAST_RANGE where its
+ * date is past an end of the range. Two hours after {2460370, 3600, 86399250000000} it is {2460371, 3600, 7199250000000}. */
+fots_moment_result fots_moment_checked_add(fots_moment moment, fots_duration duration);
+fots_moment_result fots_moment_checked_sub(fots_moment moment, fots_duration duration);
+
+/* The same, or the end of the range that is nearest on the clock at that offset. */
+fots_moment_result fots_moment_saturating_add(fots_moment moment, fots_duration duration);
+fots_moment_result fots_moment_saturating_sub(fots_moment moment, fots_duration duration);
+
+/* The duration since the other instant, below zero where that is later: since {2460370, 3600, 0} at {2460370, 0, 0} it is
+ * {3600, 0}. */
+fots_duration_result fots_moment_duration_since(fots_moment moment, fots_moment other);
+
+/* -1, 0 or 1, as the one instant is before the other, the same, or after it, whatever the offsets. */
+fots_number_result fots_moment_compare(fots_moment moment, fots_moment other);
+
+/* The moment at UTC so many seconds after 1970-01-01 00:00, or of a Unix time as fots_unix_time gives it; FOTS_BAD_DURATION, and
+ * FOTS_TIMESTAMP where no day of the range has it. That of 1709247599 is {2460370, 0, 82799000000000}. fots_duration_new makes a Unix
+ * time of the two numbers of a struct timespec. */
+fots_moment_result fots_moment_from_unix_timestamp(int64_t seconds);
+fots_moment_result fots_moment_from_unix_time(fots_duration duration);
+
+/* The Unix time in whole seconds, rounded toward the past, and to the nanosecond: half a second before 1970 they are -1 and
+ * {0, -500000000}. The nanoseconds past those whole seconds, as in a struct timespec, are time % 1000000000. */
+fots_long_result fots_moment_unix_timestamp(fots_moment moment);
+fots_duration_result fots_moment_unix_time(fots_moment moment);
 
 /* ---- texts printed: each in ASCII, of at most 38 bytes and a zero byte after them, so bytes is a string of C */
 

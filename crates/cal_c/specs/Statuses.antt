@@ -32,6 +32,10 @@ bad_count = pos 7
 abbrev pub unreadable : ℤ
 unreadable = pos 8
 
+-- an argument is no moment
+abbrev pub bad_moment : ℤ
+bad_moment = pos 9
+
 -- the refusals whose range depends on nothing, by their names
 abbrev pub year_refused : ℤ
 year_refused = pos 16

@@ -4,11 +4,13 @@ ghost use Rattle.std.specs.Prelude.{◌≡◌, FitsSigned};
 ghost use Rattle.std.specs.Int.{w64};
 ghost use Rattle.cal_time.specs.Date.{julian_day_at};
 ghost use Rattle.cal_c.specs.Results.{date_done, date_refused, date_if_any, number_done, number_refused, calendar_date_refused, ordinal_date_refused, iso_week_date_refused, duration_done, duration_if_any, duration_refused, time_done, time_refused, clock_refused, adjusted_time_done, adjusted_time_refused, offset_done, offset_refused, offset_parts_refused, long_done, long_refused, pair_if_any, pair_refused};
+ghost use Rattle.cal_c.specs.Moments.{moment_done, moment_refused};
 ghost use Rattle.cal_c.specs.Statuses.{past_range};
 ghost use Rattle.cal_time.specs.Time.{carry};
 
 use crate::status::{DONE, PAST_RANGE};
 use crate::values::nanoseconds_of;
+use cal_datetime::OffsetDateTime;
 use cal_time::util::DateAdjustment;
 use cal_time::{Date, SignedDuration, Time, UtcOffset};
 
@@ -404,6 +406,51 @@ impl PairResult {
             status,
             date: i32::MIN,
             time: u64::MAX,
+        }
+    }
+}
+
+/// A date and a time of day, as a clock at that offset from UTC shows them.
+#[repr(C)]
+#[derive(Clone, Copy)]
+pub struct Moment {
+    pub date: i32,
+    pub offset: i32,
+    pub time: u64,
+}
+
+/// A moment.
+#[repr(C)]
+#[derive(Clone, Copy)]
+pub struct MomentResult {
+    pub status: i32,
+    pub moment: Moment,
+}
+
+impl MomentResult {
+    pub fn of(moment: OffsetDateTime) -> Self
+        ensures { result ≡ moment_done moment }
+    {
+        MomentResult {
+            status: DONE,
+            moment: Moment {
+                date: moment.date().to_julian_day(),
+                offset: moment.offset().whole_seconds(),
+                time: nanoseconds_of(moment.time()),
+            },
+        }
+    }
+
+    pub fn refused(status: i32) -> Self
+        ensures { result ≡ moment_refused status }
+    {
+        MomentResult {
+            status,
+            moment: Moment {
+                date: i32::MIN,
+                offset: i32::MIN,
+                time: u64::MAX,
+            },
         }
     }
 }

@@ -1,0 +1,33 @@
+-- Moments, as they cross: a date and a time of day, each as its number, at an offset.
+use Rattle.std.specs.Prelude.{◌≡◌, ℤ}
+use Rattle.cal_time.specs.Date.{julian_day_at}
+use Rattle.cal_time.specs.Time.{IsTime}
+use Rattle.cal_time.specs.UtcOffset.{IsOffset}
+use Rattle.cal_datetime.specs.DateTime.{date_time, date_at, time_at}
+use Rattle.cal_datetime.specs.OffsetDateTime.{Shown}
+use Rattle.cal_c.specs.Results.{nothing}
+use Rattle.cal_c.specs.Statuses.{done}
+use Rattle.cal_c.specs.Values.{IsJulianDay, day_of}
+use Rattle.cal_c.specs.declared.results.Moment.{Moment}
+use Rattle.cal_c.specs.declared.results.MomentResult.{MomentResult}
+
+-- each of its numbers stands for a value
+pub record IsMoment (m : Moment) : Type 0 where
+  pub date : IsJulianDay m.date
+  pub time : IsTime m.time
+  pub offset : IsOffset m.offset
+
+-- the local date-time, and the moment that it stands for
+abbrev pub local_in : Moment → ℤ
+local_in m = date_time (day_of m.date) m.time
+
+abbrev pub shown_in : Moment → Shown
+shown_in m = record { local = local_in m; offset = m.offset }
+
+abbrev pub moment_done : Shown → MomentResult
+moment_done m =
+    record { status = done; moment = record { date = julian_day_at (date_at m.local); offset = m.offset; time = time_at m.local } }
+
+abbrev pub moment_refused : ℤ → MomentResult
+moment_refused s =
+    record { status = s; moment = record { date = nothing; offset = nothing; time = 18_446_744_073_709_551_615 } }

@@ -1,0 +1,85 @@
+//! Moments made, and shown at other offsets.
+ghost use Rattle.std.specs.Prelude.{◌≡◌};
+ghost use Rattle.cal_time.specs.Time.{IsTime};
+ghost use Rattle.cal_time.specs.UtcOffset.{IsOffset};
+ghost use Rattle.cal_datetime.specs.DateTime.{IsDateTime};
+ghost use Rattle.cal_datetime.specs.OffsetDateTime.{instant, local_at};
+ghost use Rattle.cal_c.specs.Moments.{IsMoment, local_in, moment_done, moment_refused, shown_in};
+ghost use Rattle.cal_c.specs.Statuses.{bad_date, bad_moment, bad_offset, bad_time, past_range};
+ghost use Rattle.cal_c.specs.Values.{IsJulianDay, moment_of};
+
+use crate::moment::moment_of;
+use crate::results::{Moment, MomentResult};
+use crate::status::{BAD_DATE, BAD_MOMENT, BAD_OFFSET, BAD_TIME, PAST_RANGE};
+use crate::values::{date_of, offset_of, time_of};
+use cal_datetime::OffsetDateTime;
+use cal_time::UtcOffset;
+
+/// The moment of a date and a time, which a clock shows at that offset.
+#[unsafe(no_mangle)]
+pub extern "C" fn fots_moment_new(date: i32, time: u64, offset: i32) -> MomentResult
+    ensures bad_date { ¬ IsJulianDay date → result ≡ moment_refused bad_date }
+    ensures bad_time { IsJulianDay date → ¬ IsTime time → result ≡ moment_refused bad_time }
+    ensures bad_offset { IsJulianDay date → IsTime time → ¬ IsOffset offset → result ≡ moment_refused bad_offset }
+    ensures moment { IsJulianDay date → IsTime time → IsOffset offset → result ≡ moment_done (moment_of date time offset) }
+{
+    let Some(date) = date_of(date) else {
+        return MomentResult::refused(BAD_DATE);
+    };
+    let Some(time) = time_of(time) else {
+        return MomentResult::refused(BAD_TIME);
+    };
+    match offset_of(offset) {
+        Some(offset) => MomentResult::of(OffsetDateTime::new_in_offset(date, time, offset)),
+        None => MomentResult::refused(BAD_OFFSET),
+    }
+}
+
+/// The same instant, as a clock at that offset shows it, or none where that is past the range.
+#[unsafe(no_mangle)]
+pub extern "C" fn fots_moment_to_offset(moment: Moment, offset: i32) -> MomentResult
+    ensures bad_moment { ¬ IsMoment moment → result ≡ moment_refused bad_moment }
+    ensures bad_offset { IsMoment moment → ¬ IsOffset offset → result ≡ moment_refused bad_offset }
+    ensures past_range { let local = local_at (instant (shown_in moment)) offset
+        in IsMoment moment → IsOffset offset → ¬ IsDateTime local → result ≡ moment_refused past_range }
+    ensures moment { let local = local_at (instant (shown_in moment)) offset
+        in IsMoment moment → IsOffset offset → IsDateTime local → result ≡ moment_done (record { local = local; offset = offset }) }
+{
+    let Some(moment) = moment_of(moment) else {
+        return MomentResult::refused(BAD_MOMENT);
+    };
+    match offset_of(offset) {
+        Some(offset) => shown_at(moment, offset),
+        None => MomentResult::refused(BAD_OFFSET),
+    }
+}
+
+/// The same instant at another offset.
+fn shown_at(moment: OffsetDateTime, offset: UtcOffset) -> MomentResult
+    ensures past_range { let local = local_at (instant moment) offset
+        in ¬ IsDateTime local → result ≡ moment_refused past_range }
+    ensures moment { let local = local_at (instant moment) offset
+        in IsDateTime local → result ≡ moment_done (record { local = local; offset = offset }) }
+{
+    match moment.checked_to_offset(offset) {
+        Some(shown) => MomentResult::of(shown),
+        None => MomentResult::refused(PAST_RANGE),
+    }
+}
+
+/// The moment at which a clock at that offset shows the same date and time.
+#[unsafe(no_mangle)]
+pub extern "C" fn fots_moment_replace_offset(moment: Moment, offset: i32) -> MomentResult
+    ensures bad_moment { ¬ IsMoment moment → result ≡ moment_refused bad_moment }
+    ensures bad_offset { IsMoment moment → ¬ IsOffset offset → result ≡ moment_refused bad_offset }
+    ensures moment { IsMoment moment → IsOffset offset
+        → result ≡ moment_done (record { local = local_in moment; offset = offset }) }
+{
+    let Some(moment) = moment_of(moment) else {
+        return MomentResult::refused(BAD_MOMENT);
+    };
+    match offset_of(offset) {
+        Some(offset) => MomentResult::of(moment.replace_offset(offset)),
+        None => MomentResult::refused(BAD_OFFSET),
+    }
+}

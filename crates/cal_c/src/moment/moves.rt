@@ -1,0 +1,155 @@
+//! Moments moved on and back, compared, and the durations between them.
+ghost use Rattle.std.specs.Prelude.{◌≡◌, pos, neg_ℤ, ◌+ℤ◌, ◌-ℤ◌, ◌<ℤ◌};
+ghost use Rattle.cal_datetime.specs.DateTime.{IsDateTime, nearest};
+ghost use Rattle.cal_datetime.specs.OffsetDateTime.{instant};
+ghost use Rattle.cal_c.specs.Moments.{IsMoment, local_in, moment_done, moment_refused, shown_in};
+ghost use Rattle.cal_c.specs.Results.{duration_done, duration_refused, number_done, number_refused};
+ghost use Rattle.cal_c.specs.Statuses.{bad_duration, bad_moment, past_range};
+ghost use Rattle.cal_c.specs.Values.{IsDurationPair, nanoseconds_in};
+
+use crate::moment::moment_of;
+use crate::results::{Duration, DurationResult, Moment, MomentResult, NumberResult};
+use crate::status::{BAD_DURATION, BAD_MOMENT, PAST_RANGE};
+use crate::values::duration_of;
+use cal_datetime::OffsetDateTime;
+use cal_time::SignedDuration;
+
+/// The moment that much later, to the nanosecond and at the same offset, or none where that is past the range.
+#[unsafe(no_mangle)]
+pub extern "C" fn fots_moment_checked_add(moment: Moment, duration: Duration) -> MomentResult
+    ensures bad_moment { ¬ IsMoment moment → result ≡ moment_refused bad_moment }
+    ensures bad_duration { IsMoment moment → ¬ IsDurationPair duration → result ≡ moment_refused bad_duration }
+    ensures past_range { let local = local_in moment +ℤ nanoseconds_in duration
+        in IsMoment moment → IsDurationPair duration → ¬ IsDateTime local → result ≡ moment_refused past_range }
+    ensures moment { let local = local_in moment +ℤ nanoseconds_in duration
+        in IsMoment moment → IsDurationPair duration → IsDateTime local
+        → result ≡ moment_done (record { local = local; offset = moment.offset }) }
+{
+    let Some(moment) = moment_of(moment) else {
+        return MomentResult::refused(BAD_MOMENT);
+    };
+    match duration_of(duration) {
+        Some(duration) => later(moment, duration),
+        None => MomentResult::refused(BAD_DURATION),
+    }
+}
+
+/// The moment that much later.
+fn later(moment: OffsetDateTime, duration: SignedDuration) -> MomentResult
+    ensures past_range { ¬ IsDateTime (moment.local +ℤ duration) → result ≡ moment_refused past_range }
+    ensures moment { let local = moment.local +ℤ duration
+        in IsDateTime local → result ≡ moment_done (record { local = local; offset = moment.offset }) }
+{
+    match moment.checked_add(duration) {
+        Some(moved) => MomentResult::of(moved),
+        None => MomentResult::refused(PAST_RANGE),
+    }
+}
+
+/// The moment that much earlier, to the nanosecond and at the same offset, or none where that is past the range.
+#[unsafe(no_mangle)]
+pub extern "C" fn fots_moment_checked_sub(moment: Moment, duration: Duration) -> MomentResult
+    ensures bad_moment { ¬ IsMoment moment → result ≡ moment_refused bad_moment }
+    ensures bad_duration { IsMoment moment → ¬ IsDurationPair duration → result ≡ moment_refused bad_duration }
+    ensures past_range { let local = local_in moment -ℤ nanoseconds_in duration
+        in IsMoment moment → IsDurationPair duration → ¬ IsDateTime local → result ≡ moment_refused past_range }
+    ensures moment { let local = local_in moment -ℤ nanoseconds_in duration
+        in IsMoment moment → IsDurationPair duration → IsDateTime local
+        → result ≡ moment_done (record { local = local; offset = moment.offset }) }
+{
+    let Some(moment) = moment_of(moment) else {
+        return MomentResult::refused(BAD_MOMENT);
+    };
+    match duration_of(duration) {
+        Some(duration) => earlier(moment, duration),
+        None => MomentResult::refused(BAD_DURATION),
+    }
+}
+
+/// The moment that much earlier.
+fn earlier(moment: OffsetDateTime, duration: SignedDuration) -> MomentResult
+    ensures past_range { ¬ IsDateTime (moment.local -ℤ duration) → result ≡ moment_refused past_range }
+    ensures moment { let local = moment.local -ℤ duration
+        in IsDateTime local → result ≡ moment_done (record { local = local; offset = moment.offset }) }
+{
+    match moment.checked_sub(duration) {
+        Some(moved) => MomentResult::of(moved),
+        None => MomentResult::refused(PAST_RANGE),
+    }
+}
+
+/// The moment that much later, or the end of the range that is nearest to it on the clock at its offset.
+#[unsafe(no_mangle)]
+pub extern "C" fn fots_moment_saturating_add(moment: Moment, duration: Duration) -> MomentResult
+    ensures bad_moment { ¬ IsMoment moment → result ≡ moment_refused bad_moment }
+    ensures bad_duration { IsMoment moment → ¬ IsDurationPair duration → result ≡ moment_refused bad_duration }
+    ensures moment { IsMoment moment → IsDurationPair duration
+        → result ≡ moment_done (record { local = nearest (local_in moment +ℤ nanoseconds_in duration); offset = moment.offset }) }
+{
+    let Some(moment) = moment_of(moment) else {
+        return MomentResult::refused(BAD_MOMENT);
+    };
+    match duration_of(duration) {
+        Some(duration) => MomentResult::of(moment.saturating_add(duration)),
+        None => MomentResult::refused(BAD_DURATION),
+    }
+}
+
+/// The moment that much earlier, or the end of the range that is nearest to it on the clock at its offset.
+#[unsafe(no_mangle)]
+pub extern "C" fn fots_moment_saturating_sub(moment: Moment, duration: Duration) -> MomentResult
+    ensures bad_moment { ¬ IsMoment moment → result ≡ moment_refused bad_moment }
+    ensures bad_duration { IsMoment moment → ¬ IsDurationPair duration → result ≡ moment_refused bad_duration }
+    ensures moment { IsMoment moment → IsDurationPair duration
+        → result ≡ moment_done (record { local = nearest (local_in moment -ℤ nanoseconds_in duration); offset = moment.offset }) }
+{
+    let Some(moment) = moment_of(moment) else {
+        return MomentResult::refused(BAD_MOMENT);
+    };
+    match duration_of(duration) {
+        Some(duration) => MomentResult::of(moment.saturating_sub(duration)),
+        None => MomentResult::refused(BAD_DURATION),
+    }
+}
+
+/// The duration from the other instant to that of the moment, below zero where the other one is later.
+#[unsafe(no_mangle)]
+pub extern "C" fn fots_moment_duration_since(moment: Moment, other: Moment) -> DurationResult
+    ensures bad_moment { ¬ (IsMoment moment × IsMoment other) → result ≡ duration_refused bad_moment }
+    ensures value { IsMoment moment → IsMoment other
+        → result ≡ duration_done (instant (shown_in moment) -ℤ instant (shown_in other)) }
+{
+    let Some(moment) = moment_of(moment) else {
+        return DurationResult::refused(BAD_MOMENT);
+    };
+    match moment_of(other) {
+        Some(other) => DurationResult::of(moment - other),
+        None => DurationResult::refused(BAD_MOMENT),
+    }
+}
+
+/// -1, 0 or 1, as the instant of the one moment is before that of the other, the same, or after it.
+#[unsafe(no_mangle)]
+pub extern "C" fn fots_moment_compare(moment: Moment, other: Moment) -> NumberResult
+    ensures bad_moment { ¬ (IsMoment moment × IsMoment other) → result ≡ number_refused bad_moment }
+    ensures before { IsMoment moment → IsMoment other → instant (shown_in moment) <ℤ instant (shown_in other)
+        → result ≡ number_done (neg_ℤ (pos 1)) }
+    ensures same { IsMoment moment → IsMoment other → instant (shown_in moment) ≡ instant (shown_in other)
+        → result ≡ number_done (pos 0) }
+    ensures after { IsMoment moment → IsMoment other → instant (shown_in other) <ℤ instant (shown_in moment)
+        → result ≡ number_done (pos 1) }
+{
+    let Some(moment) = moment_of(moment) else {
+        return NumberResult::refused(BAD_MOMENT);
+    };
+    let Some(other) = moment_of(other) else {
+        return NumberResult::refused(BAD_MOMENT);
+    };
+    if moment < other {
+        NumberResult::of(-1)
+    } else if other < moment {
+        NumberResult::of(1)
+    } else {
+        NumberResult::of(0)
+    }
+}

@@ -1,0 +1,80 @@
+//! Moments and their Unix times.
+ghost use Rattle.std.specs.Prelude.{◌≡◌, pos, ◌+ℤ◌, ◌*ℤ◌};
+ghost use Rattle.cal_time.specs.SignedDuration.{second};
+ghost use Rattle.cal_datetime.specs.DateTime.{IsDateTime};
+ghost use Rattle.cal_datetime.specs.OffsetDateTime.{instant, unix_epoch, unix_nanoseconds, unix_seconds};
+ghost use Rattle.cal_c.specs.Moments.{IsMoment, moment_done, moment_refused, shown_in};
+ghost use Rattle.cal_c.specs.Results.{duration_done, duration_refused, long_done, long_refused};
+ghost use Rattle.cal_c.specs.Statuses.{bad_duration, bad_moment, timestamp_refused};
+ghost use Rattle.cal_c.specs.Values.{IsDurationPair, nanoseconds_in};
+
+use crate::moment::moment_of;
+use crate::results::{Duration, DurationResult, LongResult, Moment, MomentResult};
+use crate::status::{BAD_DURATION, BAD_MOMENT, TIMESTAMP};
+use crate::values::duration_of;
+use cal_datetime::OffsetDateTime;
+use cal_time::SignedDuration;
+
+/// The moment at UTC so many seconds after 1970-01-01 0:00, or before where they are below zero. Refused as `timestamp`.
+#[unsafe(no_mangle)]
+pub extern "C" fn fots_moment_from_unix_timestamp(seconds: i64) -> MomentResult
+    ensures timestamp { ¬ IsDateTime (unix_epoch +ℤ seconds *ℤ pos second) → result ≡ moment_refused timestamp_refused }
+    ensures moment { let local = unix_epoch +ℤ seconds *ℤ pos second
+        in IsDateTime local → result ≡ moment_done (record { local = local; offset = pos 0 }) }
+{
+    match OffsetDateTime::from_unix_timestamp(seconds) {
+        Ok(moment) => MomentResult::of(moment),
+        Err(_) => MomentResult::refused(TIMESTAMP),
+    }
+}
+
+/// The moment at UTC of a Unix time. Refused as `timestamp`.
+#[unsafe(no_mangle)]
+pub extern "C" fn fots_moment_from_unix_time(duration: Duration) -> MomentResult
+    ensures bad_duration { ¬ IsDurationPair duration → result ≡ moment_refused bad_duration }
+    ensures timestamp { IsDurationPair duration → ¬ IsDateTime (unix_epoch +ℤ nanoseconds_in duration)
+        → result ≡ moment_refused timestamp_refused }
+    ensures moment { let local = unix_epoch +ℤ nanoseconds_in duration
+        in IsDurationPair duration → IsDateTime local → result ≡ moment_done (record { local = local; offset = pos 0 }) }
+{
+    match duration_of(duration) {
+        Some(duration) => at_unix_time(duration),
+        None => MomentResult::refused(BAD_DURATION),
+    }
+}
+
+/// The moment at UTC of a Unix time.
+fn at_unix_time(duration: SignedDuration) -> MomentResult
+    ensures timestamp { ¬ IsDateTime (unix_epoch +ℤ duration) → result ≡ moment_refused timestamp_refused }
+    ensures moment { let local = unix_epoch +ℤ duration
+        in IsDateTime local → result ≡ moment_done (record { local = local; offset = pos 0 }) }
+{
+    match OffsetDateTime::from_unix_timestamp_nanos(duration.whole_nanoseconds()) {
+        Ok(moment) => MomentResult::of(moment),
+        Err(_) => MomentResult::refused(TIMESTAMP),
+    }
+}
+
+/// The whole seconds of the Unix time, rounded toward the past: half a second before 1970-01-01 0:00 UTC it is -1.
+#[unsafe(no_mangle)]
+pub extern "C" fn fots_moment_unix_timestamp(moment: Moment) -> LongResult
+    ensures bad_moment { ¬ IsMoment moment → result ≡ long_refused bad_moment }
+    ensures value { IsMoment moment → result ≡ long_done (unix_seconds (instant (shown_in moment))) }
+{
+    match moment_of(moment) {
+        Some(moment) => LongResult::of(moment.unix_timestamp()),
+        None => LongResult::refused(BAD_MOMENT),
+    }
+}
+
+/// The Unix time, to the nanosecond.
+#[unsafe(no_mangle)]
+pub extern "C" fn fots_moment_unix_time(moment: Moment) -> DurationResult
+    ensures bad_moment { ¬ IsMoment moment → result ≡ duration_refused bad_moment }
+    ensures value { IsMoment moment → result ≡ duration_done (unix_nanoseconds (instant (shown_in moment))) }
+{
+    match moment_of(moment) {
+        Some(moment) => DurationResult::of(moment - OffsetDateTime::unix_epoch()),
+        None => DurationResult::refused(BAD_MOMENT),
+    }
+}
