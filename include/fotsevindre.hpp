@@ -2,7 +2,7 @@
 //
 // Values compare, copy as plain numbers and have no default. A call that has no answer throws an error, which says why; those that begin
 // with checked_, and next_day, previous_day and the pairs, return an empty std::optional past the range. What each call takes and refuses
-// is said at the call of the same name in fotsevindre.h.
+// is said at the call of the same name in fotsevindre.h; the calls of OffsetDateTime are those of fots_moment.
 #ifndef FOTSEVINDRE_HPP
 #define FOTSEVINDRE_HPP
 
@@ -380,6 +380,67 @@ inline std::optional<std::pair<Date, Time>> unix_pair(Duration duration, UtcOffs
     const fots_pair_result pair = fots_unix_pair(duration.c(), offset.c());
     return detail::is_in_range(pair) ? std::optional(std::pair(Date(pair.date, {}), Time(pair.time, {}))) : std::nullopt;
 }
+
+// What a clock at an offset from UTC shows. Compared by the instant, so two that show different clocks can be equal.
+class OffsetDateTime : public detail::Ordered<OffsetDateTime> {
+public:
+    explicit OffsetDateTime(fots_moment value) : value_(value) { detail::done(fots_moment_unix_timestamp(value)); }
+    OffsetDateTime(fots_moment value, detail::Answered) noexcept : value_(value) {}
+
+    static OffsetDateTime new_in_offset(Date date, Time time, UtcOffset offset)
+    {
+        return from(fots_moment_new(date.c(), time.c(), offset.c()));
+    }
+    static OffsetDateTime new_utc(Date date, Time time) { return new_in_offset(date, time, UtcOffset::utc()); }
+    static OffsetDateTime from_unix_timestamp(std::int64_t seconds) { return from(fots_moment_from_unix_timestamp(seconds)); }
+    static OffsetDateTime from_unix_duration(Duration duration) { return from(fots_moment_from_unix_time(duration.c())); }
+
+    Date date() const noexcept { return Date(value_.date, {}); }
+    Time time() const noexcept { return Time(value_.time, {}); }
+    UtcOffset offset() const noexcept { return UtcOffset(value_.offset, {}); }
+
+    // The Unix time in whole seconds, rounded toward the past, and exactly.
+    std::int64_t unix_timestamp() const { return detail::done(fots_moment_unix_timestamp(value_)).number; }
+    Duration unix_duration() const { return Duration(detail::done(fots_moment_unix_time(value_)).duration, {}); }
+
+    // The same instant, as a clock at that offset shows it.
+    std::optional<OffsetDateTime> checked_to_offset(UtcOffset offset) const { return if_any(fots_moment_to_offset(value_, offset.c())); }
+    OffsetDateTime to_offset(UtcOffset offset) const { return from(fots_moment_to_offset(value_, offset.c())); }
+    std::optional<OffsetDateTime> checked_to_utc() const { return checked_to_offset(UtcOffset::utc()); }
+    OffsetDateTime to_utc() const { return to_offset(UtcOffset::utc()); }
+    // The same clock at another offset, so another instant.
+    OffsetDateTime replace_offset(UtcOffset offset) const { return from(fots_moment_replace_offset(value_, offset.c())); }
+
+    std::optional<OffsetDateTime> checked_add(Duration duration) const { return if_any(fots_moment_checked_add(value_, duration.c())); }
+    std::optional<OffsetDateTime> checked_sub(Duration duration) const { return if_any(fots_moment_checked_sub(value_, duration.c())); }
+    OffsetDateTime saturating_add(Duration duration) const { return from(fots_moment_saturating_add(value_, duration.c())); }
+    OffsetDateTime saturating_sub(Duration duration) const { return from(fots_moment_saturating_sub(value_, duration.c())); }
+
+    friend OffsetDateTime operator+(OffsetDateTime moment, Duration duration)
+    {
+        return from(fots_moment_checked_add(moment.value_, duration.c()));
+    }
+    friend OffsetDateTime operator-(OffsetDateTime moment, Duration duration)
+    {
+        return from(fots_moment_checked_sub(moment.value_, duration.c()));
+    }
+    friend Duration operator-(OffsetDateTime moment, OffsetDateTime other)
+    {
+        return Duration(detail::done(fots_moment_duration_since(moment.value_, other.value_)).duration, {});
+    }
+
+    fots_moment c() const noexcept { return value_; }
+    std::pair<std::int64_t, std::int32_t> key() const { return unix_duration().key(); }
+
+private:
+    static OffsetDateTime from(fots_moment_result result) { return OffsetDateTime(detail::done(result).moment, {}); }
+    static std::optional<OffsetDateTime> if_any(fots_moment_result result)
+    {
+        return detail::is_in_range(result) ? std::optional<OffsetDateTime>(OffsetDateTime(result.moment, {})) : std::nullopt;
+    }
+
+    fots_moment value_;
+};
 
 } // namespace fotsevindre
 

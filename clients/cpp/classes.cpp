@@ -119,6 +119,35 @@ void others()
         "the Unix time both ways");
 }
 
+void moments()
+{
+    const auto [date, time, offset] = read_rfc3339("2024-02-29T23:59:59.25+01:00");
+    const OffsetDateTime night = OffsetDateTime::new_in_offset(date, time, offset);
+    const OffsetDateTime at_utc = night.to_utc();
+    const UtcOffset east = UtcOffset::from_hms(1, 0, 0), west = UtcOffset::from_hms(-2, 0, 0);
+    check(night.date() == date && night.time() == time && night.offset() == offset, "the parts");
+    check(at_utc.date() == date && at_utc.time() == Time::from_hms_nano(22, 59, 59, 250000000), "the clock at UTC");
+    check(night == at_utc && night <= at_utc && !(night < at_utc) && night == OffsetDateTime(night.c()), "one instant");
+    check(night < night.replace_offset(UtcOffset::utc()), "a later instant");
+    check(night.replace_offset(UtcOffset::utc()) - night == Duration::hours(1), "an hour later");
+    check(night.unix_timestamp() == 1709247599 && night.unix_duration() == Duration::of(1709247599, 250000000), "the Unix time");
+    check(OffsetDateTime::from_unix_duration(night.unix_duration()) == night, "of the Unix time");
+    check(OffsetDateTime::from_unix_timestamp(-1) + Duration::seconds(1) == OffsetDateTime::from_unix_timestamp(0), "moves");
+    check((OffsetDateTime::from_unix_timestamp(0) - Duration::milliseconds(500)).unix_timestamp() == -1, "rounded toward the past");
+    const OffsetDateTime last = OffsetDateTime::new_utc(Date::max(), Time(FOTS_MAX_TIME));
+    const OffsetDateTime later = OffsetDateTime::new_in_offset(Date::max(), Time::from_hms(23, 0, 0), west);
+    const OffsetDateTime first = OffsetDateTime::new_utc(Date::min(), Time(0));
+    check(later > last && later.checked_to_utc() == std::nullopt, "at no date at UTC");
+    check(OffsetDateTime::new_in_offset(Date::min(), Time(0), east) < first, "before the first at UTC");
+    check(first.checked_add(Duration::seconds(INT64_MAX)) == std::nullopt, "past the range");
+    check(first.saturating_add(Duration::seconds(INT64_MAX)) == last && last.saturating_sub(Duration::seconds(INT64_MAX)) == first, "held");
+    check(last.checked_sub(Duration::days(1)) == last - Duration::days(1), "a day before");
+    throws([&] { later.to_utc(); }, FOTS_PAST_RANGE, "past the range", "past the range");
+    throws([&] { first - Duration::nanoseconds(1); }, FOTS_PAST_RANGE, "past the range", "before the first");
+    throws([] { OffsetDateTime::from_unix_timestamp(INT64_MAX); }, FOTS_TIMESTAMP, "timestamp was not in range", "no timestamp");
+    throws([] { OffsetDateTime(fots_moment{{0}, {0}, FOTS_NO_TIME}); }, FOTS_BAD_MOMENT, "bad moment", "no moment");
+}
+
 #if __cplusplus >= 202002L
 void days_of_chrono()
 {
@@ -153,6 +182,7 @@ int main()
     dates();
     refusals();
     others();
+    moments();
 #if __cplusplus >= 202002L
     days_of_chrono();
 #endif
