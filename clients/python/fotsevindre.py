@@ -35,6 +35,7 @@ from typing import Any, Callable, ClassVar, Dict, Iterable, Iterator, List, Opti
 __version__ = "0.1.0"
 
 __all__ = [
+    "OffsetDateTime", "PlainDateTime",
     "ComponentRange", "Date", "Days", "Month", "SignedDuration", "Time", "Unreadable", "UtcOffset", "Weekday", "add_to_pair", "dates_add_days",
     "dates_from_calendar_dates", "dates_from_iso_week_dates", "dates_from_julian_days", "dates_from_ordinal_dates",
     "dates_to_calendar_dates", "dates_to_iso_week_dates", "dates_to_ordinal_dates", "dates_weekdays", "days_in_month", "days_in_year",
@@ -72,6 +73,14 @@ class _CDuration(ctypes.Structure):
     nanoseconds: int
 
 
+class _CMoment(ctypes.Structure):
+    _fields_ = [("date", _I32), ("offset", _I32), ("time", _U64)]
+
+    date: int
+    offset: int
+    time: int
+
+
 class _Result(ctypes.Structure):
     """What a call returns: a status, and then its own of these fields."""
 
@@ -80,6 +89,7 @@ class _Result(ctypes.Structure):
     time: int
     offset: int
     duration: _CDuration
+    moment: _CMoment
     number: int
     year: int
     month: int
@@ -119,6 +129,7 @@ _OFFSET = _result(("offset", _I32))
 _OFFSET_PARTS = _result(("hours", _I32), ("minutes", _I32), ("seconds", _I32))
 _DURATION = _result(("duration", _CDuration))
 _PAIR = _result(("date", _I32), ("time", _U64))
+_MOMENT = _result(("moment", _CMoment))
 _TEXT = _result(("length", _U32), ("bytes", ctypes.c_char * 40))
 _READ_DATE = _result(("date", _I32), ("place", ctypes.c_size_t))
 _READ_MOMENT = _result(("date", _I32), ("time", _U64), ("offset", _I32), ("place", ctypes.c_size_t))
@@ -175,6 +186,14 @@ _FORMS: List[Tuple[Any, List[Any], str]] = [
     (_TEXT, [_I32, _U64, _I32], "moment_text unix_text"),
     (_READ_DATE, [ctypes.c_char_p, ctypes.c_size_t], "date_read julian_day_read"),
     (_READ_MOMENT, [ctypes.c_char_p, ctypes.c_size_t], "moment_read unix_read"),
+    (_MOMENT, [_I32, _U64, _I32], "moment_new"),
+    (_MOMENT, [_CMoment, _I32], "moment_to_offset moment_replace_offset"),
+    (_MOMENT, [_CMoment, _CDuration], "moment_checked_add moment_checked_sub moment_saturating_add moment_saturating_sub"),
+    (_DURATION, [_CMoment, _CMoment], "moment_duration_since"),
+    (_MOMENT, [_I64], "moment_from_unix_timestamp"),
+    (_MOMENT, [_CDuration], "moment_from_unix_time"),
+    (_LONG, [_CMoment], "moment_unix_timestamp"),
+    (_DURATION, [_CMoment], "moment_unix_time"),
 ]
 
 _library = _load()
@@ -1636,6 +1655,422 @@ def read_unix(text: str) -> Tuple[Date, Time]:
     (2024-02-29, 0:00:00.5)
     """
     return _pair(_read(_C.unix_read, text))
+
+
+# ---- date-times
+
+
+_D = TypeVar("_D", bound="_DateTime")
+
+
+def _made(kind: Type[_D], result: _Result) -> _D:
+    if result.status:
+        raise _error(result.status)
+    value = _new(kind)
+    value._key = result.moment
+    return value
+
+
+def _made_or_none(kind: Type[_D], result: _Result) -> Optional[_D]:
+    return None if result.status == _PAST_RANGE else _made(kind, result)
+
+
+class _DateTime(_Value):
+    """What date-times have in common: the parts of their date and their time of day, and moves, at the offset that they have."""
+
+    __slots__ = ()
+
+    # The struct that crosses: it is not changed.
+    _key: _CMoment
+
+    def date(self) -> Date:
+        """The date: that of 2024-02-29 23:59:59.25 is 2024-02-29."""
+        return Date._of(self._key.date)
+
+    def time(self) -> Time:
+        """The time of day: that of 2024-02-29 23:59:59.25 is 23:59:59.25."""
+        return Time._of(self._key.time)
+
+    def year(self) -> int:
+        """The year, as that of `date()`."""
+        return self.date().year()
+
+    def month(self) -> Month:
+        """The month, as that of `date()`."""
+        return self.date().month()
+
+    def day(self) -> int:
+        """The day of the month, as that of `date()`."""
+        return self.date().day()
+
+    def ordinal(self) -> int:
+        """The place of the day in its year, as that of `date()`."""
+        return self.date().ordinal()
+
+    def iso_week(self) -> int:
+        """The week of the ISO week date, as that of `date()`."""
+        return self.date().iso_week()
+
+    def sunday_based_week(self) -> int:
+        """The Sundays of the year up to the day, as those of `date()`."""
+        return self.date().sunday_based_week()
+
+    def monday_based_week(self) -> int:
+        """The Mondays of the year up to the day, as those of `date()`."""
+        return self.date().monday_based_week()
+
+    def weekday(self) -> Weekday:
+        """The weekday, as that of `date()`."""
+        return self.date().weekday()
+
+    def to_calendar_date(self) -> Tuple[int, Month, int]:
+        """The year, the `Month` and the day of the month."""
+        return self.date().to_calendar_date()
+
+    def to_ordinal_date(self) -> Tuple[int, int]:
+        """The year and the ordinal."""
+        return self.date().to_ordinal_date()
+
+    def to_iso_week_date(self) -> Tuple[int, int, Weekday]:
+        """The ISO year, the week and the `Weekday`."""
+        return self.date().to_iso_week_date()
+
+    def to_julian_day(self) -> int:
+        """The Julian day of the date."""
+        return self.date().to_julian_day()
+
+    def as_hms(self) -> Tuple[int, int, int]:
+        """The hour, minute and second."""
+        return self.time().as_hms()
+
+    def as_hms_milli(self) -> Tuple[int, int, int, int]:
+        """The hour, minute, second and millisecond."""
+        return self.time().as_hms_milli()
+
+    def as_hms_micro(self) -> Tuple[int, int, int, int]:
+        """The hour, minute, second and microsecond."""
+        return self.time().as_hms_micro()
+
+    def as_hms_nano(self) -> Tuple[int, int, int, int]:
+        """The hour, minute, second and nanosecond."""
+        return self.time().as_hms_nano()
+
+    def hour(self) -> int:
+        """The hour, as that of `time()`."""
+        return self.time().hour()
+
+    def minute(self) -> int:
+        """The minute of the hour, as that of `time()`."""
+        return self.time().minute()
+
+    def second(self) -> int:
+        """The second of the minute, as that of `time()`."""
+        return self.time().second()
+
+    def millisecond(self) -> int:
+        """The whole milliseconds of the second, as those of `time()`."""
+        return self.time().millisecond()
+
+    def microsecond(self) -> int:
+        """The whole microseconds of the second, as those of `time()`."""
+        return self.time().microsecond()
+
+    def nanosecond(self) -> int:
+        """The nanoseconds of the second, as those of `time()`."""
+        return self.time().nanosecond()
+
+    def replace_date(self: _D, date: Date) -> _D:
+        """The same time of day on that date."""
+        return _made(type(self), _C.moment_new(_is(date, Date)._key, self._key.time, self._key.offset))
+
+    def replace_time(self: _D, time: Time) -> _D:
+        """The same date at that time of day."""
+        return _made(type(self), _C.moment_new(self._key.date, _is(time, Time)._key, self._key.offset))
+
+    def replace_year(self: _D, year: SupportsIndex) -> _D:
+        """The same but for the year; `ComponentRange` as by `Date.replace_year`."""
+        return self.replace_date(self.date().replace_year(year))
+
+    def replace_month(self: _D, month: SupportsIndex) -> _D:
+        """The same but for the month; `ComponentRange` as by `Date.replace_month`."""
+        return self.replace_date(self.date().replace_month(month))
+
+    def replace_day(self: _D, day: SupportsIndex) -> _D:
+        """The same but for the day of the month; `ComponentRange` as `day`."""
+        return self.replace_date(self.date().replace_day(day))
+
+    def replace_ordinal(self: _D, ordinal: SupportsIndex) -> _D:
+        """The same but for the ordinal; `ComponentRange` as `ordinal`."""
+        return self.replace_date(self.date().replace_ordinal(ordinal))
+
+    def replace_hour(self: _D, hour: SupportsIndex) -> _D:
+        """The same but for the hour; `ComponentRange` as `hour`."""
+        return self.replace_time(self.time().replace_hour(hour))
+
+    def replace_minute(self: _D, minute: SupportsIndex) -> _D:
+        """The same but for the minute; `ComponentRange` as `minute`."""
+        return self.replace_time(self.time().replace_minute(minute))
+
+    def replace_second(self: _D, second: SupportsIndex) -> _D:
+        """The same but for the second; `ComponentRange` as `second`."""
+        return self.replace_time(self.time().replace_second(second))
+
+    def replace_millisecond(self: _D, millisecond: SupportsIndex) -> _D:
+        """The same, with all that lies below the second replaced by that many milliseconds; `ComponentRange` as `millisecond`."""
+        return self.replace_time(self.time().replace_millisecond(millisecond))
+
+    def replace_microsecond(self: _D, microsecond: SupportsIndex) -> _D:
+        """The same, with all that lies below the second replaced by that many microseconds; `ComponentRange` as `microsecond`."""
+        return self.replace_time(self.time().replace_microsecond(microsecond))
+
+    def replace_nanosecond(self: _D, nanosecond: SupportsIndex) -> _D:
+        """The same, with all that lies below the second replaced by that many nanoseconds; `ComponentRange` as `nanosecond`."""
+        return self.replace_time(self.time().replace_nanosecond(nanosecond))
+
+    def truncate_to_hour(self: _D) -> _D:
+        """The same with all that lies below the hour zero."""
+        return self.replace_time(self.time().truncate_to_hour())
+
+    def truncate_to_minute(self: _D) -> _D:
+        """The same with all that lies below the minute zero."""
+        return self.replace_time(self.time().truncate_to_minute())
+
+    def truncate_to_second(self: _D) -> _D:
+        """The same with all that lies below the second zero."""
+        return self.replace_time(self.time().truncate_to_second())
+
+    def truncate_to_millisecond(self: _D) -> _D:
+        """The same with all that lies below the millisecond zero."""
+        return self.replace_time(self.time().truncate_to_millisecond())
+
+    def truncate_to_microsecond(self: _D) -> _D:
+        """The same with all that lies below the microsecond zero."""
+        return self.replace_time(self.time().truncate_to_microsecond())
+
+    def checked_add(self: _D, duration: SignedDuration) -> Optional[_D]:
+        """The date-time that much later, to the nanosecond and at the same offset, or `None` past the range."""
+        return _made_or_none(type(self), _C.moment_checked_add(self._key, _is(duration, SignedDuration)._key))
+
+    def checked_sub(self: _D, duration: SignedDuration) -> Optional[_D]:
+        """The date-time that much earlier, to the nanosecond and at the same offset, or `None` past the range."""
+        return _made_or_none(type(self), _C.moment_checked_sub(self._key, _is(duration, SignedDuration)._key))
+
+    def saturating_add(self: _D, duration: SignedDuration) -> _D:
+        """The date-time that much later, or the nearest end of the range, at the same offset."""
+        return _made(type(self), _C.moment_saturating_add(self._key, _is(duration, SignedDuration)._key))
+
+    def saturating_sub(self: _D, duration: SignedDuration) -> _D:
+        """The date-time that much earlier, or the nearest end of the range, at the same offset."""
+        return _made(type(self), _C.moment_saturating_sub(self._key, _is(duration, SignedDuration)._key))
+
+    def _to_datetime(self, timezone: Optional[datetime.timezone]) -> datetime.datetime:
+        """The `datetime.datetime` of the date and the time of day."""
+        return datetime.datetime.combine(self.date().to_date(), self.time().to_time(), timezone)
+
+    def __add__(self: _D, duration: SignedDuration) -> _D:
+        if not isinstance(duration, SignedDuration):
+            return NotImplemented
+        return _made(type(self), _C.moment_checked_add(self._key, duration._key))
+
+    @overload
+    def __sub__(self: _D, other: _D) -> SignedDuration: ...
+
+    @overload
+    def __sub__(self: _D, other: SignedDuration) -> _D: ...
+
+    def __sub__(self: _D, other: Union[_D, SignedDuration]) -> Union[_D, SignedDuration]:
+        if isinstance(other, SignedDuration):
+            return _made(type(self), _C.moment_checked_sub(self._key, other._key))
+        if not isinstance(other, type(self)):
+            return NotImplemented
+        return _duration(_C.moment_duration_since(self._key, other._key))
+
+    def __str__(self) -> str:
+        return f"{self.date()} {self.time()}"
+
+
+class PlainDateTime(_DateTime):
+    """A date and a time of day, exact to the nanosecond, from `MIN`, -999999-01-01 0:00:00.0, to `MAX`, 999999-12-31 23:59:59.999999999.
+
+    `+` and `-` with a duration are exact. The difference of two is a duration.
+
+    >>> PlainDateTime.new(Date.read("2020-12-31"), Time.from_hms(23, 0, 0)) + SignedDuration.hours(2)
+    2021-01-01 1:00:00.0
+    """
+
+    __slots__ = ()
+
+    MIN: ClassVar[PlainDateTime]
+    MAX: ClassVar[PlainDateTime]
+
+    def _order(self) -> Tuple[int, int]:
+        """The Julian day, and the nanoseconds of that day."""
+        return self._key.date, self._key.time
+
+    @classmethod
+    def new(cls, date: Date, time: Time) -> PlainDateTime:
+        """The date-time of that date and that time of day."""
+        return _made(cls, _C.moment_new(_is(date, Date)._key, _is(time, Time)._key, 0))
+
+    @classmethod
+    def from_datetime(cls, value: datetime.datetime) -> PlainDateTime:
+        """The date-time of a `datetime.datetime` without a time zone; one that has one raises `ValueError`."""
+        if _is(value, datetime.datetime).tzinfo is not None:
+            raise ValueError("a datetime.datetime without tzinfo expected")
+        return cls.new(Date.from_date(value.date()), Time.from_time(value.time()))
+
+    def to_datetime(self) -> datetime.datetime:
+        """The `datetime.datetime` without a time zone.
+
+        `OverflowError` where that has not the year, and `ValueError` where the time has nanoseconds past the microseconds.
+        """
+        return self._to_datetime(None)
+
+    def assume_utc(self) -> OffsetDateTime:
+        """The same clock at UTC."""
+        return self.assume_offset(UtcOffset.UTC)
+
+    def assume_offset(self, offset: UtcOffset) -> OffsetDateTime:
+        """The same clock at that offset.
+
+        >>> PlainDateTime.new(Date.read("2024-02-29"), Time.MIDNIGHT).assume_offset(UtcOffset.from_hms(1, 0, 0))
+        2024-02-29 0:00:00.0 +01:00:00
+        """
+        return _made(OffsetDateTime, _C.moment_replace_offset(self._key, _is(offset, UtcOffset)._key))
+
+    def __reduce__(self) -> Tuple[Any, ...]:
+        return PlainDateTime.new, (self.date(), self.time())
+
+
+PlainDateTime.MIN = PlainDateTime.new(Date.MIN, Time.MIDNIGHT)
+PlainDateTime.MAX = PlainDateTime.new(Date.MAX, Time.MAX)
+
+
+class OffsetDateTime(_DateTime):
+    """What a clock shows at an offset from UTC: a date, a time of day and that offset.
+
+    Order, equality and hash go by the instant, so two that show different clocks can be equal. `+` and `-` with a duration keep the
+    offset. The difference of two is that of their instants.
+
+    >>> night = OffsetDateTime.new_in_offset(*read_rfc3339("2024-02-29T23:59:59.25+01:00"))
+    >>> night.to_utc(), night == night.to_utc(), night.unix_timestamp()
+    (2024-02-29 22:59:59.25 +00:00:00, True, 1709247599)
+    """
+
+    __slots__ = ()
+
+    UNIX_EPOCH: ClassVar[OffsetDateTime]
+
+    def _order(self) -> Tuple[int, int]:
+        """The Unix time: its whole seconds, and the nanoseconds past them."""
+        return self.unix_duration()._order()
+
+    @classmethod
+    def new_in_offset(cls, date: Date, time: Time, offset: UtcOffset) -> OffsetDateTime:
+        """The date-time that a clock at that offset shows as that date and that time."""
+        return _made(cls, _C.moment_new(*_moment(date, time, offset)))
+
+    @classmethod
+    def new_utc(cls, date: Date, time: Time) -> OffsetDateTime:
+        """The date-time of that date and that time at UTC."""
+        return cls.new_in_offset(date, time, UtcOffset.UTC)
+
+    @classmethod
+    def from_unix_timestamp(cls, timestamp: SupportsIndex) -> OffsetDateTime:
+        """The date-time at UTC that many seconds after 1970-01-01 0:00, or before; `ComponentRange` as `timestamp`.
+
+        >>> OffsetDateTime.from_unix_timestamp(1709247599)
+        2024-02-29 22:59:59.0 +00:00:00
+        """
+        return _made(cls, _C.moment_from_unix_timestamp(_long(timestamp)))
+
+    @classmethod
+    def from_unix_timestamp_nanos(cls, timestamp: SupportsIndex) -> OffsetDateTime:
+        """The date-time at UTC that many nanoseconds after 1970-01-01 0:00, or before; `ComponentRange` as `timestamp`."""
+        seconds, rest = _cut(operator.index(timestamp), 10**9)
+        # No moment is so far away, and each duration is one of the library's.
+        return _made(cls, _C.moment_from_unix_time(_CDuration(max(-2**62, min(seconds, 2**62)), rest)))
+
+    @classmethod
+    def from_unix_duration(cls, duration: SignedDuration) -> OffsetDateTime:
+        """The date-time at UTC so long after 1970-01-01 0:00, or before; `ComponentRange` as `timestamp`."""
+        return _made(cls, _C.moment_from_unix_time(_is(duration, SignedDuration)._key))
+
+    @classmethod
+    def from_datetime(cls, value: datetime.datetime) -> OffsetDateTime:
+        """The date-time of a `datetime.datetime` that knows its offset from UTC.
+
+        One that knows none raises `ValueError`, and so does an offset with parts of a second.
+        """
+        delta = _is(value, datetime.datetime).utcoffset()
+        if delta is None:
+            raise ValueError("a datetime.datetime with an offset from UTC expected")
+        offset = UtcOffset.from_timezone(datetime.timezone(delta))
+        return PlainDateTime.from_datetime(value.replace(tzinfo=None)).assume_offset(offset)
+
+    def to_datetime(self) -> datetime.datetime:
+        """The `datetime.datetime` in the `datetime.timezone` of the offset.
+
+        `OverflowError` where that has not the year; `ValueError` where the offset is a day or more, or the time has nanoseconds past the
+        microseconds.
+
+        >>> OffsetDateTime.UNIX_EPOCH.to_datetime()
+        datetime.datetime(1970, 1, 1, 0, 0, tzinfo=datetime.timezone.utc)
+        """
+        return self._to_datetime(self.offset().to_timezone())
+
+    def local(self) -> PlainDateTime:
+        """What the local clock shows."""
+        return PlainDateTime.new(self.date(), self.time())
+
+    def offset(self) -> UtcOffset:
+        """How far the local clock is ahead of UTC."""
+        return UtcOffset._of(self._key.offset)
+
+    def checked_to_offset(self, offset: UtcOffset) -> Optional[OffsetDateTime]:
+        """The same instant, as a clock at that offset shows it, or `None` past the range."""
+        return _made_or_none(OffsetDateTime, _C.moment_to_offset(self._key, _is(offset, UtcOffset)._key))
+
+    def to_offset(self, offset: UtcOffset) -> OffsetDateTime:
+        """The same instant, as a clock at that offset shows it; `OverflowError` past the range."""
+        return _made(OffsetDateTime, _C.moment_to_offset(self._key, _is(offset, UtcOffset)._key))
+
+    def checked_to_utc(self) -> Optional[OffsetDateTime]:
+        """The same instant at UTC, or `None` past the range."""
+        return self.checked_to_offset(UtcOffset.UTC)
+
+    def to_utc(self) -> OffsetDateTime:
+        """The same instant at UTC; `OverflowError` past the range."""
+        return self.to_offset(UtcOffset.UTC)
+
+    def replace_offset(self, offset: UtcOffset) -> OffsetDateTime:
+        """The same clock at another offset, so another instant."""
+        return _made(OffsetDateTime, _C.moment_replace_offset(self._key, _is(offset, UtcOffset)._key))
+
+    def replace_date_time(self, date_time: PlainDateTime) -> OffsetDateTime:
+        """That date and time at the same offset."""
+        return _is(date_time, PlainDateTime).assume_offset(self.offset())
+
+    def unix_timestamp(self) -> int:
+        """The seconds from 1970-01-01 0:00 UTC that have passed, rounded toward the past: half a second before it is -1."""
+        return _number(_C.moment_unix_timestamp(self._key))
+
+    def unix_timestamp_nanos(self) -> int:
+        """The nanoseconds from 1970-01-01 0:00 UTC on, below zero before it."""
+        return self.unix_duration().whole_nanoseconds()
+
+    def unix_duration(self) -> SignedDuration:
+        """The Unix time, as a duration from 1970-01-01 0:00 UTC on."""
+        return _duration(_C.moment_unix_time(self._key))
+
+    def __reduce__(self) -> Tuple[Any, ...]:
+        return OffsetDateTime.new_in_offset, (self.date(), self.time(), self.offset())
+
+    def __str__(self) -> str:
+        return f"{super().__str__()} {self.offset()}"
+
+
+OffsetDateTime.UNIX_EPOCH = OffsetDateTime.from_unix_timestamp(0)
 
 
 # ---- columns

@@ -3,6 +3,7 @@
 import datetime
 from typing import Optional, Tuple
 
+from fotsevindre import OffsetDateTime, PlainDateTime
 from fotsevindre import Date, Days, Month, SignedDuration, Time, UtcOffset, Weekday, add_to_pair, rfc3339_text
 
 day: Date = Date.from_calendar_date(2024, Month.February, 29)
@@ -20,6 +21,11 @@ is_less: bool = day < last and day.weekday() == Weekday.Friday and UtcOffset.UTC
 pair: Optional[Tuple[Date, Time]] = add_to_pair(day, Time.MIDNIGHT, no_time * 2 / 3)
 text: Optional[str] = rfc3339_text(day, Time.MAX, UtcOffset.UTC)
 date: datetime.date = day.replace(year=2025, day=1).to_date()
+local: PlainDateTime = PlainDateTime.new(day, Time.MIDNIGHT).replace_hour(23) + no_time
+moment: OffsetDateTime = local.assume_utc().replace_date(last) - no_time
+shown: Optional[OffsetDateTime] = moment.checked_to_utc()
+since: SignedDuration = moment - OffsetDateTime.UNIX_EPOCH
+is_later: bool = local > PlainDateTime.MIN and moment >= OffsetDateTime.from_datetime(moment.to_datetime())
 
 Date.from_calendar_date("2024", 2, 29)  # refused
 Date.from_calendar_date(2024.0, 2, 29)  # refused
@@ -33,3 +39,8 @@ day.next_occurrence(1)  # refused
 SignedDuration.days(1.5)  # refused
 Time.MIDNIGHT + datetime.timedelta(hours=1)  # refused
 same.to_calendar_date()[0].upper()  # refused
+local < moment  # refused
+moment - local  # refused
+moment + 1  # refused
+moment.to_offset(3600)  # refused
+shown.unix_timestamp()  # refused
