@@ -35,6 +35,9 @@ impl Date {
     /// The last day, 999999-12-31, whose Julian day is 366963559.
     pub const MAX: Self = Self { julian_day: 366_963_559 };
 
+    /// 1970-01-01.
+    pub(crate) const UNIX_EPOCH: Self = Self { julian_day: 2_440_588 };
+
     /// The date that the library answered.
     pub(crate) fn of_c(julian_day: i32) -> Self {
         Self { julian_day }

@@ -28,6 +28,15 @@ pub(crate) struct CDuration {
     pub(crate) nanoseconds: i32,
 }
 
+/// A date and a time of day at an offset, as they cross.
+#[repr(C)]
+#[derive(Clone, Copy)]
+pub(crate) struct CMoment {
+    pub(crate) date: i32,
+    pub(crate) offset: i32,
+    pub(crate) time: u64,
+}
+
 /// What a call returned: its answer, or a status that is not [`DONE`].
 pub(crate) type Answer<T> = Result<T, i32>;
 
@@ -106,6 +115,7 @@ results! {
     OffsetPartsResult { hours: i32, minutes: i32, seconds: i32 } => (i32, i32, i32);
     DurationResult { duration: CDuration } => CDuration;
     PairResult { date: i32, time: u64 } => (i32, u64);
+    MomentResult { moment: CMoment } => CMoment;
     TextResult { length: u32, bytes: [u8; 40] } => (u32, [u8; 40]);
     ReadDateResult { date: i32, place: usize } => (i32, usize);
     ReadMomentResult { date: i32, time: u64, offset: i32, place: usize } => (i32, u64, i32, usize);
@@ -239,6 +249,17 @@ calls! {
     fots_date_julian_text(date: i32) -> TextResult;
     fots_moment_text(date: i32, time: u64, offset: i32) -> TextResult;
     fots_unix_text(date: i32, time: u64, offset: i32) -> TextResult;
+    fots_moment_to_offset(moment: CMoment, offset: i32) -> MomentResult;
+    fots_moment_checked_add(moment: CMoment, duration: CDuration) -> MomentResult;
+    fots_moment_checked_sub(moment: CMoment, duration: CDuration) -> MomentResult;
+    fots_moment_saturating_add(moment: CMoment, duration: CDuration) -> MomentResult;
+    fots_moment_saturating_sub(moment: CMoment, duration: CDuration) -> MomentResult;
+    fots_moment_duration_since(moment: CMoment, other: CMoment) -> DurationResult;
+    fots_moment_compare(moment: CMoment, other: CMoment) -> NumberResult;
+    fots_moment_from_unix_timestamp(seconds: i64) -> MomentResult;
+    fots_moment_from_unix_time(duration: CDuration) -> MomentResult;
+    fots_moment_unix_timestamp(moment: CMoment) -> LongResult;
+    fots_moment_unix_time(moment: CMoment) -> DurationResult;
 }
 
 mod declared_alone {

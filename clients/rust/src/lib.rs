@@ -21,13 +21,16 @@
 
 pub mod columns;
 mod date;
+mod date_time;
 mod duration;
 pub mod error;
 #[allow(unsafe_code)]
 mod ffi;
 pub mod iter;
 mod month;
+mod offset_date_time;
 mod pair;
+mod plain_date_time;
 mod reader;
 mod short_text;
 pub mod text;
@@ -39,7 +42,9 @@ mod weekday;
 pub use date::Date;
 pub use duration::{Duration, SignedDuration};
 pub use month::Month;
+pub use offset_date_time::OffsetDateTime;
 pub use pair::{add_to_pair, sub_from_pair};
+pub use plain_date_time::PlainDateTime;
 pub use time::Time;
 pub use utc_offset::UtcOffset;
 pub use weekday::Weekday;

@@ -1,6 +1,7 @@
 //! Texts of this crate's own, read byte by byte.
 
 use crate::error::Unreadable;
+use core::str::FromStr;
 
 /// What is left of a text.
 pub(crate) struct Reader<'a> {
@@ -55,5 +56,24 @@ impl<'a> Reader<'a> {
         } else {
             Err(self.unexpected())
         }
+    }
+}
+
+/// What the parts of a text before and after that space read as. A byte that no form has there comes first, and else the first component
+/// out of range. A text without the space ends too early.
+pub(crate) fn both<A, B>(text: &str, space: Option<usize>) -> Result<(A, B), Unreadable>
+where
+    A: FromStr<Err = Unreadable>,
+    B: FromStr<Err = Unreadable>,
+{
+    let end = space.unwrap_or(text.len());
+    let first = text[..end].parse();
+    if let Err(error @ Unreadable::UnexpectedByte(_)) = first {
+        return Err(error);
+    }
+    let rest = text.get(end + 1..).ok_or(Unreadable::UnexpectedByte(end))?;
+    match rest.parse() {
+        Err(Unreadable::UnexpectedByte(place)) => Err(Unreadable::UnexpectedByte(end + 1 + place)),
+        second => Ok((first?, second?)),
     }
 }

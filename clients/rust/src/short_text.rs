@@ -2,11 +2,19 @@
 
 use core::fmt;
 
-/// A text of at most 18 bytes, as many as the longest time has.
-#[derive(Default)]
+/// The most bytes of a text: 13 of a date, 18 of a time and 9 of an offset, and two spaces.
+const CAPACITY: usize = 42;
+
+/// A text of at most so many bytes.
 pub(crate) struct ShortText {
-    bytes: [u8; 18],
+    bytes: [u8; CAPACITY],
     length: usize,
+}
+
+impl Default for ShortText {
+    fn default() -> Self {
+        Self { bytes: [0; CAPACITY], length: 0 }
+    }
 }
 
 impl ShortText {

@@ -32,6 +32,7 @@ fn rust_type(name: &str) -> String {
         "size_t" => "usize".into(),
         "char" => "u8".into(),
         "fots_duration" => "CDuration".into(),
+        "fots_moment" => "CMoment".into(),
         _ => {
             let words = name.strip_prefix("fots_").unwrap().split('_');
             words.map(|word| word[..1].to_uppercase() + &word[1..]).collect()
@@ -120,14 +121,14 @@ fn structs_are_those_of_the_header() {
         let declared = match fields.strip_prefix("status: i32, ") {
             Some(fields) => format!("    {} {{ {fields} }} => ", rust_type(name)),
             None => {
-                assert_eq!((name, fields.as_str()), ("fots_duration", "seconds: i64, nanoseconds: i32"));
-                "    pub(crate) seconds: i64,\n    pub(crate) nanoseconds: i32,\n}".into()
+                let fields = fields.split(", ").map(|field| format!("    pub(crate) {field},\n"));
+                format!("pub(crate) struct {} {{\n{}}}", rust_type(name), fields.collect::<String>())
             }
         };
         assert!(DECLARED.contains(&declared), "{declared}");
         count += 1;
     }
-    assert_eq!(count, 18);
+    assert_eq!(count, 20);
 }
 
 #[test]
