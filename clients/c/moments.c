@@ -1,6 +1,4 @@
 /* Moments: worked rows, wrong values in each parameter, and drawn values against numbers of 128 bits. */
-#include <string.h>
-
 #include "fotsevindre.h"
 #include "testing.h"
 
@@ -229,13 +227,14 @@ static fots_moment drawn_moment(void)
 {
     const uint64_t days = (uint64_t)((int64_t)FOTS_MAX_JULIAN_DAY - FOTS_MIN_JULIAN_DAY + 1);
     int64_t day = below(days);
+    const int32_t offset = (int32_t)(below(2 * FOTS_MAX_OFFSET_SECONDS + 1) - FOTS_MAX_OFFSET_SECONDS);
+    const fots_time time = (fots_time)below(FOTS_MAX_TIME + 1);
     switch (below(8)) {
     case 0: day = below(2); break;
     case 1: day = (int64_t)days - 1 - below(2); break;
     default: break;
     }
-    return moment_at((int32_t)(FOTS_MIN_JULIAN_DAY + day), (int32_t)(below(2 * FOTS_MAX_OFFSET_SECONDS + 1) - FOTS_MAX_OFFSET_SECONDS),
-        (fots_time)below(FOTS_MAX_TIME + 1));
+    return moment_at((int32_t)(FOTS_MIN_JULIAN_DAY + day), offset, time);
 }
 
 /* A duration of any size, of days or of seconds. */

@@ -121,10 +121,11 @@ class Rows(Cases):
         for timestamp, past in seconds:
             OffsetDateTime.from_unix_timestamp(timestamp)
             self.refused("timestamp", False, OffsetDateTime.from_unix_timestamp, timestamp + past)
-        for number in (2**63 - 1, 2**63, -2**63, -2**63 - 1, 10**40, -10**40, LAST - EPOCH + 1, -EPOCH - 1):
+        for number in (2**63 - 1, 2**63, -2**63, -2**63 - 1, 10**40, -10**40):
+            self.refused("timestamp", False, OffsetDateTime.from_unix_timestamp, number)
+            self.refused("timestamp", False, OffsetDateTime.from_unix_timestamp_nanos, number * SECOND)
+        for number in (LAST - EPOCH + 1, -EPOCH - 1):
             self.refused("timestamp", False, OffsetDateTime.from_unix_timestamp_nanos, number)
-            if abs(number) >= 2**62:
-                self.refused("timestamp", False, OffsetDateTime.from_unix_timestamp, number)
         self.assertEqual(OffsetDateTime.from_unix_timestamp_nanos(LAST - EPOCH), last)
         self.assertEqual(OffsetDateTime.from_unix_timestamp_nanos(-EPOCH), first)
         self.refused("timestamp", False, OffsetDateTime.from_unix_duration, GREATEST)
@@ -280,8 +281,9 @@ class Values(Cases):
 
     def test_kinds_are_apart(self):
         others = [Date.MIN, Time.MIDNIGHT, UtcOffset.UTC, SignedDuration.ZERO, 0, None]
-        for value in self.values():
-            for other in [another for another in self.values() if another is not value] + others:
+        values = self.values()
+        for value, another in zip(values, reversed(values)):
+            for other in [another, *others]:
                 self.assertNotEqual(value, other)
                 with self.assertRaises(TypeError):
                     value < other

@@ -190,7 +190,7 @@ fn texts() {
         assert_eq!(text.parse::<PlainDateTime>(), Err(Unreadable::UnexpectedByte(place)), "{text}");
     }
     let unexpected =
-        [("2024-02-29", 10), ("2024-02-29 0:00:00.0 +1", 22), ("2024-02-29  0:00:00 +01:00", 11), ("2024-02-29 0:00:00.0 ", 21)];
+        [("2024-02-29", 10), ("2024-02-29 0:00:00.0 +1", 23), ("2024-02-29  0:00:00 +01:00", 11), ("2024-02-29 0:00:00.0 ", 21)];
     for (text, place) in unexpected {
         assert_eq!(text.parse::<OffsetDateTime>(), Err(Unreadable::UnexpectedByte(place)), "{text}");
     }
