@@ -1,5 +1,5 @@
 -- The instants of date-times at an offset, and the Unix times of instants.
-use Rattle.std.proofs.Common.{◌≡◌, ℕ, ◌/◌, ◌<◌, sym, arith, ℤ, pos, negsuc, neg_ℤ, unsigned_abs, ◌+ℤ◌, ◌-ℤ◌, ◌*ℤ◌, ◌≤ℤ◌, ◌<ℤ◌}
+use Rattle.std.proofs.Common.{◌≡◌, ℕ, ◌/◌, ◌<◌, refl, sym, arith, ℤ, pos, negsuc, neg_ℤ, unsigned_abs, ◌+ℤ◌, ◌-ℤ◌, ◌*ℤ◌, ◌≤ℤ◌, ◌<ℤ◌}
 use Rattle.std.proofs.lemmas.Int.{ints}
 use Rattle.std.specs.Int.{int_div_euclid, int_rem_euclid}
 use Rattle.cal_time.specs.SignedDuration.{second, day, IsDuration}
@@ -59,6 +59,10 @@ pub unix_seconds-is : (m : Shown) (q : ℤ) (n t : ℕ) → m.local ≡ date_tim
 unfolding instant
 unix_seconds-is m q n t e f = sym (div_euclid-one _ q (omega (arith, ints, e, f)) (omega (arith, ints, e, f)))
 
+-- a Unix time of whole seconds is their number
+pub unix_seconds-whole : (z seconds : ℤ) → z ≡ unix_epoch +ℤ seconds *ℤ pos second → unix_seconds z ≡ seconds
+unix_seconds-whole z seconds e = div_euclid-one _ seconds (omega (arith, ints, e)) (omega (arith, ints, e))
+
 -- a number is its quotient and its remainder by a second
 pub seconds-and_past : (z : ℤ) → z ≡ int_div_euclid z (pos second) *ℤ pos second +ℤ int_rem_euclid z (pos second)
 seconds-and_past (pos n) = omega (arith, ints)
@@ -80,7 +84,20 @@ pub instants-apart : (m k : Shown) → (m.local -ℤ k.local) +ℤ (k.offset *�
 unfolding instant
 instants-apart m k = omega (arith, ints)
 
+-- at one offset, a date-time so much later or earlier
+pub later_at : (m to : Shown) (v : ℤ) → to.offset ≡ m.offset → v ≡ instant to -ℤ instant m → m.local +ℤ v ≡ to.local
+unfolding instant
+later_at m to v e f = omega (arith, ints, e, f)
+
+pub earlier_at : (m to : Shown) (v : ℤ) → to.offset ≡ m.offset → v ≡ instant m -ℤ instant to → m.local -ℤ v ≡ to.local
+unfolding instant
+earlier_at m to v e f = omega (arith, ints, e, f)
+
+-- at an offset, the one date-time of an instant
+pub shown_at : (m there : Shown) (offset : ℤ) → there.offset ≡ offset → instant there ≡ instant m → local_at (instant m) offset ≡ there.local
+unfolding instant
+shown_at m there offset e f = omega (arith, ints, e, f)
+
 -- the clock of a date-time shows its own instant again
 pub own_clock : (m k : Shown) → instant k ≡ instant m → local_at (instant k) m.offset ≡ m.local
-unfolding instant
-own_clock m k e = omega (arith, ints, e)
+own_clock m k e = shown_at k m m.offset refl (sym e)

@@ -14,6 +14,8 @@ use std::alloc::AllocError;
 use std::cmp::Ordering;
 use std::hash::{DefaultHasher, Hash, Hasher};
 
+pub mod replacement;
+
 /// The first date-time.
 pub fn first() -> PlainDateTime
     ensures { result ≡ pos 0 }

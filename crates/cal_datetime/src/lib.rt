@@ -5,7 +5,6 @@
 #![tactic(auto)]
 
 pub mod laws;
-mod line;
 mod making;
 mod offset_date_time;
 mod plain_date_time;

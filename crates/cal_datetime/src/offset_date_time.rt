@@ -1,11 +1,11 @@
 //! A date and a time of day at an offset from UTC.
-ghost use Rattle.std.specs.Prelude.{◌≡◌, ◌↔◌, pos, ◌+ℤ◌, ◌-ℤ◌, ◌*ℤ◌, IfSome, SomeIff};
+ghost use Rattle.std.specs.Prelude.{◌≡◌, ◌↔◌, pos, ◌+ℤ◌, ◌-ℤ◌, ◌*ℤ◌, Some, IfSome, SomeIff};
 ghost use Rattle.cal_time.specs.SignedDuration.{second};
 ghost use Rattle.cal_time.specs.Date.{IsDate};
 ghost use Rattle.cal_time.specs.Time.{IsTime};
 ghost use Rattle.cal_time.specs.UtcOffset.{IsOffset};
 ghost use Rattle.cal_datetime.specs.DateTime.{IsDateTime, date_time, date_at, time_at};
-ghost use Rattle.cal_datetime.specs.OffsetDateTime.{instant, local_at};
+ghost use Rattle.cal_datetime.specs.OffsetDateTime.{Shown, instant, local_at};
 
 use crate::PlainDateTime;
 use cal_time::{Date, SignedDuration, Time, UtcOffset};
@@ -144,6 +144,9 @@ impl OffsetDateTime {
         ensures value { let local = local_at (instant self) offset
             in SomeIff result (IsDateTime local) (record { local = local; offset = offset }) }
         ensures same_instant { IfSome result (λ there. instant there ≡ instant self) }
+        ensures every { (there : Shown) → IsDateTime there.local → there.offset ≡ offset → instant there ≡ instant self
+            → result ≡ Some there }
+        ensures in_range { IsDateTime self.local }
     {
         match self.local().checked_add(ahead(offset, self.offset())) {
             Some(local) => Some(local.assume_offset(offset)),

@@ -1,7 +1,8 @@
 //! Date-times at an offset moved on and back by durations, and the durations between them.
-ghost use Rattle.std.specs.Prelude.{◌≡◌, ◌+ℤ◌, ◌-ℤ◌, IfSome, SomeIff};
+ghost use Rattle.std.specs.Prelude.{◌≡◌, ◌+ℤ◌, ◌-ℤ◌, Some, IfSome, SomeIff};
+ghost use Rattle.cal_time.specs.SignedDuration.{IsDuration};
 ghost use Rattle.cal_datetime.specs.DateTime.{IsDateTime, nearest};
-ghost use Rattle.cal_datetime.specs.OffsetDateTime.{instant};
+ghost use Rattle.cal_datetime.specs.OffsetDateTime.{Shown, instant};
 
 use crate::OffsetDateTime;
 use crate::offset_date_time::ahead;
@@ -14,6 +15,8 @@ impl OffsetDateTime {
     pub fn checked_add(self, duration: SignedDuration) -> Option<Self>
         ensures value { let local = self.local +ℤ duration
             in SomeIff result (IsDateTime local) (record { local = local; offset = self.offset }) }
+        ensures every { (to : Shown) → IsDateTime to.local → to.offset ≡ self.offset → duration ≡ instant to -ℤ instant self
+            → result ≡ Some to }
         ensures instant { IfSome result (λ later. instant later ≡ instant self +ℤ duration) }
     {
         match self.local().checked_add(duration) {
@@ -27,6 +30,8 @@ impl OffsetDateTime {
     pub fn checked_sub(self, duration: SignedDuration) -> Option<Self>
         ensures value { let local = self.local -ℤ duration
             in SomeIff result (IsDateTime local) (record { local = local; offset = self.offset }) }
+        ensures every { (to : Shown) → IsDateTime to.local → to.offset ≡ self.offset → duration ≡ instant self -ℤ instant to
+            → result ≡ Some to }
         ensures instant { IfSome result (λ earlier. instant earlier ≡ instant self -ℤ duration) }
     {
         match self.local().checked_sub(duration) {
@@ -103,7 +108,7 @@ impl SubAssign<SignedDuration> for OffsetDateTime {
 impl Sub for OffsetDateTime {
     type Output = SignedDuration;
 
-    ghost sub_gives = { λ a b v. v ≡ instant a -ℤ instant b };
+    ghost sub_gives = { λ a b v. (v ≡ instant a -ℤ instant b) × IsDateTime a.local × IsDateTime b.local × IsDuration v };
 
     /// The duration from the other instant to this one, below zero where the other is later.
     #[tactic(auto, unfolding(crate::specs::OffsetDateTime::instant))]

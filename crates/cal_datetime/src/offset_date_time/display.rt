@@ -1,21 +1,27 @@
 //! The text of date-times at an offset.
-ghost use Rattle.std.specs.Prelude.{◌≡◌, Some, IfOk};
+ghost use Rattle.std.specs.Prelude.{◌≡◌, ◌≤◌, Some, length};
 ghost use Rattle.std.specs.Fmt.{WritesOnOk, WritesStyledOnOk, formatter_spec, padded};
+ghost use Rattle.std.specs.Str.{IsAscii};
 ghost use Rattle.cal_datetime.specs.OffsetDateTime.{text};
 
 use crate::OffsetDateTime;
-use crate::line::Line;
+use cal_time::ShortText;
 use std::fmt;
-use std::fmt::Write;
 
 impl OffsetDateTime {
-    /// The bytes of the text.
-    fn line(self) -> Result<Line, fmt::Error>
-        ensures { IfOk result (λ line. line ≡ text self) }
+    /// The text, as the date-time prints it: that of half a second past eight on 29 February 2024, an hour ahead of UTC, is
+    /// `2024-02-29 8:00:00.5 +01:00:00`.
+    ///
+    /// It has the text of the local date-time, a space and that of the offset: at most 42 bytes, all of them ASCII.
+    pub fn text(self) -> ShortText
+        ensures text { result ≡ text self }
+        ensures short { length result ≤ 42 }
+        ensures ascii { IsAscii result }
     {
-        let mut line = Line::new();
-        write!(line, "{} {} {}", self.date(), self.time(), self.offset())?;
-        Ok(line)
+        let mut text = self.local().text();
+        text.push(" ");
+        text.push(self.offset().text().as_str());
+        text
     }
 }
 
@@ -25,8 +31,7 @@ impl fmt::Display for OffsetDateTime {
     ghost styled_output = { λ m spec. Some (padded spec (text m)) };
 
     fn fmt<W: fmt::Write>(&self, f: &mut fmt::Formatter<W>) -> fmt::Result {
-        let line = self.line()?;
-        f.pad(line.as_str()?)
+        f.pad(self.text().as_str())
     }
 }
 

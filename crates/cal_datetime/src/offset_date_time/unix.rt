@@ -1,5 +1,5 @@
 //! Unix times: seconds and nanoseconds since 1970-01-01 0:00 UTC, of which each day has 86400 seconds.
-ghost use Rattle.std.specs.Prelude.{◌≡◌, ◌↔◌, ◌/◌, ◌^◌, ◌<◌, ◌<ℤ◌, ◌≤ℤ◌, unsigned_abs, pos, neg_ℤ, ◌+ℤ◌, ◌-ℤ◌, ◌*ℤ◌, Ok, IfOk, IfErr, IsSome, IfSome};
+ghost use Rattle.std.specs.Prelude.{◌≡◌, ◌↔◌, ◌/◌, ◌^◌, ◌<◌, ◌<ℤ◌, ◌≤ℤ◌, unsigned_abs, ℤ, pos, neg_ℤ, ◌+ℤ◌, ◌-ℤ◌, ◌*ℤ◌, Ok, IfOk, IfErr, IsSome, IfSome};
 ghost use Rattle.cal_time.specs.Date.{first_julian_day};
 ghost use Rattle.cal_time.specs.Move.{IsDateNumber};
 ghost use Rattle.cal_time.specs.Refusal.{IsRefused};
@@ -60,7 +60,8 @@ impl OffsetDateTime {
     /// The seconds from 1970-01-01 0:00 UTC that have passed, below zero before it: a part of a second counts as a whole one
     /// there.
     pub fn unix_timestamp(self) -> i64
-        ensures { result ≡ unix_seconds (instant self) }
+        ensures value { result ≡ unix_seconds (instant self) }
+        ensures whole { (seconds : ℤ) → instant self ≡ unix_epoch +ℤ seconds *ℤ pos second → result ≡ seconds }
     {
         let seconds = days_since_epoch(self.date()) * SECONDS_PER_DAY + whole_seconds(self.time());
         seconds - seconds_of(self.offset())

@@ -1,5 +1,6 @@
 //! Date-times moved on and back by durations, and the durations between them.
-ghost use Rattle.std.specs.Prelude.{◌≡◌, ◌+ℤ◌, ◌-ℤ◌, SomeIff};
+ghost use Rattle.std.specs.Prelude.{◌≡◌, ℤ, ◌+ℤ◌, ◌-ℤ◌, Some, SomeIff};
+ghost use Rattle.cal_time.specs.SignedDuration.{IsDuration};
 ghost use Rattle.cal_datetime.specs.DateTime.{IsDateTime, nearest};
 
 use crate::PlainDateTime;
@@ -13,6 +14,7 @@ impl PlainDateTime {
     /// It is exact, to the nanosecond: 2020-12-31 23:00 and two hours are 2021-01-01 1:00.
     pub fn checked_add(self, duration: SignedDuration) -> Option<Self>
         ensures value { SomeIff result (IsDateTime (self +ℤ duration)) (self +ℤ duration) }
+        ensures every { (to : ℤ) → IsDateTime to → duration ≡ to -ℤ self → result ≡ Some to }
         ensures in_range { IsDateTime self }
     {
         match add_to_pair(self.date, self.time, duration) {
@@ -26,6 +28,7 @@ impl PlainDateTime {
     /// It is exact, to the nanosecond: 2021-01-01 1:00 less two hours is 2020-12-31 23:00.
     pub fn checked_sub(self, duration: SignedDuration) -> Option<Self>
         ensures value { SomeIff result (IsDateTime (self -ℤ duration)) (self -ℤ duration) }
+        ensures every { (to : ℤ) → IsDateTime to → duration ≡ self -ℤ to → result ≡ Some to }
         ensures in_range { IsDateTime self }
     {
         match sub_from_pair(self.date, self.time, duration) {
@@ -106,7 +109,7 @@ impl SubAssign<SignedDuration> for PlainDateTime {
 impl Sub for PlainDateTime {
     type Output = SignedDuration;
 
-    ghost sub_gives = { λ a b v. (v ≡ a -ℤ b) × IsDateTime a × IsDateTime b };
+    ghost sub_gives = { λ a b v. (v ≡ a -ℤ b) × IsDateTime a × IsDateTime b × IsDuration v };
 
     /// The duration from the other to this one, below zero where the other is later.
     fn sub(self, other: Self) -> SignedDuration {

@@ -1,21 +1,26 @@
 //! The text of date-times.
-ghost use Rattle.std.specs.Prelude.{◌≡◌, Some, IfOk};
+ghost use Rattle.std.specs.Prelude.{◌≡◌, ◌≤◌, Some, length};
 ghost use Rattle.std.specs.Fmt.{WritesOnOk, WritesStyledOnOk, formatter_spec, padded};
+ghost use Rattle.std.specs.Str.{IsAscii};
 ghost use Rattle.cal_datetime.specs.DateTime.{text};
 
 use crate::PlainDateTime;
-use crate::line::Line;
+use cal_time::ShortText;
 use std::fmt;
-use std::fmt::Write;
 
 impl PlainDateTime {
-    /// The bytes of the text.
-    fn line(self) -> Result<Line, fmt::Error>
-        ensures { IfOk result (λ line. line ≡ text self) }
+    /// The text, as the date-time prints it: that of half a second past eight on 29 February 2024 is `2024-02-29 8:00:00.5`.
+    ///
+    /// It has the text of the date, a space and that of the time: at most 32 bytes, all of them ASCII.
+    pub fn text(self) -> ShortText
+        ensures text { result ≡ text self }
+        ensures short { length result ≤ 32 }
+        ensures ascii { IsAscii result }
     {
-        let mut line = Line::new();
-        write!(line, "{} {}", self.date(), self.time())?;
-        Ok(line)
+        let mut text = self.date().text();
+        text.push(" ");
+        text.push(self.time().text().as_str());
+        text
     }
 }
 
@@ -25,8 +30,7 @@ impl fmt::Display for PlainDateTime {
     ghost styled_output = { λ m spec. Some (padded spec (text m)) };
 
     fn fmt<W: fmt::Write>(&self, f: &mut fmt::Formatter<W>) -> fmt::Result {
-        let line = self.line()?;
-        f.pad(line.as_str()?)
+        f.pad(self.text().as_str())
     }
 }
 

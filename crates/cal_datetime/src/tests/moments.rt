@@ -1,5 +1,9 @@
 //! Date-times at an offset.
 use crate::OffsetDateTime;
+use crate::laws::replacement::{
+    own_clock, own_date, own_day, own_hour, own_microsecond, own_millisecond, own_minute,
+    own_month, own_nanosecond, own_ordinal, own_second, own_time, own_year,
+};
 use crate::laws::{
     first, hash_of_instant, is_earlier, is_same_instant, last, order_of_instants, there_and_back,
 };
@@ -139,22 +143,46 @@ fn unix_times(rt: HostRuntime) {
 #[test]
 fn texts_of_moments(rt: HostRuntime) -> Result<(), Fail> {
     let night = leap_night(&rt);
-    let text = "2024-02-29 23:59:59.25 +01:00:00";
-    same(&rt, format!(in rt.alloc(); "{night}")?.as_str(), text);
-    same(&rt, format!(in rt.alloc(); "{night:?}")?.as_str(), text);
+    let longest = last().assume_offset(hours(&rt, -25));
+    for (moment, text) in [
+        (night, "2024-02-29 23:59:59.25 +01:00:00"),
+        (longest, "+999999-12-31 23:59:59.999999999 -25:00:00"),
+    ] {
+        same(&rt, moment.text().as_str(), text);
+        same(&rt, format!(in rt.alloc(); "{moment}")?.as_str(), text);
+        same(&rt, format!(in rt.alloc(); "{moment:?}")?.as_str(), text);
+    }
     let padded = format!(in rt.alloc(); "{night:>34}|{night:_<33?}|")?;
     same(
         &rt,
         padded.as_str(),
         "  2024-02-29 23:59:59.25 +01:00:00|2024-02-29 23:59:59.25 +01:00:00_|",
     );
-    let longest = last().assume_offset(hours(&rt, -25));
-    same(
-        &rt,
-        format!(in rt.alloc(); "{longest}")?.as_str(),
-        "+999999-12-31 23:59:59.999999999 -25:00:00",
-    );
     Ok(())
+}
+
+#[test]
+fn replaced_by_their_own(rt: HostRuntime) {
+    let moment = leap_night(&rt);
+    let plain = moment.local();
+    for (same_plain, same_moment) in [
+        own_year(plain, moment),
+        own_month(plain, moment),
+        own_day(plain, moment),
+        own_ordinal(plain, moment),
+        own_hour(plain, moment),
+        own_minute(plain, moment),
+        own_second(plain, moment),
+        own_millisecond(plain, moment),
+        own_microsecond(plain, moment),
+        own_nanosecond(plain, moment),
+    ] {
+        same(&rt, same_plain.ok(), Some(plain));
+        same(&rt, same_moment.ok(), Some(moment));
+    }
+    same(&rt, own_date(plain, moment), (plain, moment));
+    same(&rt, own_time(plain, moment), (plain, moment));
+    same(&rt, own_clock(moment), (moment, moment));
 }
 
 #[test]

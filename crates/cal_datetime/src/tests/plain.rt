@@ -74,81 +74,44 @@ fn moved_date_times(rt: HostRuntime) {
 
 #[test]
 fn replaced_components(rt: HostRuntime) {
-    let at = |date, clock| date_time(&rt, date, clock);
-    let night = at((2024, Month::February, 29), (23, 59, 59, 250_000_000));
-    same(
-        &rt,
-        night.replace_year(2020).ok(),
-        Some(at((2020, Month::February, 29), (23, 59, 59, 250_000_000))),
-    );
+    let (day, clock) = ((2024, Month::February, 29), (23, 59, 59, 250_000_000));
+    let night = date_time(&rt, day, clock);
+    for (found, date, time) in [
+        (night.replace_year(2020), (2020, Month::February, 29), clock),
+        (
+            night.replace_month(Month::March),
+            (2024, Month::March, 29),
+            clock,
+        ),
+        (night.replace_day(1), (2024, Month::February, 1), clock),
+        (night.replace_ordinal(1), (2024, Month::January, 1), clock),
+        (night.replace_hour(0), day, (0, 59, 59, 250_000_000)),
+        (night.replace_minute(0), day, (23, 0, 59, 250_000_000)),
+        (night.replace_second(0), day, (23, 59, 0, 250_000_000)),
+        (night.replace_millisecond(7), day, (23, 59, 59, 7_000_000)),
+        (night.replace_microsecond(7), day, (23, 59, 59, 7_000)),
+        (night.replace_nanosecond(7), day, (23, 59, 59, 7)),
+    ] {
+        same(&rt, found.ok(), Some(date_time(&rt, date, time)));
+    }
     same(&rt, night.replace_year(2023).is_err(), true);
-    same(
-        &rt,
-        night.replace_month(Month::March).ok(),
-        Some(at((2024, Month::March, 29), (23, 59, 59, 250_000_000))),
-    );
-    same(
-        &rt,
-        night.replace_day(1).ok(),
-        Some(at((2024, Month::February, 1), (23, 59, 59, 250_000_000))),
-    );
-    same(
-        &rt,
-        night.replace_ordinal(1).ok(),
-        Some(at((2024, Month::January, 1), (23, 59, 59, 250_000_000))),
-    );
-    same(
-        &rt,
-        night.replace_hour(0).ok(),
-        Some(at((2024, Month::February, 29), (0, 59, 59, 250_000_000))),
-    );
-    same(
-        &rt,
-        night.replace_minute(0).ok(),
-        Some(at((2024, Month::February, 29), (23, 0, 59, 250_000_000))),
-    );
-    same(
-        &rt,
-        night.replace_second(0).ok(),
-        Some(at((2024, Month::February, 29), (23, 59, 0, 250_000_000))),
-    );
-    same(
-        &rt,
-        night.replace_millisecond(7).ok(),
-        Some(at((2024, Month::February, 29), (23, 59, 59, 7_000_000))),
-    );
-    same(
-        &rt,
-        night.replace_microsecond(7).ok(),
-        Some(at((2024, Month::February, 29), (23, 59, 59, 7_000))),
-    );
-    same(
-        &rt,
-        night.replace_nanosecond(7).ok(),
-        Some(at((2024, Month::February, 29), (23, 59, 59, 7))),
-    );
-    same(
-        &rt,
-        night.replace_date(Date::MIN).replace_time(Time::MIDNIGHT),
-        first(),
-    );
-    same(
-        &rt,
-        night.truncate_to_hour(),
-        at((2024, Month::February, 29), (23, 0, 0, 0)),
-    );
-    same(
-        &rt,
-        night.truncate_to_minute(),
-        at((2024, Month::February, 29), (23, 59, 0, 0)),
-    );
-    same(
-        &rt,
-        night.truncate_to_second(),
-        at((2024, Month::February, 29), (23, 59, 59, 0)),
-    );
-    same(&rt, night.truncate_to_millisecond(), night);
-    same(&rt, night.truncate_to_microsecond(), night);
+    let (date, time) = (Date::MIN, Time::MIDNIGHT);
+    same(&rt, night.replace_date(date).replace_time(time), first());
+}
+
+#[test]
+fn truncated_times(rt: HostRuntime) {
+    let day = (2024, Month::February, 29);
+    let night = date_time(&rt, day, (23, 59, 59, 250_007_009));
+    for (found, time) in [
+        (night.truncate_to_hour(), (23, 0, 0, 0)),
+        (night.truncate_to_minute(), (23, 59, 0, 0)),
+        (night.truncate_to_second(), (23, 59, 59, 0)),
+        (night.truncate_to_millisecond(), (23, 59, 59, 250_000_000)),
+        (night.truncate_to_microsecond(), (23, 59, 59, 250_007_000)),
+    ] {
+        same(&rt, found, date_time(&rt, day, time));
+    }
 }
 
 #[test]
@@ -191,6 +154,7 @@ fn texts_of_date_times(rt: HostRuntime) -> Result<(), Fail> {
         (first(), "-999999-01-01 0:00:00.0"),
         (last(), "+999999-12-31 23:59:59.999999999"),
     ] {
+        same(&rt, plain.text().as_str(), text);
         same(&rt, format!(in rt.alloc(); "{plain}")?.as_str(), text);
         same(&rt, format!(in rt.alloc(); "{plain:?}")?.as_str(), text);
     }

@@ -1,6 +1,7 @@
-use Rattle.std.proofs.Common.{arith, ap, ◌∙◌}
+use Rattle.std.proofs.Common.{Some, arith, ap, ◌∙◌, sym, subst}
 use Rattle.std.proofs.lemmas.Int.{ints}
-use Rattle.cal_datetime.proofs.Instants.{local-ahead}
+use Rattle.cal_datetime.specs.DateTime.{IsDateTime}
+use Rattle.cal_datetime.proofs.Instants.{local-ahead, shown_at}
 use Rattle.cal_datetime.proofs.offset_date_time.OffsetDateTime.checked_to_offset.Goals as goal
 
 pub returns-in-Some-clause-value : goal.returns-in-Some-clause-value
@@ -18,3 +19,12 @@ pub returns-in-None-clause-value : goal.returns-in-None-clause-value
 returns-in-None-clause-value c =
     let e = local-ahead c.args.self c.ahead.result c.args.offset (rw c.offset.ensures.value at c.ahead.ensures) in
     rw (← e) (rw c.local.ensures.value at c.in-None.ensures.value)
+
+pub returns-in-Some-clause-every : goal.returns-in-Some-clause-every
+returns-in-Some-clause-every c = λ there _ e f.
+    let local = shown_at c.args.self there c.args.offset e f in
+    ap Some ((returns-in-Some-clause-value c).1 ∙ (λ i. record { local = local i; offset = sym e i }))
+
+pub returns-in-None-clause-every : goal.returns-in-None-clause-every
+returns-in-None-clause-every c = λ there h e f.
+    absurd (returns-in-None-clause-value c (subst IsDateTime (sym (shown_at c.args.self there c.args.offset e f)) h))

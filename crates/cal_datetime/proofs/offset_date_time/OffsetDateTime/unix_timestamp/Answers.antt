@@ -1,10 +1,10 @@
-use Rattle.std.proofs.Common.{arith, pos, ◌+ℤ◌, ◌*ℤ◌, ◌-ℤ◌, FitsSigned, w64}
+use Rattle.std.proofs.Common.{◌∙◌, arith, pos, ◌+ℤ◌, ◌*ℤ◌, ◌-ℤ◌, FitsSigned, w64}
 use Rattle.std.proofs.lemmas.Int.{ints, to_z-of_z}
-use Rattle.cal_datetime.proofs.Instants.{unix_seconds-is}
+use Rattle.cal_datetime.proofs.Instants.{unix_seconds-is, unix_seconds-whole}
 use Rattle.cal_datetime.proofs.offset_date_time.OffsetDateTime.unix_timestamp.Goals as goal
 
-pub returns : goal.returns
-returns c =
+pub returns-clause-value : goal.returns-clause-value
+returns-clause-value c =
     let day = c.days_since_epoch.ensures in
     let clock = c.whole_seconds.ensures in
     let offset = c.seconds_of.ensures in
@@ -20,6 +20,9 @@ returns c =
     simp to_z-of_z (unix_seconds-is c.args.self _ c.date.result c.time.result
     (rw (c.date.ensures.value, c.time.ensures.value) c.time.ensures.whole)
     (omega (arith, ints, day.value, clock.value, offset.value, c.offset.ensures.value)))
+
+pub returns-clause-whole : goal.returns-clause-whole
+returns-clause-whole c = λ seconds e. returns-clause-value c ∙ unix_seconds-whole _ seconds e
 
 pub overflow_sub-result : goal.overflow_sub-result
 overflow_sub-result c =

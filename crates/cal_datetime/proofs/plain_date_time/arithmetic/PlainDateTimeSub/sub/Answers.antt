@@ -16,4 +16,5 @@ returns c =
       rw (c.add.ensures, c.sub.ensures.0, c.sub-2.ensures) (apart-is a.date b.date a.time b.time),
       IsDateTime-date_time a.date a.time c.self.invariant.0 c.self.invariant.1.below_day,
       IsDateTime-date_time b.date b.time c.other.invariant.0 c.other.invariant.1.below_day,
+      rw (c.add.ensures, c.sub.ensures.0, c.sub-2.ensures) (apart a.date b.date a.time b.time c.self.invariant.0 c.other.invariant.0 c.self.invariant.1.below_day c.other.invariant.1.below_day),
     )
