@@ -6,7 +6,5 @@ pub mod Ends
 pub mod WeekdaysOfMonths
 pub mod MoneyDays
 pub mod OneAnswer
-pub mod WorkdaysLaws
-pub mod WorkdaysRanks
 pub mod WorkdaysSearch
 pub mod WorkdaysWeeks

@@ -1,22 +1,27 @@
 -- The next day of a rule: what is skipped, and where the search ends.
-use Rattle.std.proofs.Common.{◌≡◌, ℕ, zero, suc, ◌+◌, ◌-◌, ◌*◌, ◌/◌, ◌%◌, ◌<◌, ◌≤◌, min, sym, ap, ◌∙◌, subst, arith, pos, ◌+ℤ◌, ◌-ℤ◌, ◌*ℤ◌, Option, Some, None, true, false, inl, inr, [], ◌∷◌, filter, slice_get}
-use Rattle.std.specs.Prelude.{MatchOption, IfSome}
+use Rattle.std.proofs.Common.{◌≡◌, refl, ℕ, zero, suc, ◌+◌, ◌-◌, ◌*◌, ◌/◌, ◌%◌, ◌<◌, ◌≤◌, min, sym, ap, ◌∙◌, subst, arith, pos, ◌+ℤ◌, ◌-ℤ◌, ◌*ℤ◌, Option, Some, None, true, false, inl, inr, [], ◌∷◌, filter, slice_get}
+use Rattle.std.specs.Prelude.{MatchOption, SomeIff, IfSome, Bool, List, ◌==◌, ◌&&◌, ◌||◌, if◌then◌else◌}
+use Rattle.std.specs.List.{list_any}
 use Rattle.std.proofs.lemmas.Int.{ints}
-use Rattle.std.proofs.lemmas.Bool.{cases_lt, false_from_ne_true, false≢true}
+use Rattle.std.proofs.lemmas.Bool.{and_parts, cases_lt, false_from_ne_true, false≢true, or_cases, or_left, or_right}
 use Rattle.std.proofs.lemmas.Nat.{div-add-mod'}
 use Rattle.std.proofs.Math.Nat.{mul-le-mul_left}
-use Rattle.cal_time.specs.Date.{last_day, IsDate, year_at, month_at, day_of_month_at}
+use Rattle.cal_time.specs.Date.{last_day, IsDate, year_at, month_at, day_of_month_at, weekday_at}
 use Rattle.cal_time.specs.Days.{day_of_month_at-range, month_at-range}
 use Rattle.cal_time.specs.Filters.{IsFirstDay, filter-first, filter-none, first_passing, none_passing}
+use Rattle.cal_time.specs.Laws.{weekday_at-is}
 use Rattle.cal_time.specs.Lengths.{days_in_month}
 use Rattle.cal_time.specs.Occurrence.{days_from}
 use Rattle.cal_time.specs.Parts.{day_of_month_at-rises}
+use Rattle.cal_time.specs.Weekday.{place}
 use Rattle.cal_time.specs.declared.Weekday.{Weekday}
+use Rattle.cal_schedule.specs.declared.rule.kinds.ByDay.{ByDay}
+use Rattle.cal_schedule.specs.declared.rule.kinds.ByDay.TheVariants.{Every, Nth}
 use Rattle.cal_schedule.specs.declared.rule.kinds.Frequency.TheVariants.{Monthly, Yearly}
 use Rattle.cal_schedule.specs.declared.rule.kinds.Rule.{Rule}
 use Rattle.cal_schedule.specs.Months.{month_number_at}
-use Rattle.cal_schedule.specs.Rule.{days_after, days_left, days_of, is_in_months, is_on, step, turn_at, turns_past}
-use Rattle.cal_schedule.specs.RuleSearch.{IsFirstOf, IsNextFrom, IsSkip, NoDayBetween}
+use Rattle.cal_schedule.specs.Rule.{allows, days_after, days_left, days_of, is_empty, is_in_months, is_month_day, is_on, is_on_days, is_weekday, is_yearly, step, turn_at, turns_past}
+use Rattle.cal_schedule.specs.RuleSearch.{takes_weekday, weekday_of, IsFirstOf, IsNextFrom, IsSkip, NoDayBetween}
 use Rattle.cal_schedule.proofs.MonthMoves.{IsMonthNumber-date, same_month}
 use Rattle.cal_schedule.proofs.RulePeriods.{IsOn-is_on, is_in_months-alike, is_on-period, pos-months, pos-years, turn_at-rises}
 
@@ -101,12 +106,57 @@ skip-month rule w n t (Some x) off e h = (
   λ k low high. off_month rule w n k off low (omega (arith, h.2 k high)),
 )
 
-pub skip-day : (rule : Rule) (n t : ℕ) (r : Option ℕ) → is_on rule n ≡ false → t ≡ n + 1 → MatchOption r (¬ IsDate t) (λ x. IsDate t × (x ≡ t)) → IsSkip rule n r
-skip-day rule n t None off e h = λ k low high. elim (cases_lt last_day t) as (λ _. is_on rule k ≡ false) [
-  | inl past ↦ let same : k ≡ n = omega arith in ap (is_on rule) same ∙ off
+-- nor on a day whose weekday it does not take
+any-more : {X : Type 0} (p q : X → Bool) → ((x : X) → p x ≡ true → q x ≡ true) → (xs : List X) → list_any p xs ≡ true → list_any q xs ≡ true
+any-more p q h [] e = e
+any-more p q h (x ∷ xs) e =
+    elim (or_cases (p x) (list_any p xs) e) as (λ _. list_any q (x ∷ xs) ≡ true) [
+      | inl here ↦ or_left (q x) (list_any q xs) (h x here)
+      | inr later ↦ or_right (q x) (list_any q xs) (any-more p q h xs later)
+    ]
+
+then_allows : {X Y : Type 0} (a : Bool) (p : X → Bool) (q r : Y → Bool) (xs : List X) (ys : List Y) → ((y : Y) → q y ≡ true → r y ≡ true)
+    → (if is_empty xs && is_empty ys then a else allows p xs && allows q ys) ≡ true → allows r ys ≡ true
+then_allows a p q r xs [] h e = refl
+then_allows a p q r [] (y ∷ ys) h e = any-more q r h (y ∷ ys) e
+then_allows a p q r (x ∷ xs) (y ∷ ys) h e = any-more q r h (y ∷ ys) (and_parts _ _ e).1
+
+weekday_is : (b : Bool) (n : ℕ) (by : ByDay) → is_weekday b n by ≡ true → (weekday_at n == place (weekday_of by)) ≡ true
+unfolding is_weekday
+weekday_is b n (Every w) e = e
+weekday_is b n (Nth k w) e = (and_parts _ _ e).0
+
+takes_weekday-days : (rule : Rule) (n : ℕ) → is_on_days rule n ≡ true → takes_weekday rule (weekday_at n) ≡ true
+unfolding is_on_days
+takes_weekday-days rule n e =
+    let b = is_yearly rule.frequency && is_empty rule.months.now in
+    then_allows _ (is_month_day n) (is_weekday b n) _ rule.month_days.now rule.weekdays.now (weekday_is b n) e
+
+off_weekday : (rule : Rule) (k : ℕ) → takes_weekday rule (weekday_at k) ≡ false → is_on rule k ≡ false
+off_weekday rule k off = is_off rule k (λ on. false≢true (sym off ∙ takes_weekday-days rule k (IsOn-is_on rule k on).days))
+
+pub takes-further : (rule : Rule) (n d : ℕ) → ((k : ℕ) → n < k → k < n + d → takes_weekday rule (weekday_at k) ≡ false)
+    → takes_weekday rule ((weekday_at n + d) % 7) ≡ false → (k : ℕ) → n < k → k < n + (d + 1) → takes_weekday rule (weekday_at k) ≡ false
+takes-further rule n d none off k low high = elim (cases_lt k (n + d)) as (λ _. takes_weekday rule (weekday_at k) ≡ false) [
+  | inl before ↦ none k low before
+  | inr most ↦ let e : weekday_at k ≡ (weekday_at n + d) % 7 = omega (arith, weekday_at-is k, weekday_at-is n) in ap (takes_weekday rule) e ∙ off
+]
+
+skip_to : (rule : Rule) (n t : ℕ) (r : Option ℕ) → n < t → NoDayBetween rule n t → SomeIff r (IsDate t) t → IsSkip rule n r
+skip_to rule n t None less none h = λ k low high. elim (cases_lt last_day t) as (λ _. is_on rule k ≡ false) [
+  | inl past ↦ none k low (omega arith)
   | inr within ↦ absurd (h within)
 ]
-skip-day rule n t (Some x) off e h = (omega (arith, h.1), omega (arith, h.0, h.1), λ k low high. let same : k ≡ n = omega (arith, h.1) in ap (is_on rule) same ∙ off)
+skip_to rule n t (Some x) less none h = (omega (arith, h.1), omega (arith, h.0, h.1), λ k low high. none k low (omega (arith, h.1)))
+
+pub skip-day : (rule : Rule) (n d t : ℕ) (r : Option ℕ) → is_on rule n ≡ false → t ≡ n + d → 1 ≤ d
+    → ((k : ℕ) → n < k → k < n + d → takes_weekday rule (weekday_at k) ≡ false) → SomeIff r (IsDate t) t → IsSkip rule n r
+skip-day rule n d t r off e some none h =
+    let between : NoDayBetween rule n t = λ k low high. elim (cases_lt n k) as (λ _. is_on rule k ≡ false) [
+      | inl after ↦ off_weekday rule k (none k after (omega arith))
+      | inr most ↦ let same : k ≡ n = omega arith in ap (is_on rule) same ∙ off
+    ] in
+    skip_to rule n t r (omega arith) between h
 
 -- from day to day
 pub none-joined : (rule : Rule) (l m n : ℕ) → NoDayBetween rule l m → NoDayBetween rule m n → NoDayBetween rule l n

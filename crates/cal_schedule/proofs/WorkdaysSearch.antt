@@ -6,8 +6,9 @@ use Rattle.std.proofs.lemmas.List.Sums.{count_by_more_yes}
 use Rattle.cal_time.specs.Date.{last_day, IsDate}
 use Rattle.cal_time.specs.IsoWeekDate.{count_before}
 use Rattle.cal_schedule.specs.Workdays.{WorkWeek, is_marked, is_workday, workdays_from, workdays_back, workdays_within}
+use Rattle.cal_schedule.specs.WorkdaysLaws.{length-within}
 use Rattle.cal_schedule.specs.WorkdaysSplit.{IsSplit, marked_count, IsNthFrom, IsNthBack}
-use Rattle.cal_schedule.proofs.WorkdaysRanks.{count-none, count-yes, count-no, count-rises, count-less, greater-rank, below-rank, nth-from, none-nth_from, nth-back, none-nth_back, length-from}
+use Rattle.cal_schedule.specs.Ranks.{count-none, count-yes, count-no, count-rises, count-less, greater-rank, below-rank, nth-from, none-nth_from, nth-back, none-nth_back}
 use Rattle.cal_schedule.proofs.WorkdaysWeeks.{Rises, ranks, free, before-last, workday-unmarked, none-marked}
 
 -- the search on: the holidays passed, and those left
@@ -77,16 +78,6 @@ split-order w start end from to h s t =
       | inl less ↦ absurd (omega (arith, s.before end less, t.after end (omega arith) (omega (arith, s.most))))
       | inr most ↦ most
     ]
-
-pub length-within : (w : WorkWeek) (m n : ℕ) → m ≤ n → length (workdays_within w m n) + count_before (is_workday w) m ≡ count_before (is_workday w) n
-length-within w m n h =
-    let e : m + (n - m) ≡ n = omega arith in
-    length-from (is_workday w) m (n - m) ∙ ap (count_before (is_workday w)) e
-
-pub none-within : (w : WorkWeek) (m n : ℕ) → n ≤ m → length (workdays_within w m n) ≡ 0
-none-within w m n h =
-    let e : m + (n - m) ≡ m = omega arith in
-    omega (arith, length-from (is_workday w) m (n - m), ap (count_before (is_workday w)) e)
 
 pub count-within : (w : WorkWeek) → Rises w.holidays → (start end from to held : ℕ) → from ≤ to → IsSplit w.holidays start from → IsSplit w.holidays end to
     → held + marked_count w start ≡ marked_count w end

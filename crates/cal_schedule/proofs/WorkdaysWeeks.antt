@@ -14,7 +14,7 @@ use Rattle.cal_time.specs.IsoWeekDate.{count_before}
 use Rattle.cal_time.specs.Laws.{weekday_at-is}
 use Rattle.cal_schedule.specs.Workdays.{WorkWeek, is_marked, is_holiday, is_workday}
 use Rattle.cal_schedule.specs.WorkdaysSplit.{IsSplit, marked_count}
-use Rattle.cal_schedule.proofs.WorkdaysRanks.{count-none, count-yes, count-no, count-rises, count-weeks}
+use Rattle.cal_schedule.specs.Ranks.{count-none, count-yes, count-no, count-rises, count-weeks}
 
 -- the mark of a day is that of its place in the week
 pub marked-is : (w : WorkWeek) (n : ℕ) → is_marked w n ≡ get_or w.marks (n % 7) false

@@ -1,9 +1,11 @@
 pub mod Months
 pub mod Rule
+pub mod Ranks
 pub mod RuleSearch
 pub mod Until
 pub mod Weekdays
 pub mod Money
 pub mod Workdays
 pub mod WorkdaysConvention
+pub mod WorkdaysLaws
 pub mod WorkdaysSplit

@@ -8,6 +8,7 @@ mod bounds;
 mod laws;
 mod money;
 mod months;
+mod numbers;
 mod period;
 mod rule;
 mod until;

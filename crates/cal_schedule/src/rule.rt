@@ -1,6 +1,5 @@
 //! Rules of days that come back, after RFC 5545.
 mod kinds;
-mod numbers;
 mod passes;
 mod search;
 mod walk;

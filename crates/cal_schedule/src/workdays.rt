@@ -7,14 +7,13 @@ mod adjusted;
 mod calendar;
 mod convention;
 mod laws;
-mod numbers;
 mod search;
 mod week;
 
+use crate::numbers::number;
 use cal_time::Date;
 pub use calendar::Workdays;
 pub use convention::Convention;
-use numbers::number;
 
 impl Workdays<'_> {
     /// Whether the day is a working day: its day of the week is marked, and it is no holiday.

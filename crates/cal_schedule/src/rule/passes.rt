@@ -7,8 +7,8 @@ ghost use Rattle.cal_time.specs.Month.{number as month_number};
 ghost use Rattle.cal_schedule.specs.Rule.{allows, is_as_start, is_by, is_empty, is_in_months, is_month_day, is_nth, is_nth_of, is_on, is_on_days, is_weekday, is_yearly, names_no_day, step, turn_at, turns_past};
 
 use crate::months::place_and_day;
+use crate::numbers::number;
 use crate::rule::kinds::{ByDay, Frequency, Rule};
-use crate::rule::numbers::number;
 use cal_time::util::{days_in_month, days_in_year};
 use cal_time::{Cycle, Date, Month, Weekday};
 

@@ -1,13 +1,15 @@
 //! The next day of a rule.
-ghost use Rattle.std.specs.Prelude.{◌≡◌, ◌<◌, ◌≤◌, slice_get, IfSome, false, true};
-ghost use Rattle.cal_time.specs.Date.{IsDate};
+ghost use Rattle.std.specs.Prelude.{◌≡◌, ℕ, ◌+◌, ◌<◌, ◌≤◌, ◌==◌, slice_get, IfSome, false, true};
+ghost use Rattle.std.specs.List.{list_any};
+ghost use Rattle.cal_time.specs.Date.{weekday_at, IsDate};
+ghost use Rattle.cal_time.specs.Weekday.{place};
 ghost use Rattle.cal_schedule.specs.Rule.{days_after, is_on};
-ghost use Rattle.cal_schedule.specs.RuleSearch.{IsFirstOf, IsNextFrom, IsSkip};
+ghost use Rattle.cal_schedule.specs.RuleSearch.{takes_weekday, weekday_of, IsFirstOf, IsNextFrom, IsSkip};
 ghost use Rattle.cal_schedule.specs.declared.rule.kinds.Frequency.TheVariants.{Monthly};
 
 use crate::months::{day_in_month, place_and_day};
-use crate::rule::kinds::{Frequency, Rule};
-use crate::rule::numbers::{at_number, number};
+use crate::numbers::{at_number, number};
+use crate::rule::kinds::{ByDay, Frequency, Rule};
 use crate::rule::passes::turn_of;
 use cal_time::{Cycle, Date, Weekday};
 
@@ -43,7 +45,46 @@ fn first_of(frequency: Frequency, first: Weekday, turn: u64) -> Option<Date>
     }
 }
 
+/// The weekday, with or without its number.
+fn weekday_of(by: ByDay) -> Weekday
+    ensures { result ≡ weekday_of by }
+{
+    match by {
+        ByDay::Every(weekday) | ByDay::Nth(_, weekday) => weekday,
+    }
+}
+
+/// Whether the weekdays have one at that place of the week, which begins with Monday.
+fn any_at_place(weekdays: &[ByDay], at: u8) -> bool
+    ensures { result ≡ list_any (λ by. at == place (weekday_of by)) weekdays.now }
+{
+    weekdays.iter().any(|by| at == weekday_of(*by).place())
+}
+
 impl Rule<'_> {
+    /// Whether the rule takes days of the weekday at that place of the week, with whatever number.
+    fn takes_weekday(&self, at: u8) -> bool
+        ensures { result ≡ takes_weekday self.now at }
+    {
+        self.weekdays.is_empty() || any_at_place(self.weekdays, at)
+    }
+
+    /// How many days on the next day is whose weekday the rule takes; a week on there is one, if there is any.
+    fn days_on(&self, day: Date) -> u8
+        ensures least { 1 ≤ result }
+        ensures most { result ≤ 7 }
+        ensures none { (k : ℕ) → day < k → k < day + result → takes_weekday self.now (weekday_at k) ≡ false }
+    {
+        let mut days = 1;
+        while days < 7 {
+            if self.takes_weekday((day.weekday().place() + days) % 7) {
+                return days;
+            }
+            days += 1;
+        }
+        days
+    }
+
     /// A later day, where none from this one to the day before it is one of the rule's.
     fn skip(&self, day: Date) -> Option<Date>
         requires start { self.now.start ≤ day }
@@ -57,7 +98,7 @@ impl Rule<'_> {
             return first_of(self.frequency, self.week_start, next);
         }
         if self.is_in_months(day) {
-            return at_number(u64::from(number(day)) + 1);
+            return at_number(u64::from(number(day)) + u64::from(self.days_on(day)));
         }
         let (place, _) = place_and_day(day);
         first_of_month(u64::from(place) + 1, self.week_start)

@@ -4,7 +4,7 @@ ghost use Rattle.cal_time.specs.Date.{IsDate};
 ghost use Rattle.cal_schedule.specs.Workdays.{is_workday};
 ghost use Rattle.cal_schedule.specs.WorkdaysConvention.{adjusted, following, preceding, is_in_month_of, first_in_month_of, IsAdjusted};
 
-use crate::workdays::numbers::number;
+use crate::numbers::number;
 use crate::workdays::{Convention, Workdays};
 use cal_time::Date;
 

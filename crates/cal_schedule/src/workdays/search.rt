@@ -6,8 +6,8 @@ ghost use Rattle.cal_time.specs.IsoWeekDate.{count_before};
 ghost use Rattle.cal_schedule.specs.Workdays.{is_holiday, is_marked, is_workday, workdays_from, workdays_back, workdays_within};
 ghost use Rattle.cal_schedule.specs.WorkdaysSplit.{IsSplit, IsNthFrom, IsNthBack};
 
+use crate::numbers::at_number;
 use crate::workdays::Workdays;
-use crate::workdays::numbers::at_number;
 use cal_time::Date;
 
 impl Workdays<'_> {

@@ -1,5 +1,5 @@
 use Rattle.std.proofs.Common.{◌∙◌}
-use Rattle.cal_schedule.proofs.WorkdaysLaws.{adjusted-kept}
+use Rattle.cal_schedule.specs.WorkdaysLaws.{adjusted-kept}
 use Rattle.cal_schedule.proofs.workdays.laws.stays.Goals as goal
 
 pub returns : goal.returns

@@ -1,7 +1,7 @@
 use Rattle.std.proofs.Common.{◌≡◌, ap, ◌∙◌, arith}
 use Rattle.cal_schedule.specs.Workdays.{is_marked}
 use Rattle.cal_schedule.specs.WorkdaysSplit.{marked_count}
-use Rattle.cal_schedule.proofs.WorkdaysRanks.{count-rises, bit-most}
+use Rattle.cal_schedule.specs.Ranks.{count-rises, bit-most}
 use Rattle.cal_schedule.proofs.WorkdaysWeeks.{rises, place-most}
 use Rattle.cal_schedule.proofs.WorkdaysSearch.{split-order, count-within}
 use Rattle.cal_schedule.proofs.workdays.calendar.Workdays.count.Goals as goal

@@ -2,7 +2,7 @@ use Rattle.std.proofs.Common.{◌≡◌, ◌+◌, ◌-◌, ◌<◌, ap, sym, ◌
 use Rattle.cal_time.specs.IsoWeekDate.{count_before}
 use Rattle.cal_schedule.specs.Workdays.{is_marked}
 use Rattle.cal_schedule.specs.WorkdaysSplit.{marked_count}
-use Rattle.cal_schedule.proofs.WorkdaysRanks.{count-next}
+use Rattle.cal_schedule.specs.Ranks.{count-next}
 use Rattle.cal_schedule.proofs.WorkdaysWeeks.{rises, held-next}
 use Rattle.cal_schedule.proofs.WorkdaysSearch.{passed-back, found-back, none-back_few, none-back_held, back-passed}
 use Rattle.cal_schedule.proofs.workdays.calendar.Workdays.marked_before_nth_back.Goals as goal

@@ -2,7 +2,7 @@ use Rattle.std.proofs.Common.{◌≡◌, ◌+◌, ap, ◌∙◌, arith, inl, inr
 use Rattle.std.proofs.lemmas.Bool.{cases_lt}
 use Rattle.cal_time.specs.IsoWeekDate.{count_before}
 use Rattle.cal_schedule.specs.Workdays.{is_marked}
-use Rattle.cal_schedule.proofs.WorkdaysRanks.{count-rises, count-next, bit-most}
+use Rattle.cal_schedule.specs.Ranks.{count-rises, count-next, bit-most}
 use Rattle.cal_schedule.proofs.WorkdaysWeeks.{rises, place-most, held-next}
 use Rattle.cal_schedule.proofs.WorkdaysSearch.{left-from, found-from}
 use Rattle.cal_schedule.proofs.workdays.calendar.Workdays.marked_before_nth_from.Goals as goal

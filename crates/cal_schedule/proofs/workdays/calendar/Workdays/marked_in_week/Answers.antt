@@ -1,6 +1,6 @@
 use Rattle.std.proofs.Common.{sym, arith}
 use Rattle.cal_schedule.specs.Workdays.{is_marked}
-use Rattle.cal_schedule.proofs.WorkdaysRanks.{count-none, count-next, bit-most}
+use Rattle.cal_schedule.specs.Ranks.{count-none, count-next, bit-most}
 use Rattle.cal_schedule.proofs.workdays.calendar.Workdays.marked_in_week.Goals as goal
 
 pub loop-day-init : goal.loop-day-init

@@ -1,6 +1,7 @@
 use Rattle.std.proofs.Common.{arith}
 use Rattle.std.proofs.lemmas.Int.{ints}
-use Rattle.cal_schedule.proofs.WorkdaysSearch.{within-same, none-within}
+use Rattle.cal_schedule.specs.WorkdaysLaws.{none-within}
+use Rattle.cal_schedule.proofs.WorkdaysSearch.{within-same}
 use Rattle.cal_schedule.proofs.workdays.calendar.Workdays.workdays_between.Goals as goal
 
 pub returns-then-first-last-clause-number : goal.returns-then-first-last-clause-number

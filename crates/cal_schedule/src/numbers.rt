@@ -5,13 +5,13 @@ ghost use Rattle.cal_time.specs.Date.{IsDate};
 use cal_time::Date;
 
 /// The number of the last day, 999999-12-31.
-pub(super) const LAST_DAY: u64 = 730_484_633;
+const LAST_DAY: u64 = 730_484_633;
 
 /// The Julian day of the first day, which has number 0.
 const FIRST_JULIAN_DAY: i32 = -363_521_074;
 
 /// The number of the day.
-pub(super) fn number(date: Date) -> u32
+pub(crate) fn number(date: Date) -> u32
     ensures number { result ≡ date }
     ensures in_range { IsDate date }
 {
@@ -19,7 +19,7 @@ pub(super) fn number(date: Date) -> u32
 }
 
 /// The day of that number, or `None` past the last one.
-pub(super) fn at_number(number: u64) -> Option<Date>
+pub(crate) fn at_number(number: u64) -> Option<Date>
     ensures { SomeIff result (IsDate number) number }
 {
     if number > LAST_DAY {

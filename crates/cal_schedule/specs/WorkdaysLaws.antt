@@ -1,5 +1,5 @@
--- What several calls come to.
-use Rattle.std.proofs.Common.{◌≡◌, ℕ, ◌+◌, ◌-◌, refl, ap, ◌∙◌, arith, length, slice_get, Some, true, add-one, inl, inr, pos, ◌-ℤ◌}
+-- Laws for callers: working days by their ranks, which is how many of them come before.
+use Rattle.std.proofs.Common.{◌≡◌, ℕ, ◌+◌, ◌-◌, ◌≤◌, refl, ap, ◌∙◌, arith, length, slice_get, Some, true, add-one, inl, inr, pos, ◌-ℤ◌}
 use Rattle.std.proofs.lemmas.Bool.{cases_lt, and_from, eq-eqb}
 use Rattle.std.proofs.lemmas.Bool.Decides.{Decides-int_eq}
 use Rattle.std.proofs.lemmas.Int.{ints}
@@ -9,8 +9,7 @@ use Rattle.cal_schedule.specs.Workdays.{WorkWeek, is_workday, workdays_from, wor
 use Rattle.cal_schedule.specs.WorkdaysConvention.{following, preceding, is_in_month_of, first_in_month_of, adjusted}
 use Rattle.cal_schedule.specs.declared.workdays.convention.Convention.{Convention}
 use Rattle.cal_schedule.specs.declared.workdays.convention.Convention.TheVariants.{Unadjusted, Following, ModifiedFollowing, Preceding, ModifiedPreceding}
-use Rattle.cal_schedule.proofs.WorkdaysRanks.{count-yes, nth-from, nth-back}
-use Rattle.cal_schedule.proofs.WorkdaysSearch.{length-within, none-within}
+use Rattle.cal_schedule.specs.Ranks.{count-yes, length-from, nth-from, nth-back}
 
 -- a working day is the first from itself on, and the last up to itself
 from-here : (w : WorkWeek) (n : ℕ) → IsDate n → is_workday w n ≡ true → slice_get (workdays_from w n) 0 ≡ Some n
@@ -29,6 +28,17 @@ adjusted-kept w Following n h on = from-here w n h on
 adjusted-kept w Preceding n h on = back-here w n on
 adjusted-kept w ModifiedFollowing n h on = ap (λ r. first_in_month_of n r (preceding w n)) (from-here w n h on) ∙ rw (in-own n) refl
 adjusted-kept w ModifiedPreceding n h on = ap (λ r. first_in_month_of n r (following w n)) (back-here w n on) ∙ rw (in-own n) refl
+
+-- how many there are from one day to another
+pub length-within : (w : WorkWeek) (m n : ℕ) → m ≤ n → length (workdays_within w m n) + count_before (is_workday w) m ≡ count_before (is_workday w) n
+length-within w m n h =
+    let e : m + (n - m) ≡ n = omega arith in
+    length-from (is_workday w) m (n - m) ∙ ap (count_before (is_workday w)) e
+
+pub none-within : (w : WorkWeek) (m n : ℕ) → n ≤ m → length (workdays_within w m n) ≡ 0
+none-within w m n h =
+    let e : m + (n - m) ≡ m = omega arith in
+    omega (arith, length-from (is_workday w) m (n - m), ap (count_before (is_workday w)) e)
 
 -- the number of working days between two days is the difference of their ranks
 pub between-is : (w : WorkWeek) (m n : ℕ)

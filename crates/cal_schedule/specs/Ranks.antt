@@ -1,4 +1,4 @@
--- The days that pass a test, by how many of them come before.
+-- Laws for callers: the days that pass a test, by how many of them come before, which is their rank in the lists of them.
 use Rattle.std.proofs.Common.{◌≡◌, ℕ, zero, suc, ◌+◌, ◌*◌, ◌<◌, ◌≤◌, refl, sym, ap, ◌∙◌, arith, ◌∷◌, filter, length, slice_get, Some, None, Bool, true, false, inl, inr, add-one}
 use Rattle.std.proofs.Math.Nat.{suc-mul, zero-mul}
 use Rattle.std.proofs.lemmas.Bool.{cases_lt, cases_Bool, false≢true}
