@@ -1185,7 +1185,7 @@ class Habits(Cases):
 
 def load_tests(loader, tests, _pattern):
     tests.addTests(doctest.DocTestSuite(fotsevindre))
-    tests.addTests(doctest.DocFileSuite("../../docs/PYTHON.md", encoding="utf-8"))
+    tests.addTests(doctest.DocFileSuite("../../README.md", "../../docs/PYTHON.md", encoding="utf-8"))
     return tests
 
 
