@@ -10,6 +10,7 @@ mod cycle;
 mod date;
 mod duration;
 mod laws;
+mod number;
 mod offset;
 mod pair;
 mod results;
