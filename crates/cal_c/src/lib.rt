@@ -11,6 +11,7 @@ mod date;
 mod duration;
 mod laws;
 mod moment;
+mod number;
 mod offset;
 mod pair;
 mod results;

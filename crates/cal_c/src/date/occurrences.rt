@@ -1,13 +1,14 @@
 //! The days with a weekday after a date, and before it.
 ghost use Rattle.std.specs.Prelude.{◌≡◌, ◌-◌, ◌<◌, ◌≤◌};
+ghost use Rattle.cal_time.specs.Date.{IsDate};
 ghost use Rattle.cal_time.specs.Occurrence.{next_occurrences, prev_occurrences, kth};
 ghost use Rattle.cal_c.specs.Results.{date_refused, date_if_any};
 ghost use Rattle.cal_c.specs.Statuses.{bad_date, bad_weekday, bad_count};
 ghost use Rattle.cal_c.specs.Values.{IsJulianDay, IsWeekday, day_of};
 
+use crate::number::{day_if_any, number_of};
 use crate::results::DateResult;
-use crate::status::{BAD_COUNT, BAD_DATE, BAD_WEEKDAY};
-use crate::values::{date_of, weekday_of};
+use crate::status::{BAD_COUNT, BAD_DATE, BAD_WEEKDAY, PAST_RANGE};
 
 /// The `count`-th of the days after the date that have the weekday, counted from 1, or none where it is past the range, or `count`
 /// is 0. Counts go up to 255. The fifth Monday after 2460121 is 2460150.
@@ -19,16 +20,16 @@ pub extern "C" fn fots_date_nth_next_occurrence(date: i32, weekday: u32, count: 
     ensures day { IsJulianDay date → IsWeekday weekday → count ≤ 255
         → result ≡ date_if_any (kth count (next_occurrences (weekday - 1) (day_of date))) }
 {
-    let Some(date) = date_of(date) else {
+    let Some(number) = number_of(date) else {
         return DateResult::refused(BAD_DATE);
     };
-    let Some(weekday) = weekday_of(weekday) else {
+    if weekday == 0 || weekday > 7 {
         return DateResult::refused(BAD_WEEKDAY);
-    };
+    }
     if count > 255 {
         return DateResult::refused(BAD_COUNT);
     }
-    DateResult::of_option(date.checked_nth_next_occurrence(weekday, count as u8))
+    occurrence_after(number, weekday, count)
 }
 
 /// The `count`-th of the days before the date that have the weekday, counted from 1 at the nearest, or none where it is before the
@@ -41,16 +42,16 @@ pub extern "C" fn fots_date_nth_prev_occurrence(date: i32, weekday: u32, count: 
     ensures day { IsJulianDay date → IsWeekday weekday → count ≤ 255
         → result ≡ date_if_any (kth count (prev_occurrences (weekday - 1) (day_of date))) }
 {
-    let Some(date) = date_of(date) else {
+    let Some(number) = number_of(date) else {
         return DateResult::refused(BAD_DATE);
     };
-    let Some(weekday) = weekday_of(weekday) else {
+    if weekday == 0 || weekday > 7 {
         return DateResult::refused(BAD_WEEKDAY);
-    };
+    }
     if count > 255 {
         return DateResult::refused(BAD_COUNT);
     }
-    DateResult::of_option(date.checked_nth_prev_occurrence(weekday, count as u8))
+    occurrence_before(number, weekday, count)
 }
 
 /// The first day after the date that has the weekday, or none where it is past the range. The Monday after 2460124 is 2460129.
@@ -61,13 +62,13 @@ pub extern "C" fn fots_date_next_occurrence(date: i32, weekday: u32) -> DateResu
     ensures day { IsJulianDay date → IsWeekday weekday
         → result ≡ date_if_any (kth 1 (next_occurrences (weekday - 1) (day_of date))) }
 {
-    let Some(date) = date_of(date) else {
+    let Some(number) = number_of(date) else {
         return DateResult::refused(BAD_DATE);
     };
-    match weekday_of(weekday) {
-        Some(weekday) => DateResult::of_option(date.checked_next_occurrence(weekday)),
-        None => DateResult::refused(BAD_WEEKDAY),
+    if weekday == 0 || weekday > 7 {
+        return DateResult::refused(BAD_WEEKDAY);
     }
+    occurrence_after(number, weekday, 1)
 }
 
 /// The last day before the date that has the weekday, or none where it is before the range. The Monday before 2460115 is 2460108.
@@ -78,11 +79,44 @@ pub extern "C" fn fots_date_prev_occurrence(date: i32, weekday: u32) -> DateResu
     ensures day { IsJulianDay date → IsWeekday weekday
         → result ≡ date_if_any (kth 1 (prev_occurrences (weekday - 1) (day_of date))) }
 {
-    let Some(date) = date_of(date) else {
+    let Some(number) = number_of(date) else {
         return DateResult::refused(BAD_DATE);
     };
-    match weekday_of(weekday) {
-        Some(weekday) => DateResult::of_option(date.checked_prev_occurrence(weekday)),
-        None => DateResult::refused(BAD_WEEKDAY),
+    if weekday == 0 || weekday > 7 {
+        return DateResult::refused(BAD_WEEKDAY);
+    }
+    occurrence_before(number, weekday, 1)
+}
+
+/// The `count`-th of the days after day `number` that have the weekday, counted from 1.
+fn occurrence_after(number: u32, weekday: u32, count: u32) -> DateResult
+    requires in_range { IsDate number }
+    requires is_weekday { IsWeekday weekday }
+    requires is_count { count ≤ 255 }
+    ensures { result ≡ date_if_any (kth count (next_occurrences (weekday - 1) number)) }
+{
+    if count == 0 {
+        return DateResult::refused(PAST_RANGE);
+    }
+
+    // The first day of the range is a Monday.
+    let first = (weekday + 12 - number % 7) % 7 + 1;
+    day_if_any(number + first + 7 * (count - 1))
+}
+
+/// The `count`-th of the days before day `number` that have the weekday, counted from 1 at the nearest.
+fn occurrence_before(number: u32, weekday: u32, count: u32) -> DateResult
+    requires in_range { IsDate number }
+    requires is_weekday { IsWeekday weekday }
+    requires is_count { count ≤ 255 }
+    ensures { result ≡ date_if_any (kth count (prev_occurrences (weekday - 1) number)) }
+{
+    if count == 0 {
+        return DateResult::refused(PAST_RANGE);
+    }
+    let first = (number % 7 + 7 - weekday) % 7 + 1;
+    match number.checked_sub(first + 7 * (count - 1)) {
+        Some(number) => day_if_any(number),
+        None => DateResult::refused(PAST_RANGE),
     }
 }

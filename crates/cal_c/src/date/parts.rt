@@ -6,6 +6,7 @@ ghost use Rattle.cal_c.specs.Results.{number_done, number_refused, calendar_date
 ghost use Rattle.cal_c.specs.Statuses.{bad_date};
 ghost use Rattle.cal_c.specs.Values.{IsJulianDay, day_of};
 
+use crate::number::{number_of, weekday_of_number};
 use crate::results::{CalendarDateResult, IsoWeekDateResult, NumberResult, OrdinalDateResult};
 use crate::status::{BAD_DATE, DONE};
 use crate::values::date_of;
@@ -153,8 +154,8 @@ pub extern "C" fn fots_date_weekday(date: i32) -> NumberResult
     ensures bad_date { ¬ IsJulianDay date → result ≡ number_refused bad_date }
     ensures value { IsJulianDay date → result ≡ number_done (pos (weekday_at (day_of date) + 1)) }
 {
-    match date_of(date) {
-        Some(date) => NumberResult::of(i32::from(date.weekday().number_from_monday())),
+    match number_of(date) {
+        Some(number) => NumberResult::of(i32::from(weekday_of_number(number))),
         None => NumberResult::refused(BAD_DATE),
     }
 }

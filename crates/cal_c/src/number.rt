@@ -1,0 +1,127 @@
+//! Dates by their Julian days alone, where a call asks for no part of a date.
+ghost use Rattle.std.specs.Prelude.{◌≡◌, ◌+◌, IsTrue, ◌↔◌, ◌+ℤ◌, ◌-ℤ◌, ◌*ℤ◌, pos, Some, None, SomeIff, nat_le, if◌then◌else◌};
+ghost use Rattle.cal_time.specs.Date.{last_day, weekday_at};
+ghost use Rattle.cal_time.specs.SignedDuration.{day};
+ghost use Rattle.cal_c.specs.Results.{date_done, date_refused, date_if_any};
+ghost use Rattle.cal_c.specs.Statuses.{past_range};
+ghost use Rattle.cal_c.specs.Values.{IsJulianDay, day_of, julian_nearest};
+
+use crate::results::DateResult;
+use crate::status::{DONE, PAST_RANGE};
+use cal_time::SignedDuration;
+
+const FIRST_JULIAN_DAY: i64 = -363_521_074;
+
+const LAST_JULIAN_DAY: i64 = 366_963_559;
+
+const LAST_NUMBER: u32 = 730_484_633;
+
+/// Says whether a day of the range has the Julian day.
+pub fn is_julian_day(julian_day: i32) -> bool
+    ensures { IsTrue result ↔ IsJulianDay julian_day }
+{
+    is_in_range(i64::from(julian_day))
+}
+
+fn is_in_range(julian_day: i64) -> bool
+    ensures { IsTrue result ↔ IsJulianDay julian_day }
+{
+    FIRST_JULIAN_DAY <= julian_day && julian_day <= LAST_JULIAN_DAY
+}
+
+/// The number of the day of the range that has the Julian day.
+pub fn number_of(julian_day: i32) -> Option<u32>
+    ensures { SomeIff result (IsJulianDay julian_day) (day_of julian_day) }
+{
+    if !is_julian_day(julian_day) {
+        return None;
+    }
+    Some((i64::from(julian_day) - FIRST_JULIAN_DAY) as u32)
+}
+
+/// The date that has the Julian day.
+pub fn date_with(julian_day: i64) -> DateResult
+    ensures past_range { ¬ IsJulianDay julian_day → result ≡ date_refused past_range }
+    ensures day { IsJulianDay julian_day → result ≡ date_done julian_day }
+{
+    if !is_in_range(julian_day) {
+        return DateResult::refused(PAST_RANGE);
+    }
+    DateResult {
+        status: DONE,
+        date: julian_day as i32,
+    }
+}
+
+/// The date so many days later.
+pub fn days_later(julian_day: i32, days: i64) -> DateResult
+    ensures past_range { ¬ IsJulianDay (julian_day +ℤ days) → result ≡ date_refused past_range }
+    ensures day { IsJulianDay (julian_day +ℤ days) → result ≡ date_done (julian_day +ℤ days) }
+{
+    match i64::from(julian_day).checked_add(days) {
+        Some(julian_day) => date_with(julian_day),
+        None => DateResult::refused(PAST_RANGE),
+    }
+}
+
+/// The date so many days earlier.
+pub fn days_earlier(julian_day: i32, days: i64) -> DateResult
+    ensures past_range { ¬ IsJulianDay (julian_day -ℤ days) → result ≡ date_refused past_range }
+    ensures day { IsJulianDay (julian_day -ℤ days) → result ≡ date_done (julian_day -ℤ days) }
+{
+    match i64::from(julian_day).checked_sub(days) {
+        Some(julian_day) => date_with(julian_day),
+        None => DateResult::refused(PAST_RANGE),
+    }
+}
+
+/// The date that is nearest to so many days later.
+pub fn days_later_held(julian_day: i32, days: i64) -> DateResult
+    ensures { result ≡ date_done (julian_nearest (julian_day +ℤ days)) }
+{
+    date_nearest_to(i64::from(julian_day).saturating_add(days))
+}
+
+/// The date that is nearest to so many days earlier.
+pub fn days_earlier_held(julian_day: i32, days: i64) -> DateResult
+    ensures { result ≡ date_done (julian_nearest (julian_day -ℤ days)) }
+{
+    date_nearest_to(i64::from(julian_day).saturating_sub(days))
+}
+
+/// The date of the range that is nearest to the Julian day.
+pub fn date_nearest_to(julian_day: i64) -> DateResult
+    ensures { result ≡ date_done (julian_nearest julian_day) }
+{
+    DateResult {
+        status: DONE,
+        date: julian_day.max(FIRST_JULIAN_DAY).min(LAST_JULIAN_DAY) as i32,
+    }
+}
+
+/// Day `number` of the range, counted from 0, where there is one.
+pub fn day_if_any(number: u32) -> DateResult
+    ensures { result ≡ date_if_any (if nat_le number last_day then Some number else None) }
+{
+    if number > LAST_NUMBER {
+        return DateResult::refused(PAST_RANGE);
+    }
+    DateResult {
+        status: DONE,
+        date: (i64::from(number) + FIRST_JULIAN_DAY) as i32,
+    }
+}
+
+/// The duration from the one day to the other.
+pub fn days_between(from: i32, to: i32) -> SignedDuration
+    ensures { result ≡ (to -ℤ from) *ℤ pos day }
+{
+    SignedDuration::days(i64::from(to) - i64::from(from))
+}
+
+/// The weekday of day `number`, from Monday, 1. The first day of the range is a Monday.
+pub fn weekday_of_number(number: u32) -> u8
+    ensures { result ≡ weekday_at number + 1 }
+{
+    (number % 7) as u8 + 1
+}
