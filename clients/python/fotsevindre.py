@@ -15,7 +15,8 @@ A component out of its range raises `ComponentRange`, and a text of no form that
 `checked_`, and the few others that say so, return `None` past the end of the range; operators and the rest raise `OverflowError` there. A
 value of the wrong type raises `TypeError`. No number wraps, however great it is.
 
-Values are immutable. They compare and hash as their number, a date-time at an offset as its instant, and `str` and `repr` give the text of the library.
+Values are immutable. They compare and hash as their number, a date-time at an offset as its instant, and `str` and `repr` give the text of
+the library.
 """
 
 from __future__ import annotations
