@@ -1,4 +1,4 @@
-/* The calendar of Fotsevindre, for C and C++: dates, times of day, offsets from UTC, durations, months and weekdays.
+/* The calendar of Fotsevindre, for C and C++: dates, times of day, moments, offsets from UTC, durations, months and weekdays.
  *
  * Values are plain numbers, and each is checked by each call that it is passed to:
  *

@@ -1,4 +1,4 @@
-"""The calendar of Fotsevindre for Python: dates, times of day, offsets from UTC, durations, months and weekdays.
+"""The calendar of Fotsevindre for Python: dates, times of day, date-times, offsets from UTC, durations, months and weekdays.
 
 The names are those of the Rust crate `time`. Each answer comes from the library of Fotsevindre, which is proved, through its C calls;
 this file is the caller alone, and it is tested. It takes the shared object that the variable FOTSEVINDRE_LIBRARY names, or else
@@ -15,7 +15,8 @@ A component out of its range raises `ComponentRange`, and a text of no form that
 `checked_`, and the few others that say so, return `None` past the end of the range; operators and the rest raise `OverflowError` there. A
 value of the wrong type raises `TypeError`. No number wraps, however great it is.
 
-Values are immutable. They compare and hash as their number, and `str` and `repr` give the text of the library.
+Values are immutable. They compare and hash as their number, a date-time at an offset as its instant, and `str` and `repr` give the text of
+the library.
 """
 
 from __future__ import annotations

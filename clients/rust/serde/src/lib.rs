@@ -1,6 +1,7 @@
 //! Values of [`fotsevindre`] as their texts in serde, by `#[serde(with = "fotsevindre_serde::text")]` at a field, or
 //! `"fotsevindre_serde::option"` at one that may be absent: a [`Date`] as `2024-02-29`, a [`Time`] as `9:05:00.12`, a [`UtcOffset`] as
-//! `+01:00:00`, a [`Month`] and a [`Weekday`] by their names. Each reads what its `FromStr` reads.
+//! `+01:00:00`, a [`Month`] and a [`Weekday`] by their names, a [`PlainDateTime`] and an [`OffsetDateTime`] as they print. Each reads
+//! what its `FromStr` reads.
 //!
 //! It is a crate of its own, as cargo looks for an optional dependency in a registry even where its feature is off, and `fotsevindre`
 //! builds without one.
@@ -28,7 +29,7 @@
 use core::fmt::{self, Display};
 use core::marker::PhantomData;
 use core::str::FromStr;
-use fotsevindre::{Date, Month, Time, UtcOffset, Weekday};
+use fotsevindre::{Date, Month, OffsetDateTime, PlainDateTime, Time, UtcOffset, Weekday};
 use serde::de::{Deserializer, Error, Visitor};
 use serde::ser::Serializer;
 
@@ -36,6 +37,8 @@ use serde::ser::Serializer;
 pub trait Text: Display + FromStr<Err: Display> {}
 
 impl Text for Date {}
+impl Text for PlainDateTime {}
+impl Text for OffsetDateTime {}
 impl Text for Time {}
 impl Text for UtcOffset {}
 impl Text for Month {}

@@ -1,6 +1,6 @@
 //! Values in JSON, and what is refused there.
 
-use fotsevindre::{Date, Month, Time, UtcOffset, Weekday};
+use fotsevindre::{Date, Month, OffsetDateTime, PlainDateTime, Time, UtcOffset, Weekday};
 use serde::{Deserialize, Serialize};
 
 #[derive(Serialize, Deserialize, Debug, PartialEq)]
@@ -55,4 +55,21 @@ fn refusals() {
         let error = serde_json::from_str::<Day>(text).unwrap_err().to_string();
         assert!(error.contains(words), "{error}");
     }
+}
+
+#[derive(Serialize, Deserialize, Debug, PartialEq)]
+struct Flight {
+    #[serde(with = "fotsevindre_serde::text")]
+    leaves: PlainDateTime,
+    #[serde(with = "fotsevindre_serde::text")]
+    lands: OffsetDateTime,
+}
+
+#[test]
+fn date_times() {
+    let text = r#"{"leaves":"2024-02-29 23:59:59.25","lands":"2024-03-01 4:05:00.0 +01:00:00"}"#;
+    let flight: Flight = serde_json::from_str(text).unwrap();
+    assert_eq!(serde_json::to_string(&flight).unwrap(), text);
+    let lands = text.replace("2024-03-01 4:05:00.0 +01:00:00", "2024-03-01T03:05:00Z");
+    assert_eq!(serde_json::from_str::<Flight>(&lands).unwrap(), flight);
 }
