@@ -9,5 +9,5 @@ pub returns-clause-text : goal.returns-clause-text
 returns-clause-text c =
     let m = c.args.moment in
     let small = unix-small m c.date.ensures.in_range (subst IsOffset c.offset.ensures.value c.offset.ensures.range) in
-    let value = c.sub.ensures ∙ ap (λ epoch. instant m -ℤ epoch) c.unix_epoch.ensures.instant in
+    let value = c.sub.ensures.0 ∙ ap (λ epoch. instant m -ℤ epoch) c.unix_epoch.ensures.instant in
     subst (λ v. HasUnixForm (unix_text v) (unix_nanoseconds (instant m))) (sym value) (printed (unix_nanoseconds (instant m)) small)
