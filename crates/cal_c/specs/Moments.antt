@@ -1,5 +1,5 @@
 -- Moments, as they cross: a date and a time of day, each as its number, at an offset.
-use Rattle.std.specs.Prelude.{◌≡◌, ℤ}
+use Rattle.std.specs.Prelude.{ℤ}
 use Rattle.cal_time.specs.Date.{julian_day_at}
 use Rattle.cal_time.specs.Time.{IsTime}
 use Rattle.cal_time.specs.UtcOffset.{IsOffset}
