@@ -1,4 +1,4 @@
-//! Each name that `cal_time` offers is used once here or in another module, with the conditions met.
+//! Each name that `cal_time` offers is used here or in another module, with the conditions met.
 ghost use Rattle.std.specs.Prelude.{◌+◌, ◌≤◌};
 ghost use Rattle.cal_time.specs.Date.{last_day};
 
