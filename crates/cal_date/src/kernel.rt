@@ -1,4 +1,8 @@
 //! The kernel of a Julian day: five numbers, by two multiplications, that give its year, ordinal and leap mark.
+//!
+//! A quotient by a constant is a product with its cut reciprocal, whose low half is the part that has gone by. That is the method of
+//! Cassio Neri and Lorenz Schneider, "Euclidean affine functions and their application to calendar algorithms" (2023); the constants
+//! are those of the crate `time`.
 ghost use Rattle.std.specs.Prelude.{◌≡◌, ◌≢◌, ℕ, ◌+◌, ◌*◌, ◌/◌, ◌%◌, ◌^◌, ◌<◌, ◌-ℤ◌, IfSome, None};
 ghost use Rattle.cal_units.specs.Lengths.{is_leap_year};
 ghost use Rattle.cal_date.specs.Date.{first_julian_day, IsDate, IsYear, HasJulianDay, HasOrdinalDate, NoDate};

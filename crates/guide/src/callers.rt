@@ -1,10 +1,10 @@
 //! Callers that know the clauses alone: what the documentation says of a call is provable here.
-ghost use Rattle.std.specs.Prelude.{◌≡◌, ℕ, ◌+◌, ◌-◌, ◌<◌, ◌≤◌, ◌+ℤ◌, ◌-ℤ◌, ◌≤ℤ◌, ◌==◌, pos, IfOk, IfSome, IsNone, ◌↔◌, Some, Ok};
+ghost use Rattle.std.specs.Prelude.{◌≡◌, ℕ, ◌+◌, ◌-◌, ◌<◌, ◌≤◌, ◌+ℤ◌, ◌-ℤ◌, ◌≤ℤ◌, ◌==◌, pos, IfOk, IfSome, IsNone, IsSome, ◌↔◌, Some, Ok};
 ghost use Rattle.cal_time.specs.Date.{last_day, year_at, month_at, day_of_month_at, ordinal_at, weekday_at};
 ghost use Rattle.cal_time.specs.Lengths.{days_in_year, days_in_month};
 
 use cal_time::util::{days_in_month, days_in_year, weeks_in_year};
-use cal_time::{Date, Month, SignedDuration, Weekday};
+use cal_time::{Date, Month, SignedDuration, Time, Weekday, add_to_pair};
 use std::io;
 
 /// How many whole years someone who was born on the one day has lived on the other, that day or a later one.
@@ -155,6 +155,14 @@ fn there_and_back_by(date: Date, duration: SignedDuration) -> Option<Date>
     Some(back)
 }
 
+/// The pair of date and time that a move by nothing leads to: there is one, as the parts say that the two are in their ranges.
+fn moved_by_nothing(date: Date, time: Time) -> Option<(Date, Time)>
+    ensures { IsSome result }
+{
+    let _ = (date.year(), time.hour());
+    add_to_pair(date, time, SignedDuration::ZERO)
+}
+
 /// The day a week before, where there is one.
 fn a_week_back(date: Date) -> Option<Date>
     ensures back { IfSome result (λ day. day + 7 ≡ date) }
@@ -245,6 +253,7 @@ pub fn show(rt: &impl Print) -> io::Result<()> {
     println!(rt; "{} {}", extra_weeks(2020), weeks_gone(day))?;
     println!(rt; "{:?}", last_friday(2024, Month::February))?;
     println!(rt; "{:?}", there_and_back_by(day, SignedDuration::DAY))?;
+    println!(rt; "{:?}", moved_by_nothing(day, Time::MAX))?;
     println!(rt; "{:?} {:?}", a_week_back(day), due(day))?;
     println!(rt; "{:?} {}", next_thursday(day), not_before(day, 1))?;
     println!(rt; "{} {}", is_last(day), working_days(born, day))

@@ -1,7 +1,8 @@
-//! Each name that `cal_time` offers, used once, with the conditions met.
+//! Each name that `cal_time` offers is used here or in another module, with the conditions met.
 ghost use Rattle.std.specs.Prelude.{◌+◌, ◌≤◌};
 ghost use Rattle.cal_time.specs.Date.{last_day};
 
+use cal_time::error::{Component, ComponentRange, ConversionRange, InvalidVariant};
 use cal_time::iter::{CycleIter, DateIter, MonthIter, Rev, WeekdayIter};
 use cal_time::util::{
     DateAdjustment, days_in_month, days_in_year, days_in_year_month, is_leap_year, weeks_in_year,
@@ -141,6 +142,18 @@ fn sums(rt: &impl Print, duration: SignedDuration) -> io::Result<()> {
     Ok(())
 }
 
+fn constants(rt: &impl Print) -> io::Result<()> {
+    for unit in [
+        SignedDuration::NANOSECOND,
+        SignedDuration::MICROSECOND,
+        SignedDuration::MILLISECOND,
+        SignedDuration::MINUTE,
+    ] {
+        println!(rt; "{unit}")?;
+    }
+    println!(rt; "{} {}", SignedDuration::MIN, SignedDuration::MAX)
+}
+
 fn times(rt: &impl Print, time: Time) -> io::Result<()> {
     println!(rt; "{:?} {:?}", time.as_hms(), time.as_hms_milli())?;
     println!(rt; "{:?} {:?}", time.as_hms_micro(), time.as_hms_nano())?;
@@ -271,12 +284,22 @@ fn walks(rt: &impl Print, date: Date) -> io::Result<()> {
     println!(rt; "{:?} {:?} {}", walk.next(), walk.next_back(), walk.len())
 }
 
+fn errors(rt: &impl Print) -> io::Result<()> {
+    let month = ComponentRange::unconditional(Component::Month);
+    println!(rt; "{month}: {}", month.is_conditional())?;
+    let week = ComponentRange::conditional(Component::Week);
+    println!(rt; "{}: {}", week.component().name(), week.is_conditional())?;
+    println!(rt; "{InvalidVariant}")?;
+    println!(rt; "{ConversionRange}")
+}
+
 pub fn show(rt: &impl Print) -> io::Result<()> {
     lengths(rt, 2020, Month::February)?;
     months(rt, Month::June)?;
     weekdays(rt, Weekday::Friday)?;
     durations(rt, SignedDuration::seconds(-694_861))?;
     sums(rt, SignedDuration::HOUR)?;
+    constants(rt)?;
     if let Ok(time) = Time::from_hms_nano(1, 2, 3, 4_005_006) {
         times(rt, time)?;
         made_times(rt, time)?;
@@ -292,5 +315,5 @@ pub fn show(rt: &impl Print) -> io::Result<()> {
     {
         println!(rt; "{:?}", occurrences(date))?;
     }
-    Ok(())
+    errors(rt)
 }

@@ -65,6 +65,7 @@ impl Date {
     /// The month. That of 2020-02-29 is February.
     pub fn month(self) -> Month
         ensures counted { number result ≡ month_at self }
+        ensures range { (1 ≤ month_at self) × (month_at self ≤ 12) }
         ensures closed_form { number result ≡ month_of_ordinal (is_leap_year (year_at self)) (ordinal_at self) }
         ensures in_range { IsDate self }
     {

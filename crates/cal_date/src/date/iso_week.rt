@@ -59,6 +59,7 @@ impl Date {
     #[tactic(auto, using(crate::proofs::IsoForms::weekdays))]
     pub fn weekday(self) -> Weekday
         ensures counted { place result ≡ weekday_at self }
+        ensures range { weekday_at self < 7 }
         ensures in_range { IsDate self }
     {
         Weekday::at(weekday_place(self.year(), self.ordinal()))
@@ -96,7 +97,7 @@ impl Date {
     #[tactic(auto, using(crate::proofs::Weekdays::weeks_begun))]
     pub fn sunday_based_week(self) -> u8
         ensures counted { result ≡ weekdays_upto 6 self }
-        ensures most { result ≤ 53 }
+        ensures range { result ≤ 53 }
         ensures in_range { IsDate self }
     {
         ((self.ordinal() + 6 - u16::from(self.weekday().number_days_from_sunday())) / 7) as u8
@@ -107,7 +108,7 @@ impl Date {
     #[tactic(auto, using(crate::proofs::Weekdays::weeks_begun))]
     pub fn monday_based_week(self) -> u8
         ensures counted { result ≡ weekdays_upto 0 self }
-        ensures most { result ≤ 53 }
+        ensures range { result ≤ 53 }
         ensures in_range { IsDate self }
     {
         ((self.ordinal() + 6 - u16::from(self.weekday().number_days_from_monday())) / 7) as u8
