@@ -1,20 +1,44 @@
 -- What a row of a column is answered: as by the single call.
-use Rattle.std.specs.Prelude.{◌≡◌, ℕ, ℤ, pos, ◌+◌, ◌-◌, ◌+ℤ◌, Bool, not}
-use Rattle.std.specs.Ordering.{int_eq}
+use Rattle.std.specs.Prelude.{◌≡◌, ℕ, ℤ, pos, ◌+◌, ◌-◌, ◌+ℤ◌, Bool, not, ◌==◌}
 use Rattle.cal_time.specs.Date.{julian_day_at, weekday_at, IsDate, IsYear, IsDayOfMonth, IsOrdinal, HasCalendarDate, HasOrdinalDate, NoDate}
 use Rattle.cal_time.specs.IsoWeekDate.{IsWeek, HasIsoWeekDate}
-use Rattle.cal_c.specs.Results.{date_done, date_refused, IsDayWith, number_done, number_refused, calendar_date_done, calendar_date_refused, ordinal_date_done, ordinal_date_refused, iso_week_date_done, iso_week_date_refused}
+use Rattle.cal_c.specs.Results.{date_done, date_refused, IsDayWith, calendar_date_done, calendar_date_refused, ordinal_date_done, ordinal_date_refused, iso_week_date_done, iso_week_date_refused}
 use Rattle.cal_c.specs.Statuses.{done, past_range, bad_date, bad_weekday, year_refused, month_refused, julian_day_refused, day_refused, ordinal_refused, week_refused, weekday_refused}
 use Rattle.cal_c.specs.Values.{IsJulianDay, IsMonth, IsWeekday, day_of}
 use Rattle.cal_c.specs.declared.results.DateResult.{DateResult}
-use Rattle.cal_c.specs.declared.results.NumberResult.{NumberResult}
 use Rattle.cal_c.specs.declared.results.CalendarDateResult.{CalendarDateResult}
 use Rattle.cal_c.specs.declared.results.OrdinalDateResult.{OrdinalDateResult}
 use Rattle.cal_c.specs.declared.results.IsoWeekDateResult.{IsoWeekDateResult}
 
 -- there is no answer
-abbrev pub is_refused : ℤ → Bool
-is_refused status = not (int_eq status done)
+abbrev pub is_refused : ℕ → Bool
+is_refused status = not (status == 0)
+
+-- the arrays are of one length
+abbrev pub Alike3 : ℕ → ℕ → ℕ → Type 0
+Alike3 a b c = (b ≡ a) × (c ≡ a)
+
+abbrev pub Alike4 : ℕ → ℕ → ℕ → ℕ → Type 0
+Alike4 a b c d = (b ≡ a) × (c ≡ a) × (d ≡ a)
+
+abbrev pub Alike5 : ℕ → ℕ → ℕ → ℕ → ℕ → Type 0
+Alike5 a b c d e = (b ≡ a) × (c ≡ a) × (d ≡ a) × (e ≡ a)
+
+abbrev pub Alike7 : ℕ → ℕ → ℕ → ℕ → ℕ → ℕ → ℕ → Type 0
+Alike7 a b c d e f g = (b ≡ a) × (c ≡ a) × (d ≡ a) × (e ≡ a) × (f ≡ a) × (g ≡ a)
+
+-- ---- a row of several arrays, as the result of the single call
+abbrev pub date_row : ℤ → ℕ → DateResult
+date_row date status = record { status = pos status; date = date }
+
+abbrev pub calendar_date_row : ℤ → ℕ → ℕ → ℕ → CalendarDateResult
+calendar_date_row year month day status = record { status = pos status; year = year; month = month; day = day }
+
+abbrev pub ordinal_date_row : ℤ → ℕ → ℕ → OrdinalDateResult
+ordinal_date_row year ordinal status = record { status = pos status; year = year; ordinal = ordinal }
+
+abbrev pub iso_week_date_row : ℤ → ℕ → ℕ → ℕ → IsoWeekDateResult
+iso_week_date_row year week weekday status = record { status = pos status; year = year; week = week; weekday = weekday }
 
 -- as `fots_date_from_julian_day`
 pub record IsDateOfJulianDay (julian_day : ℤ) (r : DateResult) : Type 0 where
@@ -57,10 +81,18 @@ pub record IsIsoWeekDateOf (date : ℤ) (r : IsoWeekDateResult) : Type 0 where
   pub bad_date : (IsJulianDay date → ⊥) → r ≡ iso_week_date_refused bad_date
   pub value : IsJulianDay date → r ≡ iso_week_date_done (day_of date)
 
--- as `fots_date_weekday`
-pub record IsWeekdayOf (date : ℤ) (r : NumberResult) : Type 0 where
-  pub bad_date : (IsJulianDay date → ⊥) → r ≡ number_refused bad_date
-  pub value : IsJulianDay date → r ≡ number_done (pos (weekday_at (day_of date) + 1))
+-- as `fots_date_weekday`, but for the number where there is none
+pub record IsWeekdayOf (date : ℤ) (weekday status : ℕ) : Type 0 where
+  pub bad_date : (IsJulianDay date → ⊥) → (weekday ≡ 0) × (pos status ≡ bad_date)
+  pub value : IsJulianDay date → (weekday ≡ weekday_at (day_of date) + 1) × (pos status ≡ done)
+
+-- as `fots_date_from_calendar_date`, and then `fots_date_to_iso_week_date`
+pub record IsIsoWeekDateOfCalendarDate (year : ℤ) (month : ℕ) (day : ℕ) (r : IsoWeekDateResult) : Type 0 where
+  pub no_month : (IsMonth month → ⊥) → r ≡ iso_week_date_refused month_refused
+  pub no_year : IsMonth month → (IsYear year → ⊥) → r ≡ iso_week_date_refused year_refused
+  pub no_day : IsMonth month → IsYear year → (IsDayOfMonth year month day → ⊥) → r ≡ iso_week_date_refused day_refused
+  pub value : IsMonth month → IsYear year → IsDayOfMonth year month day
+      → (n : ℕ) × IsDate n × HasCalendarDate year month day n × (r ≡ iso_week_date_done n)
 
 -- as `fots_date_add_days`
 pub record IsDateMoved (date : ℤ) (days : ℤ) (r : DateResult) : Type 0 where

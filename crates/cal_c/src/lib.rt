@@ -5,7 +5,7 @@
 //! pointer, allocates, or has a state.
 #![tactic(auto)]
 
-mod batch;
+mod columns;
 mod cycle;
 mod date;
 mod duration;

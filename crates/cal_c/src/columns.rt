@@ -1,0 +1,41 @@
+//! Whole columns: each call answers row by row what its single call does, and counts the rows that have no answer.
+//!
+//! A column is one array for each part of a value, and one of status bytes. What one call writes is what the next one takes. Where
+//! the arrays of a call are not of one length, nothing is written, and the answer is the greatest number.
+ghost use Rattle.std.specs.Prelude.{◌≡◌, ◌↔◌, IsTrue, if◌then◌else◌};
+ghost use Rattle.cal_c.specs.Columns.{is_refused};
+ghost use Rattle.cal_c.specs.Values.{IsJulianDay};
+
+mod making;
+mod moves;
+mod parts;
+mod statuses;
+
+use statuses::DONE;
+
+/// What a call answers where its arrays are not of one length.
+const UNLIKE: usize = usize::MAX;
+
+/// What stands for the date or the year of a row that has none.
+const NOTHING: i32 = i32::MIN;
+
+/// The Julian days of the first date and of the last.
+const FIRST_JULIAN_DAY: i64 = -363_521_074;
+
+const LAST_JULIAN_DAY: i64 = 366_963_559;
+
+/// Whether a date has the Julian day.
+#[inline(always)]
+fn is_date(julian_day: i64) -> bool
+    ensures { IsTrue result ↔ IsJulianDay julian_day }
+{
+    julian_day >= FIRST_JULIAN_DAY && julian_day <= LAST_JULIAN_DAY
+}
+
+/// 1 where there is no answer, else 0.
+#[inline(always)]
+fn one_if_refused(status: u8) -> usize
+    ensures { result ≡ (if is_refused status then 1 else 0) }
+{
+    if status == DONE { 0 } else { 1 }
+}

@@ -1,0 +1,46 @@
+//! The status of a row in one byte: each status is below 256.
+ghost use Rattle.std.specs.Prelude.{◌≡◌, pos};
+ghost use Rattle.cal_time.specs.Refusals.{year_out_of_range, day_out_of_range, ordinal_out_of_range, week_out_of_range, weekday_out_of_range};
+ghost use Rattle.cal_c.specs.Statuses.{year_refused, day_refused, ordinal_refused, week_refused, weekday_refused};
+
+use crate::status;
+use cal_time::error::{Component, ComponentRange};
+
+pub(super) const DONE: u8 = status::DONE as u8;
+
+pub(super) const PAST_RANGE: u8 = status::PAST_RANGE as u8;
+
+pub(super) const BAD_DATE: u8 = status::BAD_DATE as u8;
+
+pub(super) const BAD_WEEKDAY: u8 = status::BAD_WEEKDAY as u8;
+
+pub(super) const YEAR: u8 = status::YEAR as u8;
+
+pub(super) const MONTH: u8 = status::MONTH as u8;
+
+pub(super) const JULIAN_DAY: u8 = status::JULIAN_DAY as u8;
+
+pub(super) const DAY: u8 = status::DAY as u8;
+
+pub(super) const ORDINAL: u8 = status::ORDINAL as u8;
+
+pub(super) const WEEK: u8 = status::WEEK as u8;
+
+pub(super) const WEEKDAY: u8 = status::WEEKDAY as u8;
+
+/// The status of a refusal by a constructor of a date.
+pub(super) fn status_of(error: ComponentRange) -> u8
+    ensures year { error ≡ year_out_of_range → pos result ≡ year_refused }
+    ensures day { error ≡ day_out_of_range → pos result ≡ day_refused }
+    ensures ordinal { error ≡ ordinal_out_of_range → pos result ≡ ordinal_refused }
+    ensures week { error ≡ week_out_of_range → pos result ≡ week_refused }
+    ensures weekday { error ≡ weekday_out_of_range → pos result ≡ weekday_refused }
+{
+    match error.component() {
+        Component::Year => YEAR,
+        Component::Day => DAY,
+        Component::Ordinal => ORDINAL,
+        Component::Week => WEEK,
+        _ => WEEKDAY,
+    }
+}
