@@ -151,9 +151,4 @@ magnitude-printed ds n h e =
 pub below-nine : (ds : List ℕ) (n : ℕ) → length ds ≤ 9 → n < 10 ^ length ds → n < 10 ^ 9
 below-nine ds n few below = let more : 10 ^ length ds ≤ 10 ^ 9 = pow-le-pow_right (lit< tt) few in omega (arith, more, below)
 
-pub digits_at_least-first : (n : ℕ) → n < 10 ^ 9 → 48 ≤ get_or (digits_at_least 4 n) 0 0
-digits_at_least-first n small =
-    let long = (digits_at_least-magnitude n small).least in
-    (digit_at (digits_at_least 4 n) 0 (digits_at_least-digits 4 n small) (omega arith)).0
-
 pub ruleset numbers = (digits-turn, value-turn, value-small, not_digits, digits_at_least-digits, digits_at_least-value, digits-printed, digits_value-lt, take_all, not_in_range, ints, nat_tests)

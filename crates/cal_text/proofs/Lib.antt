@@ -16,6 +16,15 @@ mod UnixForms
 mod UnixReads
 mod Results
 mod Shapes
+pub mod ReadDigits
+pub mod YearDigits
+pub mod DigitParts
+pub mod YearParts
+pub mod FormReads
+pub mod FormShapes
+pub mod Stops
+pub mod Positions
+pub mod Parts
 mod Components
 mod OneAnswer
 mod AnyForms

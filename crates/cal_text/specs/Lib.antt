@@ -1,3 +1,5 @@
+pub mod Position
+pub mod Shape
 pub mod DateForms
 pub mod Reading
 pub mod ErrorText

@@ -5,12 +5,13 @@ ghost use Rattle.cal_time.specs.Month.{month_out_of_range};
 ghost use Rattle.cal_time.specs.Refusals.{year_out_of_range, day_out_of_range, ordinal_out_of_range, week_out_of_range, weekday_out_of_range};
 ghost use Rattle.cal_text.specs.declared.form.Form.{Form};
 ghost use Rattle.cal_text.specs.DateForms.{IsDateText, HasForm};
+ghost use Rattle.cal_text.specs.Position.{HasSome, IsAtStop};
 ghost use Rattle.cal_text.specs.Reading.{component_of, IsOnDay, IsRefusedFor, IsRefusedForForm, IsDateReason, HasFormThat, LacksMonth, LacksYear, LacksDay, LacksOrdinal, LacksWeek, LacksWeekday};
 
 use crate::date::of_form::date_of;
-use crate::date::place::first_wrong_byte;
 use crate::error::Unreadable;
 use crate::form::{Form, form_of};
+use crate::scanner::Scanner;
 use cal_time::Date;
 
 mod display;
@@ -25,8 +26,8 @@ pub use display::{CalendarText, OrdinalText, WeekText};
 /// and four digits or more below. The weekday is from 1, Monday, to 7. Each text reads as the day that prints it, and no
 /// other text is read: no spaces, no zeros before a year of more than four digits, nothing after the date.
 ///
-/// A text of another form is refused with the place of the first byte that no text of these forms has there. Years may
-/// have up to nine digits. Otherwise the first component at fault is the reason: `month`, `year` outside -999999 to 999999,
+/// A text of another form is refused with the position of the first byte that no text of these forms has there, which is the length
+/// of a text that ends too early. Years may have up to nine digits. Otherwise the first component at fault is the reason: `month`, `year` outside -999999 to 999999,
 /// `day`, `ordinal`, `week`, or `weekday` after the last day of the range.
 pub fn read(text: &[u8]) -> Result<Date, Unreadable>
     ensures every { (n : ℕ) → IsDate n → IsDateText text.now n → result ≡ Ok n }
@@ -36,6 +37,7 @@ pub fn read(text: &[u8]) -> Result<Date, Unreadable>
     ensures refused { IsErr result ↔ ((n : ℕ) → IsDate n → ¬ IsDateText text.now n) }
     ensures reason { IfErr result (λ e. IsDateReason (component_of e)) }
     ensures form { IsRefusedForForm result ↔ ((form : Form) → ¬ HasForm text.now form) }
+    ensures position { IfErr result (IsAtStop (HasSome HasForm) text.now) }
     ensures month { IsRefusedFor month_out_of_range result ↔ HasFormThat LacksMonth text.now }
     ensures year { IsRefusedFor year_out_of_range result ↔ HasFormThat LacksYear text.now }
     ensures day { IsRefusedFor day_out_of_range result ↔ HasFormThat LacksDay text.now }
@@ -55,6 +57,7 @@ pub(crate) fn form_and_date(text: &[u8]) -> Result<(Form, Date), Unreadable>
     ensures has { IfOk result (λ found. IsDate found.1 × HasForm text.now found.0 × IsOnDay found.0 found.1) }
     ensures reason { IfErr result (λ e. IsDateReason (component_of e)) }
     ensures form { IsRefusedForForm result ↔ ((form : Form) → ¬ HasForm text.now form) }
+    ensures position { IfErr result (IsAtStop (HasSome HasForm) text.now) }
     ensures month { IsRefusedFor month_out_of_range result ↔ HasFormThat LacksMonth text.now }
     ensures year { IsRefusedFor year_out_of_range result ↔ HasFormThat LacksYear text.now }
     ensures day { IsRefusedFor day_out_of_range result ↔ HasFormThat LacksDay text.now }
@@ -62,11 +65,12 @@ pub(crate) fn form_and_date(text: &[u8]) -> Result<(Form, Date), Unreadable>
     ensures week { IsRefusedFor week_out_of_range result ↔ HasFormThat LacksWeek text.now }
     ensures weekday { IsRefusedFor weekday_out_of_range result ↔ HasFormThat LacksWeekday text.now }
 {
-    match form_of(text) {
+    let mut scanner = Scanner { rest: text };
+    match form_of(&mut scanner) {
         Some(form) => match date_of(form) {
             Ok(date) => Ok((form, date)),
             Err(error) => Err(Unreadable::OutOfRange(error)),
         },
-        None => Err(Unreadable::UnexpectedByte(first_wrong_byte(text))),
+        None => Err(Unreadable::UnexpectedByte(text.len() - scanner.rest.len())),
     }
 }

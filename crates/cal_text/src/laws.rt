@@ -13,6 +13,7 @@ use crate::date::read;
 use crate::error::Unreadable;
 use crate::form::{Form, form_of};
 use crate::rfc3339;
+use crate::scanner::Scanner;
 use cal_datetime::OffsetDateTime;
 use cal_time::Date;
 
@@ -28,7 +29,7 @@ pub(crate) fn one_day(text: &[u8]) -> Result<Date, Unreadable>
 pub(crate) fn one_form(text: &[u8]) -> Option<Form>
     ensures { (f g : Form) → HasForm text.now f → HasForm text.now g → f ≡ g }
 {
-    form_of(text)
+    form_of(&mut Scanner { rest: text })
 }
 
 /// No text is in two of the six forms, nor is it that of two dates or moments.

@@ -1,78 +1,138 @@
 //! The year of a date in text.
-ghost use Rattle.std.specs.Prelude.{◌≡◌, ◌≢◌, ℕ, ◌+◌, ◌<◌, ◌≤◌, ◌^◌, ℤ, List, ◌∷◌, ◌++◌, length, drop, slice_index, IfSome, IfNone, IsSomeAnd, Some, unsigned_abs};
+ghost use Rattle.std.specs.Prelude.{◌≡◌, ℕ, ◌+◌, ◌*◌, ◌<◌, ◌≤◌, ◌^◌, ◌∷◌, ◌++◌, IfSome};
 ghost use Rattle.cal_time.specs.DateText.{digits_at_least};
 ghost use Rattle.cal_text.specs.DateForms.{year_text, IsWrittenYear};
+ghost use Rattle.cal_text.specs.Shape.{Shape, left, Scans, ReadsDigits, ReadsMore, UpTo, Digits, SomeDigits, ZeroAndThree, Above, Below, Unsigned, Year};
 
-use crate::digits::number_of;
+use crate::scanner::Scanner;
 
-/// The last year that has no sign.
-const LAST_PLAIN_YEAR: u32 = 9999;
-
-/// The year that the text begins with, and the place of what comes after it and a hyphen.
-pub(crate) fn year_before_hyphen(text: &[u8]) -> Option<(i32, usize)>
-    ensures every { (y : ℤ) (rest : List ℕ) → IsWrittenYear y → text.now ≡ year_text y ++ 45 ∷ rest
-        → IsSomeAnd result (λ found. (found.0 ≡ y) × (drop found.1 text.now ≡ rest)) }
-    ensures has { IfSome result (λ found. IsWrittenYear found.0 × (text.now ≡ year_text found.0 ++ 45 ∷ drop found.1 text.now)) }
-    ensures within { IfSome result (λ found. found.1 ≤ length text.now) }
+/// A year, and the hyphen after it.
+pub(crate) fn year(scanner: &mut Scanner) -> Option<i32>
+    ensures scans { Scans Year scanner.old.rest.now scanner.new.rest.now result }
+    ensures year { IfSome result (λ y. IsWrittenYear y × (scanner.old.rest.now ≡ year_text y ++ 45 ∷ scanner.new.rest.now)) }
 {
-    let hyphen = hyphen_of(text)?;
-    let year = year_of(&text[..hyphen])?;
-    Some((year, hyphen + 1))
+    match scanner.byte(b'+') {
+        Some(()) => {
+            let number = above_9999(scanner)?;
+            Some(number as i32)
+        }
+        None => unsigned(scanner),
+    }
 }
 
-/// The place of the first hyphen that is not a sign.
-fn hyphen_of(text: &[u8]) -> Option<usize>
-    ensures here { IfSome result (λ k. (1 ≤ k) × (k < length text.now) × (slice_index text.now k ≡ 45)) }
-    ensures first { IfSome result (λ k. (j : ℕ) → 1 ≤ j → j < k → slice_index text.now j ≢ 45) }
-    ensures none { IfNone result ((j : ℕ) → 1 ≤ j → j < length text.now → slice_index text.now j ≢ 45) }
+/// A year without a plus sign, and the hyphen after it.
+fn unsigned(scanner: &mut Scanner) -> Option<i32>
+    ensures scans { Scans Unsigned scanner.old.rest.now scanner.new.rest.now result }
+    ensures year { IfSome result (λ y. IsWrittenYear y × (scanner.old.rest.now ≡ year_text y ++ 45 ∷ scanner.new.rest.now)) }
 {
-    for i in 1..text.len() {
-        if text[i] == b'-' {
-            return Some(i);
+    match scanner.byte(b'-') {
+        Some(()) => {
+            let number = above_0(scanner)?;
+            Some(-(number as i32))
+        }
+        None => {
+            let number = scanner.four_digits()?;
+            scanner.byte(b'-')?;
+            Some(number as i32)
         }
     }
-    None
 }
 
-/// The year that a whole text is.
-fn year_of(text: &[u8]) -> Option<i32>
-    ensures every { (y : ℤ) → IsWrittenYear y → text.now ≡ year_text y → result ≡ Some y }
-    ensures has { IfSome result (λ y. IsWrittenYear y × (text.now ≡ year_text y)) }
+/// A number of five to nine digits that does not begin with a zero, and the hyphen after it.
+fn above_9999(scanner: &mut Scanner) -> Option<u32>
+    ensures scans { Scans Above scanner.old.rest.now scanner.new.rest.now result }
+    ensures number { IfSome result (λ n. (9999 < n) × (n < 10 ^ 9)
+        × (scanner.old.rest.now ≡ digits_at_least 4 n ++ 45 ∷ scanner.new.rest.now)) }
 {
-    if text.is_empty() {
-        return None;
-    }
-    if text[0] == b'-' {
-        let magnitude = magnitude_of(&text[1..])?;
-        return if magnitude == 0 {
-            None
-        } else {
-            Some(-(magnitude as i32))
-        };
-    }
-    if text[0] == b'+' {
-        let magnitude = magnitude_of(&text[1..])?;
-        return if magnitude <= LAST_PLAIN_YEAR {
-            None
-        } else {
-            Some(magnitude as i32)
-        };
-    }
-    let magnitude = magnitude_of(text)?;
-    if magnitude > LAST_PLAIN_YEAR {
-        return None;
-    }
-    Some(magnitude as i32)
+    let first = scanner.digit_from_1()?;
+    let four = scanner.four_digits()?;
+    let number = more_digits(scanner, first * 10_000 + four, 4);
+    scanner.byte(b'-')?;
+    Some(number)
 }
 
-/// The number of four digits, or of five to nine that do not begin with a zero.
-fn magnitude_of(digits: &[u8]) -> Option<u32>
-    ensures every { (n : ℕ) → n < 10 ^ 9 → digits.now ≡ digits_at_least 4 n → result ≡ Some n }
-    ensures has { IfSome result (λ n. (n < 10 ^ 9) × (digits.now ≡ digits_at_least 4 n)) }
+/// A number above 0 of four digits, or of five to nine that do not begin with a zero, and the hyphen after it.
+fn above_0(scanner: &mut Scanner) -> Option<u32>
+    ensures scans { Scans Below scanner.old.rest.now scanner.new.rest.now result }
+    ensures number { IfSome result (λ n. (0 < n) × (n < 10 ^ 9)
+        × (scanner.old.rest.now ≡ digits_at_least 4 n ++ 45 ∷ scanner.new.rest.now)) }
 {
-    let length = digits.len();
-    if length < 4 || length > 9 || (length > 4 && digits[0] == b'0') {
-        return None;
+    match scanner.digit_from_1() {
+        Some(first) => {
+            let three = scanner.three_digits()?;
+            let number = more_digits(scanner, first * 1000 + three, 5);
+            scanner.byte(b'-')?;
+            Some(number)
+        }
+        None => {
+            let number = zero_and_three(scanner)?;
+            scanner.byte(b'-')?;
+            Some(number)
+        }
     }
-    number_of(digits)
+}
+
+/// A zero and three digits, of which one is not 0.
+fn zero_and_three(scanner: &mut Scanner) -> Option<u32>
+    ensures scans { Scans ZeroAndThree scanner.old.rest.now scanner.new.rest.now result }
+    ensures number { IfSome result (λ n. ReadsDigits scanner.old.rest.now scanner.new.rest.now 4 n) }
+    ensures range { IfSome result (λ n. (0 < n) × (n < 1000)) }
+{
+    scanner.byte(b'0')?;
+    let number = some_of_three(scanner)?;
+    Some(number)
+}
+
+/// Three digits, of which one is not 0.
+fn some_of_three(scanner: &mut Scanner) -> Option<u32>
+    ensures scans { Scans (SomeDigits 2) scanner.old.rest.now scanner.new.rest.now result }
+    ensures number { IfSome result (λ n. ReadsDigits scanner.old.rest.now scanner.new.rest.now 3 n) }
+    ensures range { IfSome result (λ n. (0 < n) × (n < 1000)) }
+{
+    match scanner.digit_from_1() {
+        Some(first) => {
+            let second = scanner.digit()?;
+            let last = scanner.digit()?;
+            Some((first * 10 + second) * 10 + last)
+        }
+        None => {
+            scanner.byte(b'0')?;
+            let others = some_of_two(scanner)?;
+            Some(others)
+        }
+    }
+}
+
+/// Two digits, of which one is not 0.
+fn some_of_two(scanner: &mut Scanner) -> Option<u32>
+    ensures scans { Scans (SomeDigits 1) scanner.old.rest.now scanner.new.rest.now result }
+    ensures number { IfSome result (λ n. ReadsDigits scanner.old.rest.now scanner.new.rest.now 2 n) }
+    ensures range { IfSome result (λ n. (0 < n) × (n < 100)) }
+{
+    match scanner.digit_from_1() {
+        Some(first) => {
+            let last = scanner.digit()?;
+            Some(first * 10 + last)
+        }
+        None => {
+            scanner.byte(b'0')?;
+            let last = scanner.digit_from_1()?;
+            Some(last)
+        }
+    }
+}
+
+/// The number that the next digits make of one that is read, of which so many are read at most.
+fn more_digits(scanner: &mut Scanner, number: u32, most: usize) -> u32
+    requires { (number + 1) * 10 ^ most ≤ 10 ^ 9 }
+    ensures scans { (f : Shape) → left (UpTo most f) scanner.old.rest.now ≡ left f scanner.new.rest.now }
+    ensures digits { ReadsMore scanner.old.rest.now scanner.new.rest.now most number result }
+{
+    if most == 0 {
+        return number;
+    }
+    match scanner.digit() {
+        Some(digit) => more_digits(scanner, number * 10 + digit, most - 1),
+        None => number,
+    }
 }

@@ -8,9 +8,9 @@ ghost use Rattle.cal_text.specs.Rfc3339Form.{IsSeparator};
 
 use crate::any::{DateForm, DateOrMoment, MomentForm};
 use crate::date::form_and_date;
-use crate::date::place::first_wrong_byte;
 use crate::error::Unreadable;
-use crate::form::Form;
+use crate::form::{Form, form_of};
+use crate::scanner::Scanner;
 use crate::{julian_day, rfc3339, unix};
 
 /// The date by the Julian day that the text is.
@@ -56,14 +56,16 @@ pub(super) fn moment_in(text: &[u8]) -> Result<DateOrMoment, Unreadable>
     }
 }
 
-/// The error, at the place that a date goes on to where it goes on further: a date may have a sign.
+/// The error, at the position where a date goes on to if it goes on further: a date may have a sign.
 fn further(error: Unreadable, text: &[u8]) -> Unreadable
     ensures { component_of result ≡ component_of error }
 {
+    let mut scanner = Scanner { rest: text };
     match error {
-        Unreadable::UnexpectedByte(place) => {
-            Unreadable::UnexpectedByte(place.max(first_wrong_byte(text)))
-        }
+        Unreadable::UnexpectedByte(place) => match form_of(&mut scanner) {
+            Some(_) => Unreadable::UnexpectedByte(place),
+            None => Unreadable::UnexpectedByte(place.max(text.len() - scanner.rest.len())),
+        },
         Unreadable::OutOfRange(component) => Unreadable::OutOfRange(component),
     }
 }

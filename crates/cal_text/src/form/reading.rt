@@ -1,51 +1,78 @@
 //! The form that a text has.
-ghost use Rattle.std.specs.Prelude.{◌≡◌, ℕ, ◌<◌, ◌≤◌, ◌^◌, ◌∷◌, ◌++◌, IfSome, IfNone, Some};
+ghost use Rattle.std.specs.Prelude.{◌≡◌, ℕ, ◌-◌, ◌<◌, ◌≤◌, ◌^◌, ◌∷◌, ◌++◌, length, IfSome, IfNone, Some};
 ghost use Rattle.cal_time.specs.DateText.{digits_at_least};
 ghost use Rattle.cal_text.specs.declared.form.Form.{Form};
 ghost use Rattle.cal_text.specs.DateForms.{IsWrittenYear, year_of, rest_of, IsForm, HasForm};
+ghost use Rattle.cal_text.specs.Position.{HasSome, IsPosition};
+ghost use Rattle.cal_text.specs.Shape.{ScansWhole, week, month_or_ordinal, after_year, date};
 
 use crate::digits::number_of;
 use crate::form::Form;
-use crate::year::year_before_hyphen;
+use crate::scanner::Scanner;
+use crate::year::year;
 
-/// The bytes of a month and a day with a hyphen between them, and of a week and a weekday.
-const LENGTH_AFTER_YEAR: usize = 5;
-
-/// Sunday, as ISO 8601 counts weekdays.
-const LAST_WEEKDAY: u8 = 7;
-
-/// The form that the text has.
-pub(crate) fn form_of(text: &[u8]) -> Option<Form>
-    ensures every { (form : Form) → HasForm text.now form → result ≡ Some form }
-    ensures has { IfSome result (HasForm text.now) }
+/// The form that the rest of a text has, or `None` in front of the byte where it stops being of one.
+pub(crate) fn form_of(scanner: &mut Scanner) -> Option<Form>
+    ensures every { (form : Form) → HasForm scanner.old.rest.now form → result ≡ Some form }
+    ensures has { IfSome result (HasForm scanner.old.rest.now) }
+    ensures within { IfNone result (length scanner.new.rest.now ≤ length scanner.old.rest.now) }
+    ensures position { IfNone result (IsPosition (HasSome HasForm) scanner.old.rest.now (length scanner.old.rest.now - length scanner.new.rest.now)) }
 {
-    let (year, start) = year_before_hyphen(text)?;
-    form_after_year(year, &text[start..])
+    date(scanner)
 }
 
-/// The form of the year, and of the text after it and a hyphen.
-fn form_after_year(year: i32, rest: &[u8]) -> Option<Form>
-    requires { IsWrittenYear year }
-    ensures every { (form : Form) → IsForm form → year_of form ≡ year → rest.now ≡ rest_of form → result ≡ Some form }
-    ensures has { IfSome result (λ form. IsForm form × (year_of form ≡ year) × (rest.now ≡ rest_of form)) }
+fn date(scanner: &mut Scanner) -> Option<Form>
+    ensures scans { ScansWhole date scanner.old.rest.now scanner.new.rest.now result }
+    ensures has { IfSome result (HasForm scanner.old.rest.now) }
 {
-    if rest.len() == 3 {
-        let ordinal = number_of(rest)?;
-        return Some(Form::Ordinal(year, ordinal as u16));
+    let year = year(scanner)?;
+    after_year(scanner, year)
+}
+
+/// The form of the year, and of what comes after it and a hyphen.
+fn after_year(scanner: &mut Scanner, year: i32) -> Option<Form>
+    requires { IsWrittenYear year }
+    ensures scans { ScansWhole after_year scanner.old.rest.now scanner.new.rest.now result }
+    ensures has { IfSome result (λ form. IsForm form × (year_of form ≡ year) × (scanner.old.rest.now ≡ rest_of form)) }
+{
+    match scanner.byte(b'W') {
+        Some(()) => week(scanner, year),
+        None => month_or_ordinal(scanner, year),
     }
-    if rest.len() != LENGTH_AFTER_YEAR {
-        return None;
+}
+
+/// The form of the year, and of the week and the weekday after a letter W.
+fn week(scanner: &mut Scanner, year: i32) -> Option<Form>
+    requires { IsWrittenYear year }
+    ensures scans { ScansWhole week scanner.old.rest.now scanner.new.rest.now result }
+    ensures has { IfSome result (λ form. IsForm form × (year_of form ≡ year) × (87 ∷ scanner.old.rest.now ≡ rest_of form)) }
+{
+    let week = scanner.two_digits()?;
+    scanner.byte(b'-')?;
+    let weekday = scanner.byte_from(b'1', 6)?;
+    scanner.end()?;
+    Some(Form::Week(year, week as u8, weekday - b'0'))
+}
+
+/// The form of the year, and of a month and a day, or of an ordinal.
+fn month_or_ordinal(scanner: &mut Scanner, year: i32) -> Option<Form>
+    requires { IsWrittenYear year }
+    ensures scans { ScansWhole month_or_ordinal scanner.old.rest.now scanner.new.rest.now result }
+    ensures has { IfSome result (λ form. IsForm form × (year_of form ≡ year) × (scanner.old.rest.now ≡ rest_of form)) }
+{
+    let front = scanner.two_digits()?;
+    match scanner.byte(b'-') {
+        Some(()) => {
+            let day = scanner.two_digits()?;
+            scanner.end()?;
+            Some(Form::Calendar(year, front as u8, day as u8))
+        }
+        None => {
+            let last = scanner.digit()?;
+            scanner.end()?;
+            Some(Form::Ordinal(year, (front * 10 + last) as u16))
+        }
     }
-    if rest[0] == b'W' {
-        let (week, weekday) = numbers_around(&rest[1..], 2, 1, b'-')?;
-        return if weekday == 0 || weekday > LAST_WEEKDAY {
-            None
-        } else {
-            Some(Form::Week(year, week, weekday))
-        };
-    }
-    let (month, day) = numbers_around(rest, 2, 2, b'-')?;
-    Some(Form::Calendar(year, month, day))
 }
 
 /// Two numbers of at most two digits each, with that byte between them.

@@ -1,4 +1,6 @@
-//! Each reader leaves one answer, but for the place of a wrong byte: two calls with the same text are proved to give the same.
+//! Each reader leaves one answer, but for the place of a wrong byte in all but dates: two calls with the same text are proved to give
+//! the same.
+ghost use Rattle.std.specs.Prelude.{◌≡◌};
 ghost use Rattle.cal_text.specs.Reading.{AreAlikeButForPlace};
 
 use crate::{DateOrMoment, Unreadable, date, julian_day, read_any, rfc3339, unix};
@@ -9,7 +11,7 @@ use cal_time::Date;
 type Twice<T> = (Result<T, Unreadable>, Result<T, Unreadable>);
 
 fn of_date(text: &[u8]) -> Twice<Date>
-    ensures { AreAlikeButForPlace result.0 result.1 }
+    ensures { result.0 ≡ result.1 }
 {
     (date::read(text), date::read(text))
 }

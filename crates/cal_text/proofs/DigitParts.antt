@@ -1,0 +1,230 @@
+-- Digits as parts of a shape.
+use Rattle.std.proofs.Common.{◌≡◌, ℕ, zero, suc, ◌+◌, ◌*◌, ◌<◌, ◌≤◌, ◌^◌, List, [], ◌∷◌, ◌++◌, length, refl, sym, ap, subst, ◌∙◌, arith, inl, inr, lit<, lit≤}
+use Rattle.std.specs.Char.{digit_value}
+use Rattle.std.specs.Str.Parse.{AllDigits, digits_value, digits_value_after}
+use Rattle.std.proofs.lemmas.Bool.{cases_lt}
+use Rattle.std.proofs.lemmas.Int.Digits.{digits_value-lt}
+use Rattle.std.proofs.lemmas.Str.{digit_value_digit}
+use Rattle.std.proofs.lemmas.Str.Parse.{digit_from_value}
+use Rattle.cal_time.specs.DateText.{digits_at_least}
+use Rattle.cal_text.specs.Shape.{Shape, left, Byte, Digits, UpTo, SomeDigits, AtLeast, From, Branch}
+use Rattle.cal_text.proofs.DigitTexts.{below-nine, digits-printed, digits_at_least-digits, digits_at_least-value, digits_at_least-length}
+use Rattle.cal_text.proofs.Parts.{IsPart, Splits, renamed, byte_part}
+use Rattle.cal_text.proofs.Stops.{IsIn, in_or_out, left-in, left-out, left-end, left-branch_in, left-branch_out, left-branch_end}
+
+pub is_digit : (x : ℕ) → digit_value x < 10 → IsIn 48 9 x
+is_digit x h = let range = digit_from_value x h in (range.0, range.1)
+
+has_value : (x : ℕ) → IsIn 48 9 x → digit_value x + 48 ≡ x
+has_value x h = digit_value_digit x (h.0, h.1)
+
+pub digit_is : (x : ℕ) → IsIn 48 9 x → digit_value x < 10
+digit_is x h = omega (arith, has_value x h, h.1)
+
+-- ---- so many digits
+abbrev pub IsExact : ℕ → List ℕ → Type 0
+IsExact k ds = AllDigits 10 ds × (length ds ≡ k)
+
+exact-each : (k : ℕ) (f : Shape) (ds rest : List ℕ) → IsExact k ds → left (Digits k f) (ds ++ rest) ≡ left f rest
+exact-each zero f [] rest h = refl
+exact-each zero f (x ∷ xs) rest h = absurd (omega (arith, h.1))
+exact-each (suc k) f [] rest h = absurd (omega (arith, h.1))
+exact-each (suc k) f (x ∷ xs) rest h =
+    left-in 48 9 (Digits k f) x (xs ++ rest) (is_digit x h.0.0) ∙ exact-each k f xs rest (h.0.1, omega (arith, h.1))
+
+exact-only : (k : ℕ) (f : Shape) (bytes : List ℕ) → left (Digits k f) bytes ≡ 0 → Splits (IsExact k) (λ ds. ds) f bytes
+exact-only zero f bytes e = record { value = []; rest = bytes; valid = (tt, refl); bytes_are = refl; next = e }
+exact-only (suc k) f [] e = absurd (omega (arith, e, left-end 48 9 (Digits k f)))
+exact-only (suc k) f (x ∷ xs) e =
+    elim (in_or_out 48 9 x) as (λ _. Splits (IsExact (suc k)) (λ ds. ds) f (x ∷ xs)) [
+      | inl here ↦
+          let a = exact-only k f xs (sym (left-in 48 9 (Digits k f) x xs here) ∙ e) in
+          record {
+            value = x ∷ a.value;
+            rest = a.rest;
+            valid = ((digit_is x here, a.valid.0), ap (λ n. suc n) a.valid.1);
+            bytes_are = ap (λ ds. x ∷ ds) a.bytes_are;
+            next = a.next;
+          }
+      | inr out ↦ absurd (omega (arith, e, left-out 48 9 (Digits k f) x xs out))
+    ]
+
+exact-one : (k : ℕ) (ds es r s : List ℕ) → length ds ≡ k → length es ≡ k → ds ++ r ≡ es ++ s → (ds ≡ es) × (r ≡ s)
+exact-one k [] [] r s a b e = (refl, e)
+exact-one k [] (y ∷ ys) r s a b e = absurd (omega (arith, a, b))
+exact-one k (x ∷ xs) [] r s a b e = absurd (omega (arith, a, b))
+exact-one zero (x ∷ xs) (y ∷ ys) r s a b e = absurd (omega (arith, a))
+exact-one (suc k) (x ∷ xs) (y ∷ ys) r s a b e =
+    let first : x ≡ y = cc in
+    let next : xs ++ r ≡ ys ++ s = cc in
+    let found = exact-one k xs ys r s (omega (arith, a)) (omega (arith, b)) next in
+    (ap (λ n. n ∷ xs) first ∙ ap (λ ds. y ∷ ds) found.0, found.1)
+
+exact_part : (k : ℕ) → IsPart (IsExact k) (λ ds. ds) (Digits k)
+exact_part k = record { each = exact-each k; only = exact-only k; one = λ ds es r s a b e. exact-one k ds es r s a.1 b.1 e }
+
+-- as a number
+pub number_part : (k : ℕ) → 1 ≤ k → k ≤ 9 → IsPart (λ n. (n < 10 ^ k) × (n < 10 ^ 9)) (digits_at_least k) (Digits k)
+number_part k some few = renamed _ _ _ (λ n. (n < 10 ^ k) × (n < 10 ^ 9)) (digits_at_least k) (exact_part k) (digits_value 10)
+    (λ ds h. (
+      (ap-below ds h, below ds h),
+      sym (ap (λ width. digits_at_least width (digits_value 10 ds)) (sym h.1) ∙ digits-printed ds h.0 (omega (arith, h.1)) (omega (arith, h.1))),
+    ))
+    (λ n h. record {
+      value = digits_at_least k n;
+      valid = (digits_at_least-digits k n h.1, digits_at_least-length k n some h.0 h.1);
+      text_is = refl;
+      same = digits_at_least-value k n h.1;
+    })
+  where
+    ap-below : (ds : List ℕ) → IsExact k ds → digits_value 10 ds < 10 ^ k
+    ap-below ds h = subst (λ n. digits_value 10 ds < 10 ^ n) h.1 (digits_value-lt 10 ds h.0)
+
+    below : (ds : List ℕ) → IsExact k ds → digits_value 10 ds < 10 ^ 9
+    below ds h = below-nine ds (digits_value 10 ds) (omega (arith, h.1)) (digits_value-lt 10 ds h.0)
+
+-- ---- so many digits and more, and a hyphen
+abbrev pub IsCount : ℕ → ℕ → List ℕ → Type 0
+IsCount k more ds = AllDigits 10 ds × (k ≤ length ds) × (length ds ≤ k + more)
+
+abbrev pub hyphened : List ℕ → List ℕ
+hyphened ds = ds ++ 45 ∷ []
+
+no_hyphen : ¬ IsIn 48 9 45
+no_hyphen h = omega (arith, h.0)
+
+count-each : (k more : ℕ) (f : Shape) (ds rest : List ℕ) → IsCount k more ds → left (AtLeast k more f) (hyphened ds ++ rest) ≡ left f rest
+count-each zero zero f [] rest h = left-in 45 0 f 45 rest (lit≤ tt, lit≤ tt)
+count-each zero zero f (x ∷ xs) rest h = absurd (omega (arith, h.2))
+count-each zero (suc m) f [] rest h =
+    left-branch_out 48 9 (UpTo m (Byte 45 f)) (Byte 45 f) 45 rest no_hyphen ∙ left-in 45 0 f 45 rest (lit≤ tt, lit≤ tt)
+count-each zero (suc m) f (x ∷ xs) rest h =
+    left-branch_in 48 9 (UpTo m (Byte 45 f)) (Byte 45 f) x (hyphened xs ++ rest) (is_digit x h.0.0) ∙ count-each zero m f xs rest (h.0.1, omega arith, omega (arith, h.2))
+count-each (suc k) m f [] rest h = absurd (omega (arith, h.1))
+count-each (suc k) m f (x ∷ xs) rest h =
+    left-in 48 9 (AtLeast k m f) x (hyphened xs ++ rest) (is_digit x h.0.0) ∙ count-each k m f xs rest (h.0.1, omega (arith, h.1), omega (arith, h.2))
+
+abbrev Counted : ℕ → ℕ → Shape → List ℕ → Type 0
+Counted k more f bytes = Splits (IsCount k more) hyphened f bytes
+
+no_digits : (m : ℕ) (f : Shape) (bytes : List ℕ) → left (Byte 45 f) bytes ≡ 0 → Counted 0 m f bytes
+no_digits m f bytes e =
+    let a = (byte_part 45).only f bytes e in
+    record { value = []; rest = a.rest; valid = (tt, omega arith, omega arith); bytes_are = a.bytes_are; next = a.next }
+
+count-only : (k more : ℕ) (f : Shape) (bytes : List ℕ) → left (AtLeast k more f) bytes ≡ 0 → Counted k more f bytes
+count-only zero zero f bytes e = no_digits 0 f bytes e
+count-only zero (suc m) f [] e = absurd (omega (arith, e, left-branch_end 48 9 (UpTo m (Byte 45 f)) (Byte 45 f), left-end 45 0 f))
+count-only zero (suc m) f (x ∷ xs) e =
+    elim (in_or_out 48 9 x) as (λ _. Counted 0 (suc m) f (x ∷ xs)) [
+      | inl here ↦
+          let a = count-only zero m f xs (sym (left-branch_in 48 9 (UpTo m (Byte 45 f)) (Byte 45 f) x xs here) ∙ e) in
+          record {
+            value = x ∷ a.value;
+            rest = a.rest;
+            valid = ((digit_is x here, a.valid.0), omega arith, omega (arith, a.valid.2));
+            bytes_are = ap (λ ds. x ∷ ds) a.bytes_are;
+            next = a.next;
+          }
+      | inr out ↦ no_digits (suc m) f (x ∷ xs) (sym (left-branch_out 48 9 (UpTo m (Byte 45 f)) (Byte 45 f) x xs out) ∙ e)
+    ]
+count-only (suc k) m f [] e = absurd (omega (arith, e, left-end 48 9 (AtLeast k m f)))
+count-only (suc k) m f (x ∷ xs) e =
+    elim (in_or_out 48 9 x) as (λ _. Counted (suc k) m f (x ∷ xs)) [
+      | inl here ↦
+          let a = count-only k m f xs (sym (left-in 48 9 (AtLeast k m f) x xs here) ∙ e) in
+          record {
+            value = x ∷ a.value;
+            rest = a.rest;
+            valid = ((digit_is x here, a.valid.0), omega (arith, a.valid.1), omega (arith, a.valid.2));
+            bytes_are = ap (λ ds. x ∷ ds) a.bytes_are;
+            next = a.next;
+          }
+      | inr out ↦ absurd (omega (arith, e, left-out 48 9 (AtLeast k m f) x xs out))
+    ]
+
+count-one : (ds es r s : List ℕ) → AllDigits 10 ds → AllDigits 10 es → hyphened ds ++ r ≡ hyphened es ++ s → (ds ≡ es) × (r ≡ s)
+count-one [] [] r s h k e = (refl, cc)
+count-one [] (y ∷ ys) r s h k e = let first : 45 ≡ y = cc in absurd (no_hyphen (subst (IsIn 48 9) (sym first) (is_digit y k.0)))
+count-one (x ∷ xs) [] r s h k e = let first : x ≡ 45 = cc in absurd (no_hyphen (subst (IsIn 48 9) first (is_digit x h.0)))
+count-one (x ∷ xs) (y ∷ ys) r s h k e =
+    let first : x ≡ y = cc in
+    let next : hyphened xs ++ r ≡ hyphened ys ++ s = cc in
+    let found = count-one xs ys r s h.1 k.1 next in
+    (ap (λ n. n ∷ xs) first ∙ ap (λ ds. y ∷ ds) found.0, found.1)
+
+pub count_part : (k more : ℕ) → IsPart (IsCount k more) hyphened (AtLeast k more)
+count_part k more = record { each = count-each k more; only = count-only k more; one = λ ds es r s a b e. count-one ds es r s a.0 b.0 e }
+
+-- ---- digits of which one is not 0
+value-most : (n : ℕ) (ds : List ℕ) → n ≤ digits_value_after 10 n ds
+value-most n [] = omega arith
+value-most n (x ∷ xs) = omega (arith, value-most (n * 10 + digit_value x) xs)
+
+abbrev pub IsSome : ℕ → List ℕ → Type 0
+IsSome k ds = IsExact (suc k) ds × (0 < digits_value 10 ds)
+
+pub zero_byte : (x : ℕ) → IsIn 48 9 x → ¬ IsIn 49 8 x → x ≡ 48
+zero_byte x here out =
+    elim (cases_lt 48 x) as (λ _. x ≡ 48) [ inl more ↦ absurd (out (omega arith, omega (arith, here.1))) | inr few ↦ omega (arith, here.0, few) ]
+
+some-each : (k : ℕ) (f : Shape) (ds rest : List ℕ) → IsSome k ds → left (SomeDigits k f) (ds ++ rest) ≡ left f rest
+some-each zero f [] rest h = absurd (omega (arith, h.0.1))
+some-each zero f (x ∷ []) rest h = left-in 49 8 f x rest (omega (arith, h.1, has_value x (is_digit x h.0.0.0)), omega (arith, (is_digit x h.0.0.0).1))
+some-each zero f (x ∷ y ∷ xs) rest h = absurd (omega (arith, h.0.1))
+some-each (suc k) f [] rest h = absurd (omega (arith, h.0.1))
+some-each (suc k) f (x ∷ xs) rest h =
+    elim (in_or_out 49 8 x) as (λ _. left (SomeDigits (suc k) f) (x ∷ (xs ++ rest)) ≡ left f rest) [
+      | inl here ↦
+          left-branch_in 49 8 (Digits (suc k) f) (Byte 48 (SomeDigits k f)) x (xs ++ rest) here ∙ exact-each (suc k) f xs rest (h.0.0.1, omega (arith, h.0.1))
+      | inr out ↦
+          let is : x ≡ 48 = zero_byte x (is_digit x h.0.0.0) out in
+          left-branch_out 49 8 (Digits (suc k) f) (Byte 48 (SomeDigits k f)) x (xs ++ rest) out
+          ∙ left-in 48 0 (SomeDigits k f) x (xs ++ rest) (omega (arith, is), omega (arith, is))
+          ∙ some-each k f xs rest ((h.0.0.1, omega (arith, h.0.1)), subst (λ b. 0 < digits_value 10 (b ∷ xs)) is h.1)
+    ]
+
+some-only : (k : ℕ) (f : Shape) (bytes : List ℕ) → left (SomeDigits k f) bytes ≡ 0 → Splits (IsSome k) (λ ds. ds) f bytes
+some-only zero f [] e = absurd (omega (arith, e, left-end 49 8 f))
+some-only (suc k) f [] e =
+    absurd (omega (arith, e, left-branch_end 49 8 (Digits (suc k) f) (Byte 48 (SomeDigits k f)), left-end 48 0 (SomeDigits k f)))
+some-only zero f (x ∷ xs) e =
+    elim (in_or_out 49 8 x) as (λ _. Splits (IsSome 0) (λ ds. ds) f (x ∷ xs)) [
+      | inl here ↦
+          let digit : IsIn 48 9 x = (omega (arith, here.0), omega (arith, here.1)) in
+          record {
+            value = x ∷ [];
+            rest = xs;
+            valid = (((digit_is x digit, tt), refl), omega (arith, has_value x digit, here.0));
+            bytes_are = refl;
+            next = sym (left-in 49 8 f x xs here) ∙ e;
+          }
+      | inr out ↦ absurd (omega (arith, e, left-out 49 8 f x xs out))
+    ]
+some-only (suc k) f (x ∷ xs) e =
+    elim (in_or_out 49 8 x) as (λ _. Splits (IsSome (suc k)) (λ ds. ds) f (x ∷ xs)) [
+      | inl here ↦
+          let digit : IsIn 48 9 x = (omega (arith, here.0), omega (arith, here.1)) in
+          let a = exact-only (suc k) f xs (sym (left-branch_in 49 8 (Digits (suc k) f) (Byte 48 (SomeDigits k f)) x xs here) ∙ e) in
+          record {
+            value = x ∷ a.value;
+            rest = a.rest;
+            valid = (((digit_is x digit, a.valid.0), ap (λ n. suc n) a.valid.1), omega (arith, value-most (0 * 10 + digit_value x) a.value, has_value x digit, here.0));
+            bytes_are = ap (λ ds. x ∷ ds) a.bytes_are;
+            next = a.next;
+          }
+      | inr out ↦
+          let rest_is : left (Byte 48 (SomeDigits k f)) (x ∷ xs) ≡ 0 = sym (left-branch_out 49 8 (Digits (suc k) f) (Byte 48 (SomeDigits k f)) x xs out) ∙ e in
+          let zero_is = (byte_part 48).only (SomeDigits k f) (x ∷ xs) rest_is in
+          let a = some-only k f zero_is.rest zero_is.next in
+          record {
+            value = 48 ∷ a.value;
+            rest = a.rest;
+            valid = (((lit< tt, a.valid.0.0), ap (λ n. suc n) a.valid.0.1), a.valid.1);
+            bytes_are = zero_is.bytes_are ∙ ap (λ ds. 48 ∷ ds) a.bytes_are;
+            next = a.next;
+          }
+    ]
+
+pub some_part : (k : ℕ) → IsPart (IsSome k) (λ ds. ds) (SomeDigits k)
+some_part k = record { each = some-each k; only = some-only k; one = λ ds es r s a b e. exact-one (suc k) ds es r s a.0.1 b.0.1 e }

@@ -1,0 +1,65 @@
+-- What a scanner read of a date.
+use Rattle.std.proofs.Common.{◌≡◌, ℕ, ◌+◌, ◌-◌, ◌*◌, ◌<◌, ◌≤◌, ◌^◌, ℤ, List, [], ◌∷◌, ◌++◌, length, refl, sym, ap, subst, ◌∙◌, arith, lit≤, lit<}
+use Rattle.std.specs.Str.Parse.{digits_value}
+use Rattle.std.proofs.lemmas.Int.Digits.{digits_push, digits_value_push}
+use Rattle.std.proofs.lemmas.List.{append_assoc, length-append}
+use Rattle.std.proofs.lemmas.Str.{digit_value_digit}
+use Rattle.cal_time.specs.DateText.{digits_at_least}
+use Rattle.cal_text.specs.declared.form.Form.{Form}
+use Rattle.cal_text.specs.declared.form.Form.TheVariants.{Calendar, Ordinal, Week}
+use Rattle.cal_text.specs.DateForms.{year_text, year_of, rest_of, IsWrittenYear, IsForm, HasForm}
+use Rattle.cal_text.specs.Shape.{ReadsDigits}
+use Rattle.cal_text.proofs.DigitTexts.{digits-printed, digits_at_least-digits, digits_at_least-length, digits_at_least-value}
+use Rattle.cal_text.proofs.NumberTexts.{one_digit}
+use Rattle.cal_text.proofs.Parts.{at_end}
+use Rattle.cal_text.proofs.ReadDigits.{printed, one_more}
+
+-- numbers, one after the other, as one number
+pub three_digits-split : (m d : ℕ) → m < 100 → d < 10 → digits_at_least 3 (m * 10 + d) ≡ digits_at_least 2 m ++ digits_at_least 1 d
+three_digits-split m d few low =
+    let front = digits_at_least-value 2 m (omega arith) in
+    let value : digits_value 10 (digits_at_least 2 m ++ (48 + d) ∷ []) ≡ m * 10 + d =
+    digits_value_push 10 (digits_at_least 2 m) (48 + d) ∙ omega (arith, front, digit_value_digit (48 + d) (omega arith, omega arith)) in
+    let size : length (digits_at_least 2 m ++ (48 + d) ∷ []) ≡ 3 =
+    length-append (digits_at_least 2 m) ((48 + d) ∷ []) ∙ ap (λ k. k + 1) (digits_at_least-length 2 m (lit< tt) few (omega arith)) in
+    let all = digits_push 10 (digits_at_least 2 m) (48 + d) (digits_at_least-digits 2 m (omega arith)) (omega (arith, digit_value_digit (48 + d) (omega arith, omega arith))) in
+    let printed : digits_at_least (length (digits_at_least 2 m ++ (48 + d) ∷ [])) (digits_value 10 (digits_at_least 2 m ++ (48 + d) ∷ [])) ≡ digits_at_least 2 m ++ (48 + d) ∷ [] =
+    digits-printed _ all (omega (arith, size)) (omega (arith, size)) in
+    ap (λ n. digits_at_least 3 n) (sym value) ∙ ap (λ k. digits_at_least k (digits_value 10 (digits_at_least 2 m ++ (48 + d) ∷ []))) (sym size) ∙ printed
+    ∙ ap (λ ds. digits_at_least 2 m ++ ds) (one_digit d low)
+
+-- two numbers with a hyphen between them
+pub pair : (front back old rest : List ℕ) → old ≡ front ++ rest → rest ≡ 45 ∷ back → old ≡ (front ++ 45 ∷ []) ++ back
+pair front back old rest e f = e ∙ ap (λ r. front ++ r) f ∙ sym (append_assoc front (45 ∷ []) back)
+
+pub put_week : (y : ℤ) (w b : ℕ) (old a c e : List ℕ) → IsWrittenYear y → ReadsDigits old a 2 w → a ≡ 45 ∷ c → (49 ≤ b) × (b ≤ 55) × (c ≡ b ∷ e) → e ≡ []
+    → IsForm (Week y w (b - 48)) × (87 ∷ old ≡ rest_of (Week y w (b - 48)))
+put_week y w b old a c e written h hyphen weekday end =
+    let two = printed old a 2 w (lit≤ tt) (lit≤ tt) h in
+    let same : b ≡ 48 + (b - 48) = omega (arith, weekday.0) in
+    let last : c ≡ digits_at_least 1 (b - 48) =
+    weekday.2 ∙ ap (λ r. b ∷ r) end ∙ ap (λ x. x ∷ []) same ∙ one_digit (b - 48) (omega (arith, weekday.1)) in (
+      (written, omega (arith, two.0), omega (arith, weekday.0), omega (arith, weekday.1)),
+      ap (λ r. 87 ∷ r) (pair (digits_at_least 2 w) (digits_at_least 1 (b - 48)) old a two.1 (hyphen ∙ ap (λ r. 45 ∷ r) last)),
+    )
+
+pub put_calendar : (y : ℤ) (m d : ℕ) (old a c e : List ℕ) → IsWrittenYear y → ReadsDigits old a 2 m → a ≡ 45 ∷ c → ReadsDigits c e 2 d → e ≡ []
+    → IsForm (Calendar y m d) × (old ≡ rest_of (Calendar y m d))
+put_calendar y m d old a c e written h hyphen k end =
+    let first = printed old a 2 m (lit≤ tt) (lit≤ tt) h in
+    let second = printed c e 2 d (lit≤ tt) (lit≤ tt) k in (
+      (written, omega (arith, first.0), omega (arith, second.0)),
+      pair (digits_at_least 2 m) (digits_at_least 2 d) old a first.1 (hyphen ∙ ap (λ r. 45 ∷ r) (at_end c (digits_at_least 2 d) e second.1 end)),
+    )
+
+pub put_ordinal : (y : ℤ) (m d : ℕ) (old a c : List ℕ) → IsWrittenYear y → ReadsDigits old a 2 m → (d < 10) × (a ≡ (48 + d) ∷ c) → c ≡ []
+    → IsForm (Ordinal y (m * 10 + d)) × (old ≡ rest_of (Ordinal y (m * 10 + d)))
+put_ordinal y m d old a c written h last end =
+    let three = printed old c 3 (m * 10 + d) (lit≤ tt) (lit≤ tt) (one_more m d 2 old a c h last.0 last.1) in
+    ((written, omega (arith, three.0)), at_end old (digits_at_least 3 (m * 10 + d)) c three.1 end)
+
+pub put_form : (y : ℤ) (f : Form) (old mid : List ℕ) → old ≡ year_text y ++ 45 ∷ mid → IsForm f → year_of f ≡ y → mid ≡ rest_of f → HasForm old f
+put_form y f old mid e is same rest = record {
+  form = is;
+  bytes_are = e ∙ ap (λ r. year_text y ++ 45 ∷ r) rest ∙ sym (append_assoc (year_text y) (45 ∷ []) (rest_of f)) ∙ ap (λ z. (year_text z ++ 45 ∷ []) ++ rest_of f) (sym same);
+}

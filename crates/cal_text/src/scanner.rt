@@ -1,0 +1,102 @@
+//! A text read byte by byte.
+ghost use Rattle.std.specs.Prelude.{◌≡◌, ◌+◌, ◌<◌, ◌≤◌, ◌∷◌, ◌++◌, [], IfSome, IfNone};
+ghost use Rattle.cal_text.specs.Shape.{Scans, Branches, ScansWhole, ReadsDigits, Done, From, Byte, Digits};
+
+/// What is left of a text.
+///
+/// A call that answers `None` leaves the scanner in front of the byte that is wrong, or at the end.
+#[derive(Drop)]
+pub(crate) struct Scanner<'a> {
+    pub(crate) rest: &'a [u8],
+}
+
+impl Scanner<'_> {
+    /// A byte from one to another.
+    pub(crate) fn byte_from(&mut self, low: u8, above: u8) -> Option<u8>
+        requires { low + above < 256 }
+        ensures scans { Scans (From low above) self.old.rest.now self.new.rest.now result }
+        ensures branches { Branches low above self.old.rest.now self.new.rest.now result }
+        ensures byte { IfSome result (λ b. (low ≤ b) × (b ≤ low + above) × (self.old.rest.now ≡ b ∷ self.new.rest.now)) }
+        ensures kept { IfNone result (self.new.rest.now ≡ self.old.rest.now) }
+    {
+        let (first, others) = self.rest.split_first()?;
+        if *first < low || *first > low + above {
+            return None;
+        }
+        self.rest = others;
+        Some(*first)
+    }
+
+    pub(crate) fn byte(&mut self, byte: u8) -> Option<()>
+        ensures scans { Scans (Byte byte) self.old.rest.now self.new.rest.now result }
+        ensures branches { Branches byte 0 self.old.rest.now self.new.rest.now result }
+        ensures byte { IfSome result (λ _. self.old.rest.now ≡ byte ∷ self.new.rest.now) }
+        ensures kept { IfNone result (self.new.rest.now ≡ self.old.rest.now) }
+    {
+        self.byte_from(byte, 0)?;
+        Some(())
+    }
+
+    /// A digit that is not 0.
+    pub(crate) fn digit_from_1(&mut self) -> Option<u32>
+        ensures scans { Scans (From 49 8) self.old.rest.now self.new.rest.now result }
+        ensures branches { Branches 49 8 self.old.rest.now self.new.rest.now result }
+        ensures digit { IfSome result (λ d. (1 ≤ d) × (d < 10) × (self.old.rest.now ≡ (48 + d) ∷ self.new.rest.now)) }
+        ensures kept { IfNone result (self.new.rest.now ≡ self.old.rest.now) }
+    {
+        let byte = self.byte_from(b'1', 8)?;
+        Some(u32::from(byte - b'0'))
+    }
+
+    pub(crate) fn digit(&mut self) -> Option<u32>
+        ensures scans { Scans (Digits 1) self.old.rest.now self.new.rest.now result }
+        ensures branches { Branches 48 9 self.old.rest.now self.new.rest.now result }
+        ensures digit { IfSome result (λ d. (d < 10) × (self.old.rest.now ≡ (48 + d) ∷ self.new.rest.now)) }
+        ensures kept { IfNone result (self.new.rest.now ≡ self.old.rest.now) }
+    {
+        let byte = self.byte_from(b'0', 9)?;
+        Some(u32::from(byte - b'0'))
+    }
+
+    pub(crate) fn two_digits(&mut self) -> Option<u32>
+        ensures scans { Scans (Digits 2) self.old.rest.now self.new.rest.now result }
+        ensures number { IfSome result (λ n. ReadsDigits self.old.rest.now self.new.rest.now 2 n) }
+        ensures below { IfSome result (λ n. n < 100) }
+    {
+        let tens = self.digit()?;
+        let ones = self.digit()?;
+        Some(tens * 10 + ones)
+    }
+
+    pub(crate) fn three_digits(&mut self) -> Option<u32>
+        ensures scans { Scans (Digits 3) self.old.rest.now self.new.rest.now result }
+        ensures number { IfSome result (λ n. ReadsDigits self.old.rest.now self.new.rest.now 3 n) }
+        ensures below { IfSome result (λ n. n < 1000) }
+    {
+        let tens = self.two_digits()?;
+        let ones = self.digit()?;
+        Some(tens * 10 + ones)
+    }
+
+    pub(crate) fn four_digits(&mut self) -> Option<u32>
+        ensures scans { Scans (Digits 4) self.old.rest.now self.new.rest.now result }
+        ensures number { IfSome result (λ n. ReadsDigits self.old.rest.now self.new.rest.now 4 n) }
+        ensures below { IfSome result (λ n. n < 10000) }
+    {
+        let tens = self.three_digits()?;
+        let ones = self.digit()?;
+        Some(tens * 10 + ones)
+    }
+
+    /// The end of the text.
+    pub(crate) fn end(&mut self) -> Option<()>
+        ensures scans { ScansWhole Done self.old.rest.now self.new.rest.now result }
+        ensures empty { IfSome result (λ _. self.old.rest.now ≡ []) }
+        ensures kept { self.new.rest.now ≡ self.old.rest.now }
+    {
+        match self.rest {
+            [] => Some(()),
+            [_, ..] => None,
+        }
+    }
+}
