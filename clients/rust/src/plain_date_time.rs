@@ -72,6 +72,54 @@ impl PlainDateTime {
     }
 }
 
+impl Date {
+    /// The date-time at the start of this day: that of 2024-02-29 is 2024-02-29 0:00:00.0.
+    pub const fn midnight(self) -> PlainDateTime {
+        self.with_time(Time::MIDNIGHT)
+    }
+
+    /// The date-time of this day and that time of day.
+    pub const fn with_time(self, time: Time) -> PlainDateTime {
+        PlainDateTime::new(self, time)
+    }
+
+    /// The date-time of this day and that hour, minute and second.
+    ///
+    /// # Errors
+    ///
+    /// As [`Time::from_hms`].
+    pub fn with_hms(self, hour: u8, minute: u8, second: u8) -> Result<PlainDateTime, ComponentRange> {
+        Ok(self.with_time(Time::from_hms(hour, minute, second)?))
+    }
+
+    /// The date-time of this day and that hour, minute, second and millisecond.
+    ///
+    /// # Errors
+    ///
+    /// As [`Time::from_hms_milli`].
+    pub fn with_hms_milli(self, hour: u8, minute: u8, second: u8, millisecond: u16) -> Result<PlainDateTime, ComponentRange> {
+        Ok(self.with_time(Time::from_hms_milli(hour, minute, second, millisecond)?))
+    }
+
+    /// The date-time of this day and that hour, minute, second and microsecond.
+    ///
+    /// # Errors
+    ///
+    /// As [`Time::from_hms_micro`].
+    pub fn with_hms_micro(self, hour: u8, minute: u8, second: u8, microsecond: u32) -> Result<PlainDateTime, ComponentRange> {
+        Ok(self.with_time(Time::from_hms_micro(hour, minute, second, microsecond)?))
+    }
+
+    /// The date-time of this day and that hour, minute, second and nanosecond.
+    ///
+    /// # Errors
+    ///
+    /// As [`Time::from_hms_nano`].
+    pub fn with_hms_nano(self, hour: u8, minute: u8, second: u8, nanosecond: u32) -> Result<PlainDateTime, ComponentRange> {
+        Ok(self.with_time(Time::from_hms_nano(hour, minute, second, nanosecond)?))
+    }
+}
+
 date_time!(PlainDateTime);
 
 impl fmt::Display for PlainDateTime {

@@ -171,6 +171,31 @@ fn parts_and_replacements() {
 }
 
 #[test]
+fn dates_with_times() {
+    let day = Date::from_calendar_date(2024, Month::February, 29).unwrap();
+    let made = [
+        (Ok(day.midnight()), "2024-02-29 0:00:00.0"),
+        (Ok(day.with_time(Time::MAX)), "2024-02-29 23:59:59.999999999"),
+        (day.with_hms(23, 59, 58), "2024-02-29 23:59:58.0"),
+        (day.with_hms_milli(23, 59, 59, 250), "2024-02-29 23:59:59.25"),
+        (day.with_hms_micro(23, 59, 59, 1), "2024-02-29 23:59:59.000001"),
+        (day.with_hms_nano(23, 59, 59, 1), "2024-02-29 23:59:59.000000001"),
+    ];
+    for (value, text) in made {
+        assert_eq!(value, Ok(plain(text)));
+    }
+    let refused = [
+        (day.with_hms(24, 60, 60), "hour"),
+        (day.with_hms_milli(23, 59, 59, 1_000), "millisecond"),
+        (day.with_hms_micro(23, 59, 59, 1_000_000), "microsecond"),
+        (day.with_hms_nano(23, 59, 59, 1_000_000_000), "nanosecond"),
+    ];
+    for (value, name) in refused {
+        assert_eq!(value.unwrap_err().name(), name);
+    }
+}
+
+#[test]
 fn texts() {
     let night = moment("2024-02-29T23:59:59.25+01:00");
     assert_eq!(format!("{night} {night:?}"), "2024-02-29 23:59:59.25 +01:00:00 2024-02-29 23:59:59.25 +01:00:00");
