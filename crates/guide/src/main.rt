@@ -15,7 +15,6 @@ mod parts;
 mod printing;
 mod recurrences;
 mod refusals;
-mod schedules;
 mod texts;
 mod walking;
 
@@ -36,7 +35,6 @@ fn main(rt: HostRuntime) -> io::Result<()> {
     days::show(&rt)?;
     names::show(&rt)?;
     texts::show(&rt)?;
-    schedules::show(&rt)?;
     bills::show(&rt)?;
     recurrences::show(&rt)
 }
