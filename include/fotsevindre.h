@@ -645,30 +645,46 @@ fots_read_moment_result fots_unix_read(const char *text, size_t length);
 
 /* ---- whole columns
  *
- * Each call answers row by row what its single call does: the answer of row k is results[k], whose status says whether there is one.
- * It returns how many rows have no answer. Each array is followed by its length; where these are not the same, nothing is
- * written and the answer is FOTS_UNLIKE. Each array must be there, also one of no rows, and no other array may share the memory of
- * the results. */
+ * A column is one array for each part of a value: Julian days and years as int32_t, ordinals as uint16_t, months, days of the month, weeks
+ * and weekdays as uint8_t. Each call answers row by row what its single call does, and writes the status of row k to statuses[k]: each
+ * status is below 256. A row with no answer has the numbers of the single call, which the next call refuses too: FOTS_NOTHING for a date or
+ * a year, and 0 for each other part. So what one call writes is what the next one takes.
+ *
+ * It returns how many rows have no answer. Each array is followed by its length; where these are not the same, nothing is written and the
+ * answer is FOTS_UNLIKE. Each array must be there, also one of no rows, and an array that is written may share no memory with another. */
 #define FOTS_UNLIKE SIZE_MAX
 
-size_t fots_dates_from_julian_days(const int64_t *julian_days, size_t julian_days_length, fots_date_result *results, size_t length);
+size_t fots_dates_from_julian_days(const int64_t *julian_days, size_t julian_days_length, int32_t *dates, size_t dates_length,
+    uint8_t *statuses, size_t length);
 
-size_t fots_dates_from_calendar_dates(const int32_t *years, size_t years_length, const uint32_t *months, size_t months_length,
-    const uint32_t *days, size_t days_length, fots_date_result *results, size_t length);
+size_t fots_dates_from_calendar_dates(const int32_t *years, size_t years_length, const uint8_t *months, size_t months_length,
+    const uint8_t *days, size_t days_length, int32_t *dates, size_t dates_length, uint8_t *statuses, size_t length);
 
-size_t fots_dates_from_ordinal_dates(const int32_t *years, size_t years_length, const uint32_t *ordinals, size_t ordinals_length,
-    fots_date_result *results, size_t length);
+size_t fots_dates_from_ordinal_dates(const int32_t *years, size_t years_length, const uint16_t *ordinals, size_t ordinals_length,
+    int32_t *dates, size_t dates_length, uint8_t *statuses, size_t length);
 
-size_t fots_dates_from_iso_week_dates(const int32_t *years, size_t years_length, const uint32_t *weeks, size_t weeks_length,
-    const uint32_t *weekdays, size_t weekdays_length, fots_date_result *results, size_t length);
+size_t fots_dates_from_iso_week_dates(const int32_t *years, size_t years_length, const uint8_t *weeks, size_t weeks_length,
+    const uint8_t *weekdays, size_t weekdays_length, int32_t *dates, size_t dates_length, uint8_t *statuses, size_t length);
 
-size_t fots_dates_to_calendar_dates(const fots_date *dates, size_t dates_length, fots_calendar_date_result *results, size_t length);
-size_t fots_dates_to_ordinal_dates(const fots_date *dates, size_t dates_length, fots_ordinal_date_result *results, size_t length);
-size_t fots_dates_to_iso_week_dates(const fots_date *dates, size_t dates_length, fots_iso_week_date_result *results, size_t length);
-size_t fots_dates_weekdays(const fots_date *dates, size_t dates_length, fots_part_result *results, size_t length);
+size_t fots_dates_to_calendar_dates(const int32_t *dates, size_t dates_length, int32_t *years, size_t years_length, uint8_t *months,
+    size_t months_length, uint8_t *days, size_t days_length, uint8_t *statuses, size_t length);
 
-size_t fots_dates_add_days(const fots_date *dates, size_t dates_length, const int64_t *days, size_t days_length,
-    fots_date_result *results, size_t length);
+size_t fots_dates_to_ordinal_dates(const int32_t *dates, size_t dates_length, int32_t *years, size_t years_length, uint16_t *ordinals,
+    size_t ordinals_length, uint8_t *statuses, size_t length);
+
+size_t fots_dates_to_iso_week_dates(const int32_t *dates, size_t dates_length, int32_t *years, size_t years_length, uint8_t *weeks,
+    size_t weeks_length, uint8_t *weekdays, size_t weekdays_length, uint8_t *statuses, size_t length);
+
+size_t fots_dates_weekdays(const int32_t *dates, size_t dates_length, uint8_t *weekdays, size_t weekdays_length, uint8_t *statuses,
+    size_t length);
+
+/* The dates of years, months and days, as ISO week dates. */
+size_t fots_calendar_dates_to_iso_week_dates(const int32_t *years, size_t years_length, const uint8_t *months, size_t months_length,
+    const uint8_t *days, size_t days_length, int32_t *iso_years, size_t iso_years_length, uint8_t *weeks, size_t weeks_length,
+    uint8_t *weekdays, size_t weekdays_length, uint8_t *statuses, size_t length);
+
+size_t fots_dates_add_days(const int32_t *dates, size_t dates_length, const int64_t *days, size_t days_length, int32_t *moved,
+    size_t moved_length, uint8_t *statuses, size_t length);
 
 #ifdef __cplusplus
 }

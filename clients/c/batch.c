@@ -4,15 +4,15 @@
 
 #define ROWS 20000
 
-static fots_date dates[ROWS];
-static int32_t years[ROWS];
+static int32_t dates[ROWS], years[ROWS];
 static int64_t days[ROWS];
-static uint32_t firsts[ROWS], seconds[ROWS];
-static fots_date_result found[ROWS];
-static fots_part_result numbers[ROWS];
-static fots_calendar_date_result calendars[ROWS];
-static fots_ordinal_date_result ordinals[ROWS];
-static fots_iso_week_date_result weeks[ROWS];
+static uint8_t months[ROWS], month_days[ROWS], weeks[ROWS], weekdays[ROWS];
+static uint16_t ordinals[ROWS];
+
+/* What the calls write. */
+static int32_t found[ROWS];
+static uint8_t firsts[ROWS], seconds[ROWS], statuses[ROWS];
+static uint16_t found_ordinals[ROWS];
 
 static uint64_t drawn(void)
 {
@@ -30,89 +30,112 @@ static int64_t drawn_bits(void)
     return (int64_t)bits >> (drawn() & 63);
 }
 
+/* A number from 0 to most, or any bits. */
+static uint16_t part(int value, uint16_t most)
+{
+    return (uint16_t)(value ? drawn() % (most + 1u) : drawn());
+}
+
 /* Half of the rows are values mostly, and the others any bits. */
 static void draw(void)
 {
     for (int k = 0; k < ROWS; k++) {
         int value = drawn() % 2 == 0;
-        dates[k].julian_day = value ? (int32_t)(drawn() % 730484634) + FOTS_MIN_JULIAN_DAY : (int32_t)(uint32_t)drawn();
+        dates[k] = value ? (int32_t)(drawn() % 730484634) + FOTS_MIN_JULIAN_DAY : (int32_t)(uint32_t)drawn();
         years[k] = value ? (int32_t)(drawn() % 1999999) + FOTS_MIN_YEAR : (int32_t)drawn_bits();
         days[k] = value ? (int64_t)(drawn() % 800000) - 400000 : drawn_bits();
-        firsts[k] = value ? (uint32_t)(drawn() % 13) : (uint32_t)drawn_bits();
-        seconds[k] = value ? (uint32_t)(drawn() % 32) : (uint32_t)drawn_bits();
+        months[k] = (uint8_t)part(value, 13);
+        month_days[k] = (uint8_t)part(value, 32);
+        ordinals[k] = part(value, 367);
+        weeks[k] = (uint8_t)part(value, 54);
+        weekdays[k] = (uint8_t)part(value, 8);
     }
-    dates[0] = date_at(FOTS_MIN_JULIAN_DAY);
-    dates[1] = date_at(FOTS_MAX_JULIAN_DAY);
-    dates[2] = date_at(FOTS_MIN_JULIAN_DAY - 1);
-    dates[3] = date_at(FOTS_MAX_JULIAN_DAY + 1);
+    dates[0] = FOTS_MIN_JULIAN_DAY;
+    dates[1] = FOTS_MAX_JULIAN_DAY;
+    dates[2] = FOTS_MIN_JULIAN_DAY - 1;
+    dates[3] = FOTS_MAX_JULIAN_DAY + 1;
+    dates[4] = INT32_MIN;
+    dates[5] = INT32_MAX;
     days[0] = INT64_MIN;
     days[1] = INT64_MAX;
 }
 
-static int same_date(fots_date_result one, fots_date_result other)
-{
-    return one.status == other.status && one.date.julian_day == other.date.julian_day;
-}
+/* Row k is that of the single call: its status, and the parts. */
+#define SAME(call, status_of_one, parts) \
+    do { \
+        check(statuses[k] == (status_of_one), call, (long long)k, statuses[k]); \
+        check(parts, call, (long long)k, statuses[k]); \
+        refused += statuses[k] == FOTS_DONE ? 0 : 1; \
+    } while (0)
 
-static int same_number(fots_part_result one, fots_part_result other)
-{
-    return one.status == other.status && one.number == other.number;
-}
-
-static int same_calendar_date(fots_calendar_date_result one, fots_calendar_date_result other)
-{
-    return one.status == other.status && one.year == other.year && one.month == other.month && one.day == other.day;
-}
-
-static int same_ordinal_date(fots_ordinal_date_result one, fots_ordinal_date_result other)
-{
-    return one.status == other.status && one.year == other.year && one.ordinal == other.ordinal;
-}
-
-static int same_week_date(fots_iso_week_date_result one, fots_iso_week_date_result other)
-{
-    return one.status == other.status && one.year == other.year && one.week == other.week && one.weekday == other.weekday;
-}
-
-/* The rows equal those of the single call, and those with no answer are counted. */
-#define COLUMN(results, same, call, single) \
+/* Each row is that of the single call, and those with no answer are counted. */
+#define COLUMN(call, one, parts) \
     do { \
         size_t refused = 0, counted = call; \
         for (size_t k = 0; k < n; k++) { \
-            check(same(results[k], single), #call, (long long)k, results[k].status); \
-            refused += results[k].status == FOTS_DONE ? 0 : 1; \
+            one; \
+            SAME(#call, single.status, parts); \
         } \
         check(counted == refused, "the rows with no answer", (long long)counted, (long long)refused); \
     } while (0)
 
+#define DATES_FOUND found[k] == single.date.julian_day
+
 static void columns(size_t n)
 {
-    COLUMN(found, same_date, fots_dates_from_julian_days(days, n, found, n), fots_date_from_julian_day(days[k]));
-    COLUMN(found, same_date, fots_dates_from_calendar_dates(years, n, firsts, n, seconds, n, found, n),
-        fots_date_from_calendar_date(years[k], firsts[k], seconds[k]));
-    COLUMN(found, same_date, fots_dates_from_ordinal_dates(years, n, firsts, n, found, n),
-        fots_date_from_ordinal_date(years[k], firsts[k]));
-    COLUMN(found, same_date, fots_dates_from_iso_week_dates(years, n, seconds, n, firsts, n, found, n),
-        fots_date_from_iso_week_date(years[k], seconds[k], firsts[k]));
-    COLUMN(calendars, same_calendar_date, fots_dates_to_calendar_dates(dates, n, calendars, n), fots_date_to_calendar_date(dates[k]));
-    COLUMN(ordinals, same_ordinal_date, fots_dates_to_ordinal_dates(dates, n, ordinals, n), fots_date_to_ordinal_date(dates[k]));
-    COLUMN(weeks, same_week_date, fots_dates_to_iso_week_dates(dates, n, weeks, n), fots_date_to_iso_week_date(dates[k]));
-    COLUMN(numbers, same_number, fots_dates_weekdays(dates, n, numbers, n), fots_date_weekday(dates[k]));
-    COLUMN(found, same_date, fots_dates_add_days(dates, n, days, n, found, n), fots_date_add_days(dates[k], days[k]));
+    COLUMN(fots_dates_from_julian_days(days, n, found, n, statuses, n), fots_date_result single = fots_date_from_julian_day(days[k]),
+        DATES_FOUND);
+    COLUMN(fots_dates_from_calendar_dates(years, n, months, n, month_days, n, found, n, statuses, n),
+        fots_date_result single = fots_date_from_calendar_date(years[k], months[k], month_days[k]), DATES_FOUND);
+    COLUMN(fots_dates_from_ordinal_dates(years, n, ordinals, n, found, n, statuses, n),
+        fots_date_result single = fots_date_from_ordinal_date(years[k], ordinals[k]), DATES_FOUND);
+    COLUMN(fots_dates_from_iso_week_dates(years, n, weeks, n, weekdays, n, found, n, statuses, n),
+        fots_date_result single = fots_date_from_iso_week_date(years[k], weeks[k], weekdays[k]), DATES_FOUND);
+    COLUMN(fots_dates_to_calendar_dates(dates, n, found, n, firsts, n, seconds, n, statuses, n),
+        fots_calendar_date_result single = fots_date_to_calendar_date(date_at(dates[k])),
+        found[k] == single.year && firsts[k] == single.month && seconds[k] == single.day);
+    COLUMN(fots_dates_to_ordinal_dates(dates, n, found, n, found_ordinals, n, statuses, n),
+        fots_ordinal_date_result single = fots_date_to_ordinal_date(date_at(dates[k])),
+        found[k] == single.year && found_ordinals[k] == single.ordinal);
+    COLUMN(fots_dates_to_iso_week_dates(dates, n, found, n, firsts, n, seconds, n, statuses, n),
+        fots_iso_week_date_result single = fots_date_to_iso_week_date(date_at(dates[k])),
+        found[k] == single.year && firsts[k] == single.week && seconds[k] == single.weekday);
+    COLUMN(fots_dates_weekdays(dates, n, firsts, n, statuses, n), fots_part_result single = fots_date_weekday(date_at(dates[k])),
+        firsts[k] == (single.status == FOTS_DONE ? single.number : 0));
+    COLUMN(fots_dates_add_days(dates, n, days, n, found, n, statuses, n),
+        fots_date_result single = fots_date_add_days(date_at(dates[k]), days[k]), DATES_FOUND);
+}
+
+/* From calendar dates to ISO week dates at once, and by the dates: the same rows, with the status of the first refusal. */
+static void chained(size_t n)
+{
+    static int32_t iso_years[ROWS];
+    static uint8_t first_statuses[ROWS], chained_weeks[ROWS], chained_weekdays[ROWS];
+    size_t made = fots_dates_from_calendar_dates(years, n, months, n, month_days, n, found, n, first_statuses, n);
+    size_t refused = fots_dates_to_iso_week_dates(found, n, iso_years, n, firsts, n, seconds, n, statuses, n);
+    size_t at_once = fots_calendar_dates_to_iso_week_dates(years, n, months, n, month_days, n, found, n, chained_weeks, n,
+        chained_weekdays, n, statuses, n);
+    check(made == refused && refused == at_once, "the rows with no answer", (long long)made, (long long)at_once);
+    for (size_t k = 0; k < n; k++) {
+        check(statuses[k] == first_statuses[k], "the status of a chained row", (long long)k, statuses[k]);
+        check(found[k] == iso_years[k] && chained_weeks[k] == firsts[k] && chained_weekdays[k] == seconds[k], "a chained row",
+            (long long)k, found[k]);
+    }
 }
 
 /* Columns that are not of one length: nothing is written. */
 static void unlike(void)
 {
-    static const fots_date_result before = {77, {77}};
-    found[0] = before;
-    check(fots_dates_from_julian_days(days, 2, found, 1) == FOTS_UNLIKE, "two Julian days and one result", 0, 0);
-    check(fots_dates_from_calendar_dates(years, 1, firsts, 0, seconds, 1, found, 1) == FOTS_UNLIKE, "a month too few", 0, 0);
-    check(fots_dates_from_iso_week_dates(years, 1, seconds, 1, firsts, 2, found, 1) == FOTS_UNLIKE, "a weekday too many", 0, 0);
-    check(fots_dates_add_days(dates, 1, days, 1, found, 0) == FOTS_UNLIKE, "no result", 0, 0);
-    check(same_date(found[0], before), "what stood there", found[0].status, found[0].date.julian_day);
-    check(fots_dates_from_julian_days(days, 0, found, 0) == 0, "no rows", 0, 0);
-    check(same_date(found[0], before), "what stood there", found[0].status, found[0].date.julian_day);
+    found[0] = 77;
+    statuses[0] = 77;
+    check(fots_dates_from_julian_days(days, 2, found, 1, statuses, 1) == FOTS_UNLIKE, "two Julian days and one date", 0, 0);
+    check(fots_dates_from_julian_days(days, 1, found, 1, statuses, 2) == FOTS_UNLIKE, "a status too many", 0, 0);
+    check(fots_dates_from_calendar_dates(years, 1, months, 0, month_days, 1, found, 1, statuses, 1) == FOTS_UNLIKE, "a month too few", 0, 0);
+    check(fots_dates_from_iso_week_dates(years, 1, weeks, 1, weekdays, 2, found, 1, statuses, 1) == FOTS_UNLIKE, "a weekday too many", 0, 0);
+    check(fots_dates_to_iso_week_dates(dates, 1, found, 1, firsts, 1, seconds, 0, statuses, 1) == FOTS_UNLIKE, "no weekday", 0, 0);
+    check(fots_dates_add_days(dates, 1, days, 1, found, 0, statuses, 1) == FOTS_UNLIKE, "no date", 0, 0);
+    check(fots_dates_from_julian_days(days, 0, found, 0, statuses, 0) == 0, "no rows", 0, 0);
+    check(found[0] == 77 && statuses[0] == 77, "what stood there", found[0], statuses[0]);
 }
 
 int main(void)
@@ -120,6 +143,7 @@ int main(void)
     draw();
     columns(ROWS);
     columns(1);
+    chained(ROWS);
     unlike();
     return ended("columns");
 }

@@ -17,6 +17,10 @@ static fots_date_result made[VALUES];
 static fots_part_result numbers[VALUES];
 static fots_calendar_date_result calendars[VALUES];
 
+/* Columns. */
+static int32_t julian_days[VALUES], years[VALUES], found[VALUES];
+static uint8_t months[VALUES], month_days[VALUES], weeks[VALUES], weekdays[VALUES], statuses[VALUES];
+
 /* The compiler can't tell what becomes of the number, nor that the memory stays as it is. */
 static void keep(int32_t number)
 {
@@ -37,9 +41,11 @@ static void draw(void)
 {
     for (int k = 0; k < VALUES; k++) {
         dates[k].julian_day = (int32_t)(1721426 + drawn() % 3652059);
+        julian_days[k] = dates[k].julian_day;
         offsets[k].seconds = (int32_t)(drawn() % 187199) - FOTS_MAX_OFFSET_SECONDS;
         days[k] = (int64_t)(drawn() % 20001) - 10000;
     }
+    fots_dates_to_calendar_dates(julian_days, VALUES, years, VALUES, months, VALUES, month_days, VALUES, statuses, VALUES);
 }
 
 static void no_call(void)
@@ -73,8 +79,7 @@ static void one_weekday(void)
 
 static void column_of_weekdays(void)
 {
-    fots_dates_weekdays(dates, VALUES, numbers, VALUES);
-    keep((int32_t)numbers[0].number);
+    keep((int32_t)fots_dates_weekdays(julian_days, VALUES, weekdays, VALUES, statuses, VALUES));
 }
 
 static void one_add_days(void)
@@ -87,8 +92,7 @@ static void one_add_days(void)
 
 static void column_of_added_days(void)
 {
-    fots_dates_add_days(dates, VALUES, days, VALUES, made, VALUES);
-    keep(made[0].date.julian_day);
+    keep((int32_t)fots_dates_add_days(julian_days, VALUES, days, VALUES, found, VALUES, statuses, VALUES));
 }
 
 static void one_calendar_date(void)
@@ -101,8 +105,23 @@ static void one_calendar_date(void)
 
 static void column_of_calendar_dates(void)
 {
-    fots_dates_to_calendar_dates(dates, VALUES, calendars, VALUES);
-    keep(calendars[0].year);
+    keep((int32_t)fots_dates_to_calendar_dates(julian_days, VALUES, found, VALUES, weeks, VALUES, weekdays, VALUES, statuses, VALUES));
+}
+
+static void column_from_calendar_dates(void)
+{
+    keep((int32_t)fots_dates_from_calendar_dates(years, VALUES, months, VALUES, month_days, VALUES, found, VALUES, statuses, VALUES));
+}
+
+static void column_of_week_dates(void)
+{
+    keep((int32_t)fots_dates_to_iso_week_dates(julian_days, VALUES, found, VALUES, weeks, VALUES, weekdays, VALUES, statuses, VALUES));
+}
+
+static void column_of_calendar_to_week_dates(void)
+{
+    keep((int32_t)fots_calendar_dates_to_iso_week_dates(years, VALUES, months, VALUES, month_days, VALUES, found, VALUES, weeks, VALUES,
+        weekdays, VALUES, statuses, VALUES));
 }
 
 static const struct {
@@ -118,6 +137,9 @@ static const struct {
     {"fots_dates_add_days, a row", column_of_added_days},
     {"fots_date_to_calendar_date", one_calendar_date},
     {"fots_dates_to_calendar_dates, a row", column_of_calendar_dates},
+    {"fots_dates_from_calendar_dates, a row", column_from_calendar_dates},
+    {"fots_dates_to_iso_week_dates, a row", column_of_week_dates},
+    {"fots_calendar_dates_to_iso_week_dates, a row", column_of_calendar_to_week_dates},
 };
 
 #define LOOPS ((int)(sizeof(loops) / sizeof(loops)[0]))

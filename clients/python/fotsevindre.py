@@ -30,14 +30,15 @@ import operator
 import os
 import pathlib
 import sys
-from typing import Any, Callable, ClassVar, Dict, Iterable, Iterator, List, Optional, Sequence, SupportsIndex, Tuple, Type, \
+from typing import Any, Callable, ClassVar, Dict, Iterable, Iterator, List, NamedTuple, Optional, Sequence, SupportsIndex, Tuple, Type, \
     TypeVar, Union, cast, overload
 
 __version__ = "0.1.0"
 
 __all__ = [
-    "OffsetDateTime", "PlainDateTime",
-    "ComponentRange", "Date", "Days", "Month", "SignedDuration", "Time", "Unreadable", "UtcOffset", "Weekday", "add_to_pair", "dates_add_days",
+    "CalendarDateColumns", "ComponentRange", "Date", "DateColumns", "Days", "IsoWeekDateColumns", "Month", "OffsetDateTime",
+    "OrdinalDateColumns", "PlainDateTime", "SignedDuration", "Time", "Unreadable", "UtcOffset", "Weekday", "WeekdayColumns", "add_to_pair",
+    "calendar_dates_to_iso_week_dates", "dates_add_days",
     "dates_from_calendar_dates", "dates_from_iso_week_dates", "dates_from_julian_days", "dates_from_ordinal_dates",
     "dates_to_calendar_dates", "dates_to_iso_week_dates", "dates_to_ordinal_dates", "dates_weekdays", "days_in_month", "days_in_year",
     "days_in_year_month", "is_leap_year", "read_rfc3339", "read_unix", "rfc3339_text", "status_error", "sub_from_pair",
@@ -61,6 +62,8 @@ def _load() -> ctypes.CDLL:
     return library
 
 
+_U8 = ctypes.c_uint8
+_U16 = ctypes.c_uint16
 _I32 = ctypes.c_int32
 _U32 = ctypes.c_uint32
 _I64 = ctypes.c_int64
@@ -206,23 +209,24 @@ for _returned, _taken, _names in _FORMS:
         _call.argtypes = _taken
         _calls[_name] = _call
 
-# The calls over columns: what each row of the answer is, and the numbers of each column that goes in.
-_COLUMNS: Dict[str, Tuple[Type[_Result], List[Any]]] = {
-    "dates_from_julian_days": (_DATE, [_I64]),
-    "dates_from_calendar_dates": (_DATE, [_I32, _U32, _U32]),
-    "dates_from_ordinal_dates": (_DATE, [_I32, _U32]),
-    "dates_from_iso_week_dates": (_DATE, [_I32, _U32, _U32]),
-    "dates_to_calendar_dates": (_CALENDAR_DATE, [_I32]),
-    "dates_to_ordinal_dates": (_ORDINAL_DATE, [_I32]),
-    "dates_to_iso_week_dates": (_ISO_WEEK_DATE, [_I32]),
-    "dates_weekdays": (_PART, [_I32]),
-    "dates_add_days": (_DATE, [_I32, _I64]),
+# The calls over columns: the numbers of each column that goes in, and of each that comes out before the statuses.
+_COLUMNS: Dict[str, Tuple[List[Any], List[Any]]] = {
+    "dates_from_julian_days": ([_I64], [_I32]),
+    "dates_from_calendar_dates": ([_I32, _U8, _U8], [_I32]),
+    "dates_from_ordinal_dates": ([_I32, _U16], [_I32]),
+    "dates_from_iso_week_dates": ([_I32, _U8, _U8], [_I32]),
+    "dates_to_calendar_dates": ([_I32], [_I32, _U8, _U8]),
+    "dates_to_ordinal_dates": ([_I32], [_I32, _U16]),
+    "dates_to_iso_week_dates": ([_I32], [_I32, _U8, _U8]),
+    "dates_weekdays": ([_I32], [_U8]),
+    "calendar_dates_to_iso_week_dates": ([_I32, _U8, _U8], [_I32, _U8, _U8]),
+    "dates_add_days": ([_I32, _I64], [_I32]),
 }
-for _name, (_returned, _taken) in _COLUMNS.items():
+for _name, (_taken, _given) in _COLUMNS.items():
     _call = getattr(_library, "fots_" + _name)
     _call.restype = ctypes.c_size_t
-    # Each array is a pointer and a length, and the rows of the answer are the last one.
-    _call.argtypes = [_part for _kind in [*_taken, _returned] for _part in (ctypes.POINTER(_kind), ctypes.c_size_t)]
+    # Each array is a pointer and a length, and the statuses are the last one.
+    _call.argtypes = [_part for _kind in [*_taken, *_given, _U8] for _part in (ctypes.POINTER(_kind), ctypes.c_size_t)]
     _calls[_name] = _call
 
 # Each call by its name, as an attribute of a class: the quickest way to it.
@@ -2113,8 +2117,8 @@ def _of_array(values: Any, kind: Any, of_dates: bool) -> Any:
     return values.astype(_CODES[kind], order="C", copy=False)
 
 
-_BITS = {_I32: (-2**31, 2**31 - 1), _U32: (0, 2**32 - 1), _I64: (-2**63, 2**63 - 1)}
-_CODES = {_I32: "i", _U32: "I", _I64: "q"}
+_BITS = {_U8: (0, 2**8 - 1), _U16: (0, 2**16 - 1), _I32: (-2**31, 2**31 - 1), _I64: (-2**63, 2**63 - 1)}
+_CODES = {_U8: "B", _U16: "H", _I32: "i", _I64: "q"}
 
 
 def _column(values: Any, kind: Any, of_dates: bool) -> Any:
@@ -2128,7 +2132,7 @@ def _column(values: Any, kind: Any, of_dates: bool) -> Any:
     code = view.format[1:] if view.format[:1] in order else view.format
     if code not in "bhilqBHILQ":
         raise TypeError(f"a column of whole numbers expected, not of the format '{view.format}'")
-    signs = "bhilq" if kind is not _U32 else "BHILQ"
+    signs = "bhilq" if kind in (_I32, _I64) else "BHILQ"
     if code not in signs or view.itemsize != ctypes.sizeof(kind) or not view.c_contiguous:
         # array raises OverflowError where a number does not fit.
         view = memoryview(array.array(_CODES[kind], view.tolist()))
@@ -2140,68 +2144,122 @@ def _column(values: Any, kind: Any, of_dates: bool) -> Any:
     return column.from_buffer_copy(view)
 
 
-def _over_columns(name: str, *columns: object) -> Tuple[Any, int]:
-    """The rows of the answer, and how many have none."""
-    row, kinds = _COLUMNS[name]
+def _over_columns(name: str, *columns: object) -> Tuple[Any, ...]:
+    """The columns of the answer, the statuses, and how many rows have none."""
+    kinds, kinds_given = _COLUMNS[name]
     of_dates = name.startswith("dates_to_") or name in ("dates_weekdays", "dates_add_days")
     found = [_column(values, kind, of_dates and place == 0) for place, (values, kind) in enumerate(zip(columns, kinds))]
     length = len(found[0])
     if any(len(column) != length for column in found):
         raise ValueError("columns of one length expected")
-    rows = (row * length)()
-    refused: int = _calls[name](*(part for column in [*found, rows] for part in (column, length)))
-    return rows, refused
+    made = [array.array(_CODES[kind], [0]) * length for kind in (*kinds_given, _U8)]
+    found += [_column(column, kind, False) for column, kind in zip(made, (*kinds_given, _U8))]
+    refused: int = _calls[name](*(part for column in found for part in (column, length)))
+    if any(hasattr(values, "dtype") for values in columns):
+        # Who passes an array of numpy has it loaded, and gets arrays of numpy over the same memory.
+        return (*map(sys.modules["numpy"].asarray, made), refused)
+    return (*made, refused)
 
 
-def dates_from_julian_days(julian_days: object) -> Tuple[Any, int]:
-    """The dates of a column of Julian days, and how many rows have none.
+class DateColumns(NamedTuple):
+    """The dates of a call over columns, in 32 bits with a sign, a status byte for each row, and how many rows have no answer."""
 
-    A column is a buffer of whole numbers, as an `array.array`: here of 64 bits with a sign. Each row of the answer has a `status`,
-    which is 0 or what `status_error` explains, and a `date`, a Julian day in 32 bits with a sign. These rows are a buffer too.
+    dates: Any
+    statuses: Any
+    refused: int
+
+
+class CalendarDateColumns(NamedTuple):
+    """Years in 32 bits with a sign, months and days in 8 without, a status byte for each row, and how many rows have no answer."""
+
+    years: Any
+    months: Any
+    days: Any
+    statuses: Any
+    refused: int
+
+
+class OrdinalDateColumns(NamedTuple):
+    """Years in 32 bits with a sign, ordinals in 16 without, a status byte for each row, and how many rows have no answer."""
+
+    years: Any
+    ordinals: Any
+    statuses: Any
+    refused: int
+
+
+class IsoWeekDateColumns(NamedTuple):
+    """ISO years in 32 bits with a sign, weeks and weekdays in 8 without, a status byte for each row, and how many rows have no answer."""
+
+    years: Any
+    weeks: Any
+    weekdays: Any
+    statuses: Any
+    refused: int
+
+
+class WeekdayColumns(NamedTuple):
+    """Weekdays from Monday, 1, in 8 bits without a sign, a status byte for each row, and how many rows have no answer."""
+
+    weekdays: Any
+    statuses: Any
+    refused: int
+
+
+def dates_from_julian_days(julian_days: object) -> DateColumns:
+    """The dates of a column of Julian days.
+
+    A column is a buffer of whole numbers, as an `array.array`: here of 64 bits with a sign. Each row of the answer has a date, a Julian
+    day in 32 bits with a sign, and a status, which is 0 or what `status_error` explains. Where there is no answer, the date is the least
+    number, which other calls refuse.
 
     >>> import array
-    >>> rows, refused = dates_from_julian_days(array.array("q", [2451545, 366963560]))
-    >>> refused, [(row.status, row.date) for row in rows]
-    (1, [(0, 2451545), (18, -2147483648)])
+    >>> dates_from_julian_days(array.array("q", [2451545, 366963560]))
+    DateColumns(dates=array('i', [2451545, -2147483648]), statuses=array('B', [0, 18]), refused=1)
     """
-    return _over_columns("dates_from_julian_days", julian_days)
+    return DateColumns(*_over_columns("dates_from_julian_days", julian_days))
 
 
-def dates_from_calendar_dates(years: object, months: object, days: object) -> Tuple[Any, int]:
-    """The dates of columns of years, in 32 bits with a sign, and months and days, without one: rows with `status` and `date`."""
-    return _over_columns("dates_from_calendar_dates", years, months, days)
+def dates_from_calendar_dates(years: object, months: object, days: object) -> DateColumns:
+    """The dates of columns of years, in 32 bits with a sign, and months and days, in 8 bits without one."""
+    return DateColumns(*_over_columns("dates_from_calendar_dates", years, months, days))
 
 
-def dates_from_ordinal_dates(years: object, ordinals: object) -> Tuple[Any, int]:
-    """The dates of columns of years, in 32 bits with a sign, and ordinals, without one: rows with `status` and `date`."""
-    return _over_columns("dates_from_ordinal_dates", years, ordinals)
+def dates_from_ordinal_dates(years: object, ordinals: object) -> DateColumns:
+    """The dates of columns of years, in 32 bits with a sign, and ordinals, in 16 bits without one."""
+    return DateColumns(*_over_columns("dates_from_ordinal_dates", years, ordinals))
 
 
-def dates_from_iso_week_dates(years: object, weeks: object, weekdays: object) -> Tuple[Any, int]:
-    """The dates of columns of ISO years, in 32 bits with a sign, weeks and weekdays, from 1: rows with `status` and `date`."""
-    return _over_columns("dates_from_iso_week_dates", years, weeks, weekdays)
+def dates_from_iso_week_dates(years: object, weeks: object, weekdays: object) -> DateColumns:
+    """The dates of columns of ISO years, in 32 bits with a sign, weeks and weekdays, from 1, in 8 bits without one."""
+    return DateColumns(*_over_columns("dates_from_iso_week_dates", years, weeks, weekdays))
 
 
-def dates_to_calendar_dates(dates: object) -> Tuple[Any, int]:
-    """What a column of dates has, each a Julian day in 32 bits with a sign: rows with `status`, `year`, `month` and `day`."""
-    return _over_columns("dates_to_calendar_dates", dates)
+def dates_to_calendar_dates(dates: object) -> CalendarDateColumns:
+    """The years, months and days of a column of dates, each a Julian day in 32 bits with a sign."""
+    return CalendarDateColumns(*_over_columns("dates_to_calendar_dates", dates))
 
 
-def dates_to_ordinal_dates(dates: object) -> Tuple[Any, int]:
-    """What a column of dates has, each a Julian day in 32 bits with a sign: rows with `status`, `year` and `ordinal`."""
-    return _over_columns("dates_to_ordinal_dates", dates)
+def dates_to_ordinal_dates(dates: object) -> OrdinalDateColumns:
+    """The years and ordinals of a column of dates, each a Julian day in 32 bits with a sign."""
+    return OrdinalDateColumns(*_over_columns("dates_to_ordinal_dates", dates))
 
 
-def dates_to_iso_week_dates(dates: object) -> Tuple[Any, int]:
-    """What a column of dates has, each a Julian day in 32 bits with a sign: rows with `status`, `year`, `week` and `weekday`."""
-    return _over_columns("dates_to_iso_week_dates", dates)
+def dates_to_iso_week_dates(dates: object) -> IsoWeekDateColumns:
+    """The ISO years, weeks and weekdays of a column of dates, each a Julian day in 32 bits with a sign."""
+    return IsoWeekDateColumns(*_over_columns("dates_to_iso_week_dates", dates))
 
 
-def dates_weekdays(dates: object) -> Tuple[Any, int]:
-    """The weekdays of a column of dates, each a Julian day in 32 bits with a sign: rows with `status` and `number`, from Monday, 1."""
-    return _over_columns("dates_weekdays", dates)
+def dates_weekdays(dates: object) -> WeekdayColumns:
+    """The weekdays of a column of dates, each a Julian day in 32 bits with a sign: from Monday, 1."""
+    return WeekdayColumns(*_over_columns("dates_weekdays", dates))
 
 
-def dates_add_days(dates: object, days: object) -> Tuple[Any, int]:
-    """A column of dates, in 32 bits with a sign, each moved by days, in 64 bits with a sign: rows with `status` and `date`."""
-    return _over_columns("dates_add_days", dates, days)
+def calendar_dates_to_iso_week_dates(years: object, months: object, days: object) -> IsoWeekDateColumns:
+    """The ISO years, weeks and weekdays of columns of years, in 32 bits with a sign, and months and days, in 8 bits without one."""
+    return IsoWeekDateColumns(*_over_columns("calendar_dates_to_iso_week_dates", years, months, days))
+
+
+def dates_add_days(dates: object, days: object) -> DateColumns:
+    """A column of dates, in 32 bits with a sign, each moved by days, in 64 bits with a sign."""
+    return DateColumns(*_over_columns("dates_add_days", dates, days))

@@ -774,24 +774,25 @@ class Columns(Cases):
     ])
     CALENDAR = [
         array.array("i", [2000, 1900, 2000, 2000, 1000000, 2000, -999999, 2**31 - 1]),
-        array.array("I", [2, 2, 13, 0, 1, 2**32 - 1, 1, 1]),
-        array.array("I", [29, 29, 1, 1, 1, 1, 1, 1]),
+        array.array("B", [2, 2, 13, 0, 1, 255, 1, 1]),
+        array.array("B", [29, 29, 1, 1, 1, 1, 1, 1]),
     ]
 
     def row_by_row(self, found, expected):
-        """Compares the rows of a call over columns with what the call of one value answers for each."""
-        rows, refused = found
-        self.assertEqual(len(rows), len(expected))
-        self.assertEqual(refused, sum(row.status != 0 for row in rows))
-        for row, (call, fields) in zip(rows, expected):
-            error = fotsevindre.status_error(row.status)
+        """Compares the columns of a call with what the call of one value answers for each row."""
+        *parts, statuses, refused = found
+        self.assertEqual({len(column) for column in (*parts, statuses)}, {len(expected)})
+        self.assertEqual(refused, sum(status != 0 for status in statuses))
+        for row, status, (call, fields) in zip(zip(*parts), statuses, expected):
+            error = fotsevindre.status_error(status)
             try:
                 answer = call()
             except (ValueError, OverflowError) as raised:
                 self.assertEqual((type(error), str(error)), (type(raised), str(raised)))
+                self.assertEqual(row, tuple(-2**31 if column.typecode == "i" else 0 for column in parts))
             else:
                 self.assertIsNone(error)
-                self.assertEqual(tuple(getattr(row, name) for name, _ in type(row)._fields_[1:]), fields(answer))
+                self.assertEqual(row, fields(answer))
 
     def test_dates_made(self):
         def made(answer):
@@ -801,17 +802,20 @@ class Columns(Cases):
             [(lambda n=n: Date.from_julian_day(n), made) for n in self.JULIAN_DAYS])
         self.row_by_row(fotsevindre.dates_from_calendar_dates(*self.CALENDAR),
             [(lambda row=row: Date.from_calendar_date(*row), made) for row in zip(*self.CALENDAR)])
+        self.row_by_row(fotsevindre.calendar_dates_to_iso_week_dates(*self.CALENDAR), [(
+            lambda row=row: Date.from_calendar_date(*row).to_iso_week_date(), lambda found: (*found[:2], found[2].value),
+        ) for row in zip(*self.CALENDAR)])
         years = array.array("i", [2000, 1900, 2000, 10**6, -2**31])
-        ordinals = array.array("I", [366, 366, 0, 1, 1])
+        ordinals = array.array("H", [366, 366, 0, 1, 1])
         self.row_by_row(fotsevindre.dates_from_ordinal_dates(years, ordinals),
             [(lambda row=row: Date.from_ordinal_date(*row), made) for row in zip(years, ordinals)])
         years = array.array("i", [2020, 2019, 999999, 10**6, 999999])
-        weeks = array.array("I", [53, 53, 52, 0, 52])
-        weekdays = array.array("I", [5, 1, 6, 1, 5])
+        weeks = array.array("B", [53, 53, 52, 0, 52])
+        weekdays = array.array("B", [5, 1, 6, 1, 5])
         self.row_by_row(fotsevindre.dates_from_iso_week_dates(years, weeks, weekdays),
             [(lambda row=row: Date.from_iso_week_date(*row[:2], Weekday(row[2])), made) for row in zip(years, weeks, weekdays)])
-        rows, refused = fotsevindre.dates_from_iso_week_dates(years, weeks, array.array("I", [0, 8, 2**32 - 1, 9, 10]))
-        self.assertEqual((refused, {type(fotsevindre.status_error(row.status)) for row in rows}), (5, {ValueError}))
+        found = fotsevindre.dates_from_iso_week_dates(years, weeks, array.array("B", [0, 8, 255, 9, 10]))
+        self.assertEqual((found.refused, {type(fotsevindre.status_error(status)) for status in found.statuses}), (5, {ValueError}))
 
     def test_what_dates_have(self):
         calls = [
@@ -823,43 +827,44 @@ class Columns(Cases):
         for over_columns, of_one, fields in calls:
             self.row_by_row(over_columns(self.DATES), [(lambda n=n: of_one(Date._of(n)), fields) for n in self.DATES])
 
-    def test_names_of_the_parts(self):
-        calls = [
-            (fotsevindre.dates_to_calendar_dates, ["status", "year", "month", "day"]),
-            (fotsevindre.dates_to_ordinal_dates, ["status", "year", "ordinal"]),
-            (fotsevindre.dates_to_iso_week_dates, ["status", "year", "week", "weekday"]),
-            (fotsevindre.dates_weekdays, ["status", "number"]),
-        ]
-        for call, names in calls:
-            self.assertEqual([name for name, _ in call(self.DATES)[0]._type_._fields_], names)
+    def test_columns_chain(self):
+        """What one call writes is taken by the next one as it lies, and a refused row is refused again."""
+        made = fotsevindre.dates_from_calendar_dates(*self.CALENDAR)
+        for call in (fotsevindre.dates_to_calendar_dates, fotsevindre.dates_to_ordinal_dates, fotsevindre.dates_to_iso_week_dates):
+            found = call(made.dates)
+            self.assertEqual(found.refused, made.refused)
+            back = {3: fotsevindre.dates_from_ordinal_dates}.get(len(found) - 1, fotsevindre.dates_from_calendar_dates)
+            back = fotsevindre.dates_from_iso_week_dates if hasattr(found, "weeks") else back
+            self.assertEqual(back(*found[:-2]).dates, made.dates)
+        kinds = [(made.dates, ctypes.c_int32), *zip(fotsevindre.dates_to_calendar_dates(made.dates)[1:3], [ctypes.c_uint8] * 2)]
+        for column, kind in kinds:
+            self.assertEqual(ctypes.addressof(fotsevindre._column(column, kind, False)), column.buffer_info()[0])
 
     def test_many_refusals_are_counted(self):
-        refused = fotsevindre.dates_from_julian_days(array.array("q", [2**40] * 100_000))[1]
-        self.assertEqual(refused, 100_000)
+        found = fotsevindre.dates_from_julian_days(array.array("q", [2**40] * 100_000))
+        self.assertEqual((found.refused, set(found.statuses), set(found.dates)), (100_000, {18}, {-2**31}))
 
     def test_dates_moved(self):
         days = array.array("q", [0, -1, 1, 1, 1, 2**63 - 1, 1, -2**63, *range(-1000, 1000)])
-        rows, refused = fotsevindre.dates_add_days(self.DATES, days)
-        for row, date, move in zip(rows, self.DATES, days):
+        moved, statuses, refused = fotsevindre.dates_add_days(self.DATES, days)
+        for later, status, date, move in zip(moved, statuses, self.DATES, days):
             if not -363521074 <= date <= 366963559:
-                self.assertIsInstance(fotsevindre.status_error(row.status), ValueError)
+                self.assertIsInstance(fotsevindre.status_error(status), ValueError)
             elif not -363521074 <= date + move <= 366963559:
-                self.assertIsInstance(fotsevindre.status_error(row.status), OverflowError)
+                self.assertIsInstance(fotsevindre.status_error(status), OverflowError)
             else:
-                self.assertEqual((row.status, row.date), (0, date + move))
-        self.assertEqual(refused, sum(row.status != 0 for row in rows))
+                self.assertEqual((status, later), (0, date + move))
+        self.assertEqual(refused, sum(status != 0 for status in statuses))
 
     def test_buffers(self):
         whole = array.array("q", range(2451545, 2451550))
         unaligned = memoryview(bytearray(b"-" + bytes(whole)))[1:].cast("q")
         for values in (whole, memoryview(whole), memoryview(whole)[1:3], memoryview(whole).toreadonly(), (ctypes.c_int64 * 2)(0, 1),
                 array.array("q"), memoryview(b"").cast("q"), unaligned):
-            rows, refused = fotsevindre.dates_from_julian_days(values)
-            self.assertEqual((refused, [row.date for row in rows]), (0, list(values)))
+            found = fotsevindre.dates_from_julian_days(values)
+            self.assertEqual((found.refused, list(found.dates)), (0, list(values)))
         self.assertEqual(list(whole), list(range(2451545, 2451550)))
-        rows = fotsevindre.dates_from_julian_days(whole)[0]
-        self.assertEqual(len(bytes(rows)), 8 * len(whole))
-        self.assertIn(":date:", memoryview(rows).format)
+        self.assertEqual([column.typecode for column in fotsevindre.dates_from_julian_days(whole)[:2]], ["i", "B"])
         for values in (array.array("q"), unaligned):
             address = ctypes.addressof(fotsevindre._column(values, ctypes.c_int64, False))
             self.assertTrue(address and address % 8 == 0)
@@ -868,17 +873,17 @@ class Columns(Cases):
     def test_other_buffers(self):
         """Whole numbers of other bits, and in other steps, are taken where they fit."""
         for code in "bBhHiIlLqQ":
-            rows, refused = fotsevindre.dates_from_julian_days(array.array(code, [1, 2, 100]))
-            self.assertEqual((refused, [row.date for row in rows]), (0, [1, 2, 100]), code)
+            found = fotsevindre.dates_from_julian_days(array.array(code, [1, 2, 100]))
+            self.assertEqual((found.refused, list(found.dates)), (0, [1, 2, 100]), code)
         steps = memoryview(array.array("q", [1, 2, 3, 4]))
         for view, numbers in [(steps[::2], [1, 3]), (steps[::-1], [4, 3, 2, 1])]:
-            self.assertEqual([row.date for row in fotsevindre.dates_from_julian_days(view)[0]], numbers)
+            self.assertEqual(list(fotsevindre.dates_from_julian_days(view).dates), numbers)
         for values in (array.array("Q", [2**63]), array.array("Q", [1, 2**64 - 1])):
             with self.assertRaises(OverflowError):
                 fotsevindre.dates_from_julian_days(values)
-        for values in (array.array("q", [-1]), array.array("q", [2**32])):
+        for values in (array.array("q", [-1]), array.array("q", [2**8])):
             with self.assertRaises(OverflowError):
-                fotsevindre.dates_from_calendar_dates(array.array("i", [2000]), values, array.array("I", [1]))
+                fotsevindre.dates_from_calendar_dates(array.array("i", [2000]), values, array.array("B", [1]))
 
     def test_wrong_buffers(self):
         wrong = [
@@ -899,7 +904,7 @@ class Header(Cases):
 
     TEXT = (pathlib.Path(__file__).resolve().parents[2] / "include" / "fotsevindre.h").read_text(encoding="utf-8")
     NUMBERS = {
-        "int32_t": ctypes.c_int32, "uint32_t": ctypes.c_uint32, "int64_t": ctypes.c_int64, "uint64_t": ctypes.c_uint64,
+        "uint8_t": ctypes.c_uint8, "uint16_t": ctypes.c_uint16, "int32_t": ctypes.c_int32, "uint32_t": ctypes.c_uint32, "int64_t": ctypes.c_int64, "uint64_t": ctypes.c_uint64,
         "size_t": ctypes.c_size_t, "char": ctypes.c_char, "fots_date": ctypes.c_int32, "fots_offset": ctypes.c_int32,
         "fots_time": ctypes.c_uint64,
     }

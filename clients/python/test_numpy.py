@@ -1,5 +1,6 @@
 """Tests of the columns with arrays of numpy: days of numpy, whole numbers of any bits, arrays in steps, and what is refused."""
 
+import ctypes
 import unittest
 
 import numpy
@@ -13,36 +14,47 @@ EPOCH = 2440588
 class Numpy(unittest.TestCase):
     def test_days_of_numpy(self):
         days = numpy.array(["2024-02-29", "1969-12-31", "NaT", "-0001-12-31"], dtype="datetime64[D]")
-        rows, refused = fotsevindre.dates_to_calendar_dates(days)
-        self.assertEqual([(row.year, row.month, row.day) for row in (rows[0], rows[1], rows[3])], [(2024, 2, 29), (1969, 12, 31), (-1,
-            12, 31)])
-        self.assertEqual((refused, isinstance(fotsevindre.status_error(rows[2].status), ValueError)), (1, True))
+        found = fotsevindre.dates_to_calendar_dates(days)
+        self.assertEqual([row for row in zip(*found[:3])], [(2024, 2, 29), (1969, 12, 31), (-2**31, 0, 0), (-1, 12, 31)])
+        self.assertEqual((found.refused, isinstance(fotsevindre.status_error(found.statuses[2]), ValueError)), (1, True))
         past = numpy.array([2**62, -2**62, 2**63 - 1], dtype="int64").view("datetime64[D]")
-        self.assertEqual(fotsevindre.dates_weekdays(past)[1], 3)
+        self.assertEqual(fotsevindre.dates_weekdays(past).refused, 3)
         self.assertTrue((past.view("int64") == [2**62, -2**62, 2**63 - 1]).all())
         every = numpy.arange("1600-01-01", "2400-01-01", 7, dtype="datetime64[D]")
-        rows, refused = fotsevindre.dates_to_calendar_dates(every)
-        calendar = numpy.asarray(rows)
+        calendar = fotsevindre.dates_to_calendar_dates(every)
         months = every.astype("datetime64[M]")
-        self.assertEqual(refused, 0)
-        self.assertTrue((calendar["year"] == every.astype("datetime64[Y]").astype(int) + 1970).all())
-        self.assertTrue((calendar["month"] == months.astype(int) % 12 + 1).all())
-        self.assertTrue((calendar["day"] == (every - months).astype(int) + 1).all())
+        self.assertEqual(calendar.refused, 0)
+        self.assertTrue((calendar.years == every.astype("datetime64[Y]").astype(int) + 1970).all())
+        self.assertTrue((calendar.months == months.astype(int) % 12 + 1).all())
+        self.assertTrue((calendar.days == (every - months).astype(int) + 1).all())
 
     def test_days_moved(self):
         days = numpy.array(["2024-02-29", "2024-12-31"], dtype="datetime64[D]")
-        rows, refused = fotsevindre.dates_add_days(days, numpy.array([1, -366], dtype="timedelta64[D]"))
-        self.assertEqual((refused, [str(Date.from_julian_day(row.date)) for row in rows]), (0, ["2024-03-01", "2023-12-31"]))
-        found = (numpy.asarray(rows)["date"].astype("int64") - EPOCH).view("datetime64[D]")
+        moved, statuses, refused = fotsevindre.dates_add_days(days, numpy.array([1, -366], dtype="timedelta64[D]"))
+        self.assertEqual((refused, [str(Date.from_julian_day(date)) for date in moved]), (0, ["2024-03-01", "2023-12-31"]))
+        found = (moved.astype("int64") - EPOCH).view("datetime64[D]")
         self.assertTrue((found == days + numpy.array([1, -366])).all())
+
+    def test_columns_chain(self):
+        """What one call gives is an array of numpy that the next one takes as it lies, also of a refused row."""
+        years, months, days = numpy.array([2024, 2021], dtype="int32"), numpy.array([13, 1], dtype="uint8"), numpy.array([1, 1], dtype="uint8")
+        for column, bits in zip((years, months, days), (fotsevindre._I32, fotsevindre._U8, fotsevindre._U8)):
+            self.assertEqual(ctypes.addressof(fotsevindre._column(column, bits, False)), column.ctypes.data)
+        made = fotsevindre.dates_from_calendar_dates(years, months, days)
+        weeks = fotsevindre.dates_to_iso_week_dates(made.dates)
+        self.assertEqual([column.dtype for column in weeks[:-1]], ["int32", "uint8", "uint8", "uint8"])
+        self.assertEqual(([*zip(*weeks[:3])], weeks.refused), ([(-2**31, 0, 0), (2020, 53, 5)], 1))
+        at_once = fotsevindre.calendar_dates_to_iso_week_dates(years, months, days)
+        self.assertTrue(all((one == other).all() for one, other in zip(weeks[:3], at_once[:3])))
+        self.assertEqual((list(at_once.statuses), at_once.refused), (list(made.statuses), 1))
+        self.assertEqual(ctypes.addressof(fotsevindre._column(made.dates, fotsevindre._I32, True)), made.dates.ctypes.data)
 
     def test_whole_numbers_of_any_bits(self):
         for bits in ("int8", "uint8", "int16", "uint16", "int32", "uint32", "int64", "uint64", ">i4", ">u8"):
-            rows, refused = fotsevindre.dates_from_calendar_dates(*(numpy.array([number, number], dtype=bits) for number in (24, 2,
-                29)))
-            self.assertEqual((refused, Date.from_julian_day(rows[1].date)), (0, Date.from_calendar_date(24, 2, 29)), bits)
-        fits = numpy.array([2000], dtype="int32")
-        for months in (numpy.array([-1]), numpy.array([2**32])):
+            found = fotsevindre.dates_from_calendar_dates(*(numpy.array([number, number], dtype=bits) for number in (24, 2, 29)))
+            self.assertEqual((found.refused, Date.from_julian_day(found.dates[1])), (0, Date.from_calendar_date(24, 2, 29)), bits)
+        fits = numpy.array([20], dtype="int32")
+        for months in (numpy.array([-1]), numpy.array([2**8])):
             with self.assertRaises(OverflowError):
                 fotsevindre.dates_from_calendar_dates(fits, months, fits)
         with self.assertRaises(OverflowError):
@@ -51,11 +63,11 @@ class Numpy(unittest.TestCase):
     def test_arrays_in_steps(self):
         table = numpy.array([[2451545, 0], [2451546, 0], [2451547, 0]])
         for view, numbers in [(table[:, 0], [2451545, 2451546, 2451547]), (table[::-2, 0], [2451547, 2451545]), (table[:0, 0], [])]:
-            rows, refused = fotsevindre.dates_from_julian_days(view)
-            self.assertEqual((refused, [row.date for row in rows]), (0, numbers))
+            found = fotsevindre.dates_from_julian_days(view)
+            self.assertEqual((found.refused, found.dates.dtype, list(found.dates)), (0, "int32", numbers))
         frozen = numpy.array([2451545], dtype="int32")
         frozen.flags.writeable = False
-        self.assertEqual(fotsevindre.dates_to_ordinal_dates(frozen)[0][0].ordinal, 1)
+        self.assertEqual(fotsevindre.dates_to_ordinal_dates(frozen).ordinals[0], 1)
 
     def test_what_is_refused(self):
         for wrong, words in [

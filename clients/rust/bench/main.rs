@@ -3,7 +3,6 @@
 #![allow(unexpected_cfgs)]
 
 use std::hint::black_box;
-use std::mem::MaybeUninit;
 
 const DRAWN: usize = 4096;
 const PASSES: usize = 25;
@@ -56,13 +55,13 @@ fn over<'a, T, R>(values: &'a [T], call: impl Fn(&T) -> R + 'a) -> Box<dyn Fn() 
     })
 }
 
-/// The calendar dates of a column, each taken as one value would be.
+/// The calendar dates of a column.
 fn column_of_calendar_dates(dates: &[fotsevindre::Date]) -> Box<dyn Fn() + '_> {
     Box::new(move || {
-        let mut room = [MaybeUninit::uninit(); DRAWN];
-        for row in fotsevindre::columns::dates_to_calendar_dates(black_box(dates), &mut room) {
-            black_box(row.get());
-        }
+        let (mut years, mut months, mut days, mut statuses) = ([0; DRAWN], [0; DRAWN], [0; DRAWN], [0; DRAWN]);
+        let dates = fotsevindre::columns::julian_days(black_box(dates));
+        fotsevindre::columns::dates_to_calendar_dates(dates, &mut years, &mut months, &mut days, &mut statuses);
+        black_box((years, months, days, statuses));
     })
 }
 

@@ -4,15 +4,16 @@
 //! no state. A call that reads a text or columns takes slices, each of them passed on with its own length. So each is safe to call
 //! wherever the declaration here is that of the header.
 
-use crate::columns::{CalendarDate, IsoWeekDate, MadeDate, MovedDate, OrdinalDate, WeekdayOfDate};
+use crate::columns::Refusal;
 use crate::error::{ComponentRange, Unreadable};
 use crate::Date;
-use core::mem::MaybeUninit;
 
 /// The status of a call that has an answer.
 const DONE: i32 = 0;
 /// The status of a call whose exact result is no value of its type.
 const PAST_RANGE: i32 = 1;
+/// The status of a call that was given a number that is none of a date.
+const BAD_DATE: i32 = 2;
 /// The status of a call that was given a number that is none of a weekday.
 const BAD_WEEKDAY: i32 = 6;
 /// The status of a call that was given bytes of none of its forms.
@@ -327,41 +328,57 @@ calls_that_read! {
     fots_unix_read -> ReadMomentResult;
 }
 
-/// Calls over columns: what each is called, its columns, and the rows that it writes.
+/// Calls over columns: what each is called, and the slices that it takes and writes.
 macro_rules! calls_over_columns {
-    ($($name:ident($($column:ident: $kind:ty),*) -> $row:ty;)*) => {
+    ($($name:ident($($column:ident: $kind:ty),*) -> ($($written:ident: $to:ty),*);)*) => {
         mod declared_over_columns {
-            use super::*;
-
             extern "C" {
-                $(pub(super) fn $name($($column: *const $kind, _: usize,)* rows: *mut MaybeUninit<$row>, length: usize) -> usize;)*
+                $(pub(super) fn $name($($column: *const $kind, _: usize,)* $($written: *mut $to, _: usize),*) -> usize;)*
             }
         }
 
         $(
-            /// The rows, and how many of them have no answer.
+            /// How many rows have no answer.
+            #[allow(clippy::too_many_arguments)]
             #[track_caller]
-            pub(crate) fn $name<'r>($($column: &[$kind],)* rows: &'r mut [MaybeUninit<$row>]) -> (&'r mut [$row], usize) {
+            pub(crate) fn $name($($column: &[$kind],)* $($written: &mut [$to]),*) -> usize {
                 let refused = unsafe {
-                    declared_over_columns::$name($($column.as_ptr(), $column.len(),)* rows.as_mut_ptr(), rows.len())
+                    declared_over_columns::$name(
+                        $($column.as_ptr(), $column.len(),)* $($written.as_mut_ptr(), $written.len()),*
+                    )
                 };
-                assert!(refused != UNLIKE, "columns and rows are not of one length");
-                // The lengths are the same, so each row is written.
-                (unsafe { &mut *(rows as *mut [MaybeUninit<$row>] as *mut [$row]) }, refused)
+                assert!(refused != UNLIKE, "columns are not of one length");
+                refused
             }
         )*
     };
 }
 
-// A date is its Julian day alone, and a row the struct that the call of one value returns, so both cross as they are.
 calls_over_columns! {
-    fots_dates_from_julian_days(julian_days: i64) -> MadeDate;
-    fots_dates_from_calendar_dates(years: i32, months: u32, days: u32) -> MadeDate;
-    fots_dates_from_ordinal_dates(years: i32, ordinals: u32) -> MadeDate;
-    fots_dates_from_iso_week_dates(years: i32, weeks: u32, weekdays: u32) -> MadeDate;
-    fots_dates_to_calendar_dates(dates: Date) -> CalendarDate;
-    fots_dates_to_ordinal_dates(dates: Date) -> OrdinalDate;
-    fots_dates_to_iso_week_dates(dates: Date) -> IsoWeekDate;
-    fots_dates_weekdays(dates: Date) -> WeekdayOfDate;
-    fots_dates_add_days(dates: Date, days: i64) -> MovedDate;
+    fots_dates_from_julian_days(julian_days: i64) -> (dates: i32, statuses: u8);
+    fots_dates_from_calendar_dates(years: i32, months: u8, days: u8) -> (dates: i32, statuses: u8);
+    fots_dates_from_ordinal_dates(years: i32, ordinals: u16) -> (dates: i32, statuses: u8);
+    fots_dates_from_iso_week_dates(years: i32, weeks: u8, weekdays: u8) -> (dates: i32, statuses: u8);
+    fots_dates_to_calendar_dates(dates: i32) -> (years: i32, months: u8, days: u8, statuses: u8);
+    fots_dates_to_ordinal_dates(dates: i32) -> (years: i32, ordinals: u16, statuses: u8);
+    fots_dates_to_iso_week_dates(dates: i32) -> (years: i32, weeks: u8, weekdays: u8, statuses: u8);
+    fots_dates_weekdays(dates: i32) -> (weekdays: u8, statuses: u8);
+    fots_calendar_dates_to_iso_week_dates(years: i32, months: u8, days: u8) -> (iso_years: i32, weeks: u8, weekdays: u8, statuses: u8);
+    fots_dates_add_days(dates: i32, days: i64) -> (moved: i32, statuses: u8);
+}
+
+/// The Julian days of dates. A date is its Julian day alone, so they lie there as such.
+pub(crate) fn julian_days(dates: &[Date]) -> &[i32] {
+    unsafe { core::slice::from_raw_parts(dates.as_ptr().cast(), dates.len()) }
+}
+
+/// Why a row of a column with this status has no answer.
+pub(crate) fn refusal_of(status: i32) -> Option<Refusal> {
+    match status {
+        DONE => None,
+        BAD_DATE => Some(Refusal::NoDate),
+        PAST_RANGE => Some(Refusal::PastRange),
+        BAD_WEEKDAY => Some(Refusal::OutOfRange(ComponentRange::WEEKDAY)),
+        status => Some(Refusal::OutOfRange(ComponentRange::of_status(status))),
+    }
 }

@@ -1,9 +1,8 @@
 //! Columns: worked rows, each row against the call of one value, and columns that are not of one length.
 
-use fotsevindre::columns::{self, MadeDate};
+use fotsevindre::columns::{self, refusal, Refusal};
 use fotsevindre::error::ComponentRange;
-use fotsevindre::{Date, Duration, Month, Weekday};
-use std::mem::MaybeUninit;
+use fotsevindre::{Date, Month, Weekday};
 use std::panic::catch_unwind;
 
 const ROWS: usize = 20_000;
@@ -28,136 +27,185 @@ fn column<T>(seed: u64, least: i64, greatest: i64, of_word: impl Fn(i64) -> T) -
     (0..ROWS).map(|row| of_word(if row % 2 == 0 { draw.from(least, greatest) } else { draw.word() as i64 })).collect()
 }
 
-fn dates() -> Vec<Date> {
-    let mut draw = Draw(5);
-    let drawn = (2..ROWS).map(|_| Date::from_julian_day(draw.from(-363_521_074, 366_963_559) as i32).unwrap());
-    [Date::MIN, Date::MAX].into_iter().chain(drawn).collect()
-}
+/// What stands for the date or the year of a row that has none.
+const NOTHING: i32 = i32::MIN;
 
-fn room<R: Copy>(length: usize) -> Vec<MaybeUninit<R>> {
-    vec![MaybeUninit::uninit(); length]
-}
-
-/// Compares rows of made dates with what the calls of one value make, and the count of those with none.
+/// Compares rows of made dates and their statuses with what the calls of one value make, and the count of those with none.
 #[track_caller]
-fn same((rows, refused): (&mut [MadeDate], usize), one_by_one: impl Iterator<Item = Result<Date, ComponentRange>>) {
+fn same(dates: &[i32], statuses: &[u8], refused: usize, one_by_one: impl Iterator<Item = Result<Date, ComponentRange>>) {
     let one_by_one: Vec<_> = one_by_one.collect();
-    assert_eq!(rows.iter().map(|row| row.get()).collect::<Vec<_>>(), one_by_one);
+    assert_eq!(one_by_one.len(), dates.len());
+    for (row, answer) in one_by_one.iter().enumerate() {
+        assert_eq!(dates[row], answer.map_or(NOTHING, Date::to_julian_day), "{row}");
+        assert_eq!(refusal(statuses[row]), answer.err().map(Refusal::OutOfRange), "{row}");
+    }
     assert_eq!(refused, one_by_one.iter().filter(|answer| answer.is_err()).count());
-    assert!(refused > 0 && refused < rows.len());
+    assert!(refused > 0 && refused < dates.len());
 }
 
-/// What a call refuses unconditionally under this name.
-fn unconditional(error: ComponentRange, name: &str) -> bool {
-    (error.name(), error.is_conditional()) == (name, false)
+/// What a column refuses under this name.
+fn component(status: u8) -> (&'static str, bool) {
+    match refusal(status) {
+        Some(Refusal::OutOfRange(error)) => (error.name(), error.is_conditional()),
+        other => panic!("{other:?}"),
+    }
 }
 
 #[test]
 fn worked_rows() {
-    let mut room = [MaybeUninit::uninit(); 6];
+    let (mut dates, mut statuses) = ([0; 6], [0; 6]);
     let (years, weeks, weekdays) = ([2020, 2019, 999_999, 999_999, 2020, 1_000_000], [53, 53, 52, 52, 1, 1], [5, 1, 5, 6, 0, 8]);
-    let (rows, refused) = columns::dates_from_iso_week_dates(&years, &weeks, &weekdays, &mut room);
-    assert_eq!(refused, 4);
-    assert_eq!(rows[0].get(), Date::from_calendar_date(2021, Month::January, 1));
-    assert_eq!(rows[2].get(), Ok(Date::MAX));
-    let refusals = [1, 3, 4, 5].map(|row| rows[row].get().unwrap_err()).map(|error| (error.name(), error.is_conditional()));
+    assert_eq!(columns::dates_from_iso_week_dates(&years, &weeks, &weekdays, &mut dates, &mut statuses), 4);
+    assert_eq!(dates, [2_459_216, NOTHING, 366_963_559, NOTHING, NOTHING, NOTHING]);
+    assert_eq!((refusal(statuses[0]), refusal(statuses[2])), (None, None));
+    let refusals = [1, 3, 4, 5].map(|row| component(statuses[row]));
     assert_eq!(refusals, [("week", true), ("weekday", true), ("weekday", false), ("weekday", false)]);
-    assert_eq!(format!("{:?}", rows[0]), "Ok(2021-01-01)");
 
-    let mut room = [MaybeUninit::uninit(); 3];
-    let dates = [Date::MAX, Date::MIN, Date::from_julian_day(2_460_370).unwrap()];
-    let (rows, refused) = columns::dates_add_days(&dates, &[1, -1, 366], &mut room);
-    assert_eq!((refused, rows[0].get(), rows[1].get()), (2, None, None));
-    assert_eq!(rows[2].get().unwrap().to_string(), "2025-03-01");
-    let mut room = [MaybeUninit::uninit(); 3];
-    assert_eq!(columns::dates_to_ordinal_dates(&dates, &mut room)[2].get(), (2024, 60));
+    let (mut moved, mut statuses) = ([0; 4], [0; 4]);
+    let dates = [366_963_559, -363_521_074, 2_460_370, 366_963_560];
+    assert_eq!(columns::dates_add_days(&dates, &[1, -1, 366, 0], &mut moved, &mut statuses), 3);
+    assert_eq!(moved, [NOTHING, NOTHING, 2_460_736, NOTHING]);
+    let refusals = statuses.map(refusal);
+    assert_eq!(refusals, [Some(Refusal::PastRange), Some(Refusal::PastRange), None, Some(Refusal::NoDate)]);
 }
 
 #[test]
 fn dates_made() {
     let years = column(1, -1_000_009, 1_000_009, |word| word as i32);
-    let (small, greater) = (column(2, 0, 13, |word| word as u32), column(3, 0, 400, |word| word as u32));
+    let (small, greater) = (column(2, 0, 13, |word| word as u8), column(3, 0, 60, |word| word as u8));
+    let ordinals = column(7, 0, 400, |word| word as u16);
     let julian_days = column(4, -363_600_000, 367_000_000, |word| word);
+    let (mut dates, mut statuses) = (vec![0; ROWS], vec![0; ROWS]);
     let one_of = |number: i64| i32::try_from(number).map(Date::from_julian_day);
-    let refused = Date::from_julian_day(i32::MAX);
-    same(
-        columns::dates_from_julian_days(&julian_days, &mut room(ROWS)),
-        julian_days.iter().map(|number| one_of(*number).unwrap_or(refused)),
-    );
+    let none = Date::from_julian_day(i32::MAX);
+    let refused = columns::dates_from_julian_days(&julian_days, &mut dates, &mut statuses);
+    same(&dates, &statuses, refused, julian_days.iter().map(|number| one_of(*number).unwrap_or(none)));
 
-    let month = |number: u32| Month::try_from(u8::try_from(number).unwrap_or(0));
-    let byte = |number: u32| u8::try_from(number).unwrap_or(255);
-    same(
-        columns::dates_from_calendar_dates(&years, &small, &greater, &mut room(ROWS)),
-        (0..ROWS).map(|row| month(small[row]).and_then(|month| Date::from_calendar_date(years[row], month, byte(greater[row])))),
-    );
-    let short = |number: u32| u16::try_from(number).unwrap_or(u16::MAX);
-    same(
-        columns::dates_from_ordinal_dates(&years, &greater, &mut room(ROWS)),
-        (0..ROWS).map(|row| Date::from_ordinal_date(years[row], short(greater[row]))),
-    );
+    let refused = columns::dates_from_calendar_dates(&years, &small, &greater, &mut dates, &mut statuses);
+    let one_of = |row| Month::try_from(small[row]).and_then(|month| Date::from_calendar_date(years[row], month, greater[row]));
+    same(&dates, &statuses, refused, (0..ROWS).map(one_of));
+    let refused = columns::dates_from_ordinal_dates(&years, &ordinals, &mut dates, &mut statuses);
+    same(&dates, &statuses, refused, (0..ROWS).map(|row| Date::from_ordinal_date(years[row], ordinals[row])));
 
-    let mut room = room(ROWS);
-    let (rows, refused) = columns::dates_from_iso_week_dates(&years, &greater, &small, &mut room);
-    let mut without = 0;
-    for (row, answer) in rows.iter().enumerate() {
-        let weekday =
-            Weekday::iter_from(Weekday::Monday).take(7).find(|weekday| u32::from(weekday.number_from_monday()) == small[row]);
-        without += usize::from(answer.get().is_err());
-        match weekday {
-            Some(weekday) => assert_eq!(answer.get(), Date::from_iso_week_date(years[row], byte(greater[row]), weekday)),
-            None => assert!(unconditional(answer.get().unwrap_err(), "weekday")),
+    let refused = columns::dates_from_iso_week_dates(&years, &greater, &small, &mut dates, &mut statuses);
+    assert_eq!(refused, statuses.iter().filter(|status| **status != 0).count());
+    for row in 0..ROWS {
+        let weekday = Weekday::iter_from(Weekday::Monday).take(7).find(|weekday| weekday.number_from_monday() == small[row]);
+        match weekday.map(|weekday| Date::from_iso_week_date(years[row], greater[row], weekday)) {
+            Some(answer) => {
+                assert_eq!(dates[row], answer.map_or(NOTHING, Date::to_julian_day));
+                assert_eq!(refusal(statuses[row]), answer.err().map(Refusal::OutOfRange));
+            }
+            None => assert_eq!((dates[row], component(statuses[row])), (NOTHING, ("weekday", false))),
         }
     }
-    assert_eq!(refused, without);
 }
 
+/// Each row against the calls of one value; half of the rows are of no date.
 #[test]
 fn what_dates_have() {
-    let dates = dates();
+    let dates = column(5, -363_521_074, 366_963_559, |word| word as i32);
     let days = column(6, -400_000_000, 400_000_000, |word| word);
-    let (mut calendars, mut ordinals, mut weeks, mut weekdays, mut moved) =
-        (room(ROWS), room(ROWS), room(ROWS), room(ROWS), room(ROWS));
-    let calendars = columns::dates_to_calendar_dates(&dates, &mut calendars);
-    let ordinals = columns::dates_to_ordinal_dates(&dates, &mut ordinals);
-    let weeks = columns::dates_to_iso_week_dates(&dates, &mut weeks);
-    let weekdays = columns::dates_weekdays(&dates, &mut weekdays);
-    let (moved, refused) = columns::dates_add_days(&dates, &days, &mut moved);
-    let mut past = 0;
-    for (row, date) in dates.iter().enumerate() {
-        assert_eq!((calendars[row].get(), ordinals[row].get()), (date.to_calendar_date(), date.to_ordinal_date()));
-        assert_eq!((weeks[row].get(), weekdays[row].get()), (date.to_iso_week_date(), date.weekday()));
-        let sum = i64::from(date.to_julian_day()).saturating_add(days[row]);
-        let later = i32::try_from(sum).ok().and_then(|number| Date::from_julian_day(number).ok());
-        assert_eq!(moved[row].get(), later);
-        past += usize::from(later.is_none());
+    let (mut years, mut ordinal_years, mut iso_years, mut moved) = (vec![0; ROWS], vec![0; ROWS], vec![0; ROWS], vec![0; ROWS]);
+    let (mut months, mut month_days, mut weeks, mut weekdays) = (vec![0; ROWS], vec![0; ROWS], vec![0; ROWS], vec![0; ROWS]);
+    let (mut ordinals, mut week_weekdays, mut statuses) = (vec![0; ROWS], vec![0; ROWS], vec![0; ROWS]);
+    let counts = [
+        columns::dates_to_calendar_dates(&dates, &mut years, &mut months, &mut month_days, &mut statuses),
+        columns::dates_to_ordinal_dates(&dates, &mut ordinal_years, &mut ordinals, &mut statuses),
+        columns::dates_to_iso_week_dates(&dates, &mut iso_years, &mut weeks, &mut week_weekdays, &mut statuses),
+        columns::dates_weekdays(&dates, &mut weekdays, &mut statuses),
+    ];
+    let none = statuses.iter().filter(|status| refusal(**status) == Some(Refusal::NoDate)).count();
+    assert!(counts == [none; 4] && none > 0);
+    for row in 0..ROWS {
+        let Ok(date) = Date::from_julian_day(dates[row]) else {
+            assert_eq!((years[row], months[row], month_days[row]), (NOTHING, 0, 0));
+            assert_eq!((ordinal_years[row], ordinals[row]), (NOTHING, 0));
+            assert_eq!((iso_years[row], weeks[row], week_weekdays[row], weekdays[row]), (NOTHING, 0, 0, 0));
+            continue;
+        };
+        let (year, month, day) = date.to_calendar_date();
+        assert_eq!((years[row], months[row], month_days[row]), (year, month as u8, day));
+        assert_eq!((ordinal_years[row], ordinals[row]), date.to_ordinal_date());
+        let (iso_year, week, weekday) = date.to_iso_week_date();
+        assert_eq!((iso_years[row], weeks[row], week_weekdays[row]), (iso_year, week, weekday.number_from_monday()));
+        assert_eq!(weekdays[row], weekday.number_from_monday());
     }
-    assert_eq!((refused, dates[2].checked_add(Duration::DAY)), (past, dates[2].next_day()));
+    let refused = columns::dates_add_days(&dates, &days, &mut moved, &mut statuses);
+    for row in 0..ROWS {
+        let later =
+            i32::try_from(i64::from(dates[row]).saturating_add(days[row])).ok().filter(|day| Date::from_julian_day(*day).is_ok());
+        let expected = match Date::from_julian_day(dates[row]) {
+            Ok(_) if later.is_some() => None,
+            Ok(_) => Some(Refusal::PastRange),
+            Err(_) => Some(Refusal::NoDate),
+        };
+        assert_eq!(refusal(statuses[row]), expected);
+        assert_eq!(moved[row], if expected.is_none() { later.unwrap() } else { NOTHING });
+    }
+    assert_eq!(refused, statuses.iter().filter(|status| **status != 0).count());
 }
 
-/// A call panics where its columns and its rows are not of one length, and answers where each has none.
+/// What one call writes is what the next one takes: by the dates the same as at once, and back again.
+#[test]
+fn columns_chain() {
+    let years = column(1, -1_000_009, 1_000_009, |word| word as i32);
+    let (months, days) = (column(2, 0, 13, |word| word as u8), column(3, 0, 32, |word| word as u8));
+    let (mut dates, mut made, mut statuses) = (vec![0; ROWS], vec![0; ROWS], vec![0; ROWS]);
+    let (mut iso_years, mut weeks, mut weekdays) = (vec![0; ROWS], vec![0; ROWS], vec![0; ROWS]);
+    let (mut at_once_years, mut at_once_weeks, mut at_once_weekdays) = (vec![0; ROWS], vec![0; ROWS], vec![0; ROWS]);
+    let refused = columns::dates_from_calendar_dates(&years, &months, &days, &mut dates, &mut made);
+    assert_eq!(columns::dates_to_iso_week_dates(&dates, &mut iso_years, &mut weeks, &mut weekdays, &mut statuses), refused);
+    let at_once = columns::calendar_dates_to_iso_week_dates(
+        &years,
+        &months,
+        &days,
+        &mut at_once_years,
+        &mut at_once_weeks,
+        &mut at_once_weekdays,
+        &mut statuses,
+    );
+    assert_eq!((at_once, &statuses), (refused, &made));
+    assert_eq!((&at_once_years, &at_once_weeks, &at_once_weekdays), (&iso_years, &weeks, &weekdays));
+    let mut back = vec![0; ROWS];
+    assert_eq!(columns::dates_from_iso_week_dates(&iso_years, &weeks, &weekdays, &mut back, &mut statuses), refused);
+    assert_eq!(back, dates);
+    assert_eq!(columns::julian_days(&[Date::MIN, Date::MAX]), [-363_521_074, 366_963_559]);
+}
+
+/// A call panics where its columns are not of one length, and answers where each has none.
 #[test]
 fn columns_of_other_lengths() {
-    let (numbers, parts, longs, dates) = ([1; 3], [1; 3], [1; 3], [Date::MIN; 3]);
-    for lengths in [[1, 2, 2, 2], [2, 1, 2, 2], [2, 2, 1, 2], [2, 2, 2, 1], [2, 2, 2, 3], [0, 1, 1, 1], [1, 1, 1, 0]] {
-        let [a, b, c, rows] = lengths;
-        assert!(catch_unwind(|| columns::dates_from_calendar_dates(&numbers[..a], &parts[..b], &parts[..c], &mut room(rows)).1)
-            .is_err());
-        assert!(catch_unwind(|| columns::dates_from_iso_week_dates(&numbers[..a], &parts[..b], &parts[..c], &mut room(rows)).1)
-            .is_err());
+    let (numbers, parts, longs, shorts) = ([1; 3], [1; 3], [1; 3], [1; 3]);
+    let (whole, byte) = (|length| vec![0_i32; length], |length| vec![0_u8; length]);
+    for lengths in
+        [[1, 2, 2, 2, 2], [2, 1, 2, 2, 2], [2, 2, 1, 2, 2], [2, 2, 2, 1, 2], [2, 2, 2, 2, 1], [2, 2, 2, 2, 3], [0, 1, 1, 1, 1]]
+    {
+        let [a, b, c, d, e] = lengths;
+        let (n, p, q) = (&numbers[..a], &parts[..b], &parts[..c]);
+        assert!(catch_unwind(|| columns::dates_from_calendar_dates(n, p, q, &mut whole(d), &mut byte(e))).is_err());
+        assert!(catch_unwind(|| columns::dates_from_iso_week_dates(n, p, q, &mut whole(d), &mut byte(e))).is_err());
+        assert!(
+            catch_unwind(|| columns::dates_to_calendar_dates(n, &mut whole(b), &mut byte(c), &mut byte(d), &mut byte(e))).is_err()
+        );
+        assert!(
+            catch_unwind(|| columns::dates_to_iso_week_dates(n, &mut whole(b), &mut byte(c), &mut byte(d), &mut byte(e))).is_err()
+        );
+        assert!(catch_unwind(|| {
+            columns::calendar_dates_to_iso_week_dates(n, p, q, &mut whole(2), &mut byte(2), &mut byte(d), &mut byte(e))
+        })
+        .is_err());
     }
-    for lengths in [[1, 2, 2], [2, 1, 2], [2, 2, 1], [2, 2, 3], [0, 1, 1]] {
-        let [a, b, rows] = lengths;
-        assert!(catch_unwind(|| columns::dates_from_ordinal_dates(&numbers[..a], &parts[..b], &mut room(rows)).1).is_err());
-        assert!(catch_unwind(|| columns::dates_add_days(&dates[..a], &longs[..b], &mut room(rows)).1).is_err());
+    for [a, b, c, d] in [[1, 2, 2, 2], [2, 1, 2, 2], [2, 2, 1, 2], [2, 2, 2, 1], [2, 2, 2, 3], [0, 1, 1, 1]] {
+        let n = &numbers[..a];
+        assert!(catch_unwind(|| columns::dates_from_ordinal_dates(n, &shorts[..b], &mut whole(c), &mut byte(d))).is_err());
+        assert!(catch_unwind(|| columns::dates_add_days(n, &longs[..b], &mut whole(c), &mut byte(d))).is_err());
+        assert!(catch_unwind(|| columns::dates_to_ordinal_dates(n, &mut whole(b), &mut vec![0; c], &mut byte(d))).is_err());
     }
-    for [a, rows] in [[1, 2], [2, 1], [0, 1], [1, 0]] {
-        assert!(catch_unwind(|| columns::dates_from_julian_days(&longs[..a], &mut room(rows)).1).is_err());
-        assert!(catch_unwind(|| columns::dates_to_calendar_dates(&dates[..a], &mut room(rows)).len()).is_err());
-        assert!(catch_unwind(|| columns::dates_to_ordinal_dates(&dates[..a], &mut room(rows)).len()).is_err());
-        assert!(catch_unwind(|| columns::dates_to_iso_week_dates(&dates[..a], &mut room(rows)).len()).is_err());
-        assert!(catch_unwind(|| columns::dates_weekdays(&dates[..a], &mut room(rows)).len()).is_err());
+    for [a, b, c] in [[1, 2, 2], [2, 1, 2], [2, 2, 1], [0, 1, 1], [1, 0, 0]] {
+        assert!(catch_unwind(|| columns::dates_from_julian_days(&longs[..a], &mut whole(b), &mut byte(c))).is_err());
+        assert!(catch_unwind(|| columns::dates_weekdays(&numbers[..a], &mut byte(b), &mut byte(c))).is_err());
     }
-    assert_eq!(columns::dates_from_julian_days(&[], &mut []).1, 0);
-    assert_eq!(columns::dates_weekdays(&[], &mut []).len(), 0);
+    assert_eq!(columns::dates_from_julian_days(&[], &mut [], &mut []), 0);
+    assert_eq!(columns::dates_weekdays(&[], &mut [], &mut []), 0);
 }

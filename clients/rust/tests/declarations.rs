@@ -5,7 +5,6 @@ use std::collections::HashMap;
 const HEADER: &str = include_str!("../../../include/fotsevindre.h");
 const DECLARED: &str = include_str!("../src/ffi.rs");
 const ERRORS: &str = include_str!("../src/error.rs");
-const COLUMNS: &str = include_str!("../src/columns.rs");
 
 /// The header without its comments, on one line.
 fn plain() -> String {
@@ -26,6 +25,8 @@ fn rust_type(name: &str) -> String {
     }
     match name {
         "int32_t" | "fots_date" | "fots_offset" => "i32".into(),
+        "uint8_t" => "u8".into(),
+        "uint16_t" => "u16".into(),
         "uint32_t" => "u32".into(),
         "int64_t" => "i64".into(),
         "uint64_t" | "fots_time" => "u64".into(),
@@ -68,12 +69,12 @@ fn calls_of_header() -> HashMap<String, (String, String)> {
     calls.collect()
 }
 
-/// What a call over columns takes, by its columns and its rows: each with its length, a date as its number, and a row as its struct.
-fn over_columns(columns: &[&str], row: &str) -> String {
-    let (_, rest) = COLUMNS.split_once(&format!("    {row} of ")).unwrap();
-    let columns = columns.iter().map(|kind| if *kind == "Date" { "i32" } else { kind });
-    let columns = columns.map(|kind| format!("*const {kind}, usize, ")).collect::<String>();
-    format!("{columns}*mut {}, usize", rest.split_once(':').unwrap().0)
+/// What a call over columns takes: each slice that it reads, and each that it writes, with its length.
+fn over_columns(columns: &[&str], written: &str) -> String {
+    let columns = columns.iter().map(|kind| format!("*const {kind}, usize"));
+    let written = written.strip_prefix('(').unwrap().strip_suffix(')').unwrap();
+    let written = written.split(", ").map(|part| format!("*mut {}, usize", part.split_once(": ").unwrap().1));
+    columns.chain(written).collect::<Vec<_>>().join(", ")
 }
 
 #[test]
@@ -93,7 +94,7 @@ fn calls_are_those_of_the_header() {
         };
         let (arguments, result) = rest.split_once(") -> ").unwrap();
         let kinds: Vec<_> = arguments.split(", ").map(|argument| argument.split_once(": ").unwrap().1).collect();
-        let declared = if name.starts_with("fots_dates_") {
+        let declared = if result.starts_with('(') {
             (over_columns(&kinds, result), "usize".into())
         } else {
             (kinds.join(", "), result.into())
