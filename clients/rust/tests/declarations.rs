@@ -127,7 +127,7 @@ fn structs_are_those_of_the_header() {
         assert!(DECLARED.contains(&declared), "{declared}");
         count += 1;
     }
-    assert_eq!(count, 18);
+    assert_eq!(count, 20);
 }
 
 #[test]

@@ -4,3 +4,4 @@ pub mod Rows
 pub mod TextBytes
 pub mod Equals
 pub mod Cases
+pub mod Schedules

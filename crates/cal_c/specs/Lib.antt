@@ -4,3 +4,4 @@ pub mod Values
 pub mod Columns
 pub mod Texts
 pub mod Unread
+pub mod Schedule

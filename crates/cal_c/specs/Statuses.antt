@@ -32,6 +32,10 @@ bad_count = pos 7
 abbrev pub unreadable : ℤ
 unreadable = pos 8
 
+-- the number is no convention
+abbrev pub bad_convention : ℤ
+bad_convention = pos 12
+
 -- the refusals whose range depends on nothing, by their names
 abbrev pub year_refused : ℤ
 year_refused = pos 16

@@ -27,6 +27,9 @@ pub const BAD_COUNT: i32 = 7;
 /// The bytes are no text that the call reads.
 pub const UNREADABLE: i32 = 8;
 
+/// The number is no convention.
+pub const BAD_CONVENTION: i32 = 12;
+
 pub const YEAR: i32 = 16;
 
 pub const MONTH: i32 = 17;
