@@ -100,6 +100,7 @@ enum fots_status {
     FOTS_BAD_COUNT = 7, /* a count above 255 */
     FOTS_UNREADABLE = 8, /* the bytes have none of the forms that the call reads */
     FOTS_BAD_MOMENT = 9,
+    FOTS_BAD_CONVENTION = 12, /* a number of no convention */
     FOTS_YEAR = 16,
     FOTS_MONTH = 17,
     FOTS_JULIAN_DAY = 18,
@@ -135,6 +136,7 @@ static inline const char *fots_status_name(int32_t status)
     case FOTS_BAD_COUNT: return "bad count";
     case FOTS_UNREADABLE: return "unreadable";
     case FOTS_BAD_MOMENT: return "bad moment";
+    case FOTS_BAD_CONVENTION: return "bad convention";
     case FOTS_YEAR: return "year";
     case FOTS_MONTH: return "month";
     case FOTS_JULIAN_DAY: return "julian_day";
@@ -282,6 +284,21 @@ typedef struct fots_read_moment_result {
     size_t place; /* as of fots_read_date_result */
 } fots_read_moment_result;
 
+/* A period, all of one sign. */
+typedef struct fots_period_result {
+    int32_t status;
+    int32_t years; /* or FOTS_NOTHING, as the next ones */
+    int32_t months; /* fewer than 12 either way */
+    int32_t days;
+} fots_period_result;
+
+/* A fraction of a year: what was counted, over what a year counts. */
+typedef struct fots_year_fraction_result {
+    int32_t status;
+    uint32_t denominator; /* or 0 */
+    int64_t numerator; /* or INT64_MIN */
+} fots_year_fraction_result;
+
 /* ---- the version */
 
 /* That of the library, as 1000000 times its first number, 1000 times its second and its third: that of 0.1.0 is 1000. */
@@ -360,6 +377,64 @@ fots_date_result fots_date_prev_occurrence(fots_date date, uint32_t weekday);
  * Monday after 2460121 is 2460150. */
 fots_date_result fots_date_nth_next_occurrence(fots_date date, uint32_t weekday, uint32_t n);
 fots_date_result fots_date_nth_prev_occurrence(fots_date date, uint32_t weekday, uint32_t n);
+
+/* ---- months and years: each refuses as FOTS_BAD_DATE */
+
+/* The day so many months later, or earlier where they are below 0: in that month the same day of the month, or the last day where the
+ * month has no such day; FOTS_PAST_RANGE where that month is past an end of the range. One month after 2451575, 2000-01-31, is 2451604,
+ * 2000-02-29. The second answers the nearest end of the range instead. A year is twelve months: one after 2451604 is 2451969,
+ * 2001-02-28. */
+fots_date_result fots_date_add_months(fots_date date, int32_t months);
+fots_date_result fots_date_saturating_add_months(fots_date date, int32_t months);
+fots_date_result fots_date_add_years(fots_date date, int32_t years);
+
+/* The greatest number of months, or of years, that does not lead from the date past the other; where the other comes before it, the
+ * least that does not lead before it. So an age is counted. From 2451575 to 2451604 it is 1 month. */
+fots_number_result fots_date_months_until(fots_date date, fots_date other);
+fots_number_result fots_date_years_until(fots_date date, fots_date other);
+
+/* The years and months that so many months are, and then the days that are left. From 2451575, 2000-01-31, to 2451971, 2001-03-02, it
+ * is 1, 1 and 2. */
+fots_period_result fots_date_period_until(fots_date date, fots_date other);
+
+/* The first and the last day of the month, the quarter, the year and the ISO week, which begins on Monday, and the quarter, from 1 to
+ * 4. Those of 2451604, 2000-02-29, are 2451576, 2451604, 2451545, 2451635, 2451545, 2451910, 2451603, 2451609 and 1. The Sunday of
+ * the week is FOTS_PAST_RANGE on the last five days of the range. */
+fots_date_result fots_date_first_of_month(fots_date date);
+fots_date_result fots_date_last_of_month(fots_date date);
+fots_date_result fots_date_first_of_quarter(fots_date date);
+fots_date_result fots_date_last_of_quarter(fots_date date);
+fots_date_result fots_date_first_of_year(fots_date date);
+fots_date_result fots_date_last_of_year(fots_date date);
+fots_date_result fots_date_first_of_iso_week(fots_date date);
+fots_date_result fots_date_last_of_iso_week(fots_date date);
+fots_part_result fots_date_quarter(fots_date date);
+
+/* The n-th day of a month that has a weekday, counted from 1 up to 255, and the last one. FOTS_MONTH, FOTS_BAD_WEEKDAY and
+ * FOTS_BAD_COUNT come first, then FOTS_YEAR, and FOTS_WEEKDAY where the month has no such day. The fifth Tuesday, 2, of 2000-02 is
+ * 2451604, and its last Friday 2451600. */
+fots_date_result fots_date_nth_weekday_of_month(int32_t year, uint32_t month, uint32_t weekday, uint32_t n);
+fots_date_result fots_date_last_weekday_of_month(int32_t year, uint32_t month, uint32_t weekday);
+
+/* The first day from the date on that has the weekday, and the last day up to it; FOTS_PAST_RANGE where the range has none. The Fridays
+ * next to 2451604 are 2451607 and 2451600. */
+fots_date_result fots_date_on_or_after(fots_date date, uint32_t weekday);
+fots_date_result fots_date_on_or_before(fots_date date, uint32_t weekday);
+
+/* ---- day counts */
+
+/* By the names of the 2006 ISDA Definitions. The first day counts and the last one does not. */
+enum fots_day_count {
+    FOTS_ACTUAL_360 = 1,
+    FOTS_ACTUAL_365_FIXED = 2,
+    FOTS_THIRTY_360 = 3, /* bond basis */
+    FOTS_THIRTY_E_360 = 4, /* Eurobond basis */
+    FOTS_ACTUAL_ACTUAL = 5 /* ISDA: over 366 times 365, so that both kinds of year fit */
+};
+
+/* The fraction of a year from the date to the other; FOTS_BAD_DATE, then FOTS_BAD_CONVENTION. From 2452945, 2003-11-01, to 2453127,
+ * 2004-05-01, it is 66491 over 133590 as FOTS_ACTUAL_ACTUAL. */
+fots_year_fraction_result fots_date_day_count(fots_date date, fots_date other, uint32_t convention);
 
 /* ---- dates with one component replaced, and the others the same: FOTS_BAD_DATE, then as where dates are made */
 

@@ -6,3 +6,4 @@ pub mod TextBytes
 pub mod Equals
 pub mod Cases
 pub mod Occurrences
+pub mod Schedules

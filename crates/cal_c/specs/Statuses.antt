@@ -36,6 +36,10 @@ unreadable = pos 8
 abbrev pub bad_moment : ℤ
 bad_moment = pos 9
 
+-- the number is no convention
+abbrev pub bad_convention : ℤ
+bad_convention = pos 12
+
 -- the refusals whose range depends on nothing, by their names
 abbrev pub year_refused : ℤ
 year_refused = pos 16

@@ -29,6 +29,9 @@ pub const UNREADABLE: i32 = 8;
 
 pub const BAD_MOMENT: i32 = 9;
 
+/// The number is no convention.
+pub const BAD_CONVENTION: i32 = 12;
+
 pub const YEAR: i32 = 16;
 
 pub const MONTH: i32 = 17;

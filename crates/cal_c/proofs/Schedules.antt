@@ -1,0 +1,47 @@
+-- Days that a move leads to, where there is one.
+use Rattle.std.proofs.Common.{◌≡◌, ℕ, ◌<◌, ◌≤◌, ◌==◌, if◌then◌else◌, refl, sym, ap, ◌∙◌, arith, ℤ, ◌≤ℤ◌, ◌<ℤ◌, Option, Some, None, IfSome, IfNone}
+use Rattle.std.proofs.lemmas.Int.{ints}
+use Rattle.cal_time.specs.Date.{IsDate}
+use Rattle.cal_schedule.specs.declared.money.DayCount.{DayCount}
+use Rattle.cal_schedule.specs.declared.money.DayCount.TheVariants.{Actual360, Actual365Fixed, Thirty360, ThirtyE360, ActualActual}
+use Rattle.cal_schedule.specs.declared.period.Period.{Period}
+use Rattle.cal_c.specs.Results.{date_refused, date_if_any, number_done, IsDayWith}
+use Rattle.cal_c.specs.Schedule.{day_count_number, period_done, IsNumberWith, IsPeriodWith}
+use Rattle.cal_c.specs.Statuses.{past_range}
+use Rattle.cal_c.specs.Values.{IsJulianDay, day_of}
+use Rattle.cal_c.proofs.Days.{IsDayWith-at}
+
+pub day-if-any : (Has : ℕ → Type 0) (A : Type 0) (r : Option ℕ) → IfSome r (λ n. IsDate n × Has n) → IfNone r (A → ⊥) → A → IsDayWith Has (date_if_any r)
+day-if-any Has A None has none a = absurd (none a)
+day-if-any Has A (Some n) has none a = IsDayWith-at Has n has.0 has.1
+
+pub past-if-any : (A : Type 0) (r : Option ℕ) → IfSome r (λ n. A) → (A → ⊥) → date_if_any r ≡ date_refused past_range
+past-if-any A None some out = refl
+past-if-any A (Some n) some out = absurd (out some)
+
+-- days in the order of their Julian days
+pub not_after : (j k : ℤ) → IsJulianDay j → IsJulianDay k → j ≤ℤ k → day_of j ≤ day_of k
+not_after j k h i e = omega (arith, ints)
+
+pub before : (j k : ℤ) → IsJulianDay j → IsJulianDay k → j <ℤ k → day_of j < day_of k
+before j k h i e = omega (arith, ints)
+
+pub number-with : (Has : ℤ → Type 0) (z : ℤ) → Has z → IsNumberWith Has (number_done z)
+number-with Has z h = record { status_is = refl; has = h }
+
+pub period-with : (Has : Period → Type 0) (p : Period) → Has p → IsPeriodWith Has (period_done p)
+period-with Has p h = record { status_is = refl; has = h }
+
+-- each number is of one day count
+abbrev count_at : ℕ → DayCount
+count_at k = if k == 1 then Actual360 else (if k == 2 then Actual365Fixed else (if k == 3 then Thirty360 else (if k == 4 then ThirtyE360 else ActualActual)))
+
+count_at-number : (c : DayCount) → count_at (day_count_number c) ≡ c
+count_at-number Actual360 = refl
+count_at-number Actual365Fixed = refl
+count_at-number Thirty360 = refl
+count_at-number ThirtyE360 = refl
+count_at-number ActualActual = refl
+
+pub same_count : (a b : DayCount) → day_count_number a ≡ day_count_number b → a ≡ b
+same_count a b e = sym (count_at-number a) ∙ ap count_at e ∙ count_at-number b

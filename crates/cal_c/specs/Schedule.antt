@@ -1,0 +1,45 @@
+-- The answers of the calls of schedules, and the numbers of their conventions.
+use Rattle.std.specs.Prelude.{◌≡◌, ℕ, ◌≤◌, ℤ, pos, neg_ℤ}
+use Rattle.cal_schedule.specs.declared.money.DayCount.{DayCount}
+use Rattle.cal_schedule.specs.declared.money.DayCount.TheVariants.{Actual360, Actual365Fixed, Thirty360, ThirtyE360, ActualActual}
+use Rattle.cal_schedule.specs.declared.period.Period.{Period}
+use Rattle.cal_c.specs.Results.{nothing}
+use Rattle.cal_c.specs.Statuses.{done}
+use Rattle.cal_c.specs.declared.results.NumberResult.{NumberResult}
+use Rattle.cal_c.specs.declared.schedule.results.PeriodResult.{PeriodResult}
+use Rattle.cal_c.specs.declared.schedule.results.YearFractionResult.{YearFractionResult}
+
+-- the answer is a number that has it
+pub record IsNumberWith (Has : ℤ → Type 0) (r : NumberResult) : Type 0 where
+  pub status_is : r.status ≡ done
+  pub has : Has r.number
+
+-- ---- periods
+abbrev pub period_done : Period → PeriodResult
+period_done p = record { status = done; years = p.years; months = p.months; days = p.days }
+
+abbrev pub period_refused : ℤ → PeriodResult
+period_refused s = record { status = s; years = nothing; months = nothing; days = nothing }
+
+-- the answer is a period that has it
+pub record IsPeriodWith (Has : Period → Type 0) (r : PeriodResult) : Type 0 where
+  pub status_is : r.status ≡ done
+  pub has : Has (record { years = r.years; months = r.months; days = r.days })
+
+-- ---- day counts
+abbrev pub year_fraction_done : ℤ → ℕ → YearFractionResult
+year_fraction_done z y = record { status = done; denominator = y; numerator = z }
+
+abbrev pub year_fraction_refused : ℤ → YearFractionResult
+year_fraction_refused s = record { status = s; denominator = 0; numerator = neg_ℤ (pos 9_223_372_036_854_775_808) }
+
+-- a day count is its number from actual/360, 1
+abbrev pub day_count_number : DayCount → ℕ
+day_count_number Actual360 = 1
+day_count_number Actual365Fixed = 2
+day_count_number Thirty360 = 3
+day_count_number ThirtyE360 = 4
+day_count_number ActualActual = 5
+
+abbrev pub IsDayCount : ℕ → Type 0
+IsDayCount k = (1 ≤ k) × (k ≤ 5)

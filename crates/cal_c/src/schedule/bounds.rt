@@ -1,0 +1,130 @@
+//! The first and the last day of the month, the quarter, the year and the ISO week of a date.
+ghost use Rattle.std.specs.Prelude.{◌≡◌, ◌+◌, ◌-◌, ◌*◌, ◌≤◌, ◌<◌, pos};
+ghost use Rattle.cal_time.specs.Date.{last_day, year_at, month_at, weekday_at, julian_day_at, HasCalendarDate};
+ghost use Rattle.cal_time.specs.IsoWeekDate.{iso_year_at, iso_week_at, HasIsoWeekDate};
+ghost use Rattle.cal_time.specs.Lengths.{days_in_month};
+ghost use Rattle.cal_schedule.specs.Months.{quarter_at};
+ghost use Rattle.cal_c.specs.Results.{date_done, date_refused, number_done, number_refused, IsDayWith};
+ghost use Rattle.cal_c.specs.Statuses.{bad_date, past_range};
+ghost use Rattle.cal_c.specs.Values.{IsJulianDay, day_of};
+
+use crate::results::{DateResult, NumberResult};
+use crate::status::BAD_DATE;
+use crate::values::date_of;
+use cal_schedule::{
+    first_of_iso_week, first_of_month, first_of_quarter, first_of_year, last_of_iso_week,
+    last_of_month, last_of_quarter, last_of_year, quarter,
+};
+
+/// The first day of the month. That of 2451604, 2000-02-29, is 2451576.
+#[unsafe(no_mangle)]
+pub extern "C" fn fots_date_first_of_month(date: i32) -> DateResult
+    ensures bad_date { ¬ IsJulianDay date → result ≡ date_refused bad_date }
+    ensures day { IsJulianDay date → IsDayWith (HasCalendarDate (year_at (day_of date)) (month_at (day_of date)) 1) result }
+{
+    match date_of(date) {
+        Some(date) => DateResult::of(first_of_month(date)),
+        None => DateResult::refused(BAD_DATE),
+    }
+}
+
+/// The last day of the month. That of 2451576, 2000-02-01, is 2451604.
+#[unsafe(no_mangle)]
+pub extern "C" fn fots_date_last_of_month(date: i32) -> DateResult
+    ensures bad_date { ¬ IsJulianDay date → result ≡ date_refused bad_date }
+    ensures day { IsJulianDay date
+        → IsDayWith (HasCalendarDate (year_at (day_of date)) (month_at (day_of date)) (days_in_month (year_at (day_of date)) (month_at (day_of date)))) result }
+{
+    match date_of(date) {
+        Some(date) => DateResult::of(last_of_month(date)),
+        None => DateResult::refused(BAD_DATE),
+    }
+}
+
+/// The quarter of the year, from 1 to 4. That of 2451604, 2000-02-29, is 1.
+#[unsafe(no_mangle)]
+pub extern "C" fn fots_date_quarter(date: i32) -> NumberResult
+    ensures bad_date { ¬ IsJulianDay date → result ≡ number_refused bad_date }
+    ensures value { IsJulianDay date → result ≡ number_done (pos (quarter_at (day_of date))) }
+{
+    match date_of(date) {
+        Some(date) => NumberResult::of(i32::from(quarter(date))),
+        None => NumberResult::refused(BAD_DATE),
+    }
+}
+
+/// The first day of the quarter. That of 2451604, 2000-02-29, is 2451545, 2000-01-01.
+#[unsafe(no_mangle)]
+pub extern "C" fn fots_date_first_of_quarter(date: i32) -> DateResult
+    ensures bad_date { ¬ IsJulianDay date → result ≡ date_refused bad_date }
+    ensures day { IsJulianDay date → IsDayWith (HasCalendarDate (year_at (day_of date)) (3 * quarter_at (day_of date) - 2) 1) result }
+{
+    match date_of(date) {
+        Some(date) => DateResult::of(first_of_quarter(date)),
+        None => DateResult::refused(BAD_DATE),
+    }
+}
+
+/// The last day of the quarter. That of 2451604, 2000-02-29, is 2451635, 2000-03-31.
+#[unsafe(no_mangle)]
+pub extern "C" fn fots_date_last_of_quarter(date: i32) -> DateResult
+    ensures bad_date { ¬ IsJulianDay date → result ≡ date_refused bad_date }
+    ensures day { IsJulianDay date
+        → IsDayWith (HasCalendarDate (year_at (day_of date)) (3 * quarter_at (day_of date)) (days_in_month (year_at (day_of date)) (3 * quarter_at (day_of date)))) result }
+{
+    match date_of(date) {
+        Some(date) => DateResult::of(last_of_quarter(date)),
+        None => DateResult::refused(BAD_DATE),
+    }
+}
+
+/// The first day of the year. That of 2451604, 2000-02-29, is 2451545, 2000-01-01.
+#[unsafe(no_mangle)]
+pub extern "C" fn fots_date_first_of_year(date: i32) -> DateResult
+    ensures bad_date { ¬ IsJulianDay date → result ≡ date_refused bad_date }
+    ensures day { IsJulianDay date → IsDayWith (HasCalendarDate (year_at (day_of date)) 1 1) result }
+{
+    match date_of(date) {
+        Some(date) => DateResult::of(first_of_year(date)),
+        None => DateResult::refused(BAD_DATE),
+    }
+}
+
+/// The last day of the year. That of 2451604, 2000-02-29, is 2451910, 2000-12-31.
+#[unsafe(no_mangle)]
+pub extern "C" fn fots_date_last_of_year(date: i32) -> DateResult
+    ensures bad_date { ¬ IsJulianDay date → result ≡ date_refused bad_date }
+    ensures day { IsJulianDay date → IsDayWith (HasCalendarDate (year_at (day_of date)) 12 31) result }
+{
+    match date_of(date) {
+        Some(date) => DateResult::of(last_of_year(date)),
+        None => DateResult::refused(BAD_DATE),
+    }
+}
+
+/// The Monday of the ISO week. That of 2451604, 2000-02-29, is 2451603.
+#[unsafe(no_mangle)]
+pub extern "C" fn fots_date_first_of_iso_week(date: i32) -> DateResult
+    ensures bad_date { ¬ IsJulianDay date → result ≡ date_refused bad_date }
+    ensures day { IsJulianDay date → IsDayWith (HasIsoWeekDate (iso_year_at (day_of date)) (iso_week_at (day_of date)) 0) result }
+{
+    match date_of(date) {
+        Some(date) => DateResult::of(first_of_iso_week(date)),
+        None => DateResult::refused(BAD_DATE),
+    }
+}
+
+/// The Sunday of the ISO week, or none where the range ends before it, which is so of its last five days alone. That of 2451604,
+/// 2000-02-29, is 2451609.
+#[unsafe(no_mangle)]
+pub extern "C" fn fots_date_last_of_iso_week(date: i32) -> DateResult
+    ensures bad_date { ¬ IsJulianDay date → result ≡ date_refused bad_date }
+    ensures past_range { IsJulianDay date → last_day + weekday_at (day_of date) < day_of date + 6 → result ≡ date_refused past_range }
+    ensures day { IsJulianDay date → day_of date + 6 ≤ last_day + weekday_at (day_of date)
+        → result ≡ date_done (julian_day_at (day_of date + 6 - weekday_at (day_of date))) }
+{
+    match date_of(date) {
+        Some(date) => DateResult::of_option(last_of_iso_week(date)),
+        None => DateResult::refused(BAD_DATE),
+    }
+}

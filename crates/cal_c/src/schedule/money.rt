@@ -1,0 +1,48 @@
+//! The fraction of a year that interest is counted by.
+ghost use Rattle.std.specs.Prelude.{◌≡◌, MatchOption};
+ghost use Rattle.cal_schedule.specs.declared.money.DayCount.{DayCount};
+ghost use Rattle.cal_schedule.specs.Money.{counted_days, year_counts};
+ghost use Rattle.cal_c.specs.Schedule.{day_count_number, year_fraction_done, year_fraction_refused, IsDayCount};
+ghost use Rattle.cal_c.specs.Statuses.{bad_convention, bad_date};
+ghost use Rattle.cal_c.specs.Values.{IsJulianDay, day_of};
+
+use crate::schedule::results::YearFractionResult;
+use crate::status::{BAD_CONVENTION, BAD_DATE};
+use crate::values::date_of;
+use cal_schedule::{DayCount, day_count};
+
+/// The day count that has the number, from actual/360, 1.
+fn day_count_of(number: u32) -> Option<DayCount>
+    ensures { MatchOption result (¬ IsDayCount number) (λ found. IsDayCount number × (day_count_number found ≡ number)) }
+{
+    match number {
+        1 => Some(DayCount::Actual360),
+        2 => Some(DayCount::Actual365Fixed),
+        3 => Some(DayCount::Thirty360),
+        4 => Some(DayCount::ThirtyE360),
+        5 => Some(DayCount::ActualActual),
+        _ => None,
+    }
+}
+
+/// The fraction of a year from the date to the other by a convention: the days that it counts, over those of its year. From 1 for
+/// actual/360, 2 is actual/365 (fixed), 3 is 30/360 (bond basis), 4 is 30E/360, and 5 is actual/actual (ISDA). From 2452945,
+/// 2003-11-01, to 2453127, 2004-05-01, by 5 it is 66491 over 133590.
+#[unsafe(no_mangle)]
+pub extern "C" fn fots_date_day_count(date: i32, other: i32, convention: u32) -> YearFractionResult
+    ensures bad_date { ¬ (IsJulianDay date × IsJulianDay other) → result ≡ year_fraction_refused bad_date }
+    ensures bad_convention { IsJulianDay date → IsJulianDay other → ¬ IsDayCount convention → result ≡ year_fraction_refused bad_convention }
+    ensures value { IsJulianDay date → IsJulianDay other → (c : DayCount) → day_count_number c ≡ convention
+        → result ≡ year_fraction_done (counted_days c (day_of date) (day_of other)) (year_counts c) }
+{
+    let Some(date) = date_of(date) else {
+        return YearFractionResult::refused(BAD_DATE);
+    };
+    let Some(other) = date_of(other) else {
+        return YearFractionResult::refused(BAD_DATE);
+    };
+    match day_count_of(convention) {
+        Some(convention) => YearFractionResult::of(day_count(date, other, convention)),
+        None => YearFractionResult::refused(BAD_CONVENTION),
+    }
+}

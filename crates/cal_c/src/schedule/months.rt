@@ -1,0 +1,56 @@
+//! Days moved by months and years.
+ghost use Rattle.std.specs.Prelude.{◌≡◌, pos, ◌+ℤ◌, ◌*ℤ◌, ◌<ℤ◌, ◌≤ℤ◌};
+ghost use Rattle.cal_time.specs.Date.{first_julian_day, first_year, last_day, last_year, julian_day_at, year_at, IsYear};
+ghost use Rattle.cal_schedule.specs.Months.{month_number_at, IsMonthNumber, IsMonthsLater};
+ghost use Rattle.cal_c.specs.Results.{date_done, date_refused, IsDayWith};
+ghost use Rattle.cal_c.specs.Statuses.{bad_date, past_range};
+ghost use Rattle.cal_c.specs.Values.{IsJulianDay, day_of};
+
+use crate::results::DateResult;
+use crate::status::BAD_DATE;
+use crate::values::date_of;
+use cal_schedule::{checked_add_months, checked_add_years, saturating_add_months};
+
+/// The day so many months later, or earlier where they are below zero: in that month the same day of the month, or the last day
+/// where the month has no such day. None where that month is past an end of the range. One month after 2451575, 2000-01-31, is
+/// 2451604, 2000-02-29.
+#[unsafe(no_mangle)]
+pub extern "C" fn fots_date_add_months(date: i32, months: i32) -> DateResult
+    ensures bad_date { ¬ IsJulianDay date → result ≡ date_refused bad_date }
+    ensures past_range { IsJulianDay date → ¬ IsMonthNumber (month_number_at (day_of date) +ℤ months) → result ≡ date_refused past_range }
+    ensures day { IsJulianDay date → IsMonthNumber (month_number_at (day_of date) +ℤ months) → IsDayWith (IsMonthsLater (day_of date) months) result }
+{
+    match date_of(date) {
+        Some(date) => DateResult::of_option(checked_add_months(date, months)),
+        None => DateResult::refused(BAD_DATE),
+    }
+}
+
+/// The same, but the end of the range that is nearest where that month is past it. A month after 366963559, the last day, is 366963559.
+#[unsafe(no_mangle)]
+pub extern "C" fn fots_date_saturating_add_months(date: i32, months: i32) -> DateResult
+    ensures bad_date { ¬ IsJulianDay date → result ≡ date_refused bad_date }
+    ensures day { IsJulianDay date → IsMonthNumber (month_number_at (day_of date) +ℤ months) → IsDayWith (IsMonthsLater (day_of date) months) result }
+    ensures before { IsJulianDay date → (month_number_at (day_of date) +ℤ months) <ℤ (first_year *ℤ pos 12) → result ≡ date_done first_julian_day }
+    ensures past { IsJulianDay date → ((last_year +ℤ pos 1) *ℤ pos 12) ≤ℤ (month_number_at (day_of date) +ℤ months) → result ≡ date_done (julian_day_at last_day) }
+{
+    match date_of(date) {
+        Some(date) => DateResult::of(saturating_add_months(date, months)),
+        None => DateResult::refused(BAD_DATE),
+    }
+}
+
+/// The day so many years later, or earlier where they are below zero: the same month and day of the month, but 28 February for the
+/// 29th in a year that has none. None where that year is past an end of the range. One year after 2451604, 2000-02-29, is 2451969,
+/// 2001-02-28.
+#[unsafe(no_mangle)]
+pub extern "C" fn fots_date_add_years(date: i32, years: i32) -> DateResult
+    ensures bad_date { ¬ IsJulianDay date → result ≡ date_refused bad_date }
+    ensures past_range { IsJulianDay date → ¬ IsYear (year_at (day_of date) +ℤ years) → result ≡ date_refused past_range }
+    ensures day { IsJulianDay date → IsYear (year_at (day_of date) +ℤ years) → IsDayWith (IsMonthsLater (day_of date) (pos 12 *ℤ years)) result }
+{
+    match date_of(date) {
+        Some(date) => DateResult::of_option(checked_add_years(date, years)),
+        None => DateResult::refused(BAD_DATE),
+    }
+}

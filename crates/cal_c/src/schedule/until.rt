@@ -1,0 +1,74 @@
+//! The months, the years and the period from one date to another.
+ghost use Rattle.std.specs.Prelude.{◌≡◌, pos, neg_ℤ, ◌*ℤ◌, ◌<ℤ◌, ◌≤ℤ◌};
+ghost use Rattle.cal_schedule.specs.Until.{months_of, IsGreatest, IsLeast, LeadsTo, LeadsUpTo, LeadsBackTo};
+ghost use Rattle.cal_c.specs.Results.{number_refused};
+ghost use Rattle.cal_c.specs.Schedule.{period_refused, IsNumberWith, IsPeriodWith};
+ghost use Rattle.cal_c.specs.Statuses.{bad_date};
+ghost use Rattle.cal_c.specs.Values.{IsJulianDay, day_of};
+
+use crate::results::NumberResult;
+use crate::schedule::results::PeriodResult;
+use crate::status::BAD_DATE;
+use crate::values::date_of;
+use cal_schedule::{months_until, period_until, years_until};
+
+/// The whole months from the date to the other: the greatest number of months that does not lead past it, or where it comes before
+/// the date the least that does not lead before it. From 2451575, 2000-01-31, to 2451604, 2000-02-29, it is 1.
+#[unsafe(no_mangle)]
+pub extern "C" fn fots_date_months_until(date: i32, other: i32) -> NumberResult
+    ensures bad_date { ¬ (IsJulianDay date × IsJulianDay other) → result ≡ number_refused bad_date }
+    ensures on { IsJulianDay date → IsJulianDay other → date ≤ℤ other → IsNumberWith (IsGreatest (LeadsUpTo (day_of date) (day_of other))) result }
+    ensures back { IsJulianDay date → IsJulianDay other → other <ℤ date → IsNumberWith (IsLeast (LeadsBackTo (day_of date) (day_of other))) result }
+{
+    let Some(date) = date_of(date) else {
+        return NumberResult::refused(BAD_DATE);
+    };
+    match date_of(other) {
+        Some(other) => NumberResult::of(months_until(date, other)),
+        None => NumberResult::refused(BAD_DATE),
+    }
+}
+
+/// The whole years from the date to the other, as an age is counted: the greatest number of years that does not lead past it, or
+/// where it comes before the date the least that does not lead before it. From 2451604, 2000-02-29, to 2451969, 2001-02-28, it is 1.
+#[unsafe(no_mangle)]
+pub extern "C" fn fots_date_years_until(date: i32, other: i32) -> NumberResult
+    ensures bad_date { ¬ (IsJulianDay date × IsJulianDay other) → result ≡ number_refused bad_date }
+    ensures on { IsJulianDay date → IsJulianDay other → date ≤ℤ other
+        → IsNumberWith (IsGreatest (λ years. LeadsUpTo (day_of date) (day_of other) (pos 12 *ℤ years))) result }
+    ensures back { IsJulianDay date → IsJulianDay other → other <ℤ date
+        → IsNumberWith (IsLeast (λ years. LeadsBackTo (day_of date) (day_of other) (pos 12 *ℤ years))) result }
+{
+    let Some(date) = date_of(date) else {
+        return NumberResult::refused(BAD_DATE);
+    };
+    match date_of(other) {
+        Some(other) => NumberResult::of(years_until(date, other)),
+        None => NumberResult::refused(BAD_DATE),
+    }
+}
+
+/// The years, months and days that lead from the date to the other: as many months as `fots_date_months_until` says, twelve of them
+/// a year, and then the days that are left. All are of one sign, and the months fewer than 12. From 2451575, 2000-01-31, to 2451971,
+/// 2001-03-02, it is 1, 1 and 2.
+#[unsafe(no_mangle)]
+pub extern "C" fn fots_date_period_until(date: i32, other: i32) -> PeriodResult
+    ensures bad_date { ¬ (IsJulianDay date × IsJulianDay other) → result ≡ period_refused bad_date }
+    ensures leads { IsJulianDay date → IsJulianDay other → IsPeriodWith (LeadsTo (day_of date) (day_of other)) result }
+    ensures on { IsJulianDay date → IsJulianDay other → date ≤ℤ other
+        → IsPeriodWith (λ p. IsGreatest (LeadsUpTo (day_of date) (day_of other)) (months_of p)) result }
+    ensures back { IsJulianDay date → IsJulianDay other → other <ℤ date
+        → IsPeriodWith (λ p. IsLeast (LeadsBackTo (day_of date) (day_of other)) (months_of p)) result }
+    ensures forward { IsJulianDay date → IsJulianDay other → date ≤ℤ other
+        → (pos 0 ≤ℤ result.years) × (pos 0 ≤ℤ result.months) × (result.months ≤ℤ pos 11) × (pos 0 ≤ℤ result.days) }
+    ensures backward { IsJulianDay date → IsJulianDay other → other <ℤ date
+        → (result.years ≤ℤ pos 0) × (neg_ℤ (pos 11) ≤ℤ result.months) × (result.months ≤ℤ pos 0) × (result.days ≤ℤ pos 0) }
+{
+    let Some(date) = date_of(date) else {
+        return PeriodResult::refused(BAD_DATE);
+    };
+    match date_of(other) {
+        Some(other) => PeriodResult::of(period_until(date, other)),
+        None => PeriodResult::refused(BAD_DATE),
+    }
+}

@@ -1,0 +1,102 @@
+//! The weekdays of a month, and those next to a date.
+ghost use Rattle.std.specs.Prelude.{◌≡◌, ◌-◌, ◌<◌, ◌≤◌, ℕ, slice_get};
+ghost use Rattle.cal_time.specs.Date.{julian_day_at, IsDate, IsYear, NoDate};
+ghost use Rattle.cal_schedule.specs.Weekdays.{IsNthWeekday, IsLastWeekday, occurrences_from, occurrences_upto};
+ghost use Rattle.cal_c.specs.Results.{date_done, date_refused, date_if_any};
+ghost use Rattle.cal_c.specs.Statuses.{bad_count, bad_date, bad_weekday, month_refused, weekday_refused, year_refused};
+ghost use Rattle.cal_c.specs.Values.{IsJulianDay, IsMonth, IsWeekday, day_of};
+
+use crate::results::DateResult;
+use crate::status::{BAD_COUNT, BAD_DATE, BAD_WEEKDAY, MONTH, date_status};
+use crate::values::{date_of, month_of, weekday_of};
+use cal_schedule::{last_weekday_of_month, nth_weekday_of_month, on_or_after, on_or_before};
+
+/// The n-th day of a month that has the weekday, counted from 1, or none where the month has no such day. Counts go up to 255. The
+/// fifth Tuesday of 2000, 2 is 2451604, 2000-02-29.
+#[unsafe(no_mangle)]
+pub extern "C" fn fots_date_nth_weekday_of_month(
+    year: i32,
+    month: u32,
+    weekday: u32,
+    n: u32,
+) -> DateResult
+    ensures month { ¬ IsMonth month → result ≡ date_refused month_refused }
+    ensures bad_weekday { IsMonth month → ¬ IsWeekday weekday → result ≡ date_refused bad_weekday }
+    ensures bad_count { IsMonth month → IsWeekday weekday → 255 < n → result ≡ date_refused bad_count }
+    ensures year { IsMonth month → IsWeekday weekday → n ≤ 255 → ¬ IsYear year → result ≡ date_refused year_refused }
+    ensures weekday { IsMonth month → IsWeekday weekday → n ≤ 255 → IsYear year → NoDate (IsNthWeekday year month (weekday - 1) n)
+        → result ≡ date_refused weekday_refused }
+    ensures day { IsMonth month → IsWeekday weekday → n ≤ 255 → (k : ℕ) → IsDate k → IsNthWeekday year month (weekday - 1) n k
+        → result ≡ date_done (julian_day_at k) }
+{
+    let Some(month) = month_of(month) else {
+        return DateResult::refused(MONTH);
+    };
+    let Some(weekday) = weekday_of(weekday) else {
+        return DateResult::refused(BAD_WEEKDAY);
+    };
+    if n > 255 {
+        return DateResult::refused(BAD_COUNT);
+    }
+    match nth_weekday_of_month(year, month, weekday, n as u8) {
+        Ok(date) => DateResult::of(date),
+        Err(error) => DateResult::refused(date_status(error)),
+    }
+}
+
+/// The last day of a month that has the weekday. The last Friday of 2000, 2 is 2451600, 2000-02-25.
+#[unsafe(no_mangle)]
+pub extern "C" fn fots_date_last_weekday_of_month(year: i32, month: u32, weekday: u32) -> DateResult
+    ensures month { ¬ IsMonth month → result ≡ date_refused month_refused }
+    ensures bad_weekday { IsMonth month → ¬ IsWeekday weekday → result ≡ date_refused bad_weekday }
+    ensures year { IsMonth month → IsWeekday weekday → ¬ IsYear year → result ≡ date_refused year_refused }
+    ensures day { IsMonth month → IsWeekday weekday → (k : ℕ) → IsDate k → IsLastWeekday year month (weekday - 1) k
+        → result ≡ date_done (julian_day_at k) }
+{
+    let Some(month) = month_of(month) else {
+        return DateResult::refused(MONTH);
+    };
+    let Some(weekday) = weekday_of(weekday) else {
+        return DateResult::refused(BAD_WEEKDAY);
+    };
+    match last_weekday_of_month(year, month, weekday) {
+        Ok(date) => DateResult::of(date),
+        Err(error) => DateResult::refused(date_status(error)),
+    }
+}
+
+/// The first day from the date on that has the weekday, or none where it is past the range. The Friday on or after 2451604,
+/// 2000-02-29, is 2451607.
+#[unsafe(no_mangle)]
+pub extern "C" fn fots_date_on_or_after(date: i32, weekday: u32) -> DateResult
+    ensures bad_date { ¬ IsJulianDay date → result ≡ date_refused bad_date }
+    ensures bad_weekday { IsJulianDay date → ¬ IsWeekday weekday → result ≡ date_refused bad_weekday }
+    ensures day { IsJulianDay date → IsWeekday weekday
+        → result ≡ date_if_any (slice_get (occurrences_from (weekday - 1) (day_of date)) 0) }
+{
+    let Some(date) = date_of(date) else {
+        return DateResult::refused(BAD_DATE);
+    };
+    match weekday_of(weekday) {
+        Some(weekday) => DateResult::of_option(on_or_after(date, weekday)),
+        None => DateResult::refused(BAD_WEEKDAY),
+    }
+}
+
+/// The last day up to the date that has the weekday, or none where it is before the range. The Friday on or before 2451604,
+/// 2000-02-29, is 2451600.
+#[unsafe(no_mangle)]
+pub extern "C" fn fots_date_on_or_before(date: i32, weekday: u32) -> DateResult
+    ensures bad_date { ¬ IsJulianDay date → result ≡ date_refused bad_date }
+    ensures bad_weekday { IsJulianDay date → ¬ IsWeekday weekday → result ≡ date_refused bad_weekday }
+    ensures day { IsJulianDay date → IsWeekday weekday
+        → result ≡ date_if_any (slice_get (occurrences_upto (weekday - 1) (day_of date)) 0) }
+{
+    let Some(date) = date_of(date) else {
+        return DateResult::refused(BAD_DATE);
+    };
+    match weekday_of(weekday) {
+        Some(weekday) => DateResult::of_option(on_or_before(date, weekday)),
+        None => DateResult::refused(BAD_WEEKDAY),
+    }
+}
