@@ -129,7 +129,7 @@ fn structs_are_those_of_the_header() {
         assert!(DECLARED.contains(&declared), "{declared}");
         count += 1;
     }
-    assert_eq!(count, 20);
+    assert_eq!(count, 22);
 }
 
 #[test]
