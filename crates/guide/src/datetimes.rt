@@ -1,10 +1,10 @@
 //! Date-times, alone and at an offset, and what their clauses let a caller prove.
 ghost use Rattle.std.specs.Prelude.{◌≡◌, ◌↔◌, ◌≤◌, pos, ◌+ℤ◌, ◌-ℤ◌, ◌*ℤ◌, ◌<ℤ◌, IfSome, IsSome, IsTrue, Some, Ok};
-ghost use Rattle.cal_time.specs.Date.{year_at, IsDate, IsYear};
+ghost use Rattle.cal_time.specs.Date.{IsDate, IsYear};
 ghost use Rattle.cal_time.specs.SignedDuration.{second, IsDuration};
 ghost use Rattle.cal_time.specs.Time.{IsTime};
 ghost use Rattle.cal_time.specs.UtcOffset.{IsOffset};
-ghost use Rattle.cal_datetime.specs.DateTime.{IsDateTime, date_time, date_at, time_at};
+ghost use Rattle.cal_datetime.specs.DateTime.{IsDateTime};
 ghost use Rattle.cal_datetime.specs.OffsetDateTime.{instant, local_at, unix_epoch, unix_nanoseconds};
 
 use cal_datetime::{OffsetDateTime, PlainDateTime, with_hms, with_hms_nano};

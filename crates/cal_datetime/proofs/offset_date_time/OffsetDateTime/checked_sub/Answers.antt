@@ -1,5 +1,4 @@
-use Rattle.std.proofs.Common.{◌≡◌, ◌-ℤ◌, Some, ap, ◌∙◌, sym, subst, arith}
-use Rattle.std.proofs.lemmas.Int.{ints}
+use Rattle.std.proofs.Common.{◌-ℤ◌, Some, ap, ◌∙◌, sym, subst}
 use Rattle.cal_datetime.specs.DateTime.{IsDateTime}
 use Rattle.cal_datetime.proofs.Instants.{earlier_at}
 use Rattle.cal_datetime.proofs.offset_date_time.OffsetDateTime.checked_sub.Goals as goal
