@@ -36,9 +36,9 @@ from typing import Any, Callable, ClassVar, Dict, Iterable, Iterator, List, Name
 __version__ = "0.1.0"
 
 __all__ = [
-    "CalendarDateColumns", "ComponentRange", "Date", "DateColumns", "Days", "IsoWeekDateColumns", "Month", "OffsetDateTime",
-    "OrdinalDateColumns", "PlainDateTime", "SignedDuration", "Time", "Unreadable", "UtcOffset", "Weekday", "WeekdayColumns", "add_to_pair",
-    "calendar_dates_to_iso_week_dates", "dates_add_days",
+    "CalendarDateColumns", "ComponentRange", "Date", "DateColumns", "DayCount", "Days", "IsoWeekDateColumns", "Month", "OffsetDateTime",
+    "OrdinalDateColumns", "Period", "PlainDateTime", "SignedDuration", "Time", "Unreadable", "UtcOffset", "Weekday", "WeekdayColumns",
+    "YearFraction", "add_to_pair", "calendar_dates_to_iso_week_dates", "dates_add_days",
     "dates_from_calendar_dates", "dates_from_iso_week_dates", "dates_from_julian_days", "dates_from_ordinal_dates",
     "dates_to_calendar_dates", "dates_to_iso_week_dates", "dates_to_ordinal_dates", "dates_weekdays", "days_in_month", "days_in_year",
     "days_in_year_month", "is_leap_year", "read_rfc3339", "read_unix", "rfc3339_text", "status_error", "sub_from_pair",
@@ -112,6 +112,11 @@ class _Result(ctypes.Structure):
     length: int
     bytes: bytes
     place: int
+    years: int
+    months: int
+    days: int
+    denominator: int
+    numerator: int
 
 
 def _result(*fields: Tuple[str, Any]) -> Type[_Result]:
@@ -134,6 +139,8 @@ _OFFSET_PARTS = _result(("hours", _I32), ("minutes", _I32), ("seconds", _I32))
 _DURATION = _result(("duration", _CDuration))
 _PAIR = _result(("date", _I32), ("time", _U64))
 _MOMENT = _result(("moment", _CMoment))
+_PERIOD = _result(("years", _I32), ("months", _I32), ("days", _I32))
+_YEAR_FRACTION = _result(("denominator", _U32), ("numerator", _I64))
 _TEXT = _result(("length", _U32), ("bytes", ctypes.c_char * 40))
 _READ_DATE = _result(("date", _I32), ("place", ctypes.c_size_t))
 _READ_MOMENT = _result(("date", _I32), ("time", _U64), ("offset", _I32), ("place", ctypes.c_size_t))
@@ -198,6 +205,16 @@ _FORMS: List[Tuple[Any, List[Any], str]] = [
     (_MOMENT, [_CDuration], "moment_from_unix_time"),
     (_LONG, [_CMoment], "moment_unix_timestamp"),
     (_DURATION, [_CMoment], "moment_unix_time"),
+    (_DATE, [_I32, _I32], "date_add_months date_saturating_add_months date_add_years"),
+    (_NUMBER, [_I32, _I32], "date_months_until date_years_until"),
+    (_PERIOD, [_I32, _I32], "date_period_until"),
+    (_DATE, [_I32], "date_first_of_month date_last_of_month date_first_of_quarter date_last_of_quarter date_first_of_year "
+        "date_last_of_year date_first_of_iso_week date_last_of_iso_week"),
+    (_PART, [_I32], "date_quarter"),
+    (_DATE, [_I32, _U32, _U32, _U32], "date_nth_weekday_of_month"),
+    (_DATE, [_I32, _U32, _U32], "date_last_weekday_of_month"),
+    (_DATE, [_I32, _U32], "date_on_or_after date_on_or_before"),
+    (_YEAR_FRACTION, [_I32, _I32, _U32], "date_day_count"),
 ]
 
 _library = _load()
@@ -1488,6 +1505,94 @@ class Date(_Value):
         """The day of the same year that has this ordinal; `ComponentRange` as `ordinal`."""
         return _date(_C.date_replace_ordinal(self._key, _component(ordinal)))
 
+    def checked_add_months(self, months: SupportsIndex) -> Optional[Date]:
+        """The day so many months later, or the last day of that month where it has no such day; `None` past the range.
+
+        >>> Date.from_calendar_date(2024, 1, 31).checked_add_months(1)
+        2024-02-29
+        """
+        return _date_or_none(_C.date_add_months(self._key, _nearest(months)))
+
+    def saturating_add_months(self, months: SupportsIndex) -> Date:
+        """The same, but the nearest end of the range where that month is past it."""
+        return _date(_C.date_saturating_add_months(self._key, _nearest(months)))
+
+    def checked_add_years(self, years: SupportsIndex) -> Optional[Date]:
+        """The day so many years later, 28 February for the 29th where there is none; `None` past the range."""
+        return _date_or_none(_C.date_add_years(self._key, _nearest(years)))
+
+    def months_until(self, other: Date) -> int:
+        """The greatest number of months that does not lead past the other day; the least that does not lead before an earlier one."""
+        return _number(_C.date_months_until(self._key, _is(other, Date)._key))
+
+    def years_until(self, other: Date) -> int:
+        """The same of years, as an age is counted."""
+        return _number(_C.date_years_until(self._key, _is(other, Date)._key))
+
+    def period_until(self, other: Date) -> Period:
+        """The years, months and days that lead to the other day."""
+        result = _done(_C.date_period_until(self._key, _is(other, Date)._key))
+        return Period(result.years, result.months, result.days)
+
+    def first_of_month(self) -> Date:
+        """The first day of the month."""
+        return _date(_C.date_first_of_month(self._key))
+
+    def last_of_month(self) -> Date:
+        """The last day of the month."""
+        return _date(_C.date_last_of_month(self._key))
+
+    def first_of_quarter(self) -> Date:
+        """The first day of the quarter."""
+        return _date(_C.date_first_of_quarter(self._key))
+
+    def last_of_quarter(self) -> Date:
+        """The last day of the quarter."""
+        return _date(_C.date_last_of_quarter(self._key))
+
+    def first_of_year(self) -> Date:
+        """The first day of the year."""
+        return _date(_C.date_first_of_year(self._key))
+
+    def last_of_year(self) -> Date:
+        """The last day of the year."""
+        return _date(_C.date_last_of_year(self._key))
+
+    def first_of_iso_week(self) -> Date:
+        """The Monday of the ISO week."""
+        return _date(_C.date_first_of_iso_week(self._key))
+
+    def last_of_iso_week(self) -> Optional[Date]:
+        """The Sunday of the ISO week, or `None` past the range."""
+        return _date_or_none(_C.date_last_of_iso_week(self._key))
+
+    def quarter(self) -> int:
+        """The quarter of the year, from 1 to 4."""
+        return _number(_C.date_quarter(self._key))
+
+    @classmethod
+    def nth_weekday_of_month(cls, year: SupportsIndex, month: SupportsIndex, weekday: Weekday, n: SupportsIndex) -> Date:
+        """The n-th day of a month that has the weekday, counted from 1 to 255; `ComponentRange` as `month`, `year`, or `weekday` where there is none."""
+        return _date(_C.date_nth_weekday_of_month(_signed(year), _component(month), _weekday(weekday), _component(n)))
+
+    @classmethod
+    def last_weekday_of_month(cls, year: SupportsIndex, month: SupportsIndex, weekday: Weekday) -> Date:
+        """The last day of a month that has the weekday; `ComponentRange` as `month` or `year`."""
+        return _date(_C.date_last_weekday_of_month(_signed(year), _component(month), _weekday(weekday)))
+
+    def on_or_after(self, weekday: Weekday) -> Optional[Date]:
+        """The first day from this one on that has the weekday, or `None` past the range."""
+        return _date_or_none(_C.date_on_or_after(self._key, _weekday(weekday)))
+
+    def on_or_before(self, weekday: Weekday) -> Optional[Date]:
+        """The last day up to this one that has the weekday, or `None` past the range."""
+        return _date_or_none(_C.date_on_or_before(self._key, _weekday(weekday)))
+
+    def day_count(self, other: Date, convention: DayCount) -> YearFraction:
+        """The fraction of a year to the other day by a convention, below 0 the other way round."""
+        result = _done(_C.date_day_count(self._key, _is(other, Date)._key, _is(convention, DayCount).value))
+        return YearFraction(result.numerator, result.denominator)
+
     def iter_to(self, end: Date) -> Days:
         """The days from this one to `end`, both included, in order, as a sequence; none where this one comes after `end`.
 
@@ -1596,6 +1701,39 @@ def add_to_pair(date: Date, time: Time, duration: SignedDuration) -> Optional[Tu
 def sub_from_pair(date: Date, time: Time, duration: SignedDuration) -> Optional[Tuple[Date, Time]]:
     """The date and the time that come so much earlier, to the nanosecond, or `None` where that date is past the range."""
     return _pair_or_none(_C.sub_from_pair(_is(date, Date)._key, _is(time, Time)._key, _is(duration, SignedDuration)._key))
+
+
+# ---- schedules
+
+
+class Period(NamedTuple):
+    """Years, months and days, all of one sign, with fewer than 12 months."""
+
+    years: int
+    months: int
+    days: int
+
+
+class YearFraction(NamedTuple):
+    """A fraction of a year: what was counted, over what a year counts."""
+
+    numerator: int
+    denominator: int
+
+
+class DayCount(enum.IntEnum):
+    """How the days of interest are counted, by the names of the 2006 ISDA Definitions."""
+
+    Actual360 = 1
+    Actual365Fixed = 2
+    Thirty360 = 3
+    ThirtyE360 = 4
+    ActualActual = 5
+
+
+def _nearest(number: SupportsIndex) -> int:
+    """The number itself, or the nearest in 32 bits with a sign: so many months or years lead past the range."""
+    return min(max(operator.index(number), -2**31), 2**31 - 1)
 
 
 # ---- moments
