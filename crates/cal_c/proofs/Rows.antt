@@ -1,8 +1,6 @@
 -- One more row of arrays that are written from the front.
-use Rattle.std.proofs.Common.{◌≡◌, ◌≢◌, ℕ, ◌+◌, ◌<◌, Bool, List, length, get_or, take, arith, below_more, get_or-set_other, get_or-set_same, count_by, if◌then◌else◌}
+use Rattle.std.proofs.Common.{◌≡◌, ◌≢◌, ℕ, ◌+◌, ◌<◌, List, length, get_or, arith, below_more, get_or-set_other, get_or-set_same}
 use Rattle.std.proofs.Math.ListN.{set}
-use Rattle.std.proofs.lemmas.List.{take_more_set}
-use Rattle.std.proofs.lemmas.Grind.{common_steps}
 
 pub rows_two : {A B : Type 0} (R : ℕ → A → B → Type 0) (xs : List A) (ys : List B) (i : ℕ) (x : A) (x0 : A) (y : B) (y0 : B)
     → i < length xs → i < length ys → ((k : ℕ) → k < i → R k (get_or xs k x0) (get_or ys k y0)) → R i x y
@@ -27,7 +25,3 @@ rows_four R xs ys zs ws i x x0 y y0 z z0 w w0 hx hy hz hw rows here =
     below_more (λ k. R k (get_or (set xs i x) k x0) (get_or (set ys i y) k y0) (get_or (set zs i z) k z0) (get_or (set ws i w) k w0)) i
     (λ k below. let ne : k ≢ i = omega arith in rw (get_or-set_other, get_or-set_other, get_or-set_other, get_or-set_other) (rows k below))
     (rw (get_or-set_same, get_or-set_same, get_or-set_same, get_or-set_same) here)
-
-pub count-more : {Y : Type 0} (p : Y → Bool) (xs : List Y) (i : ℕ) (y : Y) (n : ℕ) → i < length xs → n ≡ count_by p (take i xs)
-    → n + (if p y then 1 else 0) ≡ count_by p (take (i + 1) (set xs i y))
-count-more p xs i y n h e = rw (take_more_set xs i y h) (grind (arith, common_steps))

@@ -2,7 +2,7 @@
 //!
 //! A column is one array for each part of a value, and one of status bytes. What one call writes is what the next one takes. Where
 //! the arrays of a call are not of one length, nothing is written, and the answer is the greatest number.
-ghost use Rattle.std.specs.Prelude.{◌≡◌, ◌↔◌, IsTrue, if◌then◌else◌};
+ghost use Rattle.std.specs.Prelude.{◌≡◌, ◌↔◌, IsTrue, count_by, if◌then◌else◌};
 ghost use Rattle.cal_c.specs.Columns.{is_refused};
 ghost use Rattle.cal_c.specs.Values.{IsJulianDay};
 
@@ -30,6 +30,17 @@ fn is_date(julian_day: i64) -> bool
     ensures { IsTrue result ↔ IsJulianDay julian_day }
 {
     julian_day >= FIRST_JULIAN_DAY && julian_day <= LAST_JULIAN_DAY
+}
+
+/// How many rows have no answer: counted apart, as a sum in 64 bits would keep a loop over rows from several at a time.
+fn refused_in(statuses: &[u8]) -> usize
+    ensures { result ≡ count_by is_refused statuses.now }
+{
+    let mut refused = 0;
+    for status in statuses {
+        refused += one_if_refused(*status);
+    }
+    refused
 }
 
 /// 1 where there is no answer, else 0.

@@ -10,7 +10,7 @@ ghost use Rattle.cal_c.specs.Statuses.{bad_weekday, julian_day_refused, year_ref
 ghost use Rattle.cal_c.specs.Values.{IsJulianDay, IsMonth, IsWeekday};
 
 use super::statuses::{BAD_WEEKDAY, DONE, JULIAN_DAY, MONTH, status_of};
-use super::{NOTHING, UNLIKE, is_date, one_if_refused};
+use super::{NOTHING, UNLIKE, is_date, refused_in};
 use crate::values;
 use cal_time::{Date, Month, Weekday};
 
@@ -32,14 +32,12 @@ pub extern "C" fn fots_dates_from_julian_days(
     if dates.len() != rows || statuses.len() != rows {
         return UNLIKE;
     }
-    let mut refused = 0;
     for row in 0..rows {
         let (date, status) = date_of_julian_day(julian_days[row]);
         dates[row] = date;
         statuses[row] = status;
-        refused += one_if_refused(status);
     }
-    refused
+    refused_in(statuses)
 }
 
 /// The dates of columns of years, months and days, row by row as `fots_date_from_calendar_date`, and how many rows have none.
@@ -62,14 +60,12 @@ pub extern "C" fn fots_dates_from_calendar_dates(
     if months.len() != rows || days.len() != rows || dates.len() != rows || statuses.len() != rows {
         return UNLIKE;
     }
-    let mut refused = 0;
     for row in 0..rows {
         let (date, status) = date_of_calendar_date(years[row], months[row], days[row]);
         dates[row] = date;
         statuses[row] = status;
-        refused += one_if_refused(status);
     }
-    refused
+    refused_in(statuses)
 }
 
 /// The dates of columns of years and ordinals, row by row as `fots_date_from_ordinal_date`, and how many rows have none.
@@ -91,14 +87,12 @@ pub extern "C" fn fots_dates_from_ordinal_dates(
     if ordinals.len() != rows || dates.len() != rows || statuses.len() != rows {
         return UNLIKE;
     }
-    let mut refused = 0;
     for row in 0..rows {
         let (date, status) = date_of_ordinal_date(years[row], ordinals[row]);
         dates[row] = date;
         statuses[row] = status;
-        refused += one_if_refused(status);
     }
-    refused
+    refused_in(statuses)
 }
 
 /// The dates of columns of ISO years, weeks and weekdays, row by row as `fots_date_from_iso_week_date`, and how many rows have none.
@@ -125,14 +119,12 @@ pub extern "C" fn fots_dates_from_iso_week_dates(
     {
         return UNLIKE;
     }
-    let mut refused = 0;
     for row in 0..rows {
         let (date, status) = date_of_iso_week_date(years[row], weeks[row], weekdays[row]);
         dates[row] = date;
         statuses[row] = status;
-        refused += one_if_refused(status);
     }
-    refused
+    refused_in(statuses)
 }
 
 /// The date of a row, and its status.

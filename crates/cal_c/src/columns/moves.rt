@@ -6,7 +6,7 @@ ghost use Rattle.cal_c.specs.Statuses.{bad_date, past_range};
 ghost use Rattle.cal_c.specs.Values.{IsJulianDay};
 
 use super::statuses::{BAD_DATE, DONE, PAST_RANGE};
-use super::{FIRST_JULIAN_DAY, LAST_JULIAN_DAY, NOTHING, UNLIKE, is_date, one_if_refused};
+use super::{FIRST_JULIAN_DAY, LAST_JULIAN_DAY, NOTHING, UNLIKE, is_date, refused_in};
 
 /// The dates of a column, each moved by the days of another column, row by row as `fots_date_add_days`, and how many rows have none.
 #[unsafe(no_mangle)]
@@ -27,14 +27,12 @@ pub extern "C" fn fots_dates_add_days(
     if days.len() != rows || moved.len() != rows || statuses.len() != rows {
         return UNLIKE;
     }
-    let mut refused = 0;
     for row in 0..rows {
         let (date, status) = moved_date(dates[row], days[row]);
         moved[row] = date;
         statuses[row] = status;
-        refused += one_if_refused(status);
     }
-    refused
+    refused_in(statuses)
 }
 
 /// The day so many days later, and the status.

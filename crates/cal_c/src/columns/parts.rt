@@ -8,7 +8,7 @@ ghost use Rattle.cal_c.specs.Values.{IsJulianDay, IsMonth, day_of};
 
 use super::making::month_of;
 use super::statuses::{BAD_DATE, DONE, MONTH, status_of};
-use super::{NOTHING, UNLIKE, one_if_refused};
+use super::{NOTHING, UNLIKE, refused_in};
 use crate::values::date_of;
 use cal_time::Date;
 
@@ -32,16 +32,14 @@ pub extern "C" fn fots_dates_to_calendar_dates(
     if years.len() != rows || months.len() != rows || days.len() != rows || statuses.len() != rows {
         return UNLIKE;
     }
-    let mut refused = 0;
     for row in 0..rows {
         let (year, month, day, status) = calendar_date_of(dates[row]);
         years[row] = year;
         months[row] = month;
         days[row] = day;
         statuses[row] = status;
-        refused += one_if_refused(status);
     }
-    refused
+    refused_in(statuses)
 }
 
 /// The ordinal dates of a column of dates, row by row as `fots_date_to_ordinal_date`, and how many rows have none.
@@ -63,15 +61,13 @@ pub extern "C" fn fots_dates_to_ordinal_dates(
     if years.len() != rows || ordinals.len() != rows || statuses.len() != rows {
         return UNLIKE;
     }
-    let mut refused = 0;
     for row in 0..rows {
         let (year, ordinal, status) = ordinal_date_of(dates[row]);
         years[row] = year;
         ordinals[row] = ordinal;
         statuses[row] = status;
-        refused += one_if_refused(status);
     }
-    refused
+    refused_in(statuses)
 }
 
 /// The ISO week dates of a column of dates, row by row as `fots_date_to_iso_week_date`, and how many rows have none.
@@ -98,16 +94,14 @@ pub extern "C" fn fots_dates_to_iso_week_dates(
     {
         return UNLIKE;
     }
-    let mut refused = 0;
     for row in 0..rows {
         let (year, week, weekday, status) = iso_week_date_of(dates[row]);
         years[row] = year;
         weeks[row] = week;
         weekdays[row] = weekday;
         statuses[row] = status;
-        refused += one_if_refused(status);
     }
-    refused
+    refused_in(statuses)
 }
 
 /// The weekdays of a column of dates, row by row as `fots_date_weekday`, and how many rows have none.
@@ -128,14 +122,12 @@ pub extern "C" fn fots_dates_weekdays(
     if weekdays.len() != rows || statuses.len() != rows {
         return UNLIKE;
     }
-    let mut refused = 0;
     for row in 0..rows {
         let (weekday, status) = weekday_of(dates[row]);
         weekdays[row] = weekday;
         statuses[row] = status;
-        refused += one_if_refused(status);
     }
-    refused
+    refused_in(statuses)
 }
 
 /// The ISO week dates of columns of years, months and days, and how many rows have none: those of the dates that `fots_date_from_calendar_date` gives.
@@ -166,7 +158,6 @@ pub extern "C" fn fots_calendar_dates_to_iso_week_dates(
     {
         return UNLIKE;
     }
-    let mut refused = 0;
     for row in 0..rows {
         let (iso_year, week, weekday, status) = iso_week_date_of_calendar_date(
             years[row],
@@ -177,9 +168,8 @@ pub extern "C" fn fots_calendar_dates_to_iso_week_dates(
         weeks[row] = week;
         weekdays[row] = weekday;
         statuses[row] = status;
-        refused += one_if_refused(status);
     }
-    refused
+    refused_in(statuses)
 }
 
 /// The year, the month and the day of the month of a date, and the status.
@@ -217,14 +207,6 @@ fn iso_week_date_of(date: i32) -> (i32, u8, u8, u8)
     }
 }
 
-/// The ISO year, the week and the weekday of a day, and the status.
-fn week_date_found(date: Date) -> (i32, u8, u8, u8)
-    ensures { iso_week_date_row result.0 result.1 result.2 result.3 ≡ iso_week_date_done date }
-{
-    let (year, week, weekday) = date.to_iso_week_date();
-    (year, week, weekday.number_from_monday(), DONE)
-}
-
 /// The weekday of a date, from Monday, 1, and the status.
 fn weekday_of(date: i32) -> (u8, u8)
     ensures bad_date { ¬ IsJulianDay date → (result.0 ≡ 0) × (pos result.1 ≡ bad_date) }
@@ -234,6 +216,14 @@ fn weekday_of(date: i32) -> (u8, u8)
         Some(date) => (date.weekday().number_from_monday(), DONE),
         None => (0, BAD_DATE),
     }
+}
+
+/// The ISO year, the week and the weekday of a day, and the status.
+fn week_date_found(date: Date) -> (i32, u8, u8, u8)
+    ensures { iso_week_date_row result.0 result.1 result.2 result.3 ≡ iso_week_date_done date }
+{
+    let (year, week, weekday) = date.to_iso_week_date();
+    (year, week, weekday.number_from_monday(), DONE)
 }
 
 /// The ISO year, the week and the weekday of a year, a month and a day of the month, and the status.

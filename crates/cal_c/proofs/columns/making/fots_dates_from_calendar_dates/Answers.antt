@@ -1,7 +1,7 @@
-use Rattle.std.proofs.Common.{◌+◌, ap, ◌∙◌, get_or, pos, arith, rules, FitsSigned, w32, w64, to_z, of_z}
+use Rattle.std.proofs.Common.{get_or, pos, arith, rules, FitsSigned, w32, w64, to_z, of_z}
 use Rattle.std.proofs.lemmas.Int.{to_z-of_z}
-use Rattle.cal_c.specs.Columns.{IsDateOfCalendarDate, date_row, is_refused}
-use Rattle.cal_c.proofs.Rows.{rows_two, count-more}
+use Rattle.cal_c.specs.Columns.{IsDateOfCalendarDate, date_row}
+use Rattle.cal_c.proofs.Rows.{rows_two}
 use Rattle.cal_c.proofs.columns.making.fots_dates_from_calendar_dates.Goals as goal
 
 pub loop-row-preserved : goal.loop-row-preserved
@@ -12,7 +12,4 @@ loop-row-preserved c =
     let its-no_day = simp to_z-of_z at c.date_of_calendar_date-date.ensures.no_day in
     let its-date = simp to_z-of_z at c.date_of_calendar_date-date.ensures.date in
     let here : IsDateOfCalendarDate (get_or c.args.years.now c.loop-row.row (pos 0)) (get_or c.args.months.now c.loop-row.row 0) (get_or c.args.days.now c.loop-row.row 0) (date_row c.date_of_calendar_date-date.result.0 c.date_of_calendar_date-date.result.1) = record { no_month = c.date_of_calendar_date-date.ensures.no_month; no_year = its-no_year; no_day = its-no_day; date = its-date } in
-    record {
-      rows = rows_two (λ k date status. IsDateOfCalendarDate (get_or c.args.years.now k (pos 0)) (get_or c.args.months.now k 0) (get_or c.args.days.now k 0) (date_row date status)) c.loop-row.dates c.loop-row.statuses c.loop-row.row (to_z w32 (of_z w32 c.date_of_calendar_date-date.result.0)) (pos 0) c.date_of_calendar_date-date.result.1 0 (omega arith) (omega arith) c.loop-row.invariant.rows (simp to_z-of_z here);
-      count = ap (λ n. c.loop-row.refused + n) c.one_if_refused-refused.ensures ∙ count-more is_refused c.loop-row.statuses c.loop-row.row c.date_of_calendar_date-date.result.1 c.loop-row.refused (omega arith) c.loop-row.invariant.count;
-    }
+    rows_two (λ k date status. IsDateOfCalendarDate (get_or c.args.years.now k (pos 0)) (get_or c.args.months.now k 0) (get_or c.args.days.now k 0) (date_row date status)) c.loop-row.dates c.loop-row.statuses c.loop-row.row (to_z w32 (of_z w32 c.date_of_calendar_date-date.result.0)) (pos 0) c.date_of_calendar_date-date.result.1 0 (omega arith) (omega arith) c.loop-row.invariant (simp to_z-of_z here)

@@ -1,7 +1,7 @@
-use Rattle.std.proofs.Common.{◌+◌, ap, ◌∙◌, get_or, pos, arith, rules, FitsSigned, w32, w64, to_z, of_z}
+use Rattle.std.proofs.Common.{get_or, pos, arith, rules, FitsSigned, w32, w64, to_z, of_z}
 use Rattle.std.proofs.lemmas.Int.{to_z-of_z}
-use Rattle.cal_c.specs.Columns.{IsDateOfJulianDay, date_row, is_refused}
-use Rattle.cal_c.proofs.Rows.{rows_two, count-more}
+use Rattle.cal_c.specs.Columns.{IsDateOfJulianDay, date_row}
+use Rattle.cal_c.proofs.Rows.{rows_two}
 use Rattle.cal_c.proofs.columns.making.fots_dates_from_julian_days.Goals as goal
 
 pub loop-row-preserved : goal.loop-row-preserved
@@ -11,7 +11,4 @@ loop-row-preserved c =
     let its-no_julian_day = simp to_z-of_z at c.date_of_julian_day-date.ensures.no_julian_day in
     let its-date = simp to_z-of_z at c.date_of_julian_day-date.ensures.date in
     let here : IsDateOfJulianDay (get_or c.args.julian_days.now c.loop-row.row (pos 0)) (date_row c.date_of_julian_day-date.result.0 c.date_of_julian_day-date.result.1) = record { no_julian_day = its-no_julian_day; date = its-date } in
-    record {
-      rows = rows_two (λ k date status. IsDateOfJulianDay (get_or c.args.julian_days.now k (pos 0)) (date_row date status)) c.loop-row.dates c.loop-row.statuses c.loop-row.row (to_z w32 (of_z w32 c.date_of_julian_day-date.result.0)) (pos 0) c.date_of_julian_day-date.result.1 0 (omega arith) (omega arith) c.loop-row.invariant.rows (simp to_z-of_z here);
-      count = ap (λ n. c.loop-row.refused + n) c.one_if_refused-refused.ensures ∙ count-more is_refused c.loop-row.statuses c.loop-row.row c.date_of_julian_day-date.result.1 c.loop-row.refused (omega arith) c.loop-row.invariant.count;
-    }
+    rows_two (λ k date status. IsDateOfJulianDay (get_or c.args.julian_days.now k (pos 0)) (date_row date status)) c.loop-row.dates c.loop-row.statuses c.loop-row.row (to_z w32 (of_z w32 c.date_of_julian_day-date.result.0)) (pos 0) c.date_of_julian_day-date.result.1 0 (omega arith) (omega arith) c.loop-row.invariant (simp to_z-of_z here)

@@ -1,7 +1,7 @@
-use Rattle.std.proofs.Common.{◌+◌, ap, ◌∙◌, get_or, pos, arith, rules, FitsSigned, w32, w64, to_z, of_z}
+use Rattle.std.proofs.Common.{get_or, pos, arith, rules, FitsSigned, w32, w64, to_z, of_z}
 use Rattle.std.proofs.lemmas.Int.{to_z-of_z}
-use Rattle.cal_c.specs.Columns.{IsDateMoved, date_row, is_refused}
-use Rattle.cal_c.proofs.Rows.{rows_two, count-more}
+use Rattle.cal_c.specs.Columns.{IsDateMoved, date_row}
+use Rattle.cal_c.proofs.Rows.{rows_two}
 use Rattle.cal_c.proofs.columns.moves.fots_dates_add_days.Goals as goal
 
 pub loop-row-preserved : goal.loop-row-preserved
@@ -13,7 +13,4 @@ loop-row-preserved c =
     let its-past_range = simp to_z-of_z at c.moved_date-date.ensures.past_range in
     let its-day = simp to_z-of_z at c.moved_date-date.ensures.day in
     let here : IsDateMoved (get_or c.args.dates.now c.loop-row.row (pos 0)) (get_or c.args.days.now c.loop-row.row (pos 0)) (date_row c.moved_date-date.result.0 c.moved_date-date.result.1) = record { bad_date = its-bad_date; past_range = its-past_range; day = its-day } in
-    record {
-      rows = rows_two (λ k date status. IsDateMoved (get_or c.args.dates.now k (pos 0)) (get_or c.args.days.now k (pos 0)) (date_row date status)) c.loop-row.moved c.loop-row.statuses c.loop-row.row (to_z w32 (of_z w32 c.moved_date-date.result.0)) (pos 0) c.moved_date-date.result.1 0 (omega arith) (omega arith) c.loop-row.invariant.rows (simp to_z-of_z here);
-      count = ap (λ n. c.loop-row.refused + n) c.one_if_refused-refused.ensures ∙ count-more is_refused c.loop-row.statuses c.loop-row.row c.moved_date-date.result.1 c.loop-row.refused (omega arith) c.loop-row.invariant.count;
-    }
+    rows_two (λ k date status. IsDateMoved (get_or c.args.dates.now k (pos 0)) (get_or c.args.days.now k (pos 0)) (date_row date status)) c.loop-row.moved c.loop-row.statuses c.loop-row.row (to_z w32 (of_z w32 c.moved_date-date.result.0)) (pos 0) c.moved_date-date.result.1 0 (omega arith) (omega arith) c.loop-row.invariant (simp to_z-of_z here)

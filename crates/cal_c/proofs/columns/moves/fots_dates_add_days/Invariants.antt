@@ -1,9 +1,6 @@
-use Rattle.std.proofs.Common.{◌≡◌, ℕ, ◌<◌, pos, get_or, take, count_by}
-use Rattle.cal_c.specs.Columns.{IsDateMoved, date_row, is_refused}
+use Rattle.std.proofs.Common.{ℕ, ◌<◌, pos, get_or}
+use Rattle.cal_c.specs.Columns.{IsDateMoved, date_row}
 use Rattle.cal_c.proofs.columns.moves.fots_dates_add_days.Given as goal
 
 abbrev pub invariant-loop-row : goal.invariant-loop-row
-invariant-loop-row l = record {
-  rows : (k : ℕ) → k < l.row → IsDateMoved (get_or l.dates k (pos 0)) (get_or l.days k (pos 0)) (date_row (get_or l.moved k (pos 0)) (get_or l.statuses k 0));
-  count : l.refused ≡ count_by is_refused (take l.row l.statuses);
-}
+invariant-loop-row l = (k : ℕ) → k < l.row → IsDateMoved (get_or l.dates k (pos 0)) (get_or l.days k (pos 0)) (date_row (get_or l.moved k (pos 0)) (get_or l.statuses k 0))

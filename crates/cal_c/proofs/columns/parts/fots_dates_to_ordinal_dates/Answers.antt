@@ -1,7 +1,7 @@
-use Rattle.std.proofs.Common.{◌+◌, ap, ◌∙◌, get_or, pos, arith, rules, FitsSigned, w32, w64, to_z, of_z}
+use Rattle.std.proofs.Common.{get_or, pos, arith, rules, FitsSigned, w32, w64, to_z, of_z}
 use Rattle.std.proofs.lemmas.Int.{to_z-of_z}
-use Rattle.cal_c.specs.Columns.{IsOrdinalDateOf, is_refused, ordinal_date_row}
-use Rattle.cal_c.proofs.Rows.{rows_three, count-more}
+use Rattle.cal_c.specs.Columns.{IsOrdinalDateOf, ordinal_date_row}
+use Rattle.cal_c.proofs.Rows.{rows_three}
 use Rattle.cal_c.proofs.columns.parts.fots_dates_to_ordinal_dates.Goals as goal
 
 pub loop-row-preserved : goal.loop-row-preserved
@@ -11,7 +11,4 @@ loop-row-preserved c =
     let its-bad_date = simp to_z-of_z at c.ordinal_date_of-year.ensures.bad_date in
     let its-value = simp to_z-of_z at c.ordinal_date_of-year.ensures.value in
     let here : IsOrdinalDateOf (get_or c.args.dates.now c.loop-row.row (pos 0)) (ordinal_date_row c.ordinal_date_of-year.result.0 c.ordinal_date_of-year.result.1 c.ordinal_date_of-year.result.2) = record { bad_date = its-bad_date; value = its-value } in
-    record {
-      rows = rows_three (λ k year ordinal status. IsOrdinalDateOf (get_or c.args.dates.now k (pos 0)) (ordinal_date_row year ordinal status)) c.loop-row.years c.loop-row.ordinals c.loop-row.statuses c.loop-row.row (to_z w32 (of_z w32 c.ordinal_date_of-year.result.0)) (pos 0) c.ordinal_date_of-year.result.1 0 c.ordinal_date_of-year.result.2 0 (omega arith) (omega arith) (omega arith) c.loop-row.invariant.rows (simp to_z-of_z here);
-      count = ap (λ n. c.loop-row.refused + n) c.one_if_refused-refused.ensures ∙ count-more is_refused c.loop-row.statuses c.loop-row.row c.ordinal_date_of-year.result.2 c.loop-row.refused (omega arith) c.loop-row.invariant.count;
-    }
+    rows_three (λ k year ordinal status. IsOrdinalDateOf (get_or c.args.dates.now k (pos 0)) (ordinal_date_row year ordinal status)) c.loop-row.years c.loop-row.ordinals c.loop-row.statuses c.loop-row.row (to_z w32 (of_z w32 c.ordinal_date_of-year.result.0)) (pos 0) c.ordinal_date_of-year.result.1 0 c.ordinal_date_of-year.result.2 0 (omega arith) (omega arith) (omega arith) c.loop-row.invariant (simp to_z-of_z here)

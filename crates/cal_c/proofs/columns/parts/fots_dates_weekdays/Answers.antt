@@ -1,7 +1,7 @@
-use Rattle.std.proofs.Common.{◌+◌, ap, ◌∙◌, get_or, pos, arith, rules, FitsSigned, w32, w64, to_z, of_z}
+use Rattle.std.proofs.Common.{get_or, pos, arith, rules, FitsSigned, w32, w64, to_z, of_z}
 use Rattle.std.proofs.lemmas.Int.{to_z-of_z}
-use Rattle.cal_c.specs.Columns.{IsWeekdayOf, is_refused}
-use Rattle.cal_c.proofs.Rows.{rows_two, count-more}
+use Rattle.cal_c.specs.Columns.{IsWeekdayOf}
+use Rattle.cal_c.proofs.Rows.{rows_two}
 use Rattle.cal_c.proofs.columns.parts.fots_dates_weekdays.Goals as goal
 
 pub loop-row-preserved : goal.loop-row-preserved
@@ -10,7 +10,4 @@ loop-row-preserved c =
     let its-bad_date = simp to_z-of_z at c.weekday_of-weekday.ensures.bad_date in
     let its-value = simp to_z-of_z at c.weekday_of-weekday.ensures.value in
     let here : IsWeekdayOf (get_or c.args.dates.now c.loop-row.row (pos 0)) c.weekday_of-weekday.result.0 c.weekday_of-weekday.result.1 = record { bad_date = its-bad_date; value = its-value } in
-    record {
-      rows = rows_two (λ k weekday status. IsWeekdayOf (get_or c.args.dates.now k (pos 0)) weekday status) c.loop-row.weekdays c.loop-row.statuses c.loop-row.row c.weekday_of-weekday.result.0 0 c.weekday_of-weekday.result.1 0 (omega arith) (omega arith) c.loop-row.invariant.rows here;
-      count = ap (λ n. c.loop-row.refused + n) c.one_if_refused-refused.ensures ∙ count-more is_refused c.loop-row.statuses c.loop-row.row c.weekday_of-weekday.result.1 c.loop-row.refused (omega arith) c.loop-row.invariant.count;
-    }
+    rows_two (λ k weekday status. IsWeekdayOf (get_or c.args.dates.now k (pos 0)) weekday status) c.loop-row.weekdays c.loop-row.statuses c.loop-row.row c.weekday_of-weekday.result.0 0 c.weekday_of-weekday.result.1 0 (omega arith) (omega arith) c.loop-row.invariant here
