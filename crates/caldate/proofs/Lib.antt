@@ -8,4 +8,7 @@ pub mod Texts
 pub mod Numbers
 pub mod Replied
 pub mod Steps
+pub mod OneCount
 pub mod OneAnswer
+pub mod Leads
+pub mod Digits

@@ -1,6 +1,7 @@
 -- What is answered to a text is one, but for the place in an unreadable one.
-use Rattle.std.proofs.Common.{◌≡◌, ◌⊎◌, ℕ, ◌≤◌, List, length, [], ◌∷◌, ◌++◌, codes, Option, Some, None, Result, Ok, Err, inl, inr, refl, ap, sym, subst, ◌∙◌, arith}
+use Rattle.std.proofs.Common.{◌≡◌, ◌⊎◌, ℕ, ◌≤◌, List, length, [], ◌∷◌, ◌++◌, codes, Option, Some, None, Result, Ok, Err, inl, inr, ap, sym, subst, ◌∙◌, arith}
 use Rattle.std.specs.Prelude.{◌↔◌, IsOk}
+use Rattle.std.specs.Fmt.{signed_decimal}
 use Rattle.std.specs.Io.KnownBytes.{Appends, Consumes, IsAtEnd}
 use Rattle.std.proofs.lemmas.Bool.{false≢true}
 use Rattle.std.proofs.lemmas.List.{append-nil}
@@ -12,17 +13,22 @@ use Rattle.cal_text.specs.declared.any.DateOrMoment.{DateOrMoment}
 use Rattle.cal_text.specs.declared.any.MomentForm.TheVariants.{Rfc3339, Unix}
 use Rattle.cal_text.specs.declared.error.Unreadable.{Unreadable}
 use Rattle.cal_text.specs.declared.error.Unreadable.TheVariants.{UnexpectedByte, OutOfRange}
-use Rattle.caldate.specs.Answers.{IsInForm, IsAnswerTo, IsAnswer, IsTooLong, IsUnreadable, refused_text, moment_of, form_read, on_day}
+use Rattle.caldate.specs.Answers.{IsAnswerTo, IsAnswer, IsBetween, IsTooLong, IsUnreadable, refused_text, moment_of, day_of, form_read, on_day}
+use Rattle.caldate.specs.Forms.{IsInForm}
 use Rattle.caldate.specs.Lines.{lines_of, text_of}
 use Rattle.caldate.specs.Runs.{Ended, IsAllowed}
 use Rattle.caldate.specs.Standing.{AreReplies}
 use Rattle.caldate.specs.declared.fault.Fault.{Fault}
 use Rattle.caldate.specs.declared.request.Filter.{Filter}
 use Rattle.caldate.specs.declared.request.Form.{Form}
-use Rattle.caldate.specs.declared.request.Form.TheVariants.{Date, Weekday, Moment}
+use Rattle.caldate.specs.declared.request.Form.TheVariants.{Date, Weekday, Moment, ShortWeekday, Month, Quarter, Basic}
+use Rattle.caldate.specs.declared.request.Form.TheVariants as form
 use Rattle.caldate.specs.declared.request.Request.{Request}
-use Rattle.caldate.specs.declared.request.Request.TheVariants.{To, Add, Next, Last, Until}
+use Rattle.caldate.specs.declared.request.Request.TheVariants.{To, Add, Move, Until, Since, At}
+use Rattle.caldate.specs.declared.request.TimeUnit.{TimeUnit}
 use Rattle.caldate.proofs.Laters.{one_later}
+use Rattle.caldate.proofs.OneCount.{one_count}
+use Rattle.caldate.proofs.Leads.{one_lead}
 
 -- ---- the answer to what was read
 in_form : (form : Form) (m : Shown) (a b : List ℕ) → IsInForm form m a → IsInForm form m b → a ≡ b
@@ -30,6 +36,11 @@ in_form (Date form) m a b h k = h ∙ sym k
 in_form Weekday m a b h k = h ∙ sym k
 in_form (Moment Rfc3339) m a b h k = h.1 ∙ sym k.1
 in_form (Moment Unix) m a b h k = h ∙ sym k
+in_form ShortWeekday m a b h k = h ∙ sym k
+in_form Month m a b h k = h ∙ sym k
+in_form Quarter m a b h k = h ∙ sym k
+in_form Basic m a b h k = h.1 ∙ sym k.1
+in_form (form.Unix unit) m a b h k = h ∙ sym k
 
 in_form_at : (form : Form) (m n : Shown) (a b : List ℕ) → m ≡ n → IsInForm form m a → IsInForm form n b → a ≡ b
 in_form_at form m n a b e h k = in_form form n a b (subst (λ m. IsInForm form m a) e h) k
@@ -37,14 +48,18 @@ in_form_at form m n a b e h k = in_form form n a b (subst (λ m. IsInForm form m
 some_one : {A : Type 0} (a b : A) → Some a ≡ Some b → a ≡ b
 some_one a b e = cc
 
+between : (unit : Option TimeUnit) (from to : DateOrMoment) (a b : List ℕ) → IsBetween unit from to a → IsBetween unit from to b → a ≡ b
+between None from to a b h k = h ∙ sym k
+between (Some unit) from to a b h k = h.2 ∙ ap signed_decimal (one_count unit (moment_of from) (moment_of to) h.0 k.0 h.1 k.1) ∙ sym k.2
+
 one_answer_to : (q : Request) (found : DateOrMoment) (a b : List ℕ) → IsAnswerTo q found a → IsAnswerTo q found b → a ≡ b
 one_answer_to (To form) found a b h k = in_form form (moment_of found) a b h k
 one_answer_to (Add d) found a b h k = in_form_at (form_read found) h.0 k.0 a b (one_later found d h.0 k.0 h.1 k.1) h.2 k.2
-one_answer_to (Next w n) found a b h k =
-    in_form_at (form_read found) _ _ a b (ap (on_day (moment_of found)) (some_one h.0 k.0 (sym h.1 ∙ k.1))) h.2 k.2
-one_answer_to (Last w n) found a b h k =
-    in_form_at (form_read found) _ _ a b (ap (on_day (moment_of found)) (some_one h.0 k.0 (sym h.1 ∙ k.1))) h.2 k.2
-one_answer_to (Until target) found a b h k = h ∙ sym k
+one_answer_to (Move by) found a b h k =
+    in_form_at (form_read found) _ _ a b (ap (on_day (moment_of found)) (one_lead by (day_of found) h.0 k.0 h.1 k.1)) h.2 k.2
+one_answer_to (Until target unit) found a b h k = between unit found target a b h k
+one_answer_to (Since target unit) found a b h k = between unit target found a b h k
+one_answer_to (At offset) found a b h k = in_form_at (Moment Rfc3339) _ _ a b (h.1.shown ∙ sym k.1.shown) h.2 k.2
 
 -- ---- the words for what a reader says of the text
 abbrev Told : Request → List ℕ → Result DateOrMoment Unreadable → List ℕ → Type 0

@@ -1,5 +1,5 @@
 -- The digits of numbers, and the days between two days.
-use Rattle.std.proofs.Common.{◌≡◌, ℕ, ◌/◌, ◌%◌, ◌^◌, ◌+◌, ◌*◌, ◌<◌, ◌≤◌, List, ◌∷◌, ◌++◌, codes, length, decimal, ap, ◌∙◌, arith, append_assoc, lit<, ℤ, pos, negsuc, ◌-ℤ◌, unsigned_abs, to_z, of_z, w32, FitsSigned}
+use Rattle.std.proofs.Common.{◌≡◌, ℕ, ◌^◌, ◌<◌, ◌≤◌, length, decimal, ap, ◌∙◌, arith, lit<, ℤ, pos, negsuc, ◌-ℤ◌, unsigned_abs, to_z, of_z, w32, FitsSigned}
 use Rattle.std.proofs.lemmas.Int.{ints, to_z-of_z}
 use Rattle.cal_time.specs.Date.{IsDate, julian_day_at}
 use Rattle.std.proofs.lemmas.Fmt.{length-decimal-le}

@@ -1,16 +1,18 @@
 -- What arguments ask for, by their first word and the others.
 use Rattle.std.proofs.Common.{◌≡◌, ℕ, true, false, cond, eqb, List, [], ◌∷◌, Option, None, Some, refl, sym, ap, ◌∙◌, arith, length, ◌+◌, ◌<◌, ℤ, pos, ◌*ℤ◌}
-use Rattle.std.specs.Prelude.{FitsSigned, bytes_eq, codes, option_and_then}
+use Rattle.std.specs.Prelude.{FitsSigned, bytes_eq, codes, option_and_then, option_map}
 use Rattle.std.specs.Int.{w64}
+use Rattle.std.specs.Option.{option_zip}
 use Rattle.std.proofs.lemmas.List.Splits.{length-slice_split}
 use Rattle.cal_text.specs.declared.any.DateOrMoment.{DateOrMoment}
 use Rattle.cal_time.specs.SignedDuration.{second}
-use Rattle.caldate.specs.Requests.{arguments_of, meaning_of, filter_of, request_after, request_of, seconds_in, verb_of}
+use Rattle.caldate.specs.Requests.{arguments_of, meaning_of, filter_of, request_after, request_of, seconds_in, target_of, unit_of, verb_of}
 use Rattle.caldate.proofs.Numbers.{fits, guard_yes}
 use Rattle.caldate.specs.Senseless.{senseless_at, senseless_end}
-use Rattle.caldate.specs.declared.senseless.Wanted.TheVariants.{End}
+use Rattle.caldate.specs.declared.senseless.Wanted.TheVariants as wanted
+use Rattle.caldate.specs.declared.request.TimeUnit.{TimeUnit}
 use Rattle.caldate.specs.declared.request.Verb.{Verb}
-use Rattle.caldate.specs.declared.request.Verb.TheVariants.{To, Add, Next, Last, Until}
+use Rattle.caldate.specs.declared.request.Verb.TheVariants.{To, Add, Next, Last, Until, Since, Start, End, OnOrAfter, OnOrBefore, At}
 
 -- one word is no request
 none_after : (reading : List ℕ → Option DateOrMoment) (found : Option Verb) → option_and_then (request_after reading []) found ≡ None
@@ -20,6 +22,12 @@ none_after reading (Some Add) = refl
 none_after reading (Some Next) = refl
 none_after reading (Some Last) = refl
 none_after reading (Some Until) = refl
+none_after reading (Some Since) = refl
+none_after reading (Some Start) = refl
+none_after reading (Some End) = refl
+none_after reading (Some OnOrAfter) = refl
+none_after reading (Some OnOrBefore) = refl
+none_after reading (Some At) = refl
 
 pub one_word : (reading : List ℕ → Option DateOrMoment) (verb : List ℕ) → request_of reading (verb ∷ []) ≡ None
 one_word reading verb = none_after reading (verb_of verb)
@@ -33,7 +41,7 @@ pub some_word : (bytes : List ℕ) → (first : List ℕ) × (more : List (List 
 some_word bytes = first_of (arguments_of bytes) (omega (arith, length-slice_split (λ byte. eqb byte 0) bytes))
 
 -- so after the words that make sense one is too many
-pub one_too_many : (at : ℕ) (bytes : List ℕ) → senseless_end at (arguments_of bytes) ≡ senseless_at (at + 2) End
+pub one_too_many : (at : ℕ) (bytes : List ℕ) → senseless_end at (arguments_of bytes) ≡ senseless_at (at + 2) wanted.End
 one_too_many at bytes = let parts = some_word bytes in ap (senseless_end at) parts.2
 
 -- ---- the first of two words and more
@@ -46,6 +54,21 @@ pub lenient : (reading : List ℕ → Option DateOrMoment) (first second : List 
     → meaning_of reading (first ∷ second ∷ words) ≡ filter_of false (request_of reading (first ∷ second ∷ words))
 lenient reading first second words e =
     ap (λ b. cond b (filter_of true (request_of reading (second ∷ words))) (filter_of false (request_of reading (first ∷ second ∷ words)))) e
+
+-- ---- a date or a moment, and perhaps a unit
+abbrev alone : DateOrMoment → DateOrMoment × Option TimeUnit
+alone found = (found, None)
+
+pub without_unit : (reading : List ℕ → Option DateOrMoment) (text : List ℕ) (all : List (List ℕ)) (found : DateOrMoment)
+    → all ≡ text ∷ [] → Some found ≡ reading text → Some (alone found) ≡ target_of reading all
+without_unit reading text all found e f = sym (ap (target_of reading) e ∙ ap (option_map alone) (sym f))
+
+pub with_unit : (reading : List ℕ → Option DateOrMoment) (text word name : List ℕ) (all : List (List ℕ)) (found : DateOrMoment) (unit : TimeUnit)
+    → all ≡ text ∷ word ∷ name ∷ [] → bytes_eq word (codes "in") ≡ true → Some found ≡ reading text → Some unit ≡ unit_of name
+    → Some (found, Some unit) ≡ target_of reading all
+with_unit reading text word name all found unit e same f g =
+    sym (ap (target_of reading) e ∙ ap (λ b. cond b (option_zip (reading text) (option_map Some (unit_of name))) None) same
+    ∙ ap (λ r. option_zip r (option_map Some (unit_of name))) (sym f) ∙ ap (λ r. option_zip (Some found) (option_map Some r)) (sym g))
 
 -- ---- an amount of time
 pub seconds_are : (unit : ℕ) (amount seconds : ℤ) → FitsSigned w64 (amount *ℤ pos unit) → seconds ≡ amount *ℤ pos unit → seconds_in unit amount ≡ Some (seconds *ℤ pos second)

@@ -1,29 +1,29 @@
 -- The answer to the text of a line.
-use Rattle.std.specs.Prelude.{◌≡◌, ◌⊎◌, ℕ, ◌<◌, ◌≤◌, ◌&&◌, Bool, true, false, ℤ, pos, ◌+ℤ◌, ◌-ℤ◌, List, [], ◌++◌, codes, length, decimal, Some, if◌then◌else◌}
+use Rattle.std.specs.Prelude.{◌≡◌, ◌⊎◌, ℕ, ◌<◌, ◌≤◌, ◌&&◌, Bool, true, false, ℤ, pos, ◌+ℤ◌, ◌-ℤ◌, List, [], ◌++◌, codes, length, decimal, Option, Some, None, if◌then◌else◌}
 use Rattle.std.specs.Fmt.{signed_decimal}
-use Rattle.cal_time.specs.Date.{IsDate, julian_day_at, weekday_at}
-use Rattle.cal_time.specs.Occurrence.{next_occurrences, prev_occurrences, kth}
+use Rattle.cal_time.specs.Date.{IsDate, julian_day_at}
 use Rattle.cal_time.specs.Refusal.{component_name}
 use Rattle.cal_time.specs.declared.error.ComponentRange.{ComponentRange}
 use Rattle.cal_time.specs.SignedDuration.{whole_days}
 use Rattle.cal_time.specs.SignedDuration as duration
-use Rattle.cal_time.specs.Weekday.{name, place}
-use Rattle.cal_time.specs.Weekday as weekday
 use Rattle.cal_datetime.specs.DateTime.{IsDateTime, date_time, date_at, time_at}
-use Rattle.cal_datetime.specs.OffsetDateTime.{Shown, instant, unix_nanoseconds}
-use Rattle.cal_text.specs.AnyForm.{IsTextOf, IsFault, HasAnyForm, date_text}
-use Rattle.cal_text.specs.Rfc3339.{HasMomentText, moment_text}
-use Rattle.cal_text.specs.UnixText.{unix_text}
+use Rattle.cal_datetime.specs.OffsetDateTime.{Shown, instant, local_at}
+use Rattle.cal_text.specs.AnyForm.{IsTextOf, IsFault, HasAnyForm}
 use Rattle.cal_text.specs.declared.error.Unreadable.{Unreadable}
 use Rattle.cal_text.specs.declared.error.Unreadable.TheVariants.{UnexpectedByte, OutOfRange}
 use Rattle.cal_text.specs.declared.any.DateOrMoment.{DateOrMoment}
 use Rattle.cal_text.specs.declared.any.DateOrMoment.TheVariants as read
-use Rattle.cal_text.specs.declared.any.MomentForm.TheVariants.{Rfc3339, Unix}
+use Rattle.cal_text.specs.declared.any.MomentForm.TheVariants.{Rfc3339}
+use Rattle.caldate.specs.Counts.{IsCount}
+use Rattle.caldate.specs.Forms.{IsInForm}
+use Rattle.caldate.specs.Moves.{LeadsTo}
 use Rattle.caldate.specs.Room.{longest_text}
+use Rattle.caldate.specs.declared.request.DayMove.{DayMove}
 use Rattle.caldate.specs.declared.request.Form.{Form}
-use Rattle.caldate.specs.declared.request.Form.TheVariants.{Date, Weekday, Moment}
+use Rattle.caldate.specs.declared.request.Form.TheVariants.{Date, Moment}
 use Rattle.caldate.specs.declared.request.Request.{Request}
-use Rattle.caldate.specs.declared.request.Request.TheVariants.{To, Add, Next, Last, Until}
+use Rattle.caldate.specs.declared.request.Request.TheVariants.{To, Add, Move, Until, Since, At}
+use Rattle.caldate.specs.declared.request.TimeUnit.{TimeUnit}
 
 -- ---- what was read: its moment, where a date is midnight at UTC, its day and its form
 abbrev pub moment_of : DateOrMoment → Shown
@@ -42,13 +42,6 @@ is_date (read.Date form n) = true
 is_date (read.Moment form m) = false
 
 -- ---- the words
--- those of a moment in the form that is asked for
-abbrev pub IsInForm : Form → Shown → List ℕ → Type 0
-IsInForm (Date form) m words = words ≡ date_text form (date_at m.local)
-IsInForm Weekday m words = words ≡ name (weekday.weekday_at (weekday_at (date_at m.local)))
-IsInForm (Moment Rfc3339) m words = HasMomentText m × (words ≡ moment_text m)
-IsInForm (Moment Unix) m words = words ≡ unix_text (unix_nanoseconds (instant m))
-
 -- day n, at the same time of day and the same offset
 abbrev pub on_day : Shown → ℕ → Shown
 on_day m n = record { local = date_time n (time_at m.local); offset = m.offset }
@@ -74,15 +67,31 @@ until_text from to =
     if is_date from && is_date to then signed_decimal (julian_day_at (day_of to) -ℤ julian_day_at (day_of from))
     else duration.text (instant (moment_of to) -ℤ instant (moment_of from))
 
+-- or, where a unit is named, so many of it, cut toward zero
+abbrev pub IsBetween : Option TimeUnit → DateOrMoment → DateOrMoment → List ℕ → Type 0
+IsBetween None from to words = words ≡ until_text from to
+IsBetween (Some unit) from to words = (z : ℤ) × IsCount unit (moment_of from) (moment_of to) z × (words ≡ signed_decimal z)
+
+-- what a clock at the offset shows
+pub record IsShownAt (offset : ℤ) (from m : Shown) : Type 0 where
+  pub in_range : IsDateTime (local_at (instant from) offset)
+  pub shown : m ≡ record { local = local_at (instant from) offset; offset = offset }
+
+abbrev pub IsAt : ℤ → Shown → List ℕ → Type 0
+IsAt offset from words = (m : Shown) × IsShownAt offset from m × IsInForm (Moment Rfc3339) m words
+
+-- the words are those of the day that the move leads to, at the same time of day
+abbrev pub IsMoved : DayMove → DateOrMoment → List ℕ → Type 0
+IsMoved by found words = (n : ℕ) × LeadsTo by (day_of found) n × IsInForm (form_read found) (on_day (moment_of found) n) words
+
 -- the words are what the request answers for what was read
 abbrev pub IsAnswerTo : Request → DateOrMoment → List ℕ → Type 0
 IsAnswerTo (To form) found words = IsInForm form (moment_of found) words
 IsAnswerTo (Add d) found words = (m : Shown) × IsLater found d m × IsInForm (form_read found) m words
-IsAnswerTo (Next w k) found words =
-    (n : ℕ) × (kth k (next_occurrences (place w) (day_of found)) ≡ Some n) × IsInForm (form_read found) (on_day (moment_of found) n) words
-IsAnswerTo (Last w k) found words =
-    (n : ℕ) × (kth k (prev_occurrences (place w) (day_of found)) ≡ Some n) × IsInForm (form_read found) (on_day (moment_of found) n) words
-IsAnswerTo (Until target) found words = words ≡ until_text found target
+IsAnswerTo (Move by) found words = IsMoved by found words
+IsAnswerTo (Until target unit) found words = IsBetween unit found target words
+IsAnswerTo (Since target unit) found words = IsBetween unit target found words
+IsAnswerTo (At offset) found words = IsAt offset (moment_of found) words
 
 -- ---- texts that have an answer, and texts that have none
 abbrev pub HasAnswer : Request → List ℕ → List ℕ → Type 0

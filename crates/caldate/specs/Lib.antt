@@ -1,6 +1,10 @@
 pub mod Answers
+pub mod Counts
 pub mod Ending
+pub mod Forms
 pub mod Lines
+pub mod Moves
+pub mod Offsets
 pub mod Program
 pub mod Requests
 pub mod Room

@@ -11,12 +11,20 @@ use Rattle.cal_text.specs.AnyForm.{IsTextOf}
 use Rattle.cal_text.specs.declared.any.DateForm.TheVariants.{Calendar, Ordinal, Week, JulianDay}
 use Rattle.cal_text.specs.declared.any.DateOrMoment.{DateOrMoment}
 use Rattle.cal_text.specs.declared.any.MomentForm.TheVariants.{Rfc3339, Unix}
+use Rattle.caldate.specs.Offsets.{offset_of}
 use Rattle.caldate.specs.declared.request.Form.{Form}
 use Rattle.caldate.specs.declared.request.Form.TheVariants as form
+use Rattle.caldate.specs.declared.request.DayMove.{DayMove}
+use Rattle.caldate.specs.declared.request.DayMove.TheVariants as move
+use Rattle.caldate.specs.declared.request.Period.{Period}
+use Rattle.caldate.specs.declared.request.Period.TheVariants as period
+use Rattle.caldate.specs.declared.request.TimeUnit.{TimeUnit}
+use Rattle.caldate.specs.declared.request.TimeUnit.TheVariants as unit
+use Rattle.caldate.specs.declared.request.UnixUnit.TheVariants.{Milliseconds, Microseconds, Nanoseconds}
 use Rattle.caldate.specs.declared.request.Verb.{Verb}
 use Rattle.caldate.specs.declared.request.Verb.TheVariants as verb
 use Rattle.caldate.specs.declared.request.Request.{Request}
-use Rattle.caldate.specs.declared.request.Request.TheVariants.{To, Add, Next, Last, Until}
+use Rattle.caldate.specs.declared.request.Request.TheVariants.{To, Add, Move, Until, Since, At}
 use Rattle.caldate.specs.declared.request.Asked.{Asked}
 use Rattle.caldate.specs.declared.request.Asked.TheVariants.{Help, Version, Lines}
 
@@ -52,6 +60,23 @@ verb_of word =
     if bytes_eq word (codes "next") then Some verb.Next else
     if bytes_eq word (codes "last") then Some verb.Last else
     if bytes_eq word (codes "until") then Some verb.Until else
+    if bytes_eq word (codes "since") then Some verb.Since else
+    if bytes_eq word (codes "start") then Some verb.Start else
+    if bytes_eq word (codes "end") then Some verb.End else
+    if bytes_eq word (codes "on-or-after") then Some verb.OnOrAfter else
+    if bytes_eq word (codes "on-or-before") then Some verb.OnOrBefore else
+    if bytes_eq word (codes "at") then Some verb.At else
+    None
+
+abbrev pub further_form_of : List ℕ → Option Form
+further_form_of word =
+    if bytes_eq word (codes "short-weekday") then Some form.ShortWeekday else
+    if bytes_eq word (codes "month") then Some form.Month else
+    if bytes_eq word (codes "quarter") then Some form.Quarter else
+    if bytes_eq word (codes "basic") then Some form.Basic else
+    if bytes_eq word (codes "unix-ms") then Some (form.Unix Milliseconds) else
+    if bytes_eq word (codes "unix-us") then Some (form.Unix Microseconds) else
+    if bytes_eq word (codes "unix-ns") then Some (form.Unix Nanoseconds) else
     None
 
 abbrev pub form_of : List ℕ → Option Form
@@ -63,7 +88,7 @@ form_of word =
     if bytes_eq word (codes "weekday") then Some form.Weekday else
     if bytes_eq word (codes "rfc3339") then Some (form.Moment Rfc3339) else
     if bytes_eq word (codes "unix") then Some (form.Moment Unix) else
-    None
+    further_form_of word
 
 -- a name in any case of its letters, or its first three letters so
 unfoldable pub spells : List ℕ → List ℕ → Bool
@@ -84,21 +109,31 @@ weekday_of word =
     if spells word (codes "Sunday") then Some weekday.Sunday else
     None
 
+abbrev pub period_of : List ℕ → Option Period
+period_of word =
+    if spells word (codes "week") then Some period.Week else
+    if spells word (codes "month") then Some period.Month else
+    if spells word (codes "quarter") then Some period.Quarter else
+    if spells word (codes "year") then Some period.Year else
+    None
+
+abbrev pub unit_of : List ℕ → Option TimeUnit
+unit_of word =
+    if spells_unit word (codes "day") (codes "days") then Some unit.Days else
+    if spells_unit word (codes "week") (codes "weeks") then Some unit.Weeks else
+    if spells_unit word (codes "month") (codes "months") then Some unit.Months else
+    if spells_unit word (codes "year") (codes "years") then Some unit.Years else
+    if spells_unit word (codes "workday") (codes "workdays") then Some unit.Workdays else
+    if spells_unit word (codes "hour") (codes "hours") then Some unit.Hours else
+    if spells_unit word (codes "minute") (codes "minutes") then Some unit.Minutes else
+    if spells_unit word (codes "second") (codes "seconds") then Some unit.Seconds else
+    None
+
 -- so many seconds as a duration, where they are one
 abbrev pub seconds_in : ℕ → ℤ → Option ℤ
 seconds_in unit amount =
     let seconds = amount *ℤ pos unit in
     if int_le (neg_ℤ (pos 9223372036854775808)) seconds && int_le seconds (pos 9223372036854775807) then Some (seconds *ℤ pos second) else None
-
--- the seconds of a unit
-abbrev pub unit_of : List ℕ → Option ℕ
-unit_of word =
-    if spells_unit word (codes "day") (codes "days") then Some 86400 else
-    if spells_unit word (codes "week") (codes "weeks") then Some 604800 else
-    if spells_unit word (codes "hour") (codes "hours") then Some 3600 else
-    if spells_unit word (codes "minute") (codes "minutes") then Some 60 else
-    if spells_unit word (codes "second") (codes "seconds") then Some 1 else
-    None
 
 -- ---- requests
 -- `to FORM`
@@ -107,11 +142,24 @@ to_request (form ∷ []) = option_map To (form_of form)
 to_request words = None
 
 -- `add N`, in days, and `add N UNIT`
-abbrev pub amount_in : List ℕ → ℕ → Option Request
-amount_in number unit = option_map Add (option_and_then (seconds_in unit) (number_of number))
+abbrev pub duration_in : List ℕ → ℕ → Option Request
+duration_in number unit = option_map Add (option_and_then (seconds_in unit) (number_of number))
+
+abbrev pub move_in : List ℕ → (ℤ → DayMove) → Option Request
+move_in number by = option_map (λ z. Move (by z)) (number_of number)
+
+abbrev pub amount_in : List ℕ → TimeUnit → Option Request
+amount_in number unit.Years = move_in number move.Years
+amount_in number unit.Months = move_in number move.Months
+amount_in number unit.Workdays = move_in number move.Workdays
+amount_in number unit.Weeks = duration_in number 604800
+amount_in number unit.Days = duration_in number 86400
+amount_in number unit.Hours = duration_in number 3600
+amount_in number unit.Minutes = duration_in number 60
+amount_in number unit.Seconds = duration_in number 1
 
 abbrev pub add_request : List (List ℕ) → Option Request
-add_request (number ∷ []) = amount_in number 86400
+add_request (number ∷ []) = amount_in number unit.Days
 add_request (number ∷ unit ∷ []) = option_and_then (amount_in number) (unit_of unit)
 add_request words = None
 
@@ -122,20 +170,47 @@ occurrence_of (name ∷ count ∷ []) = option_zip (weekday_of name) (count_of c
 occurrence_of words = None
 
 -- `next WEEKDAY` and `next WEEKDAY N`, and the same with `last`
-abbrev pub occurrence_request : (Weekday → ℕ → Request) → List (List ℕ) → Option Request
-occurrence_request request words = option_map (λ o. request o.0 o.1) (occurrence_of words)
+abbrev pub occurrence_request : (Weekday → ℕ → DayMove) → List (List ℕ) → Option Request
+occurrence_request by words = option_map (λ o. Move (by o.0 o.1)) (occurrence_of words)
 
--- `until TEXT`
-abbrev pub until_request : (List ℕ → Option DateOrMoment) → List (List ℕ) → Option Request
-until_request reading (text ∷ []) = option_map Until (reading text)
-until_request reading words = None
+-- `on-or-after WEEKDAY`, `on-or-before WEEKDAY`
+abbrev pub nearest_request : (Weekday → DayMove) → List (List ℕ) → Option Request
+nearest_request by (name ∷ []) = option_map (λ w. Move (by w)) (weekday_of name)
+nearest_request by words = None
+
+-- `start PERIOD`, `end PERIOD`
+abbrev pub edge_request : (Period → DayMove) → List (List ℕ) → Option Request
+edge_request by (name ∷ []) = option_map (λ p. Move (by p)) (period_of name)
+edge_request by words = None
+
+-- a date or a moment, and perhaps a unit
+abbrev pub target_of : (List ℕ → Option DateOrMoment) → List (List ℕ) → Option (DateOrMoment × Option TimeUnit)
+target_of reading (text ∷ []) = option_map (λ found. (found, None)) (reading text)
+target_of reading (text ∷ word ∷ unit ∷ []) =
+    if bytes_eq word (codes "in") then option_zip (reading text) (option_map Some (unit_of unit)) else None
+target_of reading words = None
+
+-- `until TEXT` and `until TEXT in UNIT`, and the same with `since`
+abbrev pub target_request : (DateOrMoment → Option TimeUnit → Request) → (List ℕ → Option DateOrMoment) → List (List ℕ) → Option Request
+target_request request reading words = option_map (λ t. request t.0 t.1) (target_of reading words)
+
+-- `at OFFSET`
+abbrev pub at_request : List (List ℕ) → Option Request
+at_request (word ∷ []) = option_map At (offset_of word)
+at_request words = None
 
 abbrev pub request_after : (List ℕ → Option DateOrMoment) → List (List ℕ) → Verb → Option Request
 request_after reading words verb.To = to_request words
 request_after reading words verb.Add = add_request words
-request_after reading words verb.Next = occurrence_request Next words
-request_after reading words verb.Last = occurrence_request Last words
-request_after reading words verb.Until = until_request reading words
+request_after reading words verb.Next = occurrence_request move.Next words
+request_after reading words verb.Last = occurrence_request move.Last words
+request_after reading words verb.Until = target_request Until reading words
+request_after reading words verb.Since = target_request Since reading words
+request_after reading words verb.Start = edge_request move.Start words
+request_after reading words verb.End = edge_request move.End words
+request_after reading words verb.OnOrAfter = nearest_request move.OnOrAfter words
+request_after reading words verb.OnOrBefore = nearest_request move.OnOrBefore words
+request_after reading words verb.At = at_request words
 
 abbrev pub request_of : (List ℕ → Option DateOrMoment) → List (List ℕ) → Option Request
 request_of reading [] = None

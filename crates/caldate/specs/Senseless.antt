@@ -3,11 +3,12 @@ use denote.Ref.{Bor}
 use Rattle.std.specs.Prelude.{ℕ, ◌+◌, Bool, true, false, List, [], ◌∷◌, ◌++◌, Option, Some, None, is_some, ok_or, Result, bytes_eq, codes, slice_get, if◌then◌else◌}
 use Rattle.std.specs.Option.{option_map_or}
 use Rattle.cal_text.specs.declared.any.DateOrMoment.{DateOrMoment}
-use Rattle.caldate.specs.Requests.{arguments_of, count_of, form_of, is_number, meaning_of, stands_alone, unit_of, verb_of, weekday_of}
+use Rattle.caldate.specs.Offsets.{offset_of}
+use Rattle.caldate.specs.Requests.{arguments_of, count_of, form_of, is_number, meaning_of, period_of, stands_alone, unit_of, verb_of, weekday_of}
 use Rattle.caldate.specs.Shown.{shown}
 use Rattle.caldate.specs.declared.request.Asked.{Asked}
 use Rattle.caldate.specs.declared.request.Verb.{Verb}
-use Rattle.caldate.specs.declared.request.Verb.TheVariants.{To, Add, Next, Last, Until}
+use Rattle.caldate.specs.declared.request.Verb.TheVariants.{To, Add, Next, Last, Until, Since, Start, End, OnOrAfter, OnOrBefore, At}
 use Rattle.caldate.specs.declared.senseless.Senseless.{Senseless}
 use Rattle.caldate.specs.declared.senseless.Wanted.{Wanted}
 use Rattle.caldate.specs.declared.senseless.Wanted.TheVariants as wanted
@@ -28,13 +29,25 @@ needed_by Add = wanted.Number
 needed_by Next = wanted.Weekday
 needed_by Last = wanted.Weekday
 needed_by Until = wanted.Target
+needed_by Since = wanted.Target
+needed_by Start = wanted.Period
+needed_by End = wanted.Period
+needed_by OnOrAfter = wanted.Weekday
+needed_by OnOrBefore = wanted.Weekday
+needed_by At = wanted.Offset
 
 abbrev pub further_to : Verb → Wanted
 further_to To = wanted.End
 further_to Add = wanted.UnitOfTime
 further_to Next = wanted.Count
 further_to Last = wanted.Count
-further_to Until = wanted.End
+further_to Until = wanted.In
+further_to Since = wanted.In
+further_to Start = wanted.End
+further_to End = wanted.End
+further_to OnOrAfter = wanted.End
+further_to OnOrBefore = wanted.End
+further_to At = wanted.End
 
 -- the word may stand where this is wanted
 abbrev pub is_wanted : (List ℕ → Option DateOrMoment) → List ℕ → Wanted → Bool
@@ -44,6 +57,9 @@ is_wanted reading word wanted.UnitOfTime = is_some (unit_of word)
 is_wanted reading word wanted.Weekday = is_some (weekday_of word)
 is_wanted reading word wanted.Count = is_some (count_of word)
 is_wanted reading word wanted.Target = is_some (reading word)
+is_wanted reading word wanted.Period = is_some (period_of word)
+is_wanted reading word wanted.Offset = is_some (offset_of word)
+is_wanted reading word wanted.In = bytes_eq word (codes "in")
 is_wanted reading word what = false
 
 -- ---- the first word that makes no sense, by its place among the arguments, counted from 0
@@ -52,10 +68,19 @@ abbrev pub senseless_end : ℕ → List (List ℕ) → Senseless
 senseless_end at [] = senseless_at at wanted.Amount
 senseless_end at (word ∷ words) = senseless_at (at + 2) wanted.End
 
+-- after the word in comes a unit
+abbrev pub senseless_unit : ℕ → List (List ℕ) → Senseless
+senseless_unit at [] = senseless_at at wanted.UnitOfTime
+senseless_unit at (word ∷ words) = if is_some (unit_of word) then senseless_at (at + 1) wanted.End else senseless_at at wanted.UnitOfTime
+
+abbrev pub senseless_last : ℕ → Wanted → List (List ℕ) → Senseless
+senseless_last at wanted.In words = senseless_unit (at + 2) words
+senseless_last at further words = senseless_end at words
+
 abbrev pub senseless_further : (List ℕ → Option DateOrMoment) → ℕ → Wanted → List (List ℕ) → Senseless
 senseless_further reading at further [] = senseless_end at []
 senseless_further reading at further (word ∷ words) =
-    if is_wanted reading word further then senseless_end at words else senseless_at (at + 1) further
+    if is_wanted reading word further then senseless_last at further words else senseless_at (at + 1) further
 
 -- after a verb, from this place on
 abbrev pub senseless_after : (List ℕ → Option DateOrMoment) → ℕ → List (List ℕ) → Verb → Senseless
@@ -84,15 +109,18 @@ asked_of reading words = ok_or (meaning_of reading words) (senseless_of reading 
 -- ---- the line that says so
 abbrev pub wanted_words : Wanted → List ℕ
 wanted_words wanted.Something = codes "nothing to do; caldate --help shows what can be asked"
-wanted_words wanted.Start = codes "no verb (to, add, next, last, until) and no option (--strict, --help, --version)"
-wanted_words wanted.Verb = codes "no verb (to, add, next, last, until)"
-wanted_words wanted.Form = codes "no form (calendar, ordinal, week, julian, weekday, rfc3339, unix)"
+wanted_words wanted.Start = codes "no verb (to, add, next, last, until, since, start, end, on-or-after, on-or-before, at) and no option (--strict, --help, --version)"
+wanted_words wanted.Verb = codes "no verb (to, add, next, last, until, since, start, end, on-or-after, on-or-before, at)"
+wanted_words wanted.Form = codes "no form (calendar, ordinal, week, julian, weekday, short-weekday, month, quarter, basic, rfc3339, unix, unix-ms, unix-us, unix-ns)"
 wanted_words wanted.Number = codes "no number (-9223372036854775808 .. 9223372036854775807)"
 wanted_words wanted.Amount = codes "too much (at most 9223372036854775807 seconds)"
-wanted_words wanted.UnitOfTime = codes "no unit (days, weeks, hours, minutes, seconds)"
+wanted_words wanted.UnitOfTime = codes "no unit (days, weeks, months, years, workdays, hours, minutes, seconds)"
 wanted_words wanted.Weekday = codes "no weekday (Monday .. Sunday)"
 wanted_words wanted.Count = codes "no count (1 .. 255)"
 wanted_words wanted.Target = codes "no date and no moment (as 2024-02-29, 2024-02-29T23:59:59Z)"
+wanted_words wanted.Period = codes "no period (week, month, quarter, year)"
+wanted_words wanted.Offset = codes "no offset (as +01:00, -05:30, Z)"
+wanted_words wanted.In = codes "one word too many"
 wanted_words wanted.End = codes "one word too many"
 
 abbrev pub is_something : Wanted → Bool

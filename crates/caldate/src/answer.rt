@@ -3,18 +3,23 @@ ghost use Rattle.std.specs.Prelude.{◌≡◌, ◌+◌, ◌≤◌, ◌++◌, ℕ
 ghost use Rattle.cal_datetime.specs.OffsetDateTime.{Shown};
 ghost use Rattle.cal_text.specs.AnyForm.{date_text};
 ghost use Rattle.cal_text.specs.Reading.{component_of};
-ghost use Rattle.caldate.specs.Answers.{HasAnswer, IsAnswerTo, IsDayLater, IsInForm, IsLater, IsMomentLater, LacksAnswer, refused_text, until_text, why_text, moment_of, form_read, on_day, is_date};
+ghost use Rattle.caldate.specs.Answers.{HasAnswer, IsAnswerTo, IsAt, IsBetween, IsDayLater, IsLater, IsMomentLater, IsMoved, LacksAnswer, refused_text, until_text, why_text, moment_of, form_read, on_day, is_date};
+ghost use Rattle.caldate.specs.Forms.{IsInForm};
 ghost use Rattle.caldate.specs.Room.{HasRoom, longest_answer};
 ghost use Rattle.caldate.specs.Runs.{AppendsThat};
 
+use crate::counts::count_between;
+use crate::forms::{basic_text, month_text, quarter_text, unix_text};
 use crate::gathered::Gathered;
-use crate::request::{Form, Request};
+use crate::moves::led_to;
+use crate::request::{DayMove, Form, Request, TimeUnit};
+use crate::signed::signed_text;
 use cal_datetime::OffsetDateTime;
 use cal_text::date::{CalendarText, OrdinalText, WeekText};
 use cal_text::julian_day::JulianText;
 use cal_text::{DateForm, DateOrMoment, MomentForm, Unreadable, read_any, rfc3339, unix};
 use cal_time::error::ComponentRange;
-use cal_time::{Date, ShortText, SignedDuration, Time};
+use cal_time::{Date, ShortText, SignedDuration, Time, UtcOffset};
 
 /// The most bytes that the text of a line may have.
 const LONGEST_TEXT: usize = 4096;
@@ -82,24 +87,10 @@ fn push_answer_to(gathered: &mut Gathered, request: &Request, found: &DateOrMome
             Some(later) => push_in_form(gathered, form, later),
             None => push_none(gathered),
         },
-        Request::Next(weekday, count) => match moment
-            .date()
-            .checked_nth_next_occurrence(*weekday, *count)
-        {
-            Some(day) => push_in_form(gathered, form, on_day(moment, day)),
-            None => push_none(gathered),
-        },
-        Request::Last(weekday, count) => match moment
-            .date()
-            .checked_nth_prev_occurrence(*weekday, *count)
-        {
-            Some(day) => push_in_form(gathered, form, on_day(moment, day)),
-            None => push_none(gathered),
-        },
-        Request::Until(target) => {
-            push_until(gathered, found, target);
-            true
-        }
+        Request::Move(by) => push_moved(gathered, *by, found),
+        Request::Until(target, unit) => push_between(gathered, *unit, found, target),
+        Request::Since(target, unit) => push_between(gathered, *unit, target, found),
+        Request::At(offset) => push_at(gathered, *offset, moment),
     }
 }
 
@@ -158,6 +149,14 @@ fn push_in_form(gathered: &mut Gathered, form: Form, moment: OffsetDateTime) -> 
             },
             MomentForm::Unix => gathered.push(unix::Text::new(moment).text().as_bytes()),
         },
+        Form::ShortWeekday => gathered.push(&moment.date().weekday().name().as_bytes()[..3]),
+        Form::Month => gathered.push(month_text(moment.date()).as_bytes()),
+        Form::Quarter => gathered.push(quarter_text(moment.date()).as_bytes()),
+        Form::Basic => match basic_text(moment.date()) {
+            Some(text) => gathered.push(text.as_bytes()),
+            None => return push_none(gathered),
+        },
+        Form::Unix(unit) => gathered.push(unix_text(unit, moment).as_bytes()),
     }
     true
 }
@@ -200,6 +199,59 @@ fn moment_later(moment: OffsetDateTime, duration: SignedDuration) -> Option<Offs
     ensures { MatchOption result ((m : Shown) → ¬ IsMomentLater moment duration m) (IsMomentLater moment duration) }
 {
     moment.checked_add(duration)
+}
+
+/// Gathers the day that a move leads to, at the same time of day, and returns whether there is one.
+fn push_moved(gathered: &mut Gathered, by: DayMove, found: &DateOrMoment) -> bool
+    requires { HasRoom longest_answer gathered.old }
+    ensures has { result ≡ true → AppendsThat (IsMoved by found.now) gathered.old gathered.new }
+    ensures none { result ≡ false → (gathered.new ≡ gathered.old ++ codes "none") × ((words : List ℕ) → ¬ IsMoved by found.now words) }
+    ensures short { length gathered.new ≤ length gathered.old + longest_answer }
+{
+    let moment = moment_of(found);
+    let form = form_read(found);
+    match led_to(moment.date(), by) {
+        Some(day) => push_in_form(gathered, form, on_day(moment, day)),
+        None => push_none(gathered),
+    }
+}
+
+/// Gathers the moment as a clock at this offset shows it, and returns whether it has a text.
+fn push_at(gathered: &mut Gathered, offset: UtcOffset, moment: OffsetDateTime) -> bool
+    requires { HasRoom longest_answer gathered.old }
+    ensures has { result ≡ true → AppendsThat (IsAt offset moment) gathered.old gathered.new }
+    ensures none { result ≡ false → (gathered.new ≡ gathered.old ++ codes "none") × ((words : List ℕ) → ¬ IsAt offset moment words) }
+    ensures short { length gathered.new ≤ length gathered.old + longest_answer }
+{
+    match moment.checked_to_offset(offset) {
+        Some(shown) => push_in_form(gathered, Form::Moment(MomentForm::Rfc3339), shown),
+        None => push_none(gathered),
+    }
+}
+
+/// Gathers what is between, in whole units where one is named, and returns whether it is known.
+fn push_between(
+    gathered: &mut Gathered,
+    unit: Option<TimeUnit>,
+    from: &DateOrMoment,
+    to: &DateOrMoment,
+) -> bool
+    requires { HasRoom longest_answer gathered.old }
+    ensures has { result ≡ true → AppendsThat (IsBetween unit from.now to.now) gathered.old gathered.new }
+    ensures none { result ≡ false → (gathered.new ≡ gathered.old ++ codes "none") × ((words : List ℕ) → ¬ IsBetween unit from.now to.now words) }
+    ensures short { length gathered.new ≤ length gathered.old + longest_answer }
+{
+    let Some(unit) = unit else {
+        push_until(gathered, from, to);
+        return true;
+    };
+    match count_between(unit, moment_of(from), moment_of(to)) {
+        Some(count) => {
+            gathered.push(signed_text(i128::from(count)).as_bytes());
+            true
+        }
+        None => push_none(gathered),
+    }
 }
 
 /// Gathers the days between two dates, else the duration between two moments.

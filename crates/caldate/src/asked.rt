@@ -1,17 +1,19 @@
 //! What the arguments ask for.
 ghost use Rattle.std.specs.Prelude.{◌≡◌, ℕ, List, [], ◌∷◌, Option};
 ghost use Rattle.cal_text.specs.declared.any.DateOrMoment.{DateOrMoment};
-ghost use Rattle.caldate.specs.Requests.{IsReading, arguments_of, meaning_of, filter_of, request_of, to_request, add_request, amount_in, occurrence_of, occurrence_request, until_request};
+ghost use Rattle.caldate.specs.Requests.{IsReading, arguments_of, meaning_of, filter_of, request_of, to_request, add_request, amount_in, duration_in, occurrence_of, occurrence_request, nearest_request, edge_request, target_of, target_request, at_request};
 ghost use Rattle.caldate.specs.Senseless.{asked_of};
-ghost use Rattle.caldate.specs.declared.request.Request.TheVariants.{Next, Last};
+ghost use Rattle.caldate.specs.declared.request.DayMove.TheVariants.{Next, Last, OnOrAfter, OnOrBefore, Start, End};
+ghost use Rattle.caldate.specs.declared.request.Request.TheVariants.{Until, Since};
 
-use crate::request::{Asked, Filter, Request, Verb};
+use crate::offset::offset_of;
+use crate::request::{Asked, DayMove, Filter, Request, TimeUnit, Verb};
 use crate::senseless::{Senseless, senseless_of};
 use crate::spelling::{
-    SECONDS_PER_DAY, asks_for_help, count_of, first_word, form_of, number_of, only_word, unit_of,
+    asks_for_help, count_of, first_word, form_of, number_of, only_word, period_of, unit_of,
     verb_of, weekday_of,
 };
-use cal_text::read_any;
+use cal_text::{DateOrMoment, read_any};
 use cal_time::{SignedDuration, Weekday};
 
 /// What the arguments ask for, or the first word that makes no sense. Between them stands a zero byte.
@@ -73,6 +75,12 @@ fn request_of(words: &[u8]) -> Option<Request>
         Verb::Next => next_request(rest),
         Verb::Last => last_request(rest),
         Verb::Until => until_request(rest),
+        Verb::Since => since_request(rest),
+        Verb::Start => start_request(rest),
+        Verb::End => end_request(rest),
+        Verb::OnOrAfter => on_or_after_request(rest),
+        Verb::OnOrBefore => on_or_before_request(rest),
+        Verb::At => at_request(rest),
     }
 }
 
@@ -86,14 +94,30 @@ fn add_request(words: &[u8]) -> Option<Request>
     ensures { result ≡ add_request (arguments_of words.now) }
 {
     let Some((number, unit)) = first_word(words) else {
-        return amount_in(words, SECONDS_PER_DAY);
+        return amount_in(words, TimeUnit::Days);
     };
     amount_in(number, unit_of(only_word(unit)?)?)
 }
 
-/// That many units later, each of so many seconds.
-fn amount_in(number: &[u8], unit: u32) -> Option<Request>
+/// That many units later.
+fn amount_in(number: &[u8], unit: TimeUnit) -> Option<Request>
     ensures { result ≡ amount_in number.now unit }
+{
+    match unit {
+        TimeUnit::Years => Some(Request::Move(DayMove::Years(number_of(number)?))),
+        TimeUnit::Months => Some(Request::Move(DayMove::Months(number_of(number)?))),
+        TimeUnit::Workdays => Some(Request::Move(DayMove::Workdays(number_of(number)?))),
+        TimeUnit::Weeks => duration_in(number, 604_800),
+        TimeUnit::Days => duration_in(number, 86_400),
+        TimeUnit::Hours => duration_in(number, 3_600),
+        TimeUnit::Minutes => duration_in(number, 60),
+        TimeUnit::Seconds => duration_in(number, 1),
+    }
+}
+
+/// That many units later, each of so many seconds.
+fn duration_in(number: &[u8], unit: u32) -> Option<Request>
+    ensures { result ≡ duration_in number.now unit }
 {
     let seconds = number_of(number)?.checked_mul(i64::from(unit))?;
     Some(Request::Add(SignedDuration::seconds(seconds)))
@@ -103,14 +127,14 @@ fn next_request(words: &[u8]) -> Option<Request>
     ensures { result ≡ occurrence_request Next (arguments_of words.now) }
 {
     let (weekday, count) = occurrence_of(words)?;
-    Some(Request::Next(weekday, count))
+    Some(Request::Move(DayMove::Next(weekday, count)))
 }
 
 fn last_request(words: &[u8]) -> Option<Request>
     ensures { result ≡ occurrence_request Last (arguments_of words.now) }
 {
     let (weekday, count) = occurrence_of(words)?;
-    Some(Request::Last(weekday, count))
+    Some(Request::Move(DayMove::Last(weekday, count)))
 }
 
 /// A weekday, and how often it comes, which is once where nothing is said.
@@ -123,11 +147,70 @@ fn occurrence_of(words: &[u8]) -> Option<(Weekday, u8)>
     Some((weekday_of(weekday)?, count_of(only_word(count)?)?))
 }
 
-fn until_request(words: &[u8]) -> Option<Request>
-    ensures { (reading : List ℕ → Option DateOrMoment) → IsReading reading → result ≡ until_request reading (arguments_of words.now) }
+fn on_or_after_request(words: &[u8]) -> Option<Request>
+    ensures { result ≡ nearest_request OnOrAfter (arguments_of words.now) }
 {
-    match read_any(only_word(words)?) {
-        Ok(target) => Some(Request::Until(target)),
+    Some(Request::Move(DayMove::OnOrAfter(weekday_of(only_word(words)?)?)))
+}
+
+fn on_or_before_request(words: &[u8]) -> Option<Request>
+    ensures { result ≡ nearest_request OnOrBefore (arguments_of words.now) }
+{
+    Some(Request::Move(DayMove::OnOrBefore(weekday_of(only_word(words)?)?)))
+}
+
+fn start_request(words: &[u8]) -> Option<Request>
+    ensures { result ≡ edge_request Start (arguments_of words.now) }
+{
+    Some(Request::Move(DayMove::Start(period_of(only_word(words)?)?)))
+}
+
+fn end_request(words: &[u8]) -> Option<Request>
+    ensures { result ≡ edge_request End (arguments_of words.now) }
+{
+    Some(Request::Move(DayMove::End(period_of(only_word(words)?)?)))
+}
+
+fn until_request(words: &[u8]) -> Option<Request>
+    ensures { (reading : List ℕ → Option DateOrMoment) → IsReading reading → result ≡ target_request Until reading (arguments_of words.now) }
+{
+    let (target, unit) = target_of(words)?;
+    Some(Request::Until(target, unit))
+}
+
+fn since_request(words: &[u8]) -> Option<Request>
+    ensures { (reading : List ℕ → Option DateOrMoment) → IsReading reading → result ≡ target_request Since reading (arguments_of words.now) }
+{
+    let (target, unit) = target_of(words)?;
+    Some(Request::Since(target, unit))
+}
+
+/// A date or a moment, and perhaps a unit.
+fn target_of(words: &[u8]) -> Option<(DateOrMoment, Option<TimeUnit>)>
+    ensures { (reading : List ℕ → Option DateOrMoment) → IsReading reading → result ≡ target_of reading (arguments_of words.now) }
+{
+    let Some((text, rest)) = first_word(words) else {
+        return Some((found_in(words)?, None));
+    };
+    let (word, unit) = first_word(rest)?;
+    if word != b"in".as_slice() {
+        return None;
+    }
+    Some((found_in(text)?, Some(unit_of(only_word(unit)?)?)))
+}
+
+/// The date or the moment of a text, if it is one.
+fn found_in(text: &[u8]) -> Option<DateOrMoment>
+    ensures { (reading : List ℕ → Option DateOrMoment) → IsReading reading → result ≡ reading text.now }
+{
+    match read_any(text) {
+        Ok(found) => Some(found),
         Err(_) => None,
     }
+}
+
+fn at_request(words: &[u8]) -> Option<Request>
+    ensures { result ≡ at_request (arguments_of words.now) }
+{
+    Some(Request::At(offset_of(only_word(words)?)?))
 }

@@ -60,25 +60,31 @@ fn push_word(line: &mut Gathered, word: Option<&[u8]>)
 /// What may stand at the place.
 fn wanted_words(wanted: Wanted) -> &'static [u8]
     ensures words { result.now ≡ wanted_words wanted }
-    ensures short { length result.now ≤ 90 }
+    ensures short { length result.now ≤ 160 }
 {
     match wanted {
         Wanted::Something => b"nothing to do; caldate --help shows what can be asked".as_slice(),
         Wanted::Start => {
-            b"no verb (to, add, next, last, until) and no option (--strict, --help, --version)".as_slice()
+            b"no verb (to, add, next, last, until, since, start, end, on-or-after, on-or-before, at) and no option (--strict, --help, --version)".as_slice()
         }
-        Wanted::Verb => b"no verb (to, add, next, last, until)".as_slice(),
+        Wanted::Verb => {
+            b"no verb (to, add, next, last, until, since, start, end, on-or-after, on-or-before, at)".as_slice()
+        }
         Wanted::Form => {
-            b"no form (calendar, ordinal, week, julian, weekday, rfc3339, unix)".as_slice()
+            b"no form (calendar, ordinal, week, julian, weekday, short-weekday, month, quarter, basic, rfc3339, unix, unix-ms, unix-us, unix-ns)".as_slice()
         }
         Wanted::Number => b"no number (-9223372036854775808 .. 9223372036854775807)".as_slice(),
         Wanted::Amount => b"too much (at most 9223372036854775807 seconds)".as_slice(),
-        Wanted::UnitOfTime => b"no unit (days, weeks, hours, minutes, seconds)".as_slice(),
+        Wanted::UnitOfTime => {
+            b"no unit (days, weeks, months, years, workdays, hours, minutes, seconds)".as_slice()
+        }
         Wanted::Weekday => b"no weekday (Monday .. Sunday)".as_slice(),
         Wanted::Count => b"no count (1 .. 255)".as_slice(),
         Wanted::Target => {
             b"no date and no moment (as 2024-02-29, 2024-02-29T23:59:59Z)".as_slice()
         }
-        Wanted::End => b"one word too many".as_slice(),
+        Wanted::Period => b"no period (week, month, quarter, year)".as_slice(),
+        Wanted::Offset => b"no offset (as +01:00, -05:30, Z)".as_slice(),
+        Wanted::In | Wanted::End => b"one word too many".as_slice(),
     }
 }

@@ -6,11 +6,18 @@ pub const VERSION: &[u8] = b"caldate 0.1.0\n";
 /// The page of examples.
 pub const HELP: &[u8] = b"caldate answers each line of its input, a date or a moment, with one line.
 
-  caldate to FORM                 the same as calendar, ordinal, week, julian, weekday, rfc3339 or unix
-  caldate add N [UNIT]            so many days, weeks, hours, minutes or seconds later
+  caldate to FORM                 the same as calendar, ordinal, week, julian, weekday, short-weekday, month, quarter, basic,
+                                  rfc3339, unix, unix-ms, unix-us or unix-ns
+  caldate add N [UNIT]            so many days, weeks, months, years, workdays, hours, minutes or seconds later
   caldate next WEEKDAY [N]        the N-th such day after it
   caldate last WEEKDAY [N]        the N-th such day before it
-  caldate until DATE              the days to that date, or the duration to that moment
+  caldate on-or-after WEEKDAY     the first such day from it on
+  caldate on-or-before WEEKDAY    the last such day up to it
+  caldate start PERIOD            the first day of its week, month, quarter or year
+  caldate end PERIOD              the last day of it
+  caldate until DATE [in UNIT]    the days to that date, the duration to that moment, or the whole units
+  caldate since DATE [in UNIT]    the same from there to it
+  caldate at OFFSET               the moment as a clock at that offset shows it
   caldate --strict ...            the same, but it ends at the first line without an answer, with status 1
   caldate --help, -h, help        this page
   caldate --version               the version
@@ -22,7 +29,14 @@ A line is a date, as 2024-02-29, 2024-060, 2024-W09-4 or J2460370, or a moment, 
   echo 2024-W09-4 | caldate to weekday                     Thursday
   echo 2024-01-31 | caldate add 30                         2024-03-01
   echo 2024-02-29T23:30:00Z | caldate add 45 minutes       2024-03-01T00:15:00Z
+  echo 2024-01-31 | caldate add 1 month                    2024-02-29
+  echo 2024-03-01 | caldate add 3 workdays                 2024-03-06
   echo 2024-02-29 | caldate next Friday 2                  2024-03-08
+  echo 2024-03-01 | caldate on-or-after Monday             2024-03-04
+  echo 2024-02-29 | caldate end quarter                    2024-03-31
   echo 2000-01-01 | caldate until 2024-02-29               8825
+  echo 1980-06-01 | caldate until 2024-02-29 in years      43
+  echo 2024-02-29T23:30:00+01:00 | caldate at Z            2024-02-29T22:30:00Z
+  echo 2024-02-29 | caldate to unix-ms                     1709164800000
   echo 2023-02-29 | caldate to ordinal                     refused day conditional
 ";

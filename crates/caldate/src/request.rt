@@ -1,6 +1,6 @@
 //! What is asked of the lines.
 use cal_text::{DateForm, DateOrMoment, MomentForm};
-use cal_time::{SignedDuration, Weekday};
+use cal_time::{SignedDuration, UtcOffset, Weekday};
 
 /// A form in which a date or a moment is written.
 #[derive(Clone, Copy)]
@@ -11,6 +11,48 @@ pub enum Form {
     Weekday,
     /// As `2024-02-29T00:00:00Z` or `@1709164800`.
     Moment(MomentForm),
+    /// As `Thu`.
+    ShortWeekday,
+    /// As `2024-02`.
+    Month,
+    /// As `2024-Q1`.
+    Quarter,
+    /// As `20240229`.
+    Basic,
+    /// As `1709164800000`, which counts milliseconds.
+    Unix(UnixUnit),
+}
+
+/// What a Unix time counts where it is a whole number.
+#[derive(Clone, Copy)]
+pub enum UnixUnit {
+    Milliseconds,
+    Microseconds,
+    Nanoseconds,
+}
+
+/// A unit of time.
+#[derive(Clone, Copy)]
+pub enum TimeUnit {
+    Years,
+    Months,
+    Weeks,
+    Days,
+    /// Monday to Friday.
+    Workdays,
+    Hours,
+    Minutes,
+    Seconds,
+}
+
+/// A period with a first and a last day.
+#[derive(Clone, Copy)]
+pub enum Period {
+    /// From Monday to Sunday.
+    Week,
+    Month,
+    Quarter,
+    Year,
 }
 
 /// What is done to each line.
@@ -24,8 +66,43 @@ pub enum Verb {
     Next,
     /// `last WEEKDAY`, `last WEEKDAY N`.
     Last,
-    /// `until TEXT`.
+    /// `until TEXT`, `until TEXT in UNIT`.
     Until,
+    /// `since TEXT`, `since TEXT in UNIT`.
+    Since,
+    /// `start PERIOD`.
+    Start,
+    /// `end PERIOD`.
+    End,
+    /// `on-or-after WEEKDAY`.
+    OnOrAfter,
+    /// `on-or-before WEEKDAY`.
+    OnOrBefore,
+    /// `at OFFSET`.
+    At,
+}
+
+/// What leads from a day to another.
+#[derive(Clone, Copy)]
+pub enum DayMove {
+    /// `next WEEKDAY N`: the day that is the N-th with the weekday after it.
+    Next(Weekday, u8),
+    /// `last WEEKDAY N`: the day that is the N-th with the weekday before it.
+    Last(Weekday, u8),
+    /// `on-or-after WEEKDAY`: the first day from it on with the weekday.
+    OnOrAfter(Weekday),
+    /// `on-or-before WEEKDAY`: the last day up to it with the weekday.
+    OnOrBefore(Weekday),
+    /// `add N months`: the same day so many months later, or the last day of that month.
+    Months(i64),
+    /// `add N years`: the same day so many years later, or 28 February.
+    Years(i64),
+    /// `add N workdays`: the N-th day from Monday to Friday after it.
+    Workdays(i64),
+    /// `start PERIOD`: the first day of its period.
+    Start(Period),
+    /// `end PERIOD`: the last day of its period.
+    End(Period),
 }
 
 /// What each line is answered.
@@ -35,12 +112,14 @@ pub enum Request {
     To(Form),
     /// `add N UNIT`: the date or the moment that much later.
     Add(SignedDuration),
-    /// `next WEEKDAY N`: the day that is the N-th with the weekday after it.
-    Next(Weekday, u8),
-    /// `last WEEKDAY N`: the day that is the N-th with the weekday before it.
-    Last(Weekday, u8),
-    /// `until TEXT`: the days to this date, or the duration to this moment.
-    Until(DateOrMoment),
+    /// The day that is led to, at the same time of day.
+    Move(DayMove),
+    /// `until TEXT`: the days to this date, or the duration to this moment; `until TEXT in UNIT`: the whole units.
+    Until(DateOrMoment, Option<TimeUnit>),
+    /// `since TEXT`, `since TEXT in UNIT`: the same the other way round.
+    Since(DateOrMoment, Option<TimeUnit>),
+    /// `at OFFSET`: the moment as a clock at this offset shows it.
+    At(UtcOffset),
 }
 
 /// A request, and whether the run ends at the first line without an answer.

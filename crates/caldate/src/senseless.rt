@@ -2,11 +2,13 @@
 ghost use Rattle.std.specs.Prelude.{◌≡◌, ◌≤◌, ℕ, List, [], ◌∷◌, Option, MatchOption, slice_get};
 ghost use Rattle.cal_text.specs.declared.any.DateOrMoment.{DateOrMoment};
 ghost use Rattle.caldate.specs.Requests.{IsReading, arguments_of, stands_alone};
-ghost use Rattle.caldate.specs.Senseless.{further_to, is_wanted, needed_by, senseless_after, senseless_at, senseless_further, senseless_of, senseless_request, words_left};
+ghost use Rattle.caldate.specs.Senseless.{further_to, is_wanted, needed_by, senseless_after, senseless_at, senseless_end, senseless_further, senseless_last, senseless_of, senseless_request, senseless_unit, words_left};
 
+use crate::offset::offset_of;
 use crate::request::Verb;
 use crate::spelling::{
-    asks_for_help, count_of, first_word, form_of, number_of, unit_of, verb_of, weekday_of,
+    asks_for_help, count_of, first_word, form_of, number_of, period_of, unit_of, verb_of,
+    weekday_of,
 };
 use cal_text::read_any;
 
@@ -17,7 +19,7 @@ pub enum Wanted {
     Something,
     /// A verb, or an option, as `--strict`.
     Start,
-    /// `to`, `add`, `next`, `last` or `until`.
+    /// A verb.
     Verb,
     /// A form, as `week`.
     Form,
@@ -33,6 +35,12 @@ pub enum Wanted {
     Count,
     /// A date or a moment.
     Target,
+    /// A period, as `month`.
+    Period,
+    /// An offset from UTC, as `+01:00`.
+    Offset,
+    /// `in`, or no word.
+    In,
     /// No word.
     End,
 }
@@ -108,7 +116,6 @@ fn senseless_after(place: usize, words: Option<&[u8]>, verb: Verb) -> Senseless
 }
 
 /// After the word that the verb needs, which has this place.
-#[tactic(auto, using(crate::proofs::Words::one_too_many))]
 fn senseless_further(place: usize, further: Wanted, words: Option<&[u8]>) -> Senseless
     requires { place ≤ 2 }
     ensures { (reading : List ℕ → Option DateOrMoment) → IsReading reading → result ≡ senseless_further reading place further (words_left words.entry) }
@@ -117,12 +124,49 @@ fn senseless_further(place: usize, further: Wanted, words: Option<&[u8]>) -> Sen
         return senseless_at(place, Wanted::Amount);
     };
     let (word, rest) = cut(words);
-    if !is_wanted(word, further) {
-        return senseless_at(place + 1, further);
+    if is_wanted(word, further) {
+        senseless_last(place, further, rest)
+    } else {
+        senseless_at(place + 1, further)
     }
-    match rest {
+}
+
+/// After the word that may come after it.
+fn senseless_last(place: usize, further: Wanted, words: Option<&[u8]>) -> Senseless
+    requires { place ≤ 2 }
+    ensures { result ≡ senseless_last place further (words_left words.entry) }
+{
+    match further {
+        Wanted::In => senseless_unit(place + 2, words),
+        _ => senseless_end(place, words),
+    }
+}
+
+/// Where no word may come: one is too many, or the number is too large for its unit.
+#[tactic(auto, using(crate::proofs::Words::one_too_many))]
+fn senseless_end(place: usize, words: Option<&[u8]>) -> Senseless
+    requires { place ≤ 2 }
+    ensures { result ≡ senseless_end place (words_left words.entry) }
+{
+    match words {
         Some(_) => senseless_at(place + 2, Wanted::End),
         None => senseless_at(place, Wanted::Amount),
+    }
+}
+
+/// After `in`, where a unit has this place.
+fn senseless_unit(place: usize, words: Option<&[u8]>) -> Senseless
+    requires { place ≤ 4 }
+    ensures { result ≡ senseless_unit place (words_left words.entry) }
+{
+    let Some(words) = words else {
+        return senseless_at(place, Wanted::UnitOfTime);
+    };
+    let (word, _) = cut(words);
+    if unit_of(word).is_some() {
+        senseless_at(place + 1, Wanted::End)
+    } else {
+        senseless_at(place, Wanted::UnitOfTime)
     }
 }
 
@@ -139,8 +183,10 @@ fn needed_by(verb: Verb) -> Wanted
     match verb {
         Verb::To => Wanted::Form,
         Verb::Add => Wanted::Number,
-        Verb::Next | Verb::Last => Wanted::Weekday,
-        Verb::Until => Wanted::Target,
+        Verb::Next | Verb::Last | Verb::OnOrAfter | Verb::OnOrBefore => Wanted::Weekday,
+        Verb::Until | Verb::Since => Wanted::Target,
+        Verb::Start | Verb::End => Wanted::Period,
+        Verb::At => Wanted::Offset,
     }
 }
 
@@ -151,7 +197,9 @@ fn further_to(verb: Verb) -> Wanted
     match verb {
         Verb::Add => Wanted::UnitOfTime,
         Verb::Next | Verb::Last => Wanted::Count,
-        Verb::To | Verb::Until => Wanted::End,
+        Verb::Until | Verb::Since => Wanted::In,
+        Verb::To | Verb::Start | Verb::End | Verb::OnOrAfter | Verb::OnOrBefore | Verb::At =>
+            Wanted::End,
     }
 }
 
@@ -166,6 +214,9 @@ fn is_wanted(word: &[u8], wanted: Wanted) -> bool
         Wanted::Weekday => weekday_of(word).is_some(),
         Wanted::Count => count_of(word).is_some(),
         Wanted::Target => read_any(word).is_ok(),
+        Wanted::Period => period_of(word).is_some(),
+        Wanted::Offset => offset_of(word).is_some(),
+        Wanted::In => word == b"in".as_slice(),
         _ => false,
     }
 }

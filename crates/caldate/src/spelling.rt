@@ -1,16 +1,13 @@
 //! What single words of the arguments spell, and how the arguments are cut into words.
 ghost use Rattle.std.specs.Prelude.{◌≡◌, ◌≤◌, ℕ, List, [], ◌∷◌, length, MatchOption};
 ghost use Rattle.std.specs.Str.{str_eq_ignore_ascii_case};
-ghost use Rattle.caldate.specs.Requests.{arguments_of, asks_for_help, verb_of, number_of, count_of, form_of, weekday_of, unit_of, spells, spells_unit};
+ghost use Rattle.caldate.specs.Requests.{arguments_of, asks_for_help, verb_of, number_of, count_of, form_of, further_form_of, weekday_of, period_of, unit_of, spells, spells_unit};
 
 use crate::lines::place_of;
-use crate::request::{Form, Verb};
+use crate::request::{Form, Period, TimeUnit, UnixUnit, Verb};
 use cal_text::{DateForm, MomentForm};
 use cal_time::Weekday;
 use std::str;
-
-/// The seconds of the unit that is meant where none is named.
-pub const SECONDS_PER_DAY: u32 = 86_400;
 
 /// The verb that a word is.
 pub fn verb_of(word: &[u8]) -> Option<Verb>
@@ -26,6 +23,18 @@ pub fn verb_of(word: &[u8]) -> Option<Verb>
         Some(Verb::Last)
     } else if word == b"until".as_slice() {
         Some(Verb::Until)
+    } else if word == b"since".as_slice() {
+        Some(Verb::Since)
+    } else if word == b"start".as_slice() {
+        Some(Verb::Start)
+    } else if word == b"end".as_slice() {
+        Some(Verb::End)
+    } else if word == b"on-or-after".as_slice() {
+        Some(Verb::OnOrAfter)
+    } else if word == b"on-or-before".as_slice() {
+        Some(Verb::OnOrBefore)
+    } else if word == b"at".as_slice() {
+        Some(Verb::At)
     } else {
         None
     }
@@ -78,6 +87,29 @@ pub fn form_of(word: &[u8]) -> Option<Form>
     } else if word == b"unix".as_slice() {
         Some(Form::Moment(MomentForm::Unix))
     } else {
+        further_form_of(word)
+    }
+}
+
+/// The form that a word names, of those that no line is read in.
+fn further_form_of(word: &[u8]) -> Option<Form>
+    ensures { result ≡ further_form_of word.now }
+{
+    if word == b"short-weekday".as_slice() {
+        Some(Form::ShortWeekday)
+    } else if word == b"month".as_slice() {
+        Some(Form::Month)
+    } else if word == b"quarter".as_slice() {
+        Some(Form::Quarter)
+    } else if word == b"basic".as_slice() {
+        Some(Form::Basic)
+    } else if word == b"unix-ms".as_slice() {
+        Some(Form::Unix(UnixUnit::Milliseconds))
+    } else if word == b"unix-us".as_slice() {
+        Some(Form::Unix(UnixUnit::Microseconds))
+    } else if word == b"unix-ns".as_slice() {
+        Some(Form::Unix(UnixUnit::Nanoseconds))
+    } else {
         None
     }
 }
@@ -105,20 +137,43 @@ pub fn weekday_of(word: &[u8]) -> Option<Weekday>
     }
 }
 
-/// The seconds of the unit of time that a word spells: `day`, `Days` and `DAY` are one.
-pub fn unit_of(word: &[u8]) -> Option<u32>
+/// The period that a word spells: `month`, `MONTH` and `mon` are one.
+pub fn period_of(word: &[u8]) -> Option<Period>
+    ensures { result ≡ period_of word.now }
+{
+    if spells(word, b"week") {
+        Some(Period::Week)
+    } else if spells(word, b"month") {
+        Some(Period::Month)
+    } else if spells(word, b"quarter") {
+        Some(Period::Quarter)
+    } else if spells(word, b"year") {
+        Some(Period::Year)
+    } else {
+        None
+    }
+}
+
+/// The unit of time that a word spells: `day`, `Days` and `DAY` are one.
+pub fn unit_of(word: &[u8]) -> Option<TimeUnit>
     ensures { result ≡ unit_of word.now }
 {
     if spells_unit(word, b"day", b"days") {
-        Some(SECONDS_PER_DAY)
+        Some(TimeUnit::Days)
     } else if spells_unit(word, b"week", b"weeks") {
-        Some(604_800)
+        Some(TimeUnit::Weeks)
+    } else if spells_unit(word, b"month", b"months") {
+        Some(TimeUnit::Months)
+    } else if spells_unit(word, b"year", b"years") {
+        Some(TimeUnit::Years)
+    } else if spells_unit(word, b"workday", b"workdays") {
+        Some(TimeUnit::Workdays)
     } else if spells_unit(word, b"hour", b"hours") {
-        Some(3_600)
+        Some(TimeUnit::Hours)
     } else if spells_unit(word, b"minute", b"minutes") {
-        Some(60)
+        Some(TimeUnit::Minutes)
     } else if spells_unit(word, b"second", b"seconds") {
-        Some(1)
+        Some(TimeUnit::Seconds)
     } else {
         None
     }

@@ -113,49 +113,49 @@ fn complaint(alloc: Global, arguments: Option<&[u8]>) -> Option<Vec<u8>> {
 
 #[test]
 fn arguments_that_make_no_sense(rt: HostRuntime) {
-    let cases: [(&[u8], &[u8]); 40] = [
+    let cases: [(&[u8], &[u8]); 55] = [
         (
             b"",
             b"nothing to do; caldate --help shows what can be asked",
         ),
         (
             b"\0to\0week",
-            b"'' is no verb (to, add, next, last, until) and no option (--strict, --help, --version)",
+            b"'' is no verb (to, add, next, last, until, since, start, end, on-or-after, on-or-before, at) and no option (--strict, --help, --version)",
         ),
         (
             b"week",
-            b"'week' is no verb (to, add, next, last, until) and no option (--strict, --help, --version)",
+            b"'week' is no verb (to, add, next, last, until, since, start, end, on-or-after, on-or-before, at) and no option (--strict, --help, --version)",
         ),
         (
             b"To\0week",
-            b"'To' is no verb (to, add, next, last, until) and no option (--strict, --help, --version)",
+            b"'To' is no verb (to, add, next, last, until, since, start, end, on-or-after, on-or-before, at) and no option (--strict, --help, --version)",
         ),
         (
             b"--strict",
-            b"there is no verb (to, add, next, last, until)",
+            b"there is no verb (to, add, next, last, until, since, start, end, on-or-after, on-or-before, at)",
         ),
         (
             b"--strict\0--help",
-            b"'--help' is no verb (to, add, next, last, until)",
+            b"'--help' is no verb (to, add, next, last, until, since, start, end, on-or-after, on-or-before, at)",
         ),
         (
             b"--strict\0--strict\0to\0week",
-            b"'--strict' is no verb (to, add, next, last, until)",
+            b"'--strict' is no verb (to, add, next, last, until, since, start, end, on-or-after, on-or-before, at)",
         ),
         (b"--help\0to", b"'to' is one word too many"),
         (b"help\0\0", b"'' is one word too many"),
         (b"--version\0-h", b"'-h' is one word too many"),
         (
             b"to",
-            b"there is no form (calendar, ordinal, week, julian, weekday, rfc3339, unix)",
+            b"there is no form (calendar, ordinal, week, julian, weekday, short-weekday, month, quarter, basic, rfc3339, unix, unix-ms, unix-us, unix-ns)",
         ),
         (
             b"to\0",
-            b"'' is no form (calendar, ordinal, week, julian, weekday, rfc3339, unix)",
+            b"'' is no form (calendar, ordinal, week, julian, weekday, short-weekday, month, quarter, basic, rfc3339, unix, unix-ms, unix-us, unix-ns)",
         ),
         (
             b"to\0Week\0x",
-            b"'Week' is no form (calendar, ordinal, week, julian, weekday, rfc3339, unix)",
+            b"'Week' is no form (calendar, ordinal, week, julian, weekday, short-weekday, month, quarter, basic, rfc3339, unix, unix-ms, unix-us, unix-ns)",
         ),
         (b"to\0week\0week", b"'week' is one word too many"),
         (b"--strict\0to\0week\0", b"'' is one word too many"),
@@ -193,15 +193,15 @@ fn arguments_that_make_no_sense(rt: HostRuntime) {
         ),
         (
             b"add\02\0fortnights",
-            b"'fortnights' is no unit (days, weeks, hours, minutes, seconds)",
+            b"'fortnights' is no unit (days, weeks, months, years, workdays, hours, minutes, seconds)",
         ),
         (
             b"--strict\0add\01\0da",
-            b"'da' is no unit (days, weeks, hours, minutes, seconds)",
+            b"'da' is no unit (days, weeks, months, years, workdays, hours, minutes, seconds)",
         ),
         (
             b"add\01\0mins",
-            b"'mins' is no unit (days, weeks, hours, minutes, seconds)",
+            b"'mins' is no unit (days, weeks, months, years, workdays, hours, minutes, seconds)",
         ),
         (
             b"add\09223372036854775807\0days\0days",
@@ -228,9 +228,45 @@ fn arguments_that_make_no_sense(rt: HostRuntime) {
             b"'2023-02-29' is no date and no moment (as 2024-02-29, 2024-02-29T23:59:59Z)",
         ),
         (b"until\02024-02-29\0", b"'' is one word too many"),
+        (b"since\02024-02-29\0IN\0days", b"'IN' is one word too many"),
+        (
+            b"until\02024-02-29\0in",
+            b"there is no unit (days, weeks, months, years, workdays, hours, minutes, seconds)",
+        ),
+        (
+            b"--strict\0since\02024-02-29\0in\0decades",
+            b"'decades' is no unit (days, weeks, months, years, workdays, hours, minutes, seconds)",
+        ),
+        (
+            b"until\02024-02-29\0in\0days\0x",
+            b"'x' is one word too many",
+        ),
+        (b"start", b"there is no period (week, month, quarter, year)"),
+        (
+            b"end\0day",
+            b"'day' is no period (week, month, quarter, year)",
+        ),
+        (b"start\0week\02", b"'2' is one word too many"),
+        (
+            b"on-or-after\0Frid",
+            b"'Frid' is no weekday (Monday .. Sunday)",
+        ),
+        (b"on-or-before\0Friday\02", b"'2' is one word too many"),
+        (b"at", b"there is no offset (as +01:00, -05:30, Z)"),
+        (b"at\001:00", b"'01:00' is no offset (as +01:00, -05:30, Z)"),
+        (b"at\0+1:00", b"'+1:00' is no offset (as +01:00, -05:30, Z)"),
+        (
+            b"at\0+24:00",
+            b"'+24:00' is no offset (as +01:00, -05:30, Z)",
+        ),
+        (
+            b"at\0+01:60",
+            b"'+01:60' is no offset (as +01:00, -05:30, Z)",
+        ),
+        (b"at\0+01:00\0x", b"'x' is one word too many"),
         (
             b"to\0xxxxxxxxxxxxxxxxxxxxxxxxxxxxxxxxxxxxxxxxxxxxxxxxxxxxxxxxxxxxxxxxxxxxxxxxxxxxxxxxy",
-            b"'xxxxxxxxxxxxxxxxxxxxxxxxxxxxxxxxxxxxxxxxxxxxxxxxxxxxxxxxxxxxxxxxxxxxxxxxxxxxxxxx' is no form (calendar, ordinal, week, julian, weekday, rfc3339, unix)",
+            b"'xxxxxxxxxxxxxxxxxxxxxxxxxxxxxxxxxxxxxxxxxxxxxxxxxxxxxxxxxxxxxxxxxxxxxxxxxxxxxxxx' is no form (calendar, ordinal, week, julian, weekday, short-weekday, month, quarter, basic, rfc3339, unix, unix-ms, unix-us, unix-ns)",
         ),
     ];
     for (arguments, wanted) in cases {

@@ -5,7 +5,7 @@ use Rattle.caldate.specs.Requests.{seconds_in}
 use Rattle.caldate.specs.declared.request.Request.TheVariants.{Add}
 use Rattle.caldate.proofs.Numbers.{number_fits}
 use Rattle.caldate.proofs.Words.{seconds_are}
-use Rattle.caldate.proofs.asked.amount_in.Goals as goal
+use Rattle.caldate.proofs.asked.duration_in.Goals as goal
 
 pub returns : goal.returns
 returns c =
