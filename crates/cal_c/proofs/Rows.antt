@@ -1,5 +1,5 @@
 -- One more row of arrays that are written from the front.
-use Rattle.std.proofs.Common.{◌≡◌, ◌≢◌, ℕ, ◌+◌, ◌<◌, List, length, get_or, arith, below_more, get_or-set_other, get_or-set_same}
+use Rattle.std.proofs.Common.{◌≢◌, ℕ, ◌+◌, ◌<◌, List, length, get_or, arith, below_more, get_or-set_other, get_or-set_same}
 use Rattle.std.proofs.Math.ListN.{set}
 
 pub rows_two : {A B : Type 0} (R : ℕ → A → B → Type 0) (xs : List A) (ys : List B) (i : ℕ) (x : A) (x0 : A) (y : B) (y0 : B)

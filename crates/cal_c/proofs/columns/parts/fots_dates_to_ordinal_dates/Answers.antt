@@ -1,4 +1,4 @@
-use Rattle.std.proofs.Common.{get_or, pos, arith, rules, FitsSigned, w32, w64, to_z, of_z}
+use Rattle.std.proofs.Common.{get_or, pos, arith, rules, FitsSigned, w32, to_z, of_z}
 use Rattle.std.proofs.lemmas.Int.{to_z-of_z}
 use Rattle.cal_c.specs.Columns.{IsOrdinalDateOf, ordinal_date_row}
 use Rattle.cal_c.proofs.Rows.{rows_three}
