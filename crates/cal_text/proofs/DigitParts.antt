@@ -7,7 +7,7 @@ use Rattle.std.proofs.lemmas.Int.Digits.{digits_value-lt}
 use Rattle.std.proofs.lemmas.Str.{digit_value_digit}
 use Rattle.std.proofs.lemmas.Str.Parse.{digit_from_value}
 use Rattle.cal_time.specs.DateText.{digits_at_least}
-use Rattle.cal_text.specs.Shape.{Shape, left, Byte, Digits, UpTo, SomeDigits, AtLeast, From, Branch}
+use Rattle.cal_text.specs.Shape.{Shape, left, Byte, Digits, UpTo, SomeDigits, AtLeast}
 use Rattle.cal_text.proofs.DigitTexts.{below-nine, digits-printed, digits_at_least-digits, digits_at_least-value, digits_at_least-length}
 use Rattle.cal_text.proofs.Parts.{IsPart, Splits, renamed, byte_part}
 use Rattle.cal_text.proofs.Stops.{IsIn, in_or_out, left-in, left-out, left-end, left-branch_in, left-branch_out, left-branch_end}

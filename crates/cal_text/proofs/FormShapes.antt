@@ -1,5 +1,5 @@
 -- The shape of the three forms of a date.
-use Rattle.std.proofs.Common.{◌≡◌, ℕ, ◌+◌, ◌-◌, ◌*◌, ◌/◌, ◌%◌, ◌<◌, ◌≤◌, ◌^◌, ◌⊎◌, inl, inr, ℤ, List, [], ◌∷◌, ◌++◌, length, refl, sym, ap, subst, ◌∙◌, arith, lit≤, lit<}
+use Rattle.std.proofs.Common.{◌≡◌, ℕ, ◌+◌, ◌-◌, ◌*◌, ◌/◌, ◌%◌, ◌<◌, ◌≤◌, ◌^◌, ◌⊎◌, inl, inr, ℤ, List, [], ◌∷◌, ◌++◌, length, refl, sym, ap, subst, ◌∙◌, arith, lit≤}
 use Rattle.std.proofs.lemmas.List.{append-nil, append_assoc}
 use Rattle.std.specs.Str.Parse.{AllDigits}
 use Rattle.cal_time.specs.DateText.{digits_at_least}
@@ -11,7 +11,7 @@ use Rattle.cal_text.proofs.DigitTexts.{digits_at_least-digits, digits_at_least-l
 use Rattle.cal_text.proofs.DigitParts.{number_part, is_digit}
 use Rattle.cal_text.proofs.FormReads.{put_form, three_digits-split}
 use Rattle.cal_text.proofs.NumberTexts.{one_digit}
-use Rattle.cal_text.proofs.Parts.{IsPart, HasAfter, HasEither, byte_part, from_part, both, last, after, either, retold}
+use Rattle.cal_text.proofs.Parts.{HasAfter, HasEither, byte_part, from_part, both, last, after, either, retold}
 use Rattle.cal_text.proofs.Positions.{IsShapeOf}
 use Rattle.cal_text.proofs.Stops.{IsIn}
 use Rattle.cal_text.proofs.YearParts.{year_part, year_hyphen}

@@ -1,4 +1,4 @@
-use Rattle.std.proofs.Common.{arith, lit≤, refl}
+use Rattle.std.proofs.Common.{lit≤, refl}
 use Rattle.cal_text.proofs.YearDigits.{put_more, put_above_9999}
 use Rattle.cal_text.proofs.year.above_9999.Goals as goal
 
