@@ -5,3 +5,4 @@ pub mod TextBytes
 pub mod Equals
 pub mod Cases
 pub mod Schedules
+pub mod Holidays

@@ -5,3 +5,4 @@ pub mod Columns
 pub mod Texts
 pub mod Unread
 pub mod Schedule
+pub mod Workweeks
