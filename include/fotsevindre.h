@@ -31,7 +31,8 @@
  * FOTS_MONTH; then what the call itself refuses, in the order of the parameters.
  *
  * No call keeps a pointer, allocates, reads or writes anything but its arguments, or has a state: any thread may make any call at
- * any time. Only the calls that read a text or take columns take a pointer; the others answer for each argument whatever its bits.
+ * any time. Only the calls that read a text, or take holidays or columns, take a pointer; the others answer for each argument whatever its
+ * bits.
  *
  * The library is for Linux on x86-64 processors of level 2.
  */
@@ -101,6 +102,9 @@ enum fots_status {
     FOTS_UNREADABLE = 8, /* the bytes have none of the forms that the call reads */
     FOTS_BAD_MOMENT = 9,
     FOTS_BAD_CONVENTION = 12, /* a number of no convention */
+    FOTS_BAD_WEEK = 13, /* marks above 127 */
+    FOTS_BAD_HOLIDAYS = 14, /* holidays that do not rise, or one that is no date */
+    FOTS_MANY_HOLIDAYS = 15, /* more than 1024 holidays */
     FOTS_YEAR = 16,
     FOTS_MONTH = 17,
     FOTS_JULIAN_DAY = 18,
@@ -137,6 +141,9 @@ static inline const char *fots_status_name(int32_t status)
     case FOTS_UNREADABLE: return "unreadable";
     case FOTS_BAD_MOMENT: return "bad moment";
     case FOTS_BAD_CONVENTION: return "bad convention";
+    case FOTS_BAD_WEEK: return "bad week";
+    case FOTS_BAD_HOLIDAYS: return "bad holidays";
+    case FOTS_MANY_HOLIDAYS: return "many holidays";
     case FOTS_YEAR: return "year";
     case FOTS_MONTH: return "month";
     case FOTS_JULIAN_DAY: return "julian_day";
@@ -420,6 +427,44 @@ fots_date_result fots_date_last_weekday_of_month(int32_t year, uint32_t month, u
  * next to 2451604 are 2451607 and 2451600. */
 fots_date_result fots_date_on_or_after(fots_date date, uint32_t weekday);
 fots_date_result fots_date_on_or_before(fots_date date, uint32_t weekday);
+
+/* ---- working days
+ *
+ * week is the sum of the marks of the days that are worked on, from 1 for Monday and 2 for Tuesday to 64 for Sunday; of other numbers
+ * FOTS_BAD_WEEK. The holidays are dates that rise, and else FOTS_BAD_HOLIDAYS; at most FOTS_MOST_HOLIDAYS of them, and else
+ * FOTS_MANY_HOLIDAYS. The array must be there, also one of no holidays. The examples have FOTS_MONDAY_TO_FRIDAY and no holidays. */
+#define FOTS_MONDAY_TO_FRIDAY 31u
+#define FOTS_MOST_HOLIDAYS 1024
+
+/* Whether the date is a working day: 1 or 0. That of 2451604, a Tuesday, is 1. */
+fots_part_result fots_date_is_workday(fots_date date, uint32_t week, const fots_date *holidays, size_t holidays_length);
+
+/* The first working day after the date, and the last one before it; FOTS_PAST_RANGE where the range has none. Those of 2451607, a
+ * Friday, are 2451610 and 2451606. */
+fots_date_result fots_date_next_workday(fots_date date, uint32_t week, const fots_date *holidays, size_t holidays_length);
+fots_date_result fots_date_previous_workday(fots_date date, uint32_t week, const fots_date *holidays, size_t holidays_length);
+
+/* The working day so many working days after the date, or before it where they are below 0; for 0 the date itself, or where it is no
+ * working day, the first one after it; FOTS_PAST_RANGE where the range has no such day. Ten after 2451604 is 2451618. */
+fots_date_result fots_date_add_workdays(fots_date date, int32_t days, uint32_t week, const fots_date *holidays, size_t holidays_length);
+
+/* The working days from the date to the day before the other, below 0 where the other comes first. From 2451545 to 2451911 it is 260. */
+fots_number_result fots_date_workdays_between(fots_date date, fots_date other, uint32_t week, const fots_date *holidays,
+    size_t holidays_length);
+
+/* How a day that is no working day is moved to one, under the names of financial contracts. */
+enum fots_convention {
+    FOTS_UNADJUSTED = 0,
+    FOTS_FOLLOWING = 1,
+    FOTS_MODIFIED_FOLLOWING = 2, /* as FOTS_FOLLOWING, or where that is in another month, as FOTS_PRECEDING */
+    FOTS_PRECEDING = 3,
+    FOTS_MODIFIED_PRECEDING = 4 /* as FOTS_PRECEDING, or where that is in another month, as FOTS_FOLLOWING */
+};
+
+/* The working day that the date is moved to; FOTS_PAST_RANGE where the range has no such day, and FOTS_BAD_CONVENTION, after
+ * FOTS_BAD_DATE, of another number. That of Saturday 2000-04-29, 2451664, is 2451666 as FOTS_FOLLOWING, and 2451663 as
+ * FOTS_MODIFIED_FOLLOWING. */
+fots_date_result fots_date_adjusted(fots_date date, uint32_t convention, uint32_t week, const fots_date *holidays, size_t holidays_length);
 
 /* ---- day counts */
 

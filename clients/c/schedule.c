@@ -138,6 +138,62 @@ static void drawn_months(void)
     }
 }
 
+/* Ten holidays of the United States in 2024. */
+static const int32_t of_2024[10][2] = {{1, 1}, {1, 15}, {2, 19}, {5, 27}, {6, 19}, {7, 4}, {9, 2}, {11, 11}, {11, 28}, {12, 25}};
+
+static void workdays(void)
+{
+    fots_date holidays[10];
+    for (int row = 0; row < 10; row++) {
+        holidays[row] = day(2024, (uint32_t)of_2024[row][0], (uint32_t)of_2024[row][1]);
+    }
+    const uint32_t week = FOTS_MONDAY_TO_FRIDAY;
+    check(fots_date_workdays_between(day(2024, 1, 1), day(2025, 1, 1), week, holidays, 10).number == 252, "the working days of 2024", 0, 0);
+    check(fots_date_workdays_between(day(2025, 1, 1), day(2024, 1, 1), week, holidays, 10).number == -252, "and back", 0, 0);
+    check(fots_date_workdays_between(day(2024, 1, 1), day(2025, 1, 1), week, holidays, 0).number == 262, "with no holidays", 0, 0);
+    check(fots_date_is_workday(day(2024, 7, 4), week, holidays, 10).number == 0, "a holiday", 0, 0);
+    check(fots_date_is_workday(day(2024, 7, 5), week, holidays, 10).number == 1, "the day after it", 0, 0);
+    is_day(fots_date_next_workday(day(2024, 8, 30), week, holidays, 10), day(2024, 9, 3), "after the Friday before Labor Day");
+    is_day(fots_date_previous_workday(day(2024, 9, 3), week, holidays, 10), day(2024, 8, 30), "before the Tuesday after it");
+    is_day(fots_date_adjusted(day(2024, 8, 31), FOTS_FOLLOWING, week, holidays, 10), day(2024, 9, 3), "following");
+    is_day(fots_date_adjusted(day(2024, 8, 31), FOTS_MODIFIED_FOLLOWING, week, holidays, 10), day(2024, 8, 30), "modified following");
+    is_day(fots_date_adjusted(day(2024, 9, 1), FOTS_PRECEDING, week, holidays, 10), day(2024, 8, 30), "preceding");
+    is_day(fots_date_adjusted(day(2024, 9, 1), FOTS_MODIFIED_PRECEDING, week, holidays, 10), day(2024, 9, 3), "modified preceding");
+    is_day(fots_date_adjusted(day(2024, 9, 1), FOTS_UNADJUSTED, week, holidays, 10), day(2024, 9, 1), "unadjusted");
+    refuses(fots_date_next_workday(day(2024, 8, 30), 0, holidays, 10), FOTS_PAST_RANGE, "a week with no working day");
+    refuses(fots_date_next_workday(date_at(INT32_MAX), 128, holidays, 10), FOTS_BAD_DATE, "no date");
+    refuses(fots_date_next_workday(day(2024, 8, 30), 128, holidays, SIZE_MAX / 8), FOTS_BAD_WEEK, "an eighth mark");
+    refuses(fots_date_adjusted(day(2024, 8, 30), 5, 128, holidays, 10), FOTS_BAD_CONVENTION, "no convention");
+    static fots_date many[FOTS_MOST_HOLIDAYS + 1];
+    for (int row = 0; row <= FOTS_MOST_HOLIDAYS; row++) {
+        many[row] = date_at(2460000 + row);
+    }
+    refuses(fots_date_next_workday(day(2024, 8, 30), week, many, FOTS_MOST_HOLIDAYS + 1), FOTS_MANY_HOLIDAYS, "a holiday too many");
+    is_day(fots_date_add_workdays(date_at(2459999), 1, 127, many, FOTS_MOST_HOLIDAYS), date_at(2460000 + FOTS_MOST_HOLIDAYS), "past as many as there can be");
+    many[7] = many[6];
+    refuses(fots_date_next_workday(day(2024, 8, 30), week, many, 8), FOTS_BAD_HOLIDAYS, "a holiday twice");
+    many[7] = date_at(INT32_MAX);
+    refuses(fots_date_next_workday(day(2024, 8, 30), week, many, 8), FOTS_BAD_HOLIDAYS, "a holiday that is no date");
+
+    /* Drawn weeks and moves, against a count of one day at a time. */
+    for (int turn = 0; turn < DRAWN; turn++) {
+        const uint32_t marks = (uint32_t)(drawn() % 127) + 1;
+        const fots_date date = date_at(holidays[0].julian_day - 40 + (int32_t)(drawn() % 440));
+        const int32_t moves = (int32_t)(drawn() % 61) - 30;
+        fots_date at = date;
+        for (int32_t left = moves; left != 0 || (moves == 0 && !fots_date_is_workday(at, marks, holidays, 10).number);) {
+            at.julian_day += moves < 0 ? -1 : 1;
+            int is_workday = (int)(marks >> (at.julian_day % 7) & 1);
+            for (int row = 0; row < 10; row++) {
+                is_workday = is_workday && at.julian_day != holidays[row].julian_day;
+            }
+            check((int)fots_date_is_workday(at, marks, holidays, 10).number == is_workday, "a drawn day", at.julian_day, (long long)marks);
+            left -= left == 0 ? 0 : is_workday * (moves < 0 ? -1 : 1);
+        }
+        is_day(fots_date_add_workdays(date, moves, marks, holidays, 10), at, "drawn working days");
+    }
+}
+
 static void bad_dates(void)
 {
     static const int32_t bad[] = {FOTS_MIN_JULIAN_DAY - 1, FOTS_MAX_JULIAN_DAY + 1, INT32_MIN, INT32_MAX};
@@ -159,6 +215,7 @@ int main(void)
     months();
     ends();
     day_counts();
+    workdays();
     drawn_months();
     bad_dates();
     return ended("schedule");

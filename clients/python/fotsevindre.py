@@ -36,9 +36,9 @@ from typing import Any, Callable, ClassVar, Dict, Iterable, Iterator, List, Name
 __version__ = "0.1.0"
 
 __all__ = [
-    "CalendarDateColumns", "ComponentRange", "Date", "DateColumns", "DayCount", "Days", "IsoWeekDateColumns", "Month", "OffsetDateTime",
-    "OrdinalDateColumns", "Period", "PlainDateTime", "SignedDuration", "Time", "Unreadable", "UtcOffset", "Weekday", "WeekdayColumns",
-    "YearFraction", "add_to_pair", "calendar_dates_to_iso_week_dates", "dates_add_days",
+    "CalendarDateColumns", "ComponentRange", "Convention", "Date", "DateColumns", "DayCount", "Days", "IsoWeekDateColumns", "Month",
+    "OffsetDateTime", "OrdinalDateColumns", "Period", "PlainDateTime", "SignedDuration", "Time", "Unreadable", "UtcOffset", "Weekday",
+    "WeekdayColumns", "Workdays", "YearFraction", "add_to_pair", "calendar_dates_to_iso_week_dates", "dates_add_days",
     "dates_from_calendar_dates", "dates_from_iso_week_dates", "dates_from_julian_days", "dates_from_ordinal_dates",
     "dates_to_calendar_dates", "dates_to_iso_week_dates", "dates_to_ordinal_dates", "dates_weekdays", "days_in_month", "days_in_year",
     "days_in_year_month", "is_leap_year", "read_rfc3339", "read_unix", "rfc3339_text", "status_error", "sub_from_pair",
@@ -215,6 +215,11 @@ _FORMS: List[Tuple[Any, List[Any], str]] = [
     (_DATE, [_I32, _U32, _U32], "date_last_weekday_of_month"),
     (_DATE, [_I32, _U32], "date_on_or_after date_on_or_before"),
     (_YEAR_FRACTION, [_I32, _I32, _U32], "date_day_count"),
+    (_PART, [_I32, _U32, ctypes.POINTER(_I32), ctypes.c_size_t], "date_is_workday"),
+    (_DATE, [_I32, _U32, ctypes.POINTER(_I32), ctypes.c_size_t], "date_next_workday date_previous_workday"),
+    (_DATE, [_I32, _I32, _U32, ctypes.POINTER(_I32), ctypes.c_size_t], "date_add_workdays"),
+    (_NUMBER, [_I32, _I32, _U32, ctypes.POINTER(_I32), ctypes.c_size_t], "date_workdays_between"),
+    (_DATE, [_I32, _U32, _U32, ctypes.POINTER(_I32), ctypes.c_size_t], "date_adjusted"),
 ]
 
 _library = _load()
@@ -1731,9 +1736,65 @@ class DayCount(enum.IntEnum):
     ActualActual = 5
 
 
+class Convention(enum.IntEnum):
+    """How a day that is no working day is moved to one, by the names of financial contracts."""
+
+    Unadjusted = 0
+    Following = 1
+    ModifiedFollowing = 2
+    Preceding = 3
+    ModifiedPreceding = 4
+
+
 def _nearest(number: SupportsIndex) -> int:
-    """The number itself, or the nearest in 32 bits with a sign: so many months or years lead past the range."""
+    """The number itself, or the nearest in 32 bits with a sign: so many months, years or working days lead past the range."""
     return min(max(operator.index(number), -2**31), 2**31 - 1)
+
+
+class Workdays:
+    """The working days of the weekdays that are given, but for the holidays, which rise: `ValueError` where they do not, or are more than 1024.
+
+    >>> Workdays().checked_add_workdays(Date.from_calendar_date(2024, 2, 29), 10)
+    2024-03-14
+    """
+
+    __slots__ = ("_week", "_holidays")
+
+    _week: int
+    _holidays: Any
+
+    def __init__(self, weekdays: Iterable[Weekday] = tuple(Weekday)[:5], holidays: Iterable[Date] = ()) -> None:
+        self._week = sum({1 << _weekday(weekday) - 1 for weekday in weekdays})
+        keys = [_is(holiday, Date)._key for holiday in holidays]
+        self._holidays = (_I32 * len(keys))(*keys)
+        self.is_workday(Date.MIN)
+
+    def is_workday(self, date: Date) -> bool:
+        """Whether the day is of one of the weekdays, and no holiday."""
+        return bool(_number(_C.date_is_workday(_is(date, Date)._key, self._week, self._holidays, len(self._holidays))))
+
+    def next_workday(self, date: Date) -> Optional[Date]:
+        """The first working day after the day, or `None` where the range has none."""
+        return _date_or_none(_C.date_next_workday(_is(date, Date)._key, self._week, self._holidays, len(self._holidays)))
+
+    def previous_workday(self, date: Date) -> Optional[Date]:
+        """The last working day before the day, or `None` where the range has none."""
+        return _date_or_none(_C.date_previous_workday(_is(date, Date)._key, self._week, self._holidays, len(self._holidays)))
+
+    def checked_add_workdays(self, date: Date, days: SupportsIndex) -> Optional[Date]:
+        """The working day so many after the day, or before it where they are below 0, or `None` where the range has no such day.
+
+        For 0 it is the day itself, or where it is no working day, the first one after it.
+        """
+        return _date_or_none(_C.date_add_workdays(_is(date, Date)._key, _nearest(days), self._week, self._holidays, len(self._holidays)))
+
+    def workdays_between(self, start: Date, end: Date) -> int:
+        """How many working days there are from the one day to the day before the other, below 0 where the other comes first."""
+        return _number(_C.date_workdays_between(_is(start, Date)._key, _is(end, Date)._key, self._week, self._holidays, len(self._holidays)))
+
+    def adjusted(self, date: Date, convention: Convention) -> Optional[Date]:
+        """The working day that the day is moved to, or `None` where the range has no such day."""
+        return _date_or_none(_C.date_adjusted(_is(date, Date)._key, _is(convention, Convention).value, self._week, self._holidays, len(self._holidays)))
 
 
 # ---- moments

@@ -1,16 +1,20 @@
-"""Tests of the months and the day counts of the Python client. Expected values are from calendars, from the memorandum of the ISDA, and from the
-calendar of the standard library."""
+"""Tests of the months, the working days and the day counts of the Python client. Expected values are from calendars, from the memorandum of the
+ISDA, and from the calendar of the standard library, one day at a time."""
 
 import calendar
 import datetime
 import random
 import unittest
 
-from fotsevindre import ComponentRange, Date, DayCount, Month, Weekday
+from fotsevindre import ComponentRange, Convention, Date, DayCount, Month, Weekday, Workdays
 
 
 def day(year, month, day_of_month):
     return Date.from_calendar_date(year, month, day_of_month)
+
+
+HOLIDAYS = [day(2024, month, of_month) for month, of_month in (
+    (1, 1), (1, 15), (2, 19), (5, 27), (6, 19), (7, 4), (9, 2), (11, 11), (11, 28), (12, 25))]
 
 
 class Months(unittest.TestCase):
@@ -68,6 +72,39 @@ class Months(unittest.TestCase):
         self.assertEqual(day(2024, 1, 15).day_count(day(2024, 3, 31), DayCount.Thirty360), (76, 360))
         self.assertEqual(day(2024, 1, 15).day_count(day(2024, 3, 31), DayCount.ThirtyE360), (75, 360))
         self.assertRaises(TypeError, day(2024, 1, 1).day_count, day(2024, 1, 1), 1)
+
+
+class WorkingDays(unittest.TestCase):
+    def test_rows(self):
+        work = Workdays(holidays=HOLIDAYS)
+        self.assertEqual(work.workdays_between(day(2024, 1, 1), day(2025, 1, 1)), 252)
+        self.assertEqual(work.workdays_between(day(2025, 1, 1), day(2024, 1, 1)), -252)
+        self.assertEqual(Workdays().workdays_between(day(2024, 1, 1), day(2025, 1, 1)), 262)
+        self.assertFalse(work.is_workday(day(2024, 7, 4)))
+        self.assertEqual(work.next_workday(day(2024, 8, 30)), day(2024, 9, 3))
+        self.assertEqual(work.previous_workday(day(2024, 9, 3)), day(2024, 8, 30))
+        self.assertEqual(work.adjusted(day(2024, 8, 31), Convention.Following), day(2024, 9, 3))
+        self.assertEqual(work.adjusted(day(2024, 8, 31), Convention.ModifiedFollowing), day(2024, 8, 30))
+        self.assertEqual(work.adjusted(day(2024, 9, 1), Convention.Preceding), day(2024, 8, 30))
+        self.assertEqual(work.adjusted(day(2024, 9, 1), Convention.ModifiedPreceding), day(2024, 9, 3))
+        self.assertIsNone(Workdays([]).next_workday(day(2024, 1, 1)))
+
+    def test_one_at_a_time(self):
+        work = Workdays(holidays=HOLIDAYS)
+        start = day(2024, 1, 1)
+        days = [date for date in start.iter_to(day(2024, 12, 31)) if date.weekday().number_from_monday() <= 5 and date not in HOLIDAYS]
+        for place, date in enumerate(days):
+            self.assertEqual(work.workdays_between(start, date), place)
+            self.assertEqual(work.checked_add_workdays(start, place + 1), date)
+            self.assertEqual(work.checked_add_workdays(date, -place), days[0])
+        self.assertIsNone(work.checked_add_workdays(start, 2**31))
+
+    def test_refusals(self):
+        self.assertRaises(ValueError, Workdays, holidays=HOLIDAYS[::-1])
+        self.assertRaises(ValueError, Workdays, holidays=HOLIDAYS[:1] * 2)
+        self.assertRaises(ValueError, Workdays, holidays=day(2000, 1, 1).iter_to(day(2010, 1, 1)))
+        self.assertRaises(TypeError, Workdays, holidays=[1])
+        self.assertRaises(TypeError, Workdays, [1])
 
 
 if __name__ == "__main__":

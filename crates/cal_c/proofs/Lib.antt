@@ -7,3 +7,4 @@ pub mod Equals
 pub mod Cases
 pub mod Occurrences
 pub mod Schedules
+pub mod Holidays

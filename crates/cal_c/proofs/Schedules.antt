@@ -5,10 +5,13 @@ use Rattle.cal_time.specs.Date.{IsDate}
 use Rattle.cal_schedule.specs.declared.money.DayCount.{DayCount}
 use Rattle.cal_schedule.specs.declared.money.DayCount.TheVariants.{Actual360, Actual365Fixed, Thirty360, ThirtyE360, ActualActual}
 use Rattle.cal_schedule.specs.declared.period.Period.{Period}
+use Rattle.cal_schedule.specs.declared.workdays.convention.Convention.{Convention}
+use Rattle.cal_schedule.specs.declared.workdays.convention.Convention.TheVariants.{Unadjusted, Following, ModifiedFollowing, Preceding, ModifiedPreceding}
 use Rattle.cal_c.specs.Results.{date_refused, date_if_any, number_done, IsDayWith}
 use Rattle.cal_c.specs.Schedule.{day_count_number, period_done, IsNumberWith, IsPeriodWith}
 use Rattle.cal_c.specs.Statuses.{past_range}
 use Rattle.cal_c.specs.Values.{IsJulianDay, day_of}
+use Rattle.cal_c.specs.Workweeks.{convention_number}
 use Rattle.cal_c.proofs.Days.{IsDayWith-at}
 
 pub day-if-any : (Has : ℕ → Type 0) (A : Type 0) (r : Option ℕ) → IfSome r (λ n. IsDate n × Has n) → IfNone r (A → ⊥) → A → IsDayWith Has (date_if_any r)
@@ -45,3 +48,17 @@ count_at-number ActualActual = refl
 
 pub same_count : (a b : DayCount) → day_count_number a ≡ day_count_number b → a ≡ b
 same_count a b e = sym (count_at-number a) ∙ ap count_at e ∙ count_at-number b
+
+-- and of one convention
+abbrev convention_at : ℕ → Convention
+convention_at k = if k == 0 then Unadjusted else (if k == 1 then Following else (if k == 2 then ModifiedFollowing else (if k == 3 then Preceding else ModifiedPreceding)))
+
+convention_at-number : (c : Convention) → convention_at (convention_number c) ≡ c
+convention_at-number Unadjusted = refl
+convention_at-number Following = refl
+convention_at-number ModifiedFollowing = refl
+convention_at-number Preceding = refl
+convention_at-number ModifiedPreceding = refl
+
+pub same_convention : (a b : Convention) → convention_number a ≡ convention_number b → a ≡ b
+same_convention a b e = sym (convention_at-number a) ∙ ap convention_at e ∙ convention_at-number b

@@ -6,3 +6,4 @@ pub mod Texts
 pub mod Unread
 pub mod Moments
 pub mod Schedule
+pub mod Workweeks

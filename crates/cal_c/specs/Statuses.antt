@@ -40,6 +40,18 @@ bad_moment = pos 9
 abbrev pub bad_convention : ℤ
 bad_convention = pos 12
 
+-- the marks of the week are more than seven
+abbrev pub bad_week : ℤ
+bad_week = pos 13
+
+-- the holidays do not rise, or one of them is no date
+abbrev pub bad_holidays : ℤ
+bad_holidays = pos 14
+
+-- there are more holidays than a call takes
+abbrev pub many_holidays : ℤ
+many_holidays = pos 15
+
 -- the refusals whose range depends on nothing, by their names
 abbrev pub year_refused : ℤ
 year_refused = pos 16

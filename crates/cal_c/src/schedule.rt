@@ -6,3 +6,4 @@ mod months;
 mod results;
 mod until;
 mod weekdays;
+mod workdays;

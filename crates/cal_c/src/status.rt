@@ -29,8 +29,17 @@ pub const UNREADABLE: i32 = 8;
 
 pub const BAD_MOMENT: i32 = 9;
 
-/// The number is no convention.
+/// The number is no convention of day counts or of working days.
 pub const BAD_CONVENTION: i32 = 12;
+
+/// The number has a mark besides those of the seven days of the week.
+pub const BAD_WEEK: i32 = 13;
+
+/// The holidays do not rise, or one of them is no date.
+pub const BAD_HOLIDAYS: i32 = 14;
+
+/// There are more holidays than a call takes.
+pub const MANY_HOLIDAYS: i32 = 15;
 
 pub const YEAR: i32 = 16;
 

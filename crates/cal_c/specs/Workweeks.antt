@@ -1,0 +1,48 @@
+-- The working days that C passes: the marks of the week as a number, and the holidays as their Julian days.
+use Rattle.std.specs.Prelude.{ℕ, ◌/◌, ◌%◌, ◌<◌, ◌≤◌, ◌==◌, Bool, List, [], ◌∷◌, All, length, map, ℤ, pos, ◌-ℤ◌}
+use Rattle.cal_time.specs.Counted.{IsRising}
+use Rattle.cal_time.specs.Date.{julian_day_at}
+use Rattle.cal_schedule.specs.Workdays.{WorkWeek, workdays_within}
+use Rattle.cal_schedule.specs.declared.workdays.convention.Convention.{Convention}
+use Rattle.cal_schedule.specs.declared.workdays.convention.Convention.TheVariants.{Unadjusted, Following, ModifiedFollowing, Preceding, ModifiedPreceding}
+use Rattle.cal_c.specs.Values.{IsJulianDay, day_of}
+
+-- seven marks, from 1 for Monday and 2 for Tuesday to 64 for Sunday, are their sum
+abbrev pub IsMarks : ℕ → Type 0
+IsMarks k = k < 128
+
+abbrev pub marks_in : ℕ → List Bool
+marks_in k =
+    (k % 2 == 1) ∷ (k / 2 % 2 == 1) ∷ (k / 4 % 2 == 1) ∷ (k / 8 % 2 == 1) ∷ (k / 16 % 2 == 1) ∷ (k / 32 % 2 == 1)
+    ∷ (k / 64 % 2 == 1) ∷ []
+
+-- as many holidays as a call takes
+abbrev pub most_holidays : ℕ
+most_holidays = 1024
+
+-- holidays are Julian days that rise
+abbrev pub holidays_in : List ℤ → List ℕ
+holidays_in hs = map day_of hs
+
+pub record AreHolidays (hs : List ℤ) : Type 0 where
+  pub dates : All IsJulianDay hs
+  pub rising : IsRising julian_day_at (holidays_in hs)
+
+-- the working days of both
+abbrev pub work_week : ℕ → List ℤ → WorkWeek
+work_week marks hs = record { marks = marks_in marks; holidays = holidays_in hs }
+
+-- those from day n to the one before day t, below zero where t comes first
+abbrev pub workdays_number : WorkWeek → ℕ → ℕ → ℤ
+workdays_number w n t = pos (length (workdays_within w n t)) -ℤ pos (length (workdays_within w t n))
+
+-- a convention is its number from `Unadjusted`, 0
+abbrev pub convention_number : Convention → ℕ
+convention_number Unadjusted = 0
+convention_number Following = 1
+convention_number ModifiedFollowing = 2
+convention_number Preceding = 3
+convention_number ModifiedPreceding = 4
+
+abbrev pub IsConvention : ℕ → Type 0
+IsConvention k = k ≤ 4

@@ -1,0 +1,200 @@
+//! Working days: those of the days of the week that are marked, but for the holidays.
+//!
+//! The marks of the week are a number, the sum of 1 for Monday, 2 for Tuesday, 4, 8, 16, 32 and 64 for Sunday. The holidays are dates
+//! that rise, at most 1024 of them.
+ghost use Rattle.std.specs.Prelude.{◌≡◌, ◌+◌, ◌<◌, ◌≤◌, length, pos, slice_get, IfErr, IfOk, MatchOption, if◌then◌else◌};
+ghost use Rattle.cal_schedule.specs.declared.workdays.convention.Convention.{Convention};
+ghost use Rattle.cal_schedule.specs.Workdays.{is_workday, nth_workday, workdays_back, workdays_from};
+ghost use Rattle.cal_schedule.specs.WorkdaysConvention.{adjusted};
+ghost use Rattle.cal_c.specs.Results.{date_if_any, date_refused, number_done, number_refused};
+ghost use Rattle.cal_c.specs.Statuses.{bad_convention, bad_date, bad_holidays, bad_week, many_holidays};
+ghost use Rattle.cal_c.specs.Values.{IsJulianDay, day_of};
+ghost use Rattle.cal_c.specs.Workweeks.{convention_number, most_holidays, work_week, workdays_number, AreHolidays, IsConvention, IsMarks};
+
+mod calendar;
+mod holidays;
+
+use crate::results::{DateResult, NumberResult};
+use crate::status::{BAD_CONVENTION, BAD_DATE};
+use crate::values::date_of;
+use cal_schedule::Convention;
+use calendar::Calendar;
+
+/// Whether the date is a working day: 1 where its day of the week is marked and it is no holiday, else 0. Where the marks are 31,
+/// Monday to Friday, that of 2451604, a Tuesday, is 1.
+#[unsafe(no_mangle)]
+pub extern "C" fn fots_date_is_workday(date: i32, week: u32, holidays: &[i32]) -> NumberResult
+    ensures bad_date { ¬ IsJulianDay date → result ≡ number_refused bad_date }
+    ensures bad_week { IsJulianDay date → ¬ IsMarks week → result ≡ number_refused bad_week }
+    ensures many_holidays { IsJulianDay date → IsMarks week → most_holidays < length holidays.now → result ≡ number_refused many_holidays }
+    ensures bad_holidays { IsJulianDay date → IsMarks week → length holidays.now ≤ most_holidays → ¬ AreHolidays holidays.now → result ≡ number_refused bad_holidays }
+    ensures value { IsJulianDay date → IsMarks week → length holidays.now ≤ most_holidays → AreHolidays holidays.now
+        → result ≡ number_done (if is_workday (work_week week holidays.now) (day_of date) then pos 1 else pos 0) }
+{
+    let Some(date) = date_of(date) else {
+        return NumberResult::refused(BAD_DATE);
+    };
+    match Calendar::of(week, holidays) {
+        Ok(calendar) => NumberResult::of(i32::from(calendar.workdays().is_workday(date))),
+        Err(status) => NumberResult::refused(status),
+    }
+}
+
+/// The first working day after the date, or none where the range has none. That after 2451607, a Friday, is 2451610 where the marks
+/// are 31 and there are no holidays.
+#[unsafe(no_mangle)]
+pub extern "C" fn fots_date_next_workday(date: i32, week: u32, holidays: &[i32]) -> DateResult
+    ensures bad_date { ¬ IsJulianDay date → result ≡ date_refused bad_date }
+    ensures bad_week { IsJulianDay date → ¬ IsMarks week → result ≡ date_refused bad_week }
+    ensures many_holidays { IsJulianDay date → IsMarks week → most_holidays < length holidays.now → result ≡ date_refused many_holidays }
+    ensures bad_holidays { IsJulianDay date → IsMarks week → length holidays.now ≤ most_holidays → ¬ AreHolidays holidays.now → result ≡ date_refused bad_holidays }
+    ensures day { IsJulianDay date → IsMarks week → length holidays.now ≤ most_holidays → AreHolidays holidays.now
+        → result ≡ date_if_any (slice_get (workdays_from (work_week week holidays.now) (day_of date + 1)) 0) }
+{
+    let Some(date) = date_of(date) else {
+        return DateResult::refused(BAD_DATE);
+    };
+    match Calendar::of(week, holidays) {
+        Ok(calendar) => DateResult::of_option(calendar.workdays().next_workday(date)),
+        Err(status) => DateResult::refused(status),
+    }
+}
+
+/// The last working day before the date, or none where the range has none. That before 2451610, a Monday, is 2451607 where the marks
+/// are 31 and there are no holidays.
+#[unsafe(no_mangle)]
+pub extern "C" fn fots_date_previous_workday(date: i32, week: u32, holidays: &[i32]) -> DateResult
+    ensures bad_date { ¬ IsJulianDay date → result ≡ date_refused bad_date }
+    ensures bad_week { IsJulianDay date → ¬ IsMarks week → result ≡ date_refused bad_week }
+    ensures many_holidays { IsJulianDay date → IsMarks week → most_holidays < length holidays.now → result ≡ date_refused many_holidays }
+    ensures bad_holidays { IsJulianDay date → IsMarks week → length holidays.now ≤ most_holidays → ¬ AreHolidays holidays.now → result ≡ date_refused bad_holidays }
+    ensures day { IsJulianDay date → IsMarks week → length holidays.now ≤ most_holidays → AreHolidays holidays.now
+        → result ≡ date_if_any (slice_get (workdays_back (work_week week holidays.now) (day_of date)) 0) }
+{
+    let Some(date) = date_of(date) else {
+        return DateResult::refused(BAD_DATE);
+    };
+    match Calendar::of(week, holidays) {
+        Ok(calendar) => DateResult::of_option(calendar.workdays().previous_workday(date)),
+        Err(status) => DateResult::refused(status),
+    }
+}
+
+/// The working day so many working days after the date, or before it where they are below zero; for 0 the date itself, or where it is
+/// no working day, the first one after it. None where the range has no such day. Ten after 2451604 is 2451618 where the marks are 31
+/// and there are no holidays.
+#[unsafe(no_mangle)]
+pub extern "C" fn fots_date_add_workdays(
+    date: i32,
+    days: i32,
+    week: u32,
+    holidays: &[i32],
+) -> DateResult
+    ensures bad_date { ¬ IsJulianDay date → result ≡ date_refused bad_date }
+    ensures bad_week { IsJulianDay date → ¬ IsMarks week → result ≡ date_refused bad_week }
+    ensures many_holidays { IsJulianDay date → IsMarks week → most_holidays < length holidays.now → result ≡ date_refused many_holidays }
+    ensures bad_holidays { IsJulianDay date → IsMarks week → length holidays.now ≤ most_holidays → ¬ AreHolidays holidays.now → result ≡ date_refused bad_holidays }
+    ensures day { IsJulianDay date → IsMarks week → length holidays.now ≤ most_holidays → AreHolidays holidays.now
+        → result ≡ date_if_any (nth_workday (work_week week holidays.now) days (day_of date)) }
+{
+    workdays_later(date, days, &Calendar::of(week, holidays))
+}
+
+/// The working day so many working days after the date, of a calendar that was read.
+fn workdays_later(date: i32, days: i32, calendar: &Result<Calendar, i32>) -> DateResult
+    ensures bad_date { ¬ IsJulianDay date → result ≡ date_refused bad_date }
+    ensures refused { IsJulianDay date → IfErr calendar.now (λ status. result ≡ date_refused status) }
+    ensures day { IsJulianDay date → IfOk calendar.now (λ w. result ≡ date_if_any (nth_workday w days (day_of date))) }
+{
+    let Some(date) = date_of(date) else {
+        return DateResult::refused(BAD_DATE);
+    };
+    match calendar {
+        Ok(calendar) => {
+            DateResult::of_option(calendar.workdays().checked_add_workdays(date, days))
+        }
+        Err(status) => DateResult::refused(*status),
+    }
+}
+
+/// How many working days there are from the date to the day before the other, below zero where the other comes first. From 2451545,
+/// 2000-01-01, to 2451911, 2001-01-01, it is 260 where the marks are 31 and there are no holidays.
+#[unsafe(no_mangle)]
+pub extern "C" fn fots_date_workdays_between(
+    date: i32,
+    other: i32,
+    week: u32,
+    holidays: &[i32],
+) -> NumberResult
+    ensures bad_date { ¬ (IsJulianDay date × IsJulianDay other) → result ≡ number_refused bad_date }
+    ensures bad_week { IsJulianDay date → IsJulianDay other → ¬ IsMarks week → result ≡ number_refused bad_week }
+    ensures many_holidays { IsJulianDay date → IsJulianDay other → IsMarks week → most_holidays < length holidays.now → result ≡ number_refused many_holidays }
+    ensures bad_holidays { IsJulianDay date → IsJulianDay other → IsMarks week → length holidays.now ≤ most_holidays → ¬ AreHolidays holidays.now → result ≡ number_refused bad_holidays }
+    ensures value { IsJulianDay date → IsJulianDay other → IsMarks week → length holidays.now ≤ most_holidays → AreHolidays holidays.now
+        → result ≡ number_done (workdays_number (work_week week holidays.now) (day_of date) (day_of other)) }
+{
+    workdays_to(date, other, &Calendar::of(week, holidays))
+}
+
+/// How many working days there are from the date to the day before the other, of a calendar that was read.
+fn workdays_to(date: i32, other: i32, calendar: &Result<Calendar, i32>) -> NumberResult
+    ensures bad_date { ¬ (IsJulianDay date × IsJulianDay other) → result ≡ number_refused bad_date }
+    ensures refused { IsJulianDay date → IsJulianDay other → IfErr calendar.now (λ status. result ≡ number_refused status) }
+    ensures value { IsJulianDay date → IsJulianDay other → IfOk calendar.now (λ w. result ≡ number_done (workdays_number w (day_of date) (day_of other))) }
+{
+    let Some(date) = date_of(date) else {
+        return NumberResult::refused(BAD_DATE);
+    };
+    let Some(other) = date_of(other) else {
+        return NumberResult::refused(BAD_DATE);
+    };
+    match calendar {
+        Ok(calendar) => NumberResult::of(calendar.workdays().workdays_between(date, other)),
+        Err(status) => NumberResult::refused(*status),
+    }
+}
+
+/// The convention that has the number, from `Unadjusted`, 0.
+fn convention_of(number: u32) -> Option<Convention>
+    ensures { MatchOption result (¬ IsConvention number) (λ found. IsConvention number × (convention_number found ≡ number)) }
+{
+    match number {
+        0 => Some(Convention::Unadjusted),
+        1 => Some(Convention::Following),
+        2 => Some(Convention::ModifiedFollowing),
+        3 => Some(Convention::Preceding),
+        4 => Some(Convention::ModifiedPreceding),
+        _ => None,
+    }
+}
+
+/// The working day that the date is moved to by a convention, or none where the range has no such day. From 0 for unadjusted, 1 is
+/// following, 2 is modified following, 3 is preceding, and 4 is modified preceding. That of 2451664, Saturday 2000-04-29, is 2451666
+/// by 1 and 2451663 by 2 where the marks are 31 and there are no holidays.
+#[unsafe(no_mangle)]
+pub extern "C" fn fots_date_adjusted(
+    date: i32,
+    convention: u32,
+    week: u32,
+    holidays: &[i32],
+) -> DateResult
+    ensures bad_date { ¬ IsJulianDay date → result ≡ date_refused bad_date }
+    ensures bad_convention { IsJulianDay date → ¬ IsConvention convention → result ≡ date_refused bad_convention }
+    ensures bad_week { IsJulianDay date → IsConvention convention → ¬ IsMarks week → result ≡ date_refused bad_week }
+    ensures many_holidays { IsJulianDay date → IsConvention convention → IsMarks week → most_holidays < length holidays.now → result ≡ date_refused many_holidays }
+    ensures bad_holidays { IsJulianDay date → IsConvention convention → IsMarks week → length holidays.now ≤ most_holidays → ¬ AreHolidays holidays.now
+        → result ≡ date_refused bad_holidays }
+    ensures day { IsJulianDay date → IsMarks week → length holidays.now ≤ most_holidays → AreHolidays holidays.now
+        → (c : Convention) → convention_number c ≡ convention → result ≡ date_if_any (adjusted (work_week week holidays.now) c (day_of date)) }
+{
+    let Some(date) = date_of(date) else {
+        return DateResult::refused(BAD_DATE);
+    };
+    let Some(convention) = convention_of(convention) else {
+        return DateResult::refused(BAD_CONVENTION);
+    };
+    match Calendar::of(week, holidays) {
+        Ok(calendar) => DateResult::of_option(calendar.workdays().adjusted(date, convention)),
+        Err(status) => DateResult::refused(status),
+    }
+}

@@ -1,0 +1,76 @@
+//! The working days that C passes.
+ghost use Rattle.std.specs.Prelude.{◌≡◌, ◌<◌, ◌≤◌, Ok, Err, SomeIff, length};
+ghost use Rattle.cal_c.specs.Statuses.{bad_holidays, bad_week, many_holidays};
+ghost use Rattle.cal_c.specs.Workweeks.{marks_in, most_holidays, work_week, AreHolidays, IsMarks};
+
+use crate::schedule::workdays::holidays::Holidays;
+use crate::status::{BAD_HOLIDAYS, BAD_WEEK};
+use cal_schedule::Workdays;
+use cal_time::is_rising;
+use std::marker::Model;
+
+/// The marks of a week and the holidays, seen as the working days that they are.
+#[derive(Drop)]
+pub(super) struct Calendar {
+    marks: [bool; 7],
+    holidays: Holidays,
+}
+
+impl Model for Calendar {
+    ghost use Rattle.cal_schedule.specs.Workdays.{WorkWeek};
+    ghost use Rattle.cal_time.specs.Counted.{IsRising};
+    ghost use Rattle.cal_time.specs.Date.{julian_day_at};
+
+    ghost Value = { WorkWeek };
+
+    ghost view = { λ c. record { marks = c.marks; holidays = c.holidays } };
+
+    ghost invariant = { λ c. IsRising julian_day_at c.holidays };
+}
+
+/// The marks that the number is the sum of.
+fn marks_of(week: u32) -> Option<[bool; 7]>
+    ensures { SomeIff result (IsMarks week) (marks_in week) }
+{
+    if week >= 128 {
+        return None;
+    }
+    Some([
+        week % 2 == 1,
+        week / 2 % 2 == 1,
+        week / 4 % 2 == 1,
+        week / 8 % 2 == 1,
+        week / 16 % 2 == 1,
+        week / 32 % 2 == 1,
+        week / 64 % 2 == 1,
+    ])
+}
+
+impl Calendar {
+    /// The working days of the marks and the holidays, or the status that they are refused with.
+    pub(super) fn of(week: u32, holidays: &[i32]) -> Result<Self, i32>
+        ensures bad_week { ¬ IsMarks week → result ≡ Err bad_week }
+        ensures many { IsMarks week → most_holidays < length holidays.now → result ≡ Err many_holidays }
+        ensures bad { IsMarks week → length holidays.now ≤ most_holidays → ¬ AreHolidays holidays.now → result ≡ Err bad_holidays }
+        ensures value { IsMarks week → length holidays.now ≤ most_holidays → AreHolidays holidays.now → result ≡ Ok (work_week week holidays.now) }
+    {
+        let Some(marks) = marks_of(week) else {
+            return Err(BAD_WEEK);
+        };
+        let holidays = Holidays::of(holidays)?;
+        if !is_rising(holidays.as_slice()) {
+            return Err(BAD_HOLIDAYS);
+        }
+        Ok(Calendar { marks, holidays })
+    }
+
+    /// The working days.
+    pub(super) fn workdays(&self) -> Workdays<'_>
+        ensures { result ≡ self.now }
+    {
+        match Workdays::new(self.marks, self.holidays.as_slice()) {
+            Some(workdays) => workdays,
+            None => unreachable!(),
+        }
+    }
+}
