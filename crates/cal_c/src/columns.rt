@@ -11,6 +11,7 @@ mod moves;
 mod parts;
 mod statuses;
 
+use crate::number::{FIRST_JULIAN_DAY, LAST_JULIAN_DAY};
 use statuses::DONE;
 
 /// What a call answers where its arrays are not of one length.
@@ -18,11 +19,6 @@ const UNLIKE: usize = usize::MAX;
 
 /// What stands for the date or the year of a row that has none.
 const NOTHING: i32 = i32::MIN;
-
-/// The Julian days of the first date and of the last.
-const FIRST_JULIAN_DAY: i64 = -363_521_074;
-
-const LAST_JULIAN_DAY: i64 = 366_963_559;
 
 /// Whether a date has the Julian day.
 #[inline(always)]

@@ -10,9 +10,10 @@ use crate::results::DateResult;
 use crate::status::{DONE, PAST_RANGE};
 use cal_time::SignedDuration;
 
-const FIRST_JULIAN_DAY: i64 = -363_521_074;
+/// The Julian days of the first date and of the last.
+pub const FIRST_JULIAN_DAY: i64 = -363_521_074;
 
-const LAST_JULIAN_DAY: i64 = 366_963_559;
+pub const LAST_JULIAN_DAY: i64 = 366_963_559;
 
 const LAST_NUMBER: u32 = 730_484_633;
 

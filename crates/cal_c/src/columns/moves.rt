@@ -6,7 +6,8 @@ ghost use Rattle.cal_c.specs.Statuses.{bad_date, past_range};
 ghost use Rattle.cal_c.specs.Values.{IsJulianDay};
 
 use super::statuses::{BAD_DATE, DONE, PAST_RANGE};
-use super::{FIRST_JULIAN_DAY, LAST_JULIAN_DAY, NOTHING, UNLIKE, is_date, refused_in};
+use super::{NOTHING, UNLIKE, is_date, refused_in};
+use crate::number::{FIRST_JULIAN_DAY, LAST_JULIAN_DAY};
 
 /// The dates of a column, each moved by the days of another column, row by row as `fots_date_add_days`, and how many rows have none.
 #[unsafe(no_mangle)]
