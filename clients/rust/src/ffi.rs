@@ -1,7 +1,7 @@
 //! The calls of the library, each declared as in `fotsevindre.h`, and each behind a safe function of the same name.
 //!
 //! A call of one value takes numbers and returns numbers. It takes no pointer, answers for each argument whatever its bits, and keeps
-//! no state. A call that reads a text or columns takes slices, each of them passed on with its own length. So each is safe to call
+//! no state. A call that reads a text, columns or holidays takes slices, each of them passed on with its own length. So each is safe to call
 //! wherever the declaration here is that of the header.
 
 use crate::columns::Refusal;
@@ -283,6 +283,35 @@ calls! {
     fots_moment_from_unix_time(duration: CDuration) -> MomentResult;
     fots_moment_unix_timestamp(moment: CMoment) -> LongResult;
     fots_moment_unix_time(moment: CMoment) -> DurationResult;
+}
+
+/// Calls of working days: each takes the sum of the marks of a week, and the holidays with their number.
+macro_rules! calls_of_workdays {
+    ($($name:ident($($argument:ident: $kind:ty),*; week, holidays) -> $result:ident;)*) => {
+        mod declared_of_workdays {
+            use super::*;
+
+            extern "C" {
+                $(pub(super) fn $name($($argument: $kind,)* week: u32, holidays: *const i32, length: usize) -> $result;)*
+            }
+        }
+
+        $(
+            pub(crate) fn $name($($argument: $kind,)* week: u32, holidays: &[Date]) -> Answer<<$result as Returned>::Value> {
+                let holidays = julian_days(holidays);
+                unsafe { declared_of_workdays::$name($($argument,)* week, holidays.as_ptr(), holidays.len()) }.answer()
+            }
+        )*
+    };
+}
+
+calls_of_workdays! {
+    fots_date_is_workday(date: i32; week, holidays) -> PartResult;
+    fots_date_next_workday(date: i32; week, holidays) -> DateResult;
+    fots_date_previous_workday(date: i32; week, holidays) -> DateResult;
+    fots_date_add_workdays(date: i32, days: i32; week, holidays) -> DateResult;
+    fots_date_workdays_between(date: i32, other: i32; week, holidays) -> NumberResult;
+    fots_date_adjusted(date: i32, convention: u32; week, holidays) -> DateResult;
 }
 
 mod declared_alone {

@@ -39,6 +39,7 @@ mod time;
 mod utc_offset;
 pub mod util;
 mod weekday;
+mod workdays;
 
 pub use date::Date;
 pub use duration::{Duration, SignedDuration};
@@ -50,6 +51,7 @@ pub use schedule::{DayCount, Period, YearFraction};
 pub use time::Time;
 pub use utc_offset::UtcOffset;
 pub use weekday::Weekday;
+pub use workdays::{Convention, Workdays};
 
 /// The version of the library that is linked: `(0, 1, 0)` is 0.1.0, which is that of this crate.
 pub fn version() -> (u32, u32, u32) {

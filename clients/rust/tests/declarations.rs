@@ -93,6 +93,7 @@ fn calls_are_those_of_the_header() {
             continue;
         };
         let (arguments, result) = rest.split_once(") -> ").unwrap();
+        let arguments = arguments.replace("; week, holidays", ", week: u32, holidays: *const i32, length: usize");
         let kinds: Vec<_> = arguments.split(", ").map(|argument| argument.split_once(": ").unwrap().1).collect();
         let declared = if result.starts_with('(') {
             (over_columns(&kinds, result), "usize".into())
