@@ -1,6 +1,7 @@
 use Rattle.std.proofs.Common.{◌+ℤ◌, sym, subst, ◌∙◌}
 use Rattle.std.proofs.lemmas.Int.{to_z-of_z}
 use Rattle.cal_schedule.specs.Months.{month_number_at, IsMonthNumber, IsMonthsLater}
+use Rattle.cal_c.specs.Columns.{date_row}
 use Rattle.cal_c.specs.Results.{IsDayWith}
 use Rattle.cal_c.proofs.Schedules.{day-if-any, past-if-any}
 use Rattle.cal_c.proofs.columns.months.date_months_later.Goals as goal
@@ -21,4 +22,4 @@ returns-in-Some-clause-day c = λ h k.
     let has = simp to_z-of_z at c.checked_add_months.ensures.has in
     let none = simp to_z-of_z at c.checked_add_months.ensures.none in
     let day = day-if-any _ _ _ has none (subst (λ n. IsMonthNumber (month_number_at n +ℤ c.args.months)) (sym at.1) k) in
-    subst (IsDayWith (IsMonthsLater _ c.args.months)) (sym c.made_if_any.ensures) (subst (λ n. IsDayWith (IsMonthsLater n c.args.months) _) at.1 day)
+    subst (λ n. IsDayWith (IsMonthsLater n c.args.months) (date_row c.made_if_any.result.0 c.made_if_any.result.1)) at.1 (subst (IsDayWith _) (sym c.made_if_any.ensures) day)
