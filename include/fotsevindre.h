@@ -806,6 +806,16 @@ size_t fots_calendar_dates_to_iso_week_dates(const int32_t *years, size_t years_
 size_t fots_dates_add_days(const int32_t *dates, size_t dates_length, const int64_t *days, size_t days_length, int32_t *moved,
     size_t moved_length, uint8_t *statuses, size_t length);
 
+size_t fots_dates_add_months(const int32_t *dates, size_t dates_length, const int32_t *months, size_t months_length, int32_t *moved,
+    size_t moved_length, uint8_t *statuses, size_t length);
+
+/* Of one calendar for all rows: the marks of the week, and the holidays, which need not be as many as the rows. */
+size_t fots_dates_add_workdays(const int32_t *dates, size_t dates_length, const int32_t *days, size_t days_length, uint32_t week,
+    const fots_date *holidays, size_t holidays_length, int32_t *moved, size_t moved_length, uint8_t *statuses, size_t length);
+
+size_t fots_dates_workdays_between(const int32_t *dates, size_t dates_length, const int32_t *others, size_t others_length, uint32_t week,
+    const fots_date *holidays, size_t holidays_length, int32_t *numbers, size_t numbers_length, uint8_t *statuses, size_t length);
+
 #ifdef __cplusplus
 }
 #endif

@@ -4,7 +4,7 @@
 
 #define ROWS 20000
 
-static int32_t dates[ROWS], years[ROWS];
+static int32_t dates[ROWS], others[ROWS], years[ROWS], numbers[ROWS];
 static int64_t days[ROWS];
 static uint8_t months[ROWS], month_days[ROWS], weeks[ROWS], weekdays[ROWS];
 static uint16_t ordinals[ROWS];
@@ -36,6 +36,18 @@ static uint16_t part(int value, uint16_t most)
     return (uint16_t)(value ? drawn() % (most + 1u) : drawn());
 }
 
+/* Both ends of the range, moved past them and to them. */
+static void ends(void)
+{
+    static const int32_t moves[] = {0, 1, -1, 23999987, -23999987, 23999988, -23999988, 521774738, -521774738, INT32_MAX, INT32_MIN};
+    const int count = (int)(sizeof(moves) / sizeof(moves)[0]);
+    for (int k = 0; k < 2 * count; k++) {
+        dates[6 + k] = k < count ? FOTS_MIN_JULIAN_DAY : FOTS_MAX_JULIAN_DAY;
+        others[6 + k] = k % 2 == 0 ? FOTS_MIN_JULIAN_DAY : FOTS_MAX_JULIAN_DAY;
+        numbers[6 + k] = moves[k % count];
+    }
+}
+
 /* Half of the rows are values mostly, and the others any bits. */
 static void draw(void)
 {
@@ -43,7 +55,9 @@ static void draw(void)
         int value = drawn() % 2 == 0;
         dates[k] = value ? (int32_t)(drawn() % 730484634) + FOTS_MIN_JULIAN_DAY : (int32_t)(uint32_t)drawn();
         years[k] = value ? (int32_t)(drawn() % 1999999) + FOTS_MIN_YEAR : (int32_t)drawn_bits();
+        others[k] = value ? dates[k] + (int32_t)(drawn() % 2001) - 1000 : (int32_t)(uint32_t)drawn();
         days[k] = value ? (int64_t)(drawn() % 800000) - 400000 : drawn_bits();
+        numbers[k] = value ? (int32_t)(drawn() % 4801) - 2400 : (int32_t)drawn_bits();
         months[k] = (uint8_t)part(value, 13);
         month_days[k] = (uint8_t)part(value, 32);
         ordinals[k] = part(value, 367);
@@ -58,6 +72,7 @@ static void draw(void)
     dates[5] = INT32_MAX;
     days[0] = INT64_MIN;
     days[1] = INT64_MAX;
+    ends();
 }
 
 /* Row k is that of the single call: its status, and the parts. */
@@ -104,6 +119,42 @@ static void columns(size_t n)
         firsts[k] == (single.status == FOTS_DONE ? single.number : 0));
     COLUMN(fots_dates_add_days(dates, n, days, n, found, n, statuses, n),
         fots_date_result single = fots_date_add_days(date_at(dates[k]), days[k]), DATES_FOUND);
+    COLUMN(fots_dates_add_months(dates, n, numbers, n, found, n, statuses, n),
+        fots_date_result single = fots_date_add_months(date_at(dates[k]), numbers[k]), DATES_FOUND);
+}
+
+/* The working days of these marks and holidays. */
+static void of_workdays(size_t n, uint32_t week, const fots_date *holidays, size_t length)
+{
+    COLUMN(fots_dates_add_workdays(dates, n, numbers, n, week, holidays, length, found, n, statuses, n),
+        fots_date_result single = fots_date_add_workdays(date_at(dates[k]), numbers[k], week, holidays, length), DATES_FOUND);
+    COLUMN(fots_dates_workdays_between(dates, n, others, n, week, holidays, length, found, n, statuses, n),
+        fots_number_result single = fots_date_workdays_between(date_at(dates[k]), date_at(others[k]), week, holidays, length),
+        found[k] == single.number);
+}
+
+/* Weeks with all marks, with some and with none, and holidays near both ends and every hundredth day; and what is refused. */
+static void workdays(void)
+{
+    static fots_date holidays[FOTS_MOST_HOLIDAYS + 1];
+    for (int k = 0; k <= FOTS_MOST_HOLIDAYS; k++) {
+        holidays[k] = date_at(k < 9 ? FOTS_MIN_JULIAN_DAY + 3 * k : k < FOTS_MOST_HOLIDAYS - 9 ? 2400000 + 100 * k
+            : FOTS_MAX_JULIAN_DAY - 2 * (FOTS_MOST_HOLIDAYS - k));
+    }
+    for (uint32_t week = 0; week < 129; week += week == 96 ? 31 : 32) {
+        of_workdays(200, week, holidays, FOTS_MOST_HOLIDAYS);
+    }
+    for (size_t length = 0; length < 9; length += 4) {
+        of_workdays(ROWS, FOTS_MONDAY_TO_FRIDAY, holidays, length);
+    }
+    of_workdays(200, FOTS_MONDAY_TO_FRIDAY, holidays, FOTS_MOST_HOLIDAYS + 1);
+    of_workdays(200, 128, holidays, FOTS_MOST_HOLIDAYS + 1);
+    holidays[2] = holidays[1];
+    of_workdays(200, FOTS_MONDAY_TO_FRIDAY, holidays, 9);
+    holidays[2] = date_at(FOTS_NOTHING);
+    of_workdays(200, FOTS_MONDAY_TO_FRIDAY, holidays, 9);
+    of_workdays(200, FOTS_MONDAY_TO_FRIDAY, holidays, 2);
+    of_workdays(0, FOTS_MONDAY_TO_FRIDAY, holidays, 2);
 }
 
 /* From calendar dates to ISO week dates at once, and by the dates: the same rows, with the status of the first refusal. */
@@ -134,6 +185,10 @@ static void unlike(void)
     check(fots_dates_from_iso_week_dates(years, 1, weeks, 1, weekdays, 2, found, 1, statuses, 1) == FOTS_UNLIKE, "a weekday too many", 0, 0);
     check(fots_dates_to_iso_week_dates(dates, 1, found, 1, firsts, 1, seconds, 0, statuses, 1) == FOTS_UNLIKE, "no weekday", 0, 0);
     check(fots_dates_add_days(dates, 1, days, 1, found, 0, statuses, 1) == FOTS_UNLIKE, "no date", 0, 0);
+    check(fots_dates_add_months(dates, 1, numbers, 2, found, 1, statuses, 1) == FOTS_UNLIKE, "two months", 0, 0);
+    const fots_date holiday = date_at(2451545);
+    check(fots_dates_add_workdays(dates, 2, numbers, 2, 31, &holiday, 1, found, 2, statuses, 1) == FOTS_UNLIKE, "a status too few", 0, 0);
+    check(fots_dates_workdays_between(dates, 1, others, 0, 128, &holiday, 1, found, 1, statuses, 1) == FOTS_UNLIKE, "no other date", 0, 0);
     check(fots_dates_from_julian_days(days, 0, found, 0, statuses, 0) == 0, "no rows", 0, 0);
     check(found[0] == 77 && statuses[0] == 77, "what stood there", found[0], statuses[0]);
 }
@@ -143,6 +198,7 @@ int main(void)
     draw();
     columns(ROWS);
     columns(1);
+    workdays();
     chained(ROWS);
     unlike();
     return ended("columns");

@@ -37,12 +37,12 @@ __version__ = "0.1.0"
 
 __all__ = [
     "CalendarDateColumns", "ComponentRange", "Convention", "Date", "DateColumns", "DayCount", "Days", "IsoWeekDateColumns", "Month",
-    "OffsetDateTime", "OrdinalDateColumns", "Period", "PlainDateTime", "SignedDuration", "Time", "Unreadable", "UtcOffset", "Weekday",
-    "WeekdayColumns", "Workdays", "YearFraction", "add_to_pair", "calendar_dates_to_iso_week_dates", "dates_add_days",
-    "dates_from_calendar_dates", "dates_from_iso_week_dates", "dates_from_julian_days", "dates_from_ordinal_dates",
-    "dates_to_calendar_dates", "dates_to_iso_week_dates", "dates_to_ordinal_dates", "dates_weekdays", "days_in_month", "days_in_year",
-    "days_in_year_month", "is_leap_year", "read_rfc3339", "read_unix", "rfc3339_text", "status_error", "sub_from_pair",
-    "unix_duration", "unix_pair", "unix_text", "weeks_in_year",
+    "NumberColumns", "OffsetDateTime", "OrdinalDateColumns", "Period", "PlainDateTime", "SignedDuration", "Time", "Unreadable", "UtcOffset",
+    "Weekday", "WeekdayColumns", "Workdays", "YearFraction", "add_to_pair", "calendar_dates_to_iso_week_dates", "dates_add_days",
+    "dates_add_months", "dates_add_workdays", "dates_from_calendar_dates", "dates_from_iso_week_dates", "dates_from_julian_days",
+    "dates_from_ordinal_dates", "dates_to_calendar_dates", "dates_to_iso_week_dates", "dates_to_ordinal_dates", "dates_weekdays",
+    "dates_workdays_between", "days_in_month", "days_in_year", "days_in_year_month", "is_leap_year", "read_rfc3339", "read_unix",
+    "rfc3339_text", "status_error", "sub_from_pair", "unix_duration", "unix_pair", "unix_text", "weeks_in_year",
 ]
 
 # ---- the library
@@ -243,12 +243,16 @@ _COLUMNS: Dict[str, Tuple[List[Any], List[Any]]] = {
     "dates_weekdays": ([_I32], [_U8]),
     "calendar_dates_to_iso_week_dates": ([_I32, _U8, _U8], [_I32, _U8, _U8]),
     "dates_add_days": ([_I32, _I64], [_I32]),
+    "dates_add_months": ([_I32, _I32], [_I32]),
+    "dates_add_workdays": ([_I32, _I32], [_I32]),
+    "dates_workdays_between": ([_I32, _I32], [_I32]),
 }
 for _name, (_taken, _given) in _COLUMNS.items():
     _call = getattr(_library, "fots_" + _name)
     _call.restype = ctypes.c_size_t
-    # Each array is a pointer and a length, and the statuses are the last one.
-    _call.argtypes = [_part for _kind in [*_taken, *_given, _U8] for _part in (ctypes.POINTER(_kind), ctypes.c_size_t)]
+    # Each array is a pointer and a length, and the statuses are the last one. The marks of a week and the holidays stand before the answer.
+    _takes, _gives = ([_part for _kind in _kinds for _part in (ctypes.POINTER(_kind), ctypes.c_size_t)] for _kinds in (_taken, [*_given, _U8]))
+    _call.argtypes = [*_takes, *([_U32, ctypes.POINTER(_I32), ctypes.c_size_t] if "workdays" in _name else []), *_gives]
     _calls[_name] = _call
 
 # Each call by its name, as an attribute of a class: the quickest way to it.
@@ -2343,17 +2347,19 @@ def _column(values: Any, kind: Any, of_dates: bool) -> Any:
     return column.from_buffer_copy(view)
 
 
-def _over_columns(name: str, *columns: object) -> Tuple[Any, ...]:
+def _over_columns(name: str, *columns: object, workdays: Optional[Workdays] = None) -> Tuple[Any, ...]:
     """The columns of the answer, the statuses, and how many rows have none."""
     kinds, kinds_given = _COLUMNS[name]
-    of_dates = name.startswith("dates_to_") or name in ("dates_weekdays", "dates_add_days")
-    found = [_column(values, kind, of_dates and place == 0) for place, (values, kind) in enumerate(zip(columns, kinds))]
+    of_dates = 2 if name == "dates_workdays_between" else int(name.startswith("dates_") and not name.startswith("dates_from_"))
+    found = [_column(values, kind, place < of_dates) for place, (values, kind) in enumerate(zip(columns, kinds))]
     length = len(found[0])
     if any(len(column) != length for column in found):
         raise ValueError("columns of one length expected")
     made = [array.array(_CODES[kind], [0]) * length for kind in (*kinds_given, _U8)]
-    found += [_column(column, kind, False) for column, kind in zip(made, (*kinds_given, _U8))]
-    refused: int = _calls[name](*(part for column in found for part in (column, length)))
+    written = [_column(column, kind, False) for column, kind in zip(made, (*kinds_given, _U8))]
+    taken, given = ([part for column in parts for part in (column, length)] for parts in (found, written))
+    between = () if workdays is None else (workdays._week, workdays._holidays, len(workdays._holidays))
+    refused: int = _calls[name](*taken, *between, *given)
     if any(hasattr(values, "dtype") for values in columns):
         # Who passes an array of numpy has it loaded, and gets arrays of numpy over the same memory.
         return (*map(sys.modules["numpy"].asarray, made), refused)
@@ -2401,6 +2407,14 @@ class WeekdayColumns(NamedTuple):
     """Weekdays from Monday, 1, in 8 bits without a sign, a status byte for each row, and how many rows have no answer."""
 
     weekdays: Any
+    statuses: Any
+    refused: int
+
+
+class NumberColumns(NamedTuple):
+    """Numbers in 32 bits with a sign, a status byte for each row, and how many rows have no answer."""
+
+    numbers: Any
     statuses: Any
     refused: int
 
@@ -2462,3 +2476,25 @@ def calendar_dates_to_iso_week_dates(years: object, months: object, days: object
 def dates_add_days(dates: object, days: object) -> DateColumns:
     """A column of dates, in 32 bits with a sign, each moved by days, in 64 bits with a sign."""
     return DateColumns(*_over_columns("dates_add_days", dates, days))
+
+
+def dates_add_months(dates: object, months: object) -> DateColumns:
+    """A column of dates, each moved by months as `Date.checked_add_months` moves it, both in 32 bits with a sign."""
+    return DateColumns(*_over_columns("dates_add_months", dates, months))
+
+
+def dates_add_workdays(dates: object, days: object, workdays: Workdays) -> DateColumns:
+    """A column of dates, each moved by working days as `Workdays.checked_add_workdays` moves it, both in 32 bits with a sign."""
+    return DateColumns(*_over_columns("dates_add_workdays", dates, days, workdays=_is(workdays, Workdays)))
+
+
+def dates_workdays_between(dates: object, others: object, workdays: Workdays) -> NumberColumns:
+    """How many working days there are from each date of a column to the day before that of another, as `Workdays.workdays_between` counts.
+
+    Both are in 32 bits with a sign. Where there is no answer, the number is the least one.
+
+    >>> import array
+    >>> dates_workdays_between(array.array("i", [2451545]), array.array("i", [2451911]), Workdays())
+    NumberColumns(numbers=array('i', [260]), statuses=array('B', [0]), refused=0)
+    """
+    return NumberColumns(*_over_columns("dates_workdays_between", dates, others, workdays=_is(workdays, Workdays)))

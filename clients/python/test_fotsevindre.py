@@ -856,6 +856,39 @@ class Columns(Cases):
                 self.assertEqual((status, later), (0, date + move))
         self.assertEqual(refused, sum(status != 0 for status in statuses))
 
+    def test_schedule(self):
+        """Months and working days, each row against the call of one value."""
+        moves = array.array("i", [1, 0, 0, 1, 1, 2**31 - 1, 1, -2**31, *range(-1000, 1000)])
+        days = [1, 5, 40, 366963556, 366963559]
+        workdays = fotsevindre.Workdays(holidays=[Date.from_julian_day(number) for number in days])
+        for over_columns, of_one, taken in [
+            (fotsevindre.dates_add_months, Date.checked_add_months, ()),
+            (fotsevindre.dates_add_workdays, workdays.checked_add_workdays, (workdays,)),
+        ]:
+            moved, statuses, refused = over_columns(self.DATES, moves, *taken)
+            for later, status, date, move in zip(moved, statuses, self.DATES, moves):
+                error = fotsevindre.status_error(status)
+                if not -363521074 <= date <= 366963559:
+                    self.assertEqual((later, type(error)), (-2**31, ValueError))
+                    continue
+                one = of_one(Date.from_julian_day(date), move)
+                self.assertEqual((later, type(error)), (-2**31, OverflowError) if one is None else (one.to_julian_day(), type(None)))
+            self.assertEqual(refused, sum(status != 0 for status in statuses))
+            self.assertTrue(0 < refused < len(moves))
+        others = array.array("i", reversed(self.DATES))
+        numbers, statuses, refused = fotsevindre.dates_workdays_between(self.DATES, others, workdays)
+        for number, status, date, other in zip(numbers, statuses, self.DATES, others):
+            if -363521074 <= min(date, other) and max(date, other) <= 366963559:
+                self.assertEqual((number, status), (workdays.workdays_between(Date.from_julian_day(date), Date.from_julian_day(other)), 0))
+            else:
+                self.assertEqual((number, type(fotsevindre.status_error(status))), (-2**31, ValueError))
+        self.assertEqual(refused, sum(status != 0 for status in statuses))
+        for wrong in (None, 31, [1]):
+            with self.assertRaises(TypeError):
+                fotsevindre.dates_add_workdays(self.DATES, moves, wrong)
+        with self.assertRaises(ValueError):
+            fotsevindre.dates_workdays_between(self.DATES, others[1:], workdays)
+
     def test_buffers(self):
         whole = array.array("q", range(2451545, 2451550))
         unaligned = memoryview(bytearray(b"-" + bytes(whole)))[1:].cast("q")

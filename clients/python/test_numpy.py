@@ -35,6 +35,29 @@ class Numpy(unittest.TestCase):
         found = (moved.astype("int64") - EPOCH).view("datetime64[D]")
         self.assertTrue((found == days + numpy.array([1, -366])).all())
 
+    def test_schedule(self):
+        """Months by numpy's months, and working days by its `busday_offset` and `busday_count`."""
+        days = numpy.arange("1990-01-01", "2030-01-01", dtype="datetime64[D]")
+        months = numpy.arange(len(days), dtype="int64") % 481 - 240
+        moved, statuses, refused = fotsevindre.dates_add_months(days, months)
+        starts = days.astype("datetime64[M]") + months.astype("timedelta64[M]")
+        lasts = (starts + 1).astype("datetime64[D]") - 1
+        wanted = numpy.minimum(starts.astype("datetime64[D]") + (days - days.astype("datetime64[M]")), lasts)
+        self.assertEqual((refused, bool(statuses.any())), (0, False))
+        self.assertTrue(((moved.astype("int64") - EPOCH).view("datetime64[D]") == wanted).all())
+
+        holidays = numpy.arange("1995-01-03", "2025-01-01", 30, dtype="datetime64[D]")
+        workdays = fotsevindre.Workdays(holidays=[Date.from_julian_day(int(day) + EPOCH) for day in holidays.view("int64")])
+        moved, statuses, refused = fotsevindre.dates_add_workdays(days, months, workdays)
+        for roll, back in (("backward", False), ("forward", True)):
+            rows = months < 0 if back else months > 0
+            wanted = numpy.busday_offset(days[rows], months[rows], roll=roll, holidays=holidays)
+            self.assertTrue(((moved[rows].astype("int64") - EPOCH).view("datetime64[D]") == wanted).all())
+        self.assertEqual(refused, 0)
+        numbers, statuses, refused = fotsevindre.dates_workdays_between(days, days + 1000, workdays)
+        self.assertTrue((numbers == numpy.busday_count(days, days + 1000, holidays=holidays)).all())
+        self.assertEqual((refused, statuses.dtype, numbers.dtype), (0, "uint8", "int32"))
+
     def test_columns_chain(self):
         """What one call gives is an array of numpy that the next one takes as it lies, also of a refused row."""
         years, months, days = numpy.array([2024, 2021], dtype="int32"), numpy.array([13, 1], dtype="uint8"), numpy.array([1, 1], dtype="uint8")

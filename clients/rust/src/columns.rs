@@ -27,7 +27,7 @@
 
 use crate::error::ComponentRange;
 use crate::ffi;
-use crate::Date;
+use crate::{Date, Workdays};
 
 /// Why a row has no answer.
 #[derive(Clone, Copy, Debug, PartialEq, Eq, Hash)]
@@ -133,4 +133,23 @@ pub fn calendar_dates_to_iso_week_dates(
 #[track_caller]
 pub fn dates_add_days(dates: &[i32], days: &[i64], moved: &mut [i32], statuses: &mut [u8]) -> usize {
     ffi::fots_dates_add_days(dates, days, moved, statuses)
+}
+
+/// The day so many months later than each of these dates, or earlier where they are below 0, as [`Date::checked_add_months`] moves it.
+#[track_caller]
+pub fn dates_add_months(dates: &[i32], months: &[i32], moved: &mut [i32], statuses: &mut [u8]) -> usize {
+    ffi::fots_dates_add_months(dates, months, moved, statuses)
+}
+
+/// The working day so many working days after each of these dates, or before it, as [`Workdays::checked_add_workdays`] finds it.
+#[track_caller]
+pub fn dates_add_workdays(dates: &[i32], days: &[i32], workdays: &Workdays, moved: &mut [i32], statuses: &mut [u8]) -> usize {
+    ffi::fots_dates_add_workdays(dates, days, workdays.week, workdays.holidays, moved, statuses)
+}
+
+/// How many working days there are from each of these dates to the day before the other one, as [`Workdays::workdays_between`] counts them.
+/// A row with no answer has `i32::MIN`.
+#[track_caller]
+pub fn dates_workdays_between(dates: &[i32], others: &[i32], workdays: &Workdays, numbers: &mut [i32], statuses: &mut [u8]) -> usize {
+    ffi::fots_dates_workdays_between(dates, others, workdays.week, workdays.holidays, numbers, statuses)
 }

@@ -416,6 +416,44 @@ calls_over_columns! {
     fots_dates_weekdays(dates: i32) -> (weekdays: u8, statuses: u8);
     fots_calendar_dates_to_iso_week_dates(years: i32, months: u8, days: u8) -> (iso_years: i32, weeks: u8, weekdays: u8, statuses: u8);
     fots_dates_add_days(dates: i32, days: i64) -> (moved: i32, statuses: u8);
+    fots_dates_add_months(dates: i32, months: i32) -> (moved: i32, statuses: u8);
+}
+
+/// The same of working days: the marks of the week and the holidays come after the columns.
+macro_rules! calls_over_columns_of_workdays {
+    ($($name:ident($($column:ident: $kind:ty),*; week, holidays) -> ($($written:ident: $to:ty),*);)*) => {
+        mod declared_over_columns_of_workdays {
+            extern "C" {
+                $(pub(super) fn $name(
+                    $($column: *const $kind, _: usize,)* week: u32, holidays: *const i32, length: usize, $($written: *mut $to, _: usize),*
+                ) -> usize;)*
+            }
+        }
+
+        $(
+            /// How many rows have no answer.
+            #[track_caller]
+            pub(crate) fn $name($($column: &[$kind],)* week: u32, holidays: &[Date], $($written: &mut [$to]),*) -> usize {
+                let holidays = julian_days(holidays);
+                let refused = unsafe {
+                    declared_over_columns_of_workdays::$name(
+                        $($column.as_ptr(), $column.len(),)*
+                        week,
+                        holidays.as_ptr(),
+                        holidays.len(),
+                        $($written.as_mut_ptr(), $written.len()),*
+                    )
+                };
+                assert!(refused != UNLIKE, "columns are not of one length");
+                refused
+            }
+        )*
+    };
+}
+
+calls_over_columns_of_workdays! {
+    fots_dates_add_workdays(dates: i32, days: i32; week, holidays) -> (moved: i32, statuses: u8);
+    fots_dates_workdays_between(dates: i32, others: i32; week, holidays) -> (numbers: i32, statuses: u8);
 }
 
 /// The Julian days of dates. A date is its Julian day alone, so they lie there as such.

@@ -30,8 +30,8 @@ pub enum Convention {
 #[derive(Clone, Copy, Debug)]
 pub struct Workdays<'a> {
     /// The sum of the marks, from 1 for Monday to 64 for Sunday.
-    week: u32,
-    holidays: &'a [Date],
+    pub(crate) week: u32,
+    pub(crate) holidays: &'a [Date],
 }
 
 impl<'a> Workdays<'a> {

@@ -2,7 +2,7 @@
 
 use fotsevindre::columns::{self, refusal, Refusal};
 use fotsevindre::error::ComponentRange;
-use fotsevindre::{Date, Month, Weekday};
+use fotsevindre::{Date, Month, Weekday, Workdays};
 use std::panic::catch_unwind;
 
 const ROWS: usize = 20_000;
@@ -146,6 +146,53 @@ fn what_dates_have() {
     assert_eq!(refused, statuses.iter().filter(|status| **status != 0).count());
 }
 
+/// What a move by months or working days answers: a date, none past the range, or none as the row has no date.
+fn moved_row(date: i32, moved: impl Fn(Date) -> Option<Date>) -> (i32, Option<Refusal>) {
+    match Date::from_julian_day(date).map(moved) {
+        Ok(Some(later)) => (later.to_julian_day(), None),
+        Ok(None) => (NOTHING, Some(Refusal::PastRange)),
+        Err(_) => (NOTHING, Some(Refusal::NoDate)),
+    }
+}
+
+#[test]
+fn dates_of_the_schedule() {
+    let mut dates = column(5, -363_521_074, 366_963_559, |word| word as i32);
+    let mut others = column(8, -363_521_074, 366_963_559, |word| word as i32);
+    let mut moves = column(9, -24_000_000, 24_000_000, |word| word as i32);
+    // Both ends of the range, moved past it and to its other end.
+    dates[..6].copy_from_slice(&[-363_521_074, -363_521_074, -363_521_074, 366_963_559, 366_963_559, 366_963_559]);
+    others[..6].copy_from_slice(&[-363_521_074, 366_963_559, 0, 366_963_559, -363_521_074, 0]);
+    moves[..6].copy_from_slice(&[0, -1, 23_999_987, 0, 1, -23_999_987]);
+    let (mut moved, mut statuses) = (vec![0; ROWS], vec![0; ROWS]);
+    let refused = columns::dates_add_months(&dates, &moves, &mut moved, &mut statuses);
+    assert_eq!(refused, statuses.iter().filter(|status| **status != 0).count());
+    for row in 0..ROWS {
+        let expected = moved_row(dates[row], |date| date.checked_add_months(moves[row]));
+        assert_eq!((moved[row], refusal(statuses[row])), expected, "{row}");
+    }
+
+    let holidays = [-363_521_073, 2_451_545, 366_963_557, 366_963_558].map(|day| Date::from_julian_day(day).unwrap());
+    let workdays = Workdays::new(Workdays::MONDAY_TO_FRIDAY, &holidays).unwrap();
+    let refused = columns::dates_add_workdays(&dates, &moves, &workdays, &mut moved, &mut statuses);
+    assert_eq!(refused, statuses.iter().filter(|status| **status != 0).count());
+    for row in 0..ROWS {
+        let expected = moved_row(dates[row], |date| workdays.checked_add_workdays(date, moves[row]));
+        assert_eq!((moved[row], refusal(statuses[row])), expected, "{row}");
+    }
+
+    let mut numbers = vec![0; ROWS];
+    let refused = columns::dates_workdays_between(&dates, &others, &workdays, &mut numbers, &mut statuses);
+    assert_eq!(refused, statuses.iter().filter(|status| **status != 0).count());
+    for row in 0..ROWS {
+        let expected = match (Date::from_julian_day(dates[row]), Date::from_julian_day(others[row])) {
+            (Ok(date), Ok(other)) => (workdays.workdays_between(date, other), None),
+            _ => (NOTHING, Some(Refusal::NoDate)),
+        };
+        assert_eq!((numbers[row], refusal(statuses[row])), expected, "{row}");
+    }
+}
+
 /// What one call writes is what the next one takes: by the dates the same as at once, and back again.
 #[test]
 fn columns_chain() {
@@ -200,6 +247,10 @@ fn columns_of_other_lengths() {
         let n = &numbers[..a];
         assert!(catch_unwind(|| columns::dates_from_ordinal_dates(n, &shorts[..b], &mut whole(c), &mut byte(d))).is_err());
         assert!(catch_unwind(|| columns::dates_add_days(n, &longs[..b], &mut whole(c), &mut byte(d))).is_err());
+        assert!(catch_unwind(|| columns::dates_add_months(n, &numbers[..b], &mut whole(c), &mut byte(d))).is_err());
+        let workdays = Workdays::new([true; 7], &[]).unwrap();
+        assert!(catch_unwind(|| columns::dates_add_workdays(n, &numbers[..b], &workdays, &mut whole(c), &mut byte(d))).is_err());
+        assert!(catch_unwind(|| columns::dates_workdays_between(n, &numbers[..b], &workdays, &mut whole(c), &mut byte(d))).is_err());
         assert!(catch_unwind(|| columns::dates_to_ordinal_dates(n, &mut whole(b), &mut vec![0; c], &mut byte(d))).is_err());
     }
     for [a, b, c] in [[1, 2, 2], [2, 1, 2], [2, 2, 1], [0, 1, 1], [1, 0, 0]] {

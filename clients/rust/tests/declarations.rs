@@ -69,12 +69,17 @@ fn calls_of_header() -> HashMap<String, (String, String)> {
     calls.collect()
 }
 
-/// What a call over columns takes: each slice that it reads, and each that it writes, with its length.
+/// What stands for the marks of a week and the holidays.
+const WORKDAYS: &str = ", week: u32, holidays: *const i32, length: usize";
+
+/// What a call over columns takes: each slice that it reads, and each that it writes, with its length, and in between what is no slice.
 fn over_columns(columns: &[&str], written: &str) -> String {
+    let no_slices = columns.iter().position(|kind| *kind == "u32").unwrap_or(columns.len());
+    let (columns, no_slices) = columns.split_at(no_slices);
     let columns = columns.iter().map(|kind| format!("*const {kind}, usize"));
     let written = written.strip_prefix('(').unwrap().strip_suffix(')').unwrap();
     let written = written.split(", ").map(|part| format!("*mut {}, usize", part.split_once(": ").unwrap().1));
-    columns.chain(written).collect::<Vec<_>>().join(", ")
+    columns.chain(no_slices.iter().map(|kind| kind.to_string())).chain(written).collect::<Vec<_>>().join(", ")
 }
 
 #[test]
@@ -93,7 +98,7 @@ fn calls_are_those_of_the_header() {
             continue;
         };
         let (arguments, result) = rest.split_once(") -> ").unwrap();
-        let arguments = arguments.replace("; week, holidays", ", week: u32, holidays: *const i32, length: usize");
+        let arguments = arguments.replace("; week, holidays", WORKDAYS);
         let kinds: Vec<_> = arguments.split(", ").map(|argument| argument.split_once(": ").unwrap().1).collect();
         let declared = if result.starts_with('(') {
             (over_columns(&kinds, result), "usize".into())

@@ -1,5 +1,5 @@
 -- Days that a move leads to, where there is one.
-use Rattle.std.proofs.Common.{◌≡◌, ℕ, ◌<◌, ◌≤◌, ◌==◌, if◌then◌else◌, refl, sym, ap, ◌∙◌, arith, ℤ, ◌≤ℤ◌, ◌<ℤ◌, Option, Some, None, IfSome, IfNone}
+use Rattle.std.proofs.Common.{◌≡◌, ℕ, ◌<◌, ◌≤◌, ◌==◌, if◌then◌else◌, refl, sym, ap, ◌∙◌, arith, ℤ, ◌≤ℤ◌, ◌<ℤ◌, Option, Some, None, IfSome, IfNone, Result, Ok, Err, IfOk, IfErr, subst}
 use Rattle.std.proofs.lemmas.Int.{ints}
 use Rattle.cal_time.specs.Date.{IsDate}
 use Rattle.cal_schedule.specs.declared.money.DayCount.{DayCount}
@@ -7,6 +7,7 @@ use Rattle.cal_schedule.specs.declared.money.DayCount.TheVariants.{Actual360, Ac
 use Rattle.cal_schedule.specs.declared.period.Period.{Period}
 use Rattle.cal_schedule.specs.declared.workdays.convention.Convention.{Convention}
 use Rattle.cal_schedule.specs.declared.workdays.convention.Convention.TheVariants.{Unadjusted, Following, ModifiedFollowing, Preceding, ModifiedPreceding}
+use Rattle.cal_c.specs.Columns.{IsByte}
 use Rattle.cal_c.specs.Results.{date_refused, date_if_any, number_done, IsDayWith}
 use Rattle.cal_c.specs.Schedule.{day_count_number, period_done, IsNumberWith, IsPeriodWith}
 use Rattle.cal_c.specs.Statuses.{past_range}
@@ -21,6 +22,13 @@ day-if-any Has A (Some n) has none a = IsDayWith-at Has n has.0 has.1
 pub past-if-any : (A : Type 0) (r : Option ℕ) → IfSome r (λ n. A) → (A → ⊥) → date_if_any r ≡ date_refused past_range
 past-if-any A None some out = refl
 past-if-any A (Some n) some out = absurd (out some)
+
+-- what holds of each refusal holds of the one that there is, and of each value of the one that was read
+pub if_refused : {V : Type 0} (R : ℤ → Type 0) (r : Result V ℤ) (s : ℤ) → r ≡ Err s → IsByte s → IfErr r (λ t. IsByte t → R t) → R s
+if_refused R r s is byte h = subst (λ q. IfErr q (λ t. IsByte t → R t)) is h byte
+
+pub if_read : {V E : Type 0} (P : V → Type 0) (r : Result V E) (v : V) → r ≡ Ok v → IfOk r P → P v
+if_read P r v is h = subst (λ q. IfOk q P) is h
 
 -- days in the order of their Julian days
 pub not_after : (j k : ℤ) → IsJulianDay j → IsJulianDay k → j ≤ℤ k → day_of j ≤ day_of k

@@ -1,11 +1,15 @@
 -- What a row of a column is answered: as by the single call.
-use Rattle.std.specs.Prelude.{◌≡◌, ℕ, ℤ, pos, ◌+◌, ◌-◌, ◌+ℤ◌, Bool, not, ◌==◌}
+use Rattle.std.specs.Prelude.{◌≡◌, ℕ, ℤ, pos, ◌+◌, ◌-◌, ◌<◌, ◌≤◌, ◌+ℤ◌, ◌≤ℤ◌, Bool, not, ◌==◌, List, length}
 use Rattle.cal_time.specs.Date.{julian_day_at, weekday_at, IsDate, IsYear, IsDayOfMonth, IsOrdinal, HasCalendarDate, HasOrdinalDate, NoDate}
 use Rattle.cal_time.specs.IsoWeekDate.{IsWeek, HasIsoWeekDate}
-use Rattle.cal_c.specs.Results.{date_done, date_refused, IsDayWith, calendar_date_done, calendar_date_refused, ordinal_date_done, ordinal_date_refused, iso_week_date_done, iso_week_date_refused}
-use Rattle.cal_c.specs.Statuses.{done, past_range, bad_date, bad_weekday, year_refused, month_refused, julian_day_refused, day_refused, ordinal_refused, week_refused, weekday_refused}
+use Rattle.cal_schedule.specs.Months.{month_number_at, IsMonthNumber, IsMonthsLater}
+use Rattle.cal_schedule.specs.Workdays.{nth_workday}
+use Rattle.cal_c.specs.Results.{date_done, date_if_any, date_refused, number_done, number_refused, IsDayWith, calendar_date_done, calendar_date_refused, ordinal_date_done, ordinal_date_refused, iso_week_date_done, iso_week_date_refused}
+use Rattle.cal_c.specs.Statuses.{done, past_range, bad_date, bad_weekday, bad_week, bad_holidays, many_holidays, year_refused, month_refused, julian_day_refused, day_refused, ordinal_refused, week_refused, weekday_refused}
 use Rattle.cal_c.specs.Values.{IsJulianDay, IsMonth, IsWeekday, day_of}
+use Rattle.cal_c.specs.Workweeks.{most_holidays, work_week, workdays_number, AreHolidays, IsMarks}
 use Rattle.cal_c.specs.declared.results.DateResult.{DateResult}
+use Rattle.cal_c.specs.declared.results.NumberResult.{NumberResult}
 use Rattle.cal_c.specs.declared.results.CalendarDateResult.{CalendarDateResult}
 use Rattle.cal_c.specs.declared.results.OrdinalDateResult.{OrdinalDateResult}
 use Rattle.cal_c.specs.declared.results.IsoWeekDateResult.{IsoWeekDateResult}
@@ -13,6 +17,10 @@ use Rattle.cal_c.specs.declared.results.IsoWeekDateResult.{IsoWeekDateResult}
 -- there is no answer
 abbrev pub is_refused : ℕ → Bool
 is_refused status = not (status == 0)
+
+-- a status is a byte
+abbrev pub IsByte : ℤ → Type 0
+IsByte status = (pos 0 ≤ℤ status) × (status ≤ℤ pos 255)
 
 -- the arrays are of one length
 abbrev pub Alike3 : ℕ → ℕ → ℕ → Type 0
@@ -30,6 +38,9 @@ Alike7 a b c d e f g = (b ≡ a) × (c ≡ a) × (d ≡ a) × (e ≡ a) × (f �
 -- ---- a row of several arrays, as the result of the single call
 abbrev pub date_row : ℤ → ℕ → DateResult
 date_row date status = record { status = pos status; date = date }
+
+abbrev pub number_row : ℤ → ℕ → NumberResult
+number_row number status = record { status = pos status; number = number }
 
 abbrev pub calendar_date_row : ℤ → ℕ → ℕ → ℕ → CalendarDateResult
 calendar_date_row year month day status = record { status = pos status; year = year; month = month; day = day }
@@ -99,3 +110,28 @@ pub record IsDateMoved (date : ℤ) (days : ℤ) (r : DateResult) : Type 0 where
   pub bad_date : (IsJulianDay date → ⊥) → r ≡ date_refused bad_date
   pub past_range : IsJulianDay date → (IsJulianDay (date +ℤ days) → ⊥) → r ≡ date_refused past_range
   pub day : IsJulianDay date → IsJulianDay (date +ℤ days) → r ≡ date_done (date +ℤ days)
+
+-- as `fots_date_add_months`
+pub record IsDateMonthsLater (date : ℤ) (months : ℤ) (r : DateResult) : Type 0 where
+  pub bad_date : (IsJulianDay date → ⊥) → r ≡ date_refused bad_date
+  pub past_range : IsJulianDay date → (IsMonthNumber (month_number_at (day_of date) +ℤ months) → ⊥) → r ≡ date_refused past_range
+  pub day : IsJulianDay date → IsMonthNumber (month_number_at (day_of date) +ℤ months) → IsDayWith (IsMonthsLater (day_of date) months) r
+
+-- as `fots_date_add_workdays`
+pub record IsDateWorkdaysLater (date : ℤ) (days : ℤ) (week : ℕ) (holidays : List ℤ) (r : DateResult) : Type 0 where
+  pub bad_date : (IsJulianDay date → ⊥) → r ≡ date_refused bad_date
+  pub bad_week : IsJulianDay date → (IsMarks week → ⊥) → r ≡ date_refused bad_week
+  pub many_holidays : IsJulianDay date → IsMarks week → most_holidays < length holidays → r ≡ date_refused many_holidays
+  pub bad_holidays : IsJulianDay date → IsMarks week → length holidays ≤ most_holidays → (AreHolidays holidays → ⊥) → r ≡ date_refused bad_holidays
+  pub day : IsJulianDay date → IsMarks week → length holidays ≤ most_holidays → AreHolidays holidays
+      → r ≡ date_if_any (nth_workday (work_week week holidays) days (day_of date))
+
+-- as `fots_date_workdays_between`
+pub record IsWorkdaysBetween (date : ℤ) (other : ℤ) (week : ℕ) (holidays : List ℤ) (r : NumberResult) : Type 0 where
+  pub bad_date : (IsJulianDay date × IsJulianDay other → ⊥) → r ≡ number_refused bad_date
+  pub bad_week : IsJulianDay date → IsJulianDay other → (IsMarks week → ⊥) → r ≡ number_refused bad_week
+  pub many_holidays : IsJulianDay date → IsJulianDay other → IsMarks week → most_holidays < length holidays → r ≡ number_refused many_holidays
+  pub bad_holidays : IsJulianDay date → IsJulianDay other → IsMarks week → length holidays ≤ most_holidays → (AreHolidays holidays → ⊥)
+      → r ≡ number_refused bad_holidays
+  pub value : IsJulianDay date → IsJulianDay other → IsMarks week → length holidays ≤ most_holidays → AreHolidays holidays
+      → r ≡ number_done (workdays_number (work_week week holidays) (day_of date) (day_of other))

@@ -7,9 +7,11 @@ ghost use Rattle.cal_c.specs.Columns.{is_refused};
 ghost use Rattle.cal_c.specs.Values.{IsJulianDay};
 
 mod making;
+mod months;
 mod moves;
 mod parts;
 mod statuses;
+mod workdays;
 
 use crate::number::{FIRST_JULIAN_DAY, LAST_JULIAN_DAY};
 use statuses::DONE;

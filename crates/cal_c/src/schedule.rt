@@ -6,4 +6,4 @@ mod months;
 mod results;
 mod until;
 mod weekdays;
-mod workdays;
+pub mod workdays;

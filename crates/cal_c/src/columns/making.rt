@@ -5,11 +5,11 @@ ghost use Rattle.cal_time.specs.IsoWeekDate.{IsWeek, HasIsoWeekDate};
 ghost use Rattle.cal_time.specs.Month.{number};
 ghost use Rattle.cal_time.specs.Weekday.{place};
 ghost use Rattle.cal_c.specs.Columns.{Alike3, Alike4, Alike5, date_row, is_refused, IsDateOfJulianDay, IsDateOfCalendarDate, IsDateOfOrdinalDate, IsDateOfIsoWeekDate};
-ghost use Rattle.cal_c.specs.Results.{date_done, date_refused, IsDayWith};
+ghost use Rattle.cal_c.specs.Results.{date_done, date_if_any, date_refused, IsDayWith};
 ghost use Rattle.cal_c.specs.Statuses.{bad_weekday, julian_day_refused, year_refused, month_refused, day_refused, ordinal_refused, week_refused, weekday_refused};
 ghost use Rattle.cal_c.specs.Values.{IsJulianDay, IsMonth, IsWeekday};
 
-use super::statuses::{BAD_WEEKDAY, DONE, JULIAN_DAY, MONTH, status_of};
+use super::statuses::{BAD_WEEKDAY, DONE, JULIAN_DAY, MONTH, PAST_RANGE, status_of};
 use super::{NOTHING, UNLIKE, is_date, refused_in};
 use crate::values;
 use cal_time::{Date, Month, Weekday};
@@ -137,10 +137,21 @@ fn made(date: Date) -> (i32, u8)
 
 /// What stands for the date of a row that has none, and the status.
 #[inline(always)]
-fn refused(status: u8) -> (i32, u8)
+pub(super) fn refused(status: u8) -> (i32, u8)
     ensures { date_row result.0 result.1 ≡ date_refused (pos status) }
 {
     (NOTHING, status)
+}
+
+/// The date of a row where the range has it, and the status.
+#[inline(always)]
+pub(super) fn made_if_any(date: Option<Date>) -> (i32, u8)
+    ensures { date_row result.0 result.1 ≡ date_if_any date }
+{
+    match date {
+        Some(date) => made(date),
+        None => refused(PAST_RANGE),
+    }
 }
 
 /// The month that has the number, from January, 1.

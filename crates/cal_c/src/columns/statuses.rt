@@ -1,6 +1,7 @@
 //! The status of a row in one byte: each status is below 256.
 ghost use Rattle.std.specs.Prelude.{◌≡◌, pos};
 ghost use Rattle.cal_time.specs.Refusals.{year_out_of_range, day_out_of_range, ordinal_out_of_range, week_out_of_range, weekday_out_of_range};
+ghost use Rattle.cal_c.specs.Columns.{IsByte};
 ghost use Rattle.cal_c.specs.Statuses.{year_refused, day_refused, ordinal_refused, week_refused, weekday_refused};
 
 use crate::status;
@@ -42,5 +43,15 @@ pub(super) fn status_of(error: ComponentRange) -> u8
         Component::Ordinal => ORDINAL,
         Component::Week => WEEK,
         _ => WEEKDAY,
+    }
+}
+
+/// The status in one byte.
+pub(super) fn byte_of(status: i32) -> u8
+    ensures { IsByte status → pos result ≡ status }
+{
+    match u8::try_from(status) {
+        Ok(byte) => byte,
+        Err(_) => u8::MAX,
     }
 }

@@ -11,7 +11,7 @@ ghost use Rattle.cal_c.specs.Statuses.{bad_convention, bad_date, bad_holidays, b
 ghost use Rattle.cal_c.specs.Values.{IsJulianDay, day_of};
 ghost use Rattle.cal_c.specs.Workweeks.{convention_number, most_holidays, work_week, workdays_number, AreHolidays, IsConvention, IsMarks};
 
-mod calendar;
+pub mod calendar;
 mod holidays;
 
 use crate::results::{DateResult, NumberResult};

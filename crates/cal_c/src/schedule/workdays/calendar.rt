@@ -11,7 +11,7 @@ use std::marker::Model;
 
 /// The marks of a week and the holidays, seen as the working days that they are.
 #[derive(Drop)]
-pub(super) struct Calendar {
+pub struct Calendar {
     marks: [bool; 7],
     holidays: Holidays,
 }
@@ -48,7 +48,7 @@ fn marks_of(week: u32) -> Option<[bool; 7]>
 
 impl Calendar {
     /// The working days of the marks and the holidays, or the status that they are refused with.
-    pub(super) fn of(week: u32, holidays: &[i32]) -> Result<Self, i32>
+    pub fn of(week: u32, holidays: &[i32]) -> Result<Self, i32>
         ensures bad_week { ¬ IsMarks week → result ≡ Err bad_week }
         ensures many { IsMarks week → most_holidays < length holidays.now → result ≡ Err many_holidays }
         ensures bad { IsMarks week → length holidays.now ≤ most_holidays → ¬ AreHolidays holidays.now → result ≡ Err bad_holidays }
@@ -72,5 +72,15 @@ impl Calendar {
             Some(workdays) => workdays,
             None => unreachable!(),
         }
+    }
+}
+
+/// The working days of a calendar that was read, or the status that it was refused with.
+pub fn workdays_of(calendar: &Result<Calendar, i32>) -> Result<Workdays<'_>, i32>
+    ensures { result ≡ calendar.now }
+{
+    match calendar {
+        Ok(calendar) => Ok(calendar.workdays()),
+        Err(status) => Err(*status),
     }
 }

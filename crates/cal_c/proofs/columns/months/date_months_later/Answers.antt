@@ -1,0 +1,25 @@
+use Rattle.std.proofs.Common.{◌+ℤ◌, sym, subst, ◌∙◌}
+use Rattle.std.proofs.lemmas.Int.{to_z-of_z}
+use Rattle.cal_schedule.specs.Months.{month_number_at, IsMonthNumber, IsMonthsLater}
+use Rattle.cal_c.specs.Columns.{date_row}
+use Rattle.cal_c.specs.Results.{IsDayWith}
+use Rattle.cal_c.proofs.Schedules.{day-if-any, past-if-any}
+use Rattle.cal_c.proofs.columns.months.date_months_later.Goals as goal
+
+pub returns-in-Some-clause-past_range : goal.returns-in-Some-clause-past_range
+returns-in-Some-clause-past_range c = λ h out.
+    let f = c.ranges.date in
+    let g = c.ranges.months in
+    let at = simp to_z-of_z at c.in-Some.ensures in
+    let some = simp to_z-of_z at c.checked_add_months.ensures.some in
+    c.made_if_any.ensures ∙ past-if-any _ _ some (subst (λ n. IsMonthNumber (month_number_at n +ℤ c.args.months) → ⊥) (sym at.1) out)
+
+pub returns-in-Some-clause-day : goal.returns-in-Some-clause-day
+returns-in-Some-clause-day c = λ h k.
+    let f = c.ranges.date in
+    let g = c.ranges.months in
+    let at = simp to_z-of_z at c.in-Some.ensures in
+    let has = simp to_z-of_z at c.checked_add_months.ensures.has in
+    let none = simp to_z-of_z at c.checked_add_months.ensures.none in
+    let day = day-if-any _ _ _ has none (subst (λ n. IsMonthNumber (month_number_at n +ℤ c.args.months)) (sym at.1) k) in
+    subst (λ n. IsDayWith (IsMonthsLater n c.args.months) (date_row c.made_if_any.result.0 c.made_if_any.result.1)) at.1 (subst (IsDayWith _) (sym c.made_if_any.ensures) day)
