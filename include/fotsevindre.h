@@ -101,6 +101,7 @@ enum fots_status {
     FOTS_BAD_COUNT = 7, /* a count above 255 */
     FOTS_UNREADABLE = 8, /* the bytes have none of the forms that the call reads */
     FOTS_BAD_MOMENT = 9,
+    FOTS_BAD_TEXT = 11, /* the bounds of a text do not lie in the bytes, one after the other */
     FOTS_BAD_CONVENTION = 12, /* a number of no convention */
     FOTS_BAD_WEEK = 13, /* marks above 127 */
     FOTS_BAD_HOLIDAYS = 14, /* holidays that do not rise, or one that is no date */
@@ -140,6 +141,7 @@ static inline const char *fots_status_name(int32_t status)
     case FOTS_BAD_COUNT: return "bad count";
     case FOTS_UNREADABLE: return "unreadable";
     case FOTS_BAD_MOMENT: return "bad moment";
+    case FOTS_BAD_TEXT: return "bad text";
     case FOTS_BAD_CONVENTION: return "bad convention";
     case FOTS_BAD_WEEK: return "bad week";
     case FOTS_BAD_HOLIDAYS: return "bad holidays";
@@ -815,6 +817,33 @@ size_t fots_dates_add_workdays(const int32_t *dates, size_t dates_length, const 
 
 size_t fots_dates_workdays_between(const int32_t *dates, size_t dates_length, const int32_t *others, size_t others_length, uint32_t week,
     const fots_date *holidays, size_t holidays_length, int32_t *numbers, size_t numbers_length, uint8_t *statuses, size_t length);
+
+/* ---- columns of texts
+ *
+ * One array has the bytes of all texts, and another one their bounds, one more than there are rows: the text of row k is the bytes from
+ * bounds[k] to bounds[k + 1], as Arrow has its strings. The other columns are as above, times as uint64_t and offsets as int32_t. */
+
+/* As fots_date_read, but for the place. FOTS_BAD_TEXT where a row's bounds are not from 0 to bytes_length and rising. */
+size_t fots_dates_read(const char *bytes, size_t bytes_length, const int32_t *bounds, size_t bounds_length, int32_t *dates,
+    size_t dates_length, uint8_t *statuses, size_t length);
+
+/* As fots_moment_read, likewise. */
+size_t fots_moments_read(const char *bytes, size_t bytes_length, const int32_t *bounds, size_t bounds_length, int32_t *dates,
+    size_t dates_length, uint64_t *times, size_t times_length, int32_t *offsets, size_t offsets_length, uint8_t *statuses, size_t length);
+
+/* No fewer bytes than a text of the next calls has. */
+#define FOTS_DATE_ROOM 13
+#define FOTS_MOMENT_ROOM 38
+
+/* As fots_date_calendar_text, one text after another, with no byte between them: a row with no answer has none. The first bound is 0,
+ * and the bytes after the last one stay as they are. Also FOTS_UNLIKE where there is no room of FOTS_DATE_ROOM bytes for each row, or
+ * all of it is more than INT32_MAX. */
+size_t fots_dates_calendar_texts(const int32_t *dates, size_t dates_length, char *bytes, size_t bytes_length, int32_t *bounds,
+    size_t bounds_length, uint8_t *statuses, size_t length);
+
+/* As fots_moment_text, likewise, with FOTS_MOMENT_ROOM bytes for each row. */
+size_t fots_moments_texts(const int32_t *dates, size_t dates_length, const uint64_t *times, size_t times_length, const int32_t *offsets,
+    size_t offsets_length, char *bytes, size_t bytes_length, int32_t *bounds, size_t bounds_length, uint8_t *statuses, size_t length);
 
 #ifdef __cplusplus
 }

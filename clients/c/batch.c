@@ -1,4 +1,6 @@
 /* The calls on columns against the single calls, row by row: drawn rows, borders, and columns that are not of one length. */
+#include <string.h>
+
 #include "fotsevindre.h"
 #include "testing.h"
 
@@ -13,6 +15,11 @@ static uint16_t ordinals[ROWS];
 static int32_t found[ROWS];
 static uint8_t firsts[ROWS], seconds[ROWS], statuses[ROWS];
 static uint16_t found_ordinals[ROWS];
+
+/* The bytes of texts, their bounds, and the rest of moments. */
+static char bytes[ROWS * FOTS_MOMENT_ROOM + 1];
+static int32_t bounds[ROWS + 1], offsets[ROWS], found_offsets[ROWS];
+static uint64_t times[ROWS], found_times[ROWS];
 
 static uint64_t drawn(void)
 {
@@ -193,6 +200,102 @@ static void unlike(void)
     check(found[0] == 77 && statuses[0] == 77, "what stood there", found[0], statuses[0]);
 }
 
+/* Row k of the texts is that of the single call: its status, and the bytes between its bounds. */
+static size_t same_text(size_t k, fots_text_result single)
+{
+    size_t text_length = (size_t)(bounds[k + 1] - bounds[k]);
+    check(statuses[k] == single.status, "the status of a text", (long long)k, statuses[k]);
+    check(text_length == single.length && memcmp(bytes + bounds[k], single.bytes, text_length) == 0, "a text", (long long)k, bounds[k]);
+    return single.status == FOTS_DONE ? 0 : 1;
+}
+
+/* The texts of the bytes, read one after another and at once. */
+static void read_back(size_t n, size_t bytes_length)
+{
+    size_t refused = 0, counted = fots_dates_read(bytes, bytes_length, bounds, n + 1, found, n, statuses, n);
+    for (size_t k = 0; k < n; k++) {
+        fots_read_date_result single = fots_date_read(bytes + bounds[k], (size_t)(bounds[k + 1] - bounds[k]));
+        check(statuses[k] == single.status && found[k] == single.date.julian_day, "a date that is read", (long long)k, statuses[k]);
+        refused += single.status == FOTS_DONE ? 0 : 1;
+    }
+    check(counted == refused, "the texts of no date", (long long)counted, (long long)refused);
+    refused = 0;
+    counted = fots_moments_read(bytes, bytes_length, bounds, n + 1, found, n, found_times, n, found_offsets, n, statuses, n);
+    for (size_t k = 0; k < n; k++) {
+        fots_read_moment_result single = fots_moment_read(bytes + bounds[k], (size_t)(bounds[k + 1] - bounds[k]));
+        check(statuses[k] == single.status && found[k] == single.date.julian_day && found_times[k] == single.time
+            && found_offsets[k] == single.offset.seconds, "a moment that is read", (long long)k, statuses[k]);
+        refused += single.status == FOTS_DONE ? 0 : 1;
+    }
+    check(counted == refused, "the texts of no moment", (long long)counted, (long long)refused);
+}
+
+/* One byte of some texts is another one. */
+static void spoil(size_t bytes_length)
+{
+    static const char others_of_forms[] = "0129-+:TtzZW. \xff";
+    for (size_t k = 0; k < ROWS / 10; k++) {
+        bytes[drawn() % bytes_length] = others_of_forms[drawn() % sizeof(others_of_forms)];
+    }
+}
+
+/* Dates and moments printed, read back, and read where some bytes are others. */
+static void texts(size_t n)
+{
+    bytes[n * FOTS_DATE_ROOM] = 77;
+    size_t refused = 0, counted = fots_dates_calendar_texts(dates, n, bytes, n * FOTS_DATE_ROOM, bounds, n + 1, statuses, n);
+    for (size_t k = 0; k < n; k++) {
+        refused += same_text(k, fots_date_calendar_text(date_at(dates[k])));
+    }
+    check(bounds[0] == 0 && counted == refused, "dates with no text", (long long)counted, (long long)refused);
+    check(bytes[n * FOTS_DATE_ROOM] == 77, "the byte after the texts", 0, 0);
+    read_back(n, (size_t)bounds[n]);
+    for (size_t k = 0; k < n; k++) {
+        dates[k] = drawn() % 4 == 0 ? dates[k] : 1721060 + (int32_t)(drawn() % 3652425);
+        times[k] = drawn() % 64 == 0 ? drawn() : drawn() % (FOTS_MAX_TIME + 1);
+        times[k] -= drawn() % 2 == 0 ? 0 : times[k] % 1000000000;
+        offsets[k] = drawn() % 8 == 0 ? (int32_t)drawn_bits() : 60 * ((int32_t)(drawn() % 2879) - 1439);
+    }
+    refused = 0;
+    counted = fots_moments_texts(dates, n, times, n, offsets, n, bytes, n * FOTS_MOMENT_ROOM, bounds, n + 1, statuses, n);
+    for (size_t k = 0; k < n; k++) {
+        refused += same_text(k, fots_moment_text(date_at(dates[k]), times[k], offset_at(offsets[k])));
+    }
+    check(bounds[0] == 0 && counted == refused, "moments with no text", (long long)counted, (long long)refused);
+    read_back(n, (size_t)bounds[n]);
+    spoil((size_t)bounds[n]);
+    read_back(n, (size_t)bounds[n]);
+}
+
+/* Bounds that do not lie in the bytes, one after the other, and columns with no room. */
+static void bad_texts(void)
+{
+    static const char text[] = "2024-02-292024-02-30";
+    const int32_t wrong[] = {0, 10, 20, 10, 21, -1, 10, INT32_MIN, INT32_MAX, 0, 0};
+    const uint8_t expected[] = {FOTS_DONE, FOTS_DAY, FOTS_BAD_TEXT, FOTS_BAD_TEXT, FOTS_BAD_TEXT, FOTS_BAD_TEXT, FOTS_BAD_TEXT,
+        FOTS_BAD_TEXT, FOTS_BAD_TEXT, FOTS_UNREADABLE};
+    check(fots_dates_read(text, 20, wrong, 11, found, 10, statuses, 10) == 9, "texts that are none", 0, 0);
+    for (size_t k = 0; k < 10; k++) {
+        check(statuses[k] == expected[k] && found[k] == (k == 0 ? 2460370 : FOTS_NOTHING), "a text that is none", (long long)k, statuses[k]);
+    }
+    check(fots_moments_read(text, 20, wrong, 11, found, 10, found_times, 10, found_offsets, 10, statuses, 10) == 10, "no moments", 0, 0);
+    for (size_t k = 0; k < 10; k++) {
+        check(statuses[k] == (k == 0 || k == 1 || k == 9 ? FOTS_UNREADABLE : FOTS_BAD_TEXT) && found_times[k] == FOTS_NO_TIME,
+            "a moment that is none", (long long)k, statuses[k]);
+    }
+    statuses[0] = 77;
+    bounds[0] = 77;
+    bytes[0] = 77;
+    check(fots_dates_read(text, 20, wrong, 1, found, 1, statuses, 1) == FOTS_UNLIKE, "a bound too few", 0, 0);
+    check(fots_dates_read(text, 20, wrong, 0, found, 0, statuses, 0) == FOTS_UNLIKE, "no bound", 0, 0);
+    check(fots_moments_read(text, 20, wrong, 2, found, 1, found_times, 1, found_offsets, 2, statuses, 1) == FOTS_UNLIKE, "two offsets", 0, 0);
+    check(fots_dates_calendar_texts(dates, 1, bytes, 12, bounds, 2, statuses, 1) == FOTS_UNLIKE, "a byte too few", 0, 0);
+    check(fots_dates_calendar_texts(dates, 1, bytes, 13, bounds, 1, statuses, 1) == FOTS_UNLIKE, "no second bound", 0, 0);
+    check(fots_moments_texts(dates, 1, times, 1, offsets, 1, bytes, 37, bounds, 2, statuses, 1) == FOTS_UNLIKE, "less room", 0, 0);
+    check(statuses[0] == 77 && bounds[0] == 77 && bytes[0] == 77, "what stood there", statuses[0], bounds[0]);
+    check(fots_dates_calendar_texts(dates, 0, bytes, 0, bounds, 1, statuses, 0) == 0 && bounds[0] == 0, "no texts", bounds[0], 0);
+}
+
 int main(void)
 {
     draw();
@@ -201,5 +304,8 @@ int main(void)
     workdays();
     chained(ROWS);
     unlike();
+    texts(ROWS);
+    texts(1);
+    bad_texts();
     return ended("columns");
 }

@@ -36,13 +36,14 @@ from typing import Any, Callable, ClassVar, Dict, Iterable, Iterator, List, Name
 __version__ = "0.1.0"
 
 __all__ = [
-    "CalendarDateColumns", "ComponentRange", "Convention", "Date", "DateColumns", "DayCount", "Days", "IsoWeekDateColumns", "Month",
-    "NumberColumns", "OffsetDateTime", "OrdinalDateColumns", "Period", "PlainDateTime", "SignedDuration", "Time", "Unreadable", "UtcOffset",
-    "Weekday", "WeekdayColumns", "Workdays", "YearFraction", "add_to_pair", "calendar_dates_to_iso_week_dates", "dates_add_days",
-    "dates_add_months", "dates_add_workdays", "dates_from_calendar_dates", "dates_from_iso_week_dates", "dates_from_julian_days",
-    "dates_from_ordinal_dates", "dates_to_calendar_dates", "dates_to_iso_week_dates", "dates_to_ordinal_dates", "dates_weekdays",
-    "dates_workdays_between", "days_in_month", "days_in_year", "days_in_year_month", "is_leap_year", "read_rfc3339", "read_unix",
-    "rfc3339_text", "status_error", "sub_from_pair", "unix_duration", "unix_pair", "unix_text", "weeks_in_year",
+    "CalendarDateColumns", "ComponentRange", "Convention", "Date", "DateColumns", "DayCount", "Days", "IsoWeekDateColumns", "MomentColumns",
+    "Month", "NumberColumns", "OffsetDateTime", "OrdinalDateColumns", "Period", "PlainDateTime", "SignedDuration", "TextColumns", "Time",
+    "Unreadable", "UtcOffset", "Weekday", "WeekdayColumns", "Workdays", "YearFraction", "add_to_pair", "calendar_dates_to_iso_week_dates",
+    "dates_add_days", "dates_add_months", "dates_add_workdays", "dates_calendar_texts", "dates_from_calendar_dates",
+    "dates_from_iso_week_dates", "dates_from_julian_days", "dates_from_ordinal_dates", "dates_read", "dates_to_calendar_dates",
+    "dates_to_iso_week_dates", "dates_to_ordinal_dates", "dates_weekdays", "dates_workdays_between", "days_in_month", "days_in_year",
+    "days_in_year_month", "is_leap_year", "moments_read", "moments_texts", "read_rfc3339", "read_unix", "rfc3339_text", "status_error",
+    "sub_from_pair", "unix_duration", "unix_pair", "unix_text", "weeks_in_year",
 ]
 
 # ---- the library
@@ -246,6 +247,10 @@ _COLUMNS: Dict[str, Tuple[List[Any], List[Any]]] = {
     "dates_add_months": ([_I32, _I32], [_I32]),
     "dates_add_workdays": ([_I32, _I32], [_I32]),
     "dates_workdays_between": ([_I32, _I32], [_I32]),
+    "dates_read": ([_U8, _I32], [_I32]),
+    "moments_read": ([_U8, _I32], [_I32, _U64, _I32]),
+    "dates_calendar_texts": ([_I32], [_U8, _I32]),
+    "moments_texts": ([_I32, _U64, _I32], [_U8, _I32]),
 }
 for _name, (_taken, _given) in _COLUMNS.items():
     _call = getattr(_library, "fots_" + _name)
@@ -263,6 +268,7 @@ _C: Any = type("_C", (), _calls)
 _PAST_RANGE = 1
 _BAD_COUNT = 7
 _UNREADABLE = 8
+_BAD_TEXT = 11
 _REFUSALS = {
     16: "year", 17: "month", 18: "julian_day", 19: "hour", 20: "minute", 21: "second", 22: "millisecond", 23: "microsecond",
     24: "nanosecond", 25: "offset hour", 26: "offset minute", 27: "offset second", 28: "seconds", 29: "timestamp",
@@ -323,6 +329,10 @@ def _error(status: int) -> Exception:
         return OverflowError("the result is past the range")
     if status == _BAD_COUNT:
         return OverflowError("a count of occurrences is from 0 to 255")
+    if status == _UNREADABLE:
+        return ValueError("the text has no form that is read")
+    if status == _BAD_TEXT:
+        return ValueError("the bounds of the text do not lie in the bytes, one after the other")
     return ValueError(f"the library refused a value, with status {status}")
 
 
@@ -2320,8 +2330,8 @@ def _of_array(values: Any, kind: Any, of_dates: bool) -> Any:
     return values.astype(_CODES[kind], order="C", copy=False)
 
 
-_BITS = {_U8: (0, 2**8 - 1), _U16: (0, 2**16 - 1), _I32: (-2**31, 2**31 - 1), _I64: (-2**63, 2**63 - 1)}
-_CODES = {_U8: "B", _U16: "H", _I32: "i", _I64: "q"}
+_BITS = {_U8: (0, 2**8 - 1), _U16: (0, 2**16 - 1), _I32: (-2**31, 2**31 - 1), _I64: (-2**63, 2**63 - 1), _U64: (0, 2**64 - 1)}
+_CODES = {_U8: "B", _U16: "H", _I32: "i", _I64: "q", _U64: "Q"}
 
 
 def _column(values: Any, kind: Any, of_dates: bool) -> Any:
@@ -2355,10 +2365,16 @@ def _over_columns(name: str, *columns: object, workdays: Optional[Workdays] = No
     length = len(found[0])
     if any(len(column) != length for column in found):
         raise ValueError("columns of one length expected")
-    made = [array.array(_CODES[kind], [0]) * length for kind in (*kinds_given, _U8)]
-    written = [_column(column, kind, False) for column, kind in zip(made, (*kinds_given, _U8))]
-    taken, given = ([part for column in parts for part in (column, length)] for parts in (found, written))
     between = () if workdays is None else (workdays._week, workdays._holidays, len(workdays._holidays))
+    return _answers(name, columns, found, [length] * (len(kinds_given) + 1), between)
+
+
+def _answers(name: str, columns: Tuple[object, ...], found: List[Any], lengths: List[int], between: Tuple[Any, ...] = ()) -> Tuple[Any, ...]:
+    """What a call gives for columns as C has them: the columns of these lengths, the statuses last, and how many rows have no answer."""
+    kinds = (*_COLUMNS[name][1], _U8)
+    made = [array.array(_CODES[kind], [0]) * length for kind, length in zip(kinds, lengths)]
+    written = [_column(column, kind, False) for column, kind in zip(made, kinds)]
+    taken, given = ([part for column in parts for part in (column, len(column))] for parts in (found, written))
     refused: int = _calls[name](*taken, *between, *given)
     if any(hasattr(values, "dtype") for values in columns):
         # Who passes an array of numpy has it loaded, and gets arrays of numpy over the same memory.
@@ -2498,3 +2514,78 @@ def dates_workdays_between(dates: object, others: object, workdays: Workdays) ->
     NumberColumns(numbers=array('i', [260]), statuses=array('B', [0]), refused=0)
     """
     return NumberColumns(*_over_columns("dates_workdays_between", dates, others, workdays=_is(workdays, Workdays)))
+
+
+# ---- columns of texts
+
+
+class MomentColumns(NamedTuple):
+    """The dates of a call over columns of moments, in 32 bits with a sign, the nanoseconds since midnight, in 64 without one, the seconds of
+    the offsets, in 32 with a sign, a status byte for each row, and how many rows have no answer."""
+
+    dates: Any
+    times: Any
+    offsets: Any
+    statuses: Any
+    refused: int
+
+
+class TextColumns(NamedTuple):
+    """The bytes of texts, one after another, and their bounds, of which there is one more than there are rows: a text is
+    `texts[bounds[k]:bounds[k + 1]]`. A status byte for each row, and how many rows have no text, and so no bytes."""
+
+    texts: bytes
+    bounds: Any
+    statuses: Any
+    refused: int
+
+
+def _read(name: str, texts: object, bounds: object) -> Tuple[Any, ...]:
+    found = [_column(texts, _U8, False), _column(bounds, _I32, False)]
+    rows = len(found[1]) - 1
+    if rows < 0:
+        raise ValueError("there is one bound more than there are rows")
+    return _answers(name, (texts, bounds), found, [rows] * (len(_COLUMNS[name][1]) + 1))
+
+
+def dates_read(texts: object, bounds: object) -> DateColumns:
+    """The dates of texts that stand one after another in a buffer of bytes, between bounds in 32 bits with a sign, as `Date.read` reads them.
+
+    There is one bound more than there are rows.
+
+    >>> import array
+    >>> dates_read(b"2024-02-292024-0602024-02-30", array.array("i", [0, 10, 18, 28]))
+    DateColumns(dates=array('i', [2460370, 2460370, -2147483648]), statuses=array('B', [0, 0, 64]), refused=1)
+    """
+    return DateColumns(*_read("dates_read", texts, bounds))
+
+
+def moments_read(texts: object, bounds: object) -> MomentColumns:
+    """The moments of such texts, as `read_rfc3339` reads them."""
+    return MomentColumns(*_read("moments_read", texts, bounds))
+
+
+def _texts(name: str, room: int, columns: Tuple[object, ...]) -> TextColumns:
+    found = [_column(values, kind, place == 0) for place, (values, kind) in enumerate(zip(columns, _COLUMNS[name][0]))]
+    rows = len(found[0])
+    if any(len(column) != rows for column in found):
+        raise ValueError("columns of one length expected")
+    if rows * room > 2**31 - 1:
+        raise OverflowError(f"the bounds have 32 bits: no more than {(2**31 - 1) // room} rows at once")
+    texts, bounds, statuses, refused = _answers(name, columns, found, [rows * room, rows + 1, rows])
+    return TextColumns(texts[:bounds[rows]].tobytes(), bounds, statuses, refused)
+
+
+def dates_calendar_texts(dates: object) -> TextColumns:
+    """The calendar dates of dates, one after another.
+
+    >>> import array
+    >>> dates_calendar_texts(array.array("i", [2460370, -2147483648]))
+    TextColumns(texts=b'2024-02-29', bounds=array('i', [0, 10, 10]), statuses=array('B', [0, 2]), refused=1)
+    """
+    return _texts("dates_calendar_texts", 13, (dates,))
+
+
+def moments_texts(dates: object, times: object, offsets: object) -> TextColumns:
+    """The texts of RFC 3339 of dates, nanoseconds since midnight and seconds of offsets, one after another, as `rfc3339_text` makes them."""
+    return _texts("moments_texts", 38, (dates, times, offsets))

@@ -827,6 +827,54 @@ class Columns(Cases):
         for over_columns, of_one, fields in calls:
             self.row_by_row(over_columns(self.DATES), [(lambda n=n: of_one(Date._of(n)), fields) for n in self.DATES])
 
+    def bounds_of(self, texts):
+        """The texts in one buffer, and their bounds."""
+        return "".join(texts).encode(), array.array("i", itertools.accumulate(map(len, texts), initial=0))
+
+    def test_texts_read(self):
+        texts = ["2024-02-29", "2024-060", "", "2024-02-30", "2024-W09-4", "2024-02-29T23:59:59.25+01:00", "0001-01-01T00:00:00Z", "24"]
+        dates, moments = fotsevindre.dates_read(*self.bounds_of(texts)), fotsevindre.moments_read(*self.bounds_of(texts))
+        for row, text in enumerate(texts):
+            for column, read in ((dates, Date.read), (moments, fotsevindre.read_rfc3339)):
+                error = fotsevindre.status_error(column.statuses[row])
+                try:
+                    answer = read(text)
+                except fotsevindre.Unreadable:
+                    self.assertEqual(str(error), "the text has no form that is read")
+                except fotsevindre.ComponentRange as raised:
+                    self.assertEqual(repr(error), repr(raised))
+                else:
+                    self.assertIsNone(error)
+                    found = [part[row] for part in column[:-2]]
+                    date, *rest = answer if isinstance(answer, tuple) else (answer,)
+                    rest = rest and [(rest[0] - Time.MIDNIGHT).whole_nanoseconds(), rest[1].whole_seconds()]
+                    self.assertEqual(found, [date.to_julian_day(), *rest])
+        self.assertEqual((dates.refused, moments.refused), (5, 6))
+        wrong = fotsevindre.dates_read(b"2024-02-29", array.array("i", [0, 10, 11, 4, -1]))
+        self.assertEqual((list(wrong.statuses), wrong.refused), ([0, 11, 11, 11], 3))
+        self.assertEqual(str(fotsevindre.status_error(11)), "the bounds of the text do not lie in the bytes, one after the other")
+        with self.assertRaises(ValueError):
+            fotsevindre.dates_read(b"", array.array("i"))
+        with self.assertRaises(TypeError):
+            fotsevindre.dates_read("2024-02-29", array.array("i", [0, 10]))
+
+    def test_texts_printed(self):
+        printed = fotsevindre.dates_calendar_texts(self.DATES)
+        read = fotsevindre.dates_read(printed.texts, printed.bounds)
+        self.assertEqual((printed.refused, len(printed.bounds)), (read.refused, len(self.DATES) + 1))
+        for row, number in enumerate(self.DATES):
+            text = printed.texts[printed.bounds[row]:printed.bounds[row + 1]].decode()
+            if printed.statuses[row] == 0:
+                self.assertEqual((text, read.dates[row]), (str(Date.from_julian_day(number)), number))
+            else:
+                self.assertEqual((text, printed.statuses[row], read.statuses[row]), ("", 2, 8))
+        read = fotsevindre.moments_read(*self.bounds_of(["2024-02-29T23:59:59.25+01:00", "2024-02-29t00:00:00z", "24"]))
+        printed = fotsevindre.moments_texts(*read[:3])
+        self.assertEqual((printed.texts, list(printed.bounds), list(printed.statuses)),
+            (b"2024-02-29T23:59:59.25+01:002024-02-29T00:00:00Z", [0, 28, 48, 48], [0, 0, 2]))
+        with self.assertRaises(ValueError):
+            fotsevindre.moments_texts(read.dates, read.times, read.offsets[:2])
+
     def test_columns_chain(self):
         """What one call writes is taken by the next one as it lies, and a refused row is refused again."""
         made = fotsevindre.dates_from_calendar_dates(*self.CALENDAR)

@@ -38,6 +38,14 @@ pub enum Refusal {
     PastRange,
     /// The component is out of range.
     OutOfRange(ComponentRange),
+    /// The nanoseconds since midnight are none of a time.
+    NoTime,
+    /// The seconds are none of an offset.
+    NoOffset,
+    /// The text has none of the forms that the call reads.
+    Unreadable,
+    /// The bounds of the text do not lie in the bytes, one after the other.
+    NoText,
 }
 
 /// Why a row with this status has no answer, or `None` where it has one.
@@ -150,6 +158,76 @@ pub fn dates_add_workdays(dates: &[i32], days: &[i32], workdays: &Workdays, move
 /// How many working days there are from each of these dates to the day before the other one, as [`Workdays::workdays_between`] counts them.
 /// A row with no answer has `i32::MIN`.
 #[track_caller]
-pub fn dates_workdays_between(dates: &[i32], others: &[i32], workdays: &Workdays, numbers: &mut [i32], statuses: &mut [u8]) -> usize {
+pub fn dates_workdays_between(
+    dates: &[i32],
+    others: &[i32],
+    workdays: &Workdays,
+    numbers: &mut [i32],
+    statuses: &mut [u8],
+) -> usize {
     ffi::fots_dates_workdays_between(dates, others, workdays.week, workdays.holidays, numbers, statuses)
+}
+
+/// The bytes for each row of [`dates_calendar_texts`].
+pub const DATE_ROOM: usize = 13;
+
+/// The bytes for each row of [`moments_texts`].
+pub const MOMENT_ROOM: usize = 38;
+
+/// The dates of texts that stand one after another in the bytes, as [`text::date::read`](crate::text::date::read) reads them.
+///
+/// There is one bound more than there are rows: the text of row `k` is `bytes[bounds[k]..bounds[k + 1]]`, and a row whose bounds do not
+/// lie there is refused as [`Refusal::NoText`].
+///
+/// ```
+/// use fotsevindre::columns;
+///
+/// let (mut dates, mut statuses) = ([0; 2], [0; 2]);
+/// assert_eq!(columns::dates_read(b"2024-02-292024-060", &[0, 10, 18], &mut dates, &mut statuses), 0);
+/// assert_eq!(dates, [2_460_370, 2_460_370]);
+/// ```
+#[track_caller]
+pub fn dates_read(bytes: &[u8], bounds: &[i32], dates: &mut [i32], statuses: &mut [u8]) -> usize {
+    ffi::fots_dates_read(bytes, bounds, dates, statuses)
+}
+
+/// The dates, the nanoseconds since midnight and the seconds of the offsets of such texts, as
+/// [`text::rfc3339::read`](crate::text::rfc3339::read) reads them. A row with no answer has `u64::MAX` for a time.
+#[track_caller]
+pub fn moments_read(
+    bytes: &[u8],
+    bounds: &[i32],
+    dates: &mut [i32],
+    times: &mut [u64],
+    offsets: &mut [i32],
+    statuses: &mut [u8],
+) -> usize {
+    ffi::fots_moments_read(bytes, bounds, dates, times, offsets, statuses)
+}
+
+/// The calendar dates of these dates, one after another in the bytes, with no byte between them, and their bounds.
+///
+/// A row with no answer has no bytes. The bytes after the last bound stay as they are.
+///
+/// # Panics
+///
+/// Also where the bytes have no room of [`DATE_ROOM`] for each row, or all of it is more than `i32::MAX`.
+#[track_caller]
+pub fn dates_calendar_texts(dates: &[i32], bytes: &mut [u8], bounds: &mut [i32], statuses: &mut [u8]) -> usize {
+    ffi::fots_dates_calendar_texts(dates, bytes, bounds, statuses)
+}
+
+/// The texts of RFC 3339 of these moments likewise, with room of [`MOMENT_ROOM`] for each row.
+///
+/// A row is refused as [`Refusal::PastRange`] where RFC 3339 has no text.
+#[track_caller]
+pub fn moments_texts(
+    dates: &[i32],
+    times: &[u64],
+    offsets: &[i32],
+    bytes: &mut [u8],
+    bounds: &mut [i32],
+    statuses: &mut [u8],
+) -> usize {
+    ffi::fots_moments_texts(dates, times, offsets, bytes, bounds, statuses)
 }

@@ -15,9 +15,15 @@ const PAST_RANGE: i32 = 1;
 /// The status of a call that was given a number that is none of a date.
 const BAD_DATE: i32 = 2;
 /// The status of a call that was given a number that is none of a weekday.
+const BAD_TIME: i32 = 3;
+
+const BAD_OFFSET: i32 = 4;
+
 const BAD_WEEKDAY: i32 = 6;
 /// The status of a call that was given bytes of none of its forms.
 const UNREADABLE: i32 = 8;
+
+const BAD_TEXT: i32 = 11;
 /// What a call over columns returns where these are not of one length.
 const UNLIKE: usize = usize::MAX;
 
@@ -398,7 +404,7 @@ macro_rules! calls_over_columns {
                         $($column.as_ptr(), $column.len(),)* $($written.as_mut_ptr(), $written.len()),*
                     )
                 };
-                assert!(refused != UNLIKE, "columns are not of one length");
+                assert!(refused != UNLIKE, "columns are not of one length, or have no room");
                 refused
             }
         )*
@@ -417,6 +423,10 @@ calls_over_columns! {
     fots_calendar_dates_to_iso_week_dates(years: i32, months: u8, days: u8) -> (iso_years: i32, weeks: u8, weekdays: u8, statuses: u8);
     fots_dates_add_days(dates: i32, days: i64) -> (moved: i32, statuses: u8);
     fots_dates_add_months(dates: i32, months: i32) -> (moved: i32, statuses: u8);
+    fots_dates_read(bytes: u8, bounds: i32) -> (dates: i32, statuses: u8);
+    fots_moments_read(bytes: u8, bounds: i32) -> (dates: i32, times: u64, offsets: i32, statuses: u8);
+    fots_dates_calendar_texts(dates: i32) -> (bytes: u8, bounds: i32, statuses: u8);
+    fots_moments_texts(dates: i32, times: u64, offsets: i32) -> (bytes: u8, bounds: i32, statuses: u8);
 }
 
 /// The same of working days: the marks of the week and the holidays come after the columns.
@@ -468,6 +478,10 @@ pub(crate) fn refusal_of(status: i32) -> Option<Refusal> {
         BAD_DATE => Some(Refusal::NoDate),
         PAST_RANGE => Some(Refusal::PastRange),
         BAD_WEEKDAY => Some(Refusal::OutOfRange(ComponentRange::WEEKDAY)),
+        BAD_TIME => Some(Refusal::NoTime),
+        BAD_OFFSET => Some(Refusal::NoOffset),
+        UNREADABLE => Some(Refusal::Unreadable),
+        BAD_TEXT => Some(Refusal::NoText),
         status => Some(Refusal::OutOfRange(ComponentRange::of_status(status))),
     }
 }

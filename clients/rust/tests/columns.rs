@@ -260,3 +260,51 @@ fn columns_of_other_lengths() {
     assert_eq!(columns::dates_from_julian_days(&[], &mut [], &mut []), 0);
     assert_eq!(columns::dates_weekdays(&[], &mut [], &mut []), 0);
 }
+
+#[test]
+fn texts() {
+    let dates = column(8, -363_600_000, 367_000_000, |number| number as i32);
+    let (mut bytes, mut bounds, mut statuses) = (vec![77; ROWS * columns::DATE_ROOM], vec![0; ROWS + 1], vec![0; ROWS]);
+    let refused = columns::dates_calendar_texts(&dates, &mut bytes, &mut bounds, &mut statuses);
+    let (mut read, mut read_statuses) = (vec![0; ROWS], vec![0; ROWS]);
+    assert_eq!(columns::dates_read(&bytes, &bounds, &mut read, &mut read_statuses), refused);
+    assert!(bounds[0] == 0 && bytes[bounds[ROWS] as usize..].iter().all(|byte| *byte == 77));
+    for row in 0..ROWS {
+        let text = std::str::from_utf8(&bytes[bounds[row] as usize..bounds[row + 1] as usize]).unwrap();
+        match Date::from_julian_day(dates[row]) {
+            Ok(date) => assert_eq!((text, read[row], statuses[row]), (date.to_string().as_str(), dates[row], 0)),
+            Err(_) => {
+                assert_eq!((text, read[row], refusal(statuses[row])), ("", NOTHING, Some(Refusal::NoDate)));
+                assert_eq!(refusal(read_statuses[row]), Some(Refusal::Unreadable));
+            }
+        }
+    }
+}
+
+#[test]
+fn texts_of_moments() {
+    let text = b"2024-02-29T23:59:59.25+01:002024-02-29t00:00:00z2024-02-30T00:00:00Z";
+    let bounds = [0, 28, 48, 68, 3, 69];
+    let (mut dates, mut times, mut offsets, mut statuses) = ([0; 5], [0; 5], [0; 5], [0; 5]);
+    assert_eq!(columns::moments_read(text, &bounds, &mut dates, &mut times, &mut offsets, &mut statuses), 3);
+    assert_eq!((dates[0], times[0], offsets[0]), (2_460_370, 86_399_250_000_000, 3600));
+    assert_eq!((dates[2], times[2], offsets[2]), (NOTHING, u64::MAX, NOTHING));
+    assert_eq!(component(statuses[2]), ("day", true));
+    assert_eq!([3, 4].map(|row| refusal(statuses[row])), [Some(Refusal::NoText); 2]);
+
+    (times[1], offsets[2], dates[2]) = (86_400_000_000_000, 93_600, 0);
+    (times[2], dates[3], times[3], offsets[3]) = (0, 5_373_485, 0, 0);
+    let (mut bytes, mut bounds) = ([0; 5 * columns::MOMENT_ROOM], [0; 6]);
+    assert_eq!(columns::moments_texts(&dates, &times, &offsets, &mut bytes, &mut bounds, &mut statuses), 4);
+    assert_eq!((&bytes[..28], bounds), (&text[..28], [0, 28, 28, 28, 28, 28]));
+    let refusals = [1, 2, 3, 4].map(|row| refusal(statuses[row]));
+    assert_eq!(refusals, [Refusal::NoTime, Refusal::NoOffset, Refusal::PastRange, Refusal::NoDate].map(Some));
+}
+
+#[test]
+fn no_room() {
+    let mut bytes = [0; 12];
+    assert!(catch_unwind(move || columns::dates_calendar_texts(&[0], &mut bytes, &mut [0; 2], &mut [0])).is_err());
+    assert!(catch_unwind(|| columns::dates_read(b"", &[], &mut [], &mut [])).is_err());
+    assert_eq!(columns::dates_read(b"", &[0], &mut [], &mut []), 0);
+}

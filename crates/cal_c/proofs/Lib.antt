@@ -8,3 +8,5 @@ pub mod Cases
 pub mod Occurrences
 pub mod Schedules
 pub mod Holidays
+pub mod PrintedRows
+pub mod TextRows

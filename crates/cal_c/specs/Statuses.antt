@@ -36,6 +36,10 @@ unreadable = pos 8
 abbrev pub bad_moment : ℤ
 bad_moment = pos 9
 
+-- the bounds of a text do not lie in the bytes, one after the other
+abbrev pub bad_text : ℤ
+bad_text = pos 11
+
 -- the number is no convention
 abbrev pub bad_convention : ℤ
 bad_convention = pos 12

@@ -11,6 +11,7 @@ mod months;
 mod moves;
 mod parts;
 mod statuses;
+mod texts;
 mod workdays;
 
 use crate::number::{FIRST_JULIAN_DAY, LAST_JULIAN_DAY};

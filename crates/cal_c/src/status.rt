@@ -29,6 +29,9 @@ pub const UNREADABLE: i32 = 8;
 
 pub const BAD_MOMENT: i32 = 9;
 
+/// The bounds of a text do not lie in the bytes, one after the other.
+pub const BAD_TEXT: i32 = 11;
+
 /// The number is no convention of day counts or of working days.
 pub const BAD_CONVENTION: i32 = 12;
 

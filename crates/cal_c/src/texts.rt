@@ -16,7 +16,7 @@ use cal_time::Date;
 use cal_time::error::{Component, ComponentRange};
 
 mod making;
-mod reading;
+pub mod reading;
 
 /// The bytes of a struct of a text: those of the longest one, and a zero byte after them.
 const CAPACITY: usize = 40;

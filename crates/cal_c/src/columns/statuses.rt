@@ -13,7 +13,13 @@ pub(super) const PAST_RANGE: u8 = status::PAST_RANGE as u8;
 
 pub(super) const BAD_DATE: u8 = status::BAD_DATE as u8;
 
+pub(super) const BAD_TIME: u8 = status::BAD_TIME as u8;
+
+pub(super) const BAD_OFFSET: u8 = status::BAD_OFFSET as u8;
+
 pub(super) const BAD_WEEKDAY: u8 = status::BAD_WEEKDAY as u8;
+
+pub(super) const BAD_TEXT: u8 = status::BAD_TEXT as u8;
 
 pub(super) const YEAR: u8 = status::YEAR as u8;
 

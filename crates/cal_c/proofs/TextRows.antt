@@ -1,0 +1,68 @@
+-- What a text reads as, as a row of columns.
+use Rattle.std.proofs.Common.{◌≡◌, ℕ, ℤ, pos, ap, sym, subst, ◌∙◌, arith, FitsSigned, w32, to_z, of_z}
+use Rattle.std.proofs.lemmas.Int.{ints, to_z-of_z}
+use Rattle.cal_datetime.specs.OffsetDateTime.{Shown}
+use Rattle.cal_time.specs.Date.{julian_day_at}
+use Rattle.cal_c.specs.Columns.{IsByte, date_row}
+use Rattle.cal_c.specs.Moments.{moment_done, moment_refused}
+use Rattle.cal_c.specs.Results.{date_done, date_refused, nothing}
+use Rattle.cal_c.specs.Statuses.{done, unreadable}
+use Rattle.cal_c.specs.TextColumns.{moment_row}
+use Rattle.cal_c.specs.Texts.{IsUnreadableDate, IsUnreadableMoment, read_date_done, read_date_refused, read_moment_done, read_moment_refused}
+use Rattle.cal_c.specs.declared.results.DateResult.{DateResult}
+use Rattle.cal_c.specs.declared.results.MomentResult.{MomentResult}
+use Rattle.cal_c.specs.declared.texts.ReadDateResult.{ReadDateResult}
+use Rattle.cal_c.specs.declared.texts.ReadMomentResult.{ReadMomentResult}
+
+-- the byte is the status
+abbrev pub IsByteOf : ℕ → ℤ → Type 0
+IsByteOf b s = IsByte s → pos b ≡ s
+
+a_byte : (b : ℕ) (s t : ℤ) → IsByteOf b s → s ≡ t → IsByte t → pos b ≡ t
+a_byte b s t byte e is = byte (subst IsByte (sym e) is) ∙ e
+
+-- ---- dates
+date-row : (r : ReadDateResult) (b : ℕ) (s d : ℤ) → FitsSigned w32 r.date → IsByteOf b r.status → IsByte s → r.status ≡ s → r.date ≡ d
+    → date_row (to_z w32 (of_z w32 r.date)) b ≡ record { status = s; date = d }
+date-row r b s d fits byte is es ed =
+    ap (λ x. date_row x b) (to_z-of_z w32 r.date fits ∙ ed) ∙ ap (λ x. record { status = x; date = d }) (a_byte b r.status s byte es is)
+
+pub date_of_done : (r : ReadDateResult) (b n : ℕ) → FitsSigned w32 r.date → IsByteOf b r.status → r ≡ read_date_done n
+    → date_row (to_z w32 (of_z w32 r.date)) b ≡ date_done (julian_day_at n)
+date_of_done r b n fits byte e =
+    date-row r b done (julian_day_at n) fits byte (omega (arith, ints), omega (arith, ints)) (ap (λ x. x.status) e) (ap (λ x. x.date) e)
+
+pub date_of_refused : (r : ReadDateResult) (b : ℕ) (s : ℤ) → FitsSigned w32 r.date → IsByteOf b r.status → IsByte s → r ≡ read_date_refused s
+    → date_row (to_z w32 (of_z w32 r.date)) b ≡ date_refused s
+date_of_refused r b s fits byte is e = date-row r b s nothing fits byte is (ap (λ x. x.status) e) (ap (λ x. x.date) e)
+
+pub date_of_unreadable : (r : ReadDateResult) (b : ℕ) → FitsSigned w32 r.date → IsByteOf b r.status → IsUnreadableDate r
+    → date_row (to_z w32 (of_z w32 r.date)) b ≡ date_refused unreadable
+date_of_unreadable r b fits byte its =
+    date-row r b unreadable nothing fits byte (omega (arith, ints), omega (arith, ints)) (ap (λ x. x.status) its.1) (ap (λ x. x.date) its.1)
+
+-- ---- moments
+moment-row : (r : ReadMomentResult) (b : ℕ) (s d : ℤ) (t : ℕ) (o : ℤ) → FitsSigned w32 r.date → FitsSigned w32 r.offset → IsByteOf b r.status → IsByte s
+    → r.status ≡ s → r.date ≡ d → r.time ≡ t → r.offset ≡ o
+    → moment_row (to_z w32 (of_z w32 r.date)) r.time (to_z w32 (of_z w32 r.offset)) b ≡ record { status = s; moment = record { date = d; offset = o; time = t } }
+moment-row r b s d t o fits fits_o byte is es ed et eo =
+    ap (λ x. moment_row x r.time (to_z w32 (of_z w32 r.offset)) b) (to_z-of_z w32 r.date fits ∙ ed)
+    ∙ ap (λ x. moment_row d x (to_z w32 (of_z w32 r.offset)) b) et
+    ∙ ap (λ x. moment_row d t x b) (to_z-of_z w32 r.offset fits_o ∙ eo)
+    ∙ ap (λ x. record { status = x; moment = record { date = d; offset = o; time = t } }) (a_byte b r.status s byte es is)
+
+pub moment_of_done : (r : ReadMomentResult) (b : ℕ) (m : Shown) → FitsSigned w32 r.date → FitsSigned w32 r.offset → IsByteOf b r.status → r ≡ read_moment_done m
+    → moment_row (to_z w32 (of_z w32 r.date)) r.time (to_z w32 (of_z w32 r.offset)) b ≡ moment_done m
+moment_of_done r b m fits fits_o byte e =
+    moment-row r b done _ _ _ fits fits_o byte (omega (arith, ints), omega (arith, ints)) (ap (λ x. x.status) e) (ap (λ x. x.date) e) (ap (λ x. x.time) e) (ap (λ x. x.offset) e)
+
+pub moment_of_refused : (r : ReadMomentResult) (b : ℕ) (s : ℤ) → FitsSigned w32 r.date → FitsSigned w32 r.offset → IsByteOf b r.status → IsByte s → r ≡ read_moment_refused s
+    → moment_row (to_z w32 (of_z w32 r.date)) r.time (to_z w32 (of_z w32 r.offset)) b ≡ moment_refused s
+moment_of_refused r b s fits fits_o byte is e =
+    moment-row r b s _ _ _ fits fits_o byte is (ap (λ x. x.status) e) (ap (λ x. x.date) e) (ap (λ x. x.time) e) (ap (λ x. x.offset) e)
+
+pub moment_of_unreadable : (r : ReadMomentResult) (b : ℕ) → FitsSigned w32 r.date → FitsSigned w32 r.offset → IsByteOf b r.status → IsUnreadableMoment r
+    → moment_row (to_z w32 (of_z w32 r.date)) r.time (to_z w32 (of_z w32 r.offset)) b ≡ moment_refused unreadable
+moment_of_unreadable r b fits fits_o byte its =
+    moment-row r b unreadable _ _ _ fits fits_o byte (omega (arith, ints), omega (arith, ints))
+    (ap (λ x. x.status) its.1) (ap (λ x. x.date) its.1) (ap (λ x. x.time) its.1) (ap (λ x. x.offset) its.1)

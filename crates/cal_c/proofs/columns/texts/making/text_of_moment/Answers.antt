@@ -1,0 +1,12 @@
+use Rattle.std.proofs.Common.{◌≡◌, subst, sym, rules, FitsSigned, w32}
+use Rattle.std.proofs.lemmas.Int.{to_z-of_z}
+use Rattle.cal_text.specs.Rfc3339.{HasMomentText}
+use Rattle.cal_c.specs.Values.{moment_of}
+use Rattle.cal_c.proofs.columns.texts.making.text_of_moment.Goals as goal
+
+pub returns-clause-past_range : goal.returns-clause-past_range
+returns-clause-past_range c = λ d t o no.
+    let date : FitsSigned w32 c.args.date = search rules in
+    let offset : FitsSigned w32 c.args.offset = search rules in
+    let same : c.new_in_offset.result ≡ moment_of c.args.date c.args.time c.args.offset = search rules in
+    c.text_of.ensures.past_range (λ has. no (subst HasMomentText same has))

@@ -1,0 +1,15 @@
+use Rattle.std.proofs.Common.{◌≡◌, subst, rules, sym, FitsSigned, w32}
+use Rattle.std.proofs.lemmas.Int.{to_z-of_z}
+use Rattle.cal_c.specs.Columns.{date_row}
+use Rattle.cal_c.specs.TextColumns.{ArePartOf, IsDateOfText, part}
+use Rattle.cal_c.proofs.columns.texts.reading.date_in.Goals as goal
+
+pub returns-in-Some : goal.returns-in-Some
+returns-in-Some c =
+    let from : FitsSigned w32 c.args.from = search rules in
+    let to : FitsSigned w32 c.args.to = search rules in
+    let is : ArePartOf c.args.bytes.now c.args.from c.args.to × (c.in-Some.text.now ≡ part c.args.bytes.now c.args.from c.args.to) = simp to_z-of_z at c.in-Some.ensures in
+    record {
+      bad_text = λ no. absurd (no is.0);
+      read = λ _. subst (λ t. IsDateOfText t (date_row c.date_of_text.result.0 c.date_of_text.result.1)) is.1 c.date_of_text.ensures;
+    }

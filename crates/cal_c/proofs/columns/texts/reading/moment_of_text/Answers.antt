@@ -1,0 +1,25 @@
+use Rattle.std.proofs.Common.{arith, rules, FitsSigned, w32}
+use Rattle.std.proofs.lemmas.Int.{ints, to_z-of_z}
+use Rattle.cal_c.proofs.TextRows.{IsByteOf, moment_of_done, moment_of_refused, moment_of_unreadable}
+use Rattle.cal_c.proofs.columns.texts.reading.moment_of_text.Goals as goal
+
+pub returns : goal.returns
+returns c =
+    let r = c.fots_moment_read-read.result in
+    let b = c.byte_of.result in
+    let status : FitsSigned w32 r.status = search rules in
+    let byte : IsByteOf b r.status = simp to_z-of_z at c.byte_of.ensures in
+    let its = c.fots_moment_read-read.ensures in
+    let fits : FitsSigned w32 r.date = search rules in
+    let fits_o : FitsSigned w32 r.offset = search rules in
+    record {
+      moment = λ m has. moment_of_done r b m fits fits_o byte (its.moment m has);
+      form = λ no. moment_of_unreadable r b fits fits_o byte (its.form no);
+      month = λ h. moment_of_refused r b _ fits fits_o byte (omega (arith, ints), omega (arith, ints)) (its.month h);
+      day = λ h. moment_of_refused r b _ fits fits_o byte (omega (arith, ints), omega (arith, ints)) (its.day h);
+      hour = λ h. moment_of_refused r b _ fits fits_o byte (omega (arith, ints), omega (arith, ints)) (its.hour h);
+      minute = λ h. moment_of_refused r b _ fits fits_o byte (omega (arith, ints), omega (arith, ints)) (its.minute h);
+      second = λ h. moment_of_refused r b _ fits fits_o byte (omega (arith, ints), omega (arith, ints)) (its.second h);
+      offset_hour = λ h. moment_of_refused r b _ fits fits_o byte (omega (arith, ints), omega (arith, ints)) (its.offset_hour h);
+      offset_minute = λ h. moment_of_refused r b _ fits fits_o byte (omega (arith, ints), omega (arith, ints)) (its.offset_minute h);
+    }

@@ -1,0 +1,95 @@
+-- Columns of texts: one array has the bytes of all, and another one where each begins, which is where the one before it ends.
+use Rattle.std.specs.Prelude.{◌≡◌, ℕ, ◌+◌, ◌*◌, ◌≤◌, ◌<◌, ℤ, pos, ◌≤ℤ◌, unsigned_abs, List, [], length, get_or}
+use Rattle.std.specs.List.{between}
+use Rattle.cal_time.specs.Date.{IsDate, julian_day_at}
+use Rattle.cal_time.specs.DateText.{text}
+use Rattle.cal_time.specs.Time.{IsTime}
+use Rattle.cal_time.specs.UtcOffset.{IsOffset}
+use Rattle.cal_datetime.specs.OffsetDateTime.{Shown}
+use Rattle.cal_text.specs.DateForms.{IsDateText}
+use Rattle.cal_text.specs.Reading.{HasFormThat, LacksMonth, LacksYear, LacksDay, LacksOrdinal, LacksWeek, LacksWeekday}
+use Rattle.cal_text.specs.Rfc3339.{HasMomentText, moment_text}
+use Rattle.cal_text.specs.Rfc3339Form as moments
+use Rattle.cal_text.specs.Rfc3339Form.{HasMomentThat, IsMomentText, LacksHour, LacksMinute, LacksSecond, LacksOffsetHour, LacksOffsetMinute}
+use Rattle.cal_c.specs.Moments.{moment_done, moment_refused}
+use Rattle.cal_c.specs.Results.{date_done, date_refused}
+use Rattle.cal_c.specs.Statuses.{done, past_range, bad_date, bad_time, bad_offset, bad_text, unreadable, year_refused, month_refused, day_refused, ordinal_refused, week_refused, weekday_refused, hour_refused, minute_refused, second_refused, offset_hour_refused, offset_minute_refused}
+use Rattle.cal_c.specs.Texts.{HasDateForm, HasFormOfMoment}
+use Rattle.cal_c.specs.Values.{IsJulianDay, day_of, moment_of}
+use Rattle.cal_c.specs.declared.results.DateResult.{DateResult}
+use Rattle.cal_c.specs.declared.results.MomentResult.{MomentResult}
+
+-- the bytes from the one bound to the other, where both lie in the array, one after the other
+pub record ArePartOf (bytes : List ℕ) (from to : ℤ) : Type 0 where
+  pub not_before : pos 0 ≤ℤ from
+  pub rising : from ≤ℤ to
+  pub not_after : to ≤ℤ pos (length bytes)
+
+abbrev pub part : List ℕ → ℤ → ℤ → List ℕ
+part bytes from to = between (unsigned_abs from) (unsigned_abs to) bytes
+
+-- the text of a row
+abbrev pub text_at : List ℕ → List ℤ → ℕ → List ℕ
+text_at bytes bounds k = part bytes (get_or bounds k (pos 0)) (get_or bounds (k + 1) (pos 0))
+
+-- the arrays are of one length, but that there is one bound more than there are rows
+abbrev pub Bounded2 : ℕ → ℕ → ℕ → Type 0
+Bounded2 rows bounds a = (bounds ≡ rows + 1) × (a ≡ rows)
+
+abbrev pub Bounded4 : ℕ → ℕ → ℕ → ℕ → ℕ → Type 0
+Bounded4 rows bounds a b c = (bounds ≡ rows + 1) × (a ≡ rows) × (b ≡ rows) × (c ≡ rows)
+
+-- the bytes have room for rows of that length, and the last bound is a number of 32 bits
+pub record HasRoomFor (longest rows bytes : ℕ) : Type 0 where
+  pub room : rows * longest ≤ bytes
+  pub few : rows * longest ≤ 2_147_483_647
+
+-- ---- a row of several arrays, as the result of the single call
+abbrev pub moment_row : ℤ → ℕ → ℤ → ℕ → MomentResult
+moment_row date time offset status = record { status = pos status; moment = record { date = date; offset = offset; time = time } }
+
+-- as `fots_date_read`, but for the place
+pub record IsDateOfText (bytes : List ℕ) (r : DateResult) : Type 0 where
+  pub date : (n : ℕ) → IsDate n → IsDateText bytes n → r ≡ date_done (julian_day_at n)
+  pub form : (HasDateForm bytes → ⊥) → r ≡ date_refused unreadable
+  pub month : HasFormThat LacksMonth bytes → r ≡ date_refused month_refused
+  pub year : HasFormThat LacksYear bytes → r ≡ date_refused year_refused
+  pub day : HasFormThat LacksDay bytes → r ≡ date_refused day_refused
+  pub ordinal : HasFormThat LacksOrdinal bytes → r ≡ date_refused ordinal_refused
+  pub week : HasFormThat LacksWeek bytes → r ≡ date_refused week_refused
+  pub weekday : HasFormThat LacksWeekday bytes → r ≡ date_refused weekday_refused
+
+pub record IsDateOfPart (bytes : List ℕ) (from to : ℤ) (r : DateResult) : Type 0 where
+  pub bad_text : (ArePartOf bytes from to → ⊥) → r ≡ date_refused bad_text
+  pub read : ArePartOf bytes from to → IsDateOfText (part bytes from to) r
+
+-- as `fots_moment_read`, but for the place
+pub record IsMomentOfText (bytes : List ℕ) (r : MomentResult) : Type 0 where
+  pub moment : (m : Shown) → IsMomentText bytes m → r ≡ moment_done m
+  pub form : (HasFormOfMoment bytes → ⊥) → r ≡ moment_refused unreadable
+  pub month : HasMomentThat moments.LacksMonth bytes → r ≡ moment_refused month_refused
+  pub day : HasMomentThat moments.LacksDay bytes → r ≡ moment_refused day_refused
+  pub hour : HasMomentThat LacksHour bytes → r ≡ moment_refused hour_refused
+  pub minute : HasMomentThat LacksMinute bytes → r ≡ moment_refused minute_refused
+  pub second : HasMomentThat LacksSecond bytes → r ≡ moment_refused second_refused
+  pub offset_hour : HasMomentThat LacksOffsetHour bytes → r ≡ moment_refused offset_hour_refused
+  pub offset_minute : HasMomentThat LacksOffsetMinute bytes → r ≡ moment_refused offset_minute_refused
+
+pub record IsMomentOfPart (bytes : List ℕ) (from to : ℤ) (r : MomentResult) : Type 0 where
+  pub bad_text : (ArePartOf bytes from to → ⊥) → r ≡ moment_refused bad_text
+  pub read : ArePartOf bytes from to → IsMomentOfText (part bytes from to) r
+
+-- as `fots_date_calendar_text`
+pub record IsTextOfDate (date : ℤ) (bytes : List ℕ) (status : ℕ) : Type 0 where
+  pub bad_date : (IsJulianDay date → ⊥) → (bytes ≡ []) × (pos status ≡ bad_date)
+  pub value : IsJulianDay date → (bytes ≡ text (day_of date)) × (pos status ≡ done)
+
+-- as `fots_moment_text`
+pub record IsTextOfMoment (date : ℤ) (time : ℕ) (offset : ℤ) (bytes : List ℕ) (status : ℕ) : Type 0 where
+  pub bad_date : (IsJulianDay date → ⊥) → (bytes ≡ []) × (pos status ≡ bad_date)
+  pub bad_time : IsJulianDay date → (IsTime time → ⊥) → (bytes ≡ []) × (pos status ≡ bad_time)
+  pub bad_offset : IsJulianDay date → IsTime time → (IsOffset offset → ⊥) → (bytes ≡ []) × (pos status ≡ bad_offset)
+  pub past_range : IsJulianDay date → IsTime time → IsOffset offset → (HasMomentText (moment_of date time offset) → ⊥)
+      → (bytes ≡ []) × (pos status ≡ past_range)
+  pub value : IsJulianDay date → IsTime time → IsOffset offset → HasMomentText (moment_of date time offset)
+      → (bytes ≡ moment_text (moment_of date time offset)) × (pos status ≡ done)

@@ -1,0 +1,142 @@
+//! Columns of texts that are read.
+ghost use Rattle.std.specs.Prelude.{◌≡◌, ◌↔◌, ℕ, ◌+◌, ◌<◌, length, get_or, count_by, pos, IsTrue, MatchOption};
+ghost use Rattle.cal_c.specs.Columns.{date_row, is_refused};
+ghost use Rattle.cal_c.specs.Moments.{moment_refused};
+ghost use Rattle.cal_c.specs.Results.{date_refused};
+ghost use Rattle.cal_c.specs.Statuses.{bad_text};
+ghost use Rattle.cal_c.specs.TextColumns.{ArePartOf, Bounded2, Bounded4, IsDateOfPart, IsDateOfText, IsMomentOfPart, IsMomentOfText, moment_row, part};
+
+use crate::columns::statuses::{BAD_TEXT, byte_of};
+use crate::columns::{NOTHING, UNLIKE, refused_in};
+use crate::results::{Moment, MomentResult};
+use crate::texts::reading::{fots_date_read, fots_moment_read};
+
+/// The dates of a column of texts, row by row as `fots_date_read`, and how many rows have none.
+#[unsafe(no_mangle)]
+pub extern "C" fn fots_dates_read(
+    bytes: &[u8],
+    bounds: &[i32],
+    dates: &mut [i32],
+    statuses: &mut [u8],
+) -> usize
+    ensures unlike { ¬ Bounded2 (length dates.old) (length bounds.now) (length statuses.old)
+        → (result ≡ usize.MAX) × (dates.new ≡ dates.old) × (statuses.new ≡ statuses.old) }
+    ensures rows { Bounded2 (length dates.old) (length bounds.now) (length statuses.old)
+        → (k : ℕ) → k < length dates.old
+        → IsDateOfPart bytes.now (get_or bounds.now k (pos 0)) (get_or bounds.now (k + 1) (pos 0)) (date_row (get_or dates.new k (pos 0)) (get_or statuses.new k 0)) }
+    ensures count { Bounded2 (length dates.old) (length bounds.now) (length statuses.old)
+        → result ≡ count_by is_refused statuses.new }
+{
+    let rows = dates.len();
+    if !are_bounds(bounds, rows) || statuses.len() != rows {
+        return UNLIKE;
+    }
+    for row in 0..rows {
+        let (date, status) = date_in(bytes, bounds[row], bounds[row + 1]);
+        dates[row] = date;
+        statuses[row] = status;
+    }
+    refused_in(statuses)
+}
+
+/// The dates, the times and the offsets of a column of texts, row by row as `fots_moment_read`, and how many rows have none.
+#[unsafe(no_mangle)]
+pub extern "C" fn fots_moments_read(
+    bytes: &[u8],
+    bounds: &[i32],
+    dates: &mut [i32],
+    times: &mut [u64],
+    offsets: &mut [i32],
+    statuses: &mut [u8],
+) -> usize
+    ensures unlike { ¬ Bounded4 (length dates.old) (length bounds.now) (length times.old) (length offsets.old) (length statuses.old)
+        → (result ≡ usize.MAX) × (dates.new ≡ dates.old) × (times.new ≡ times.old) × (offsets.new ≡ offsets.old) × (statuses.new ≡ statuses.old) }
+    ensures rows { Bounded4 (length dates.old) (length bounds.now) (length times.old) (length offsets.old) (length statuses.old)
+        → (k : ℕ) → k < length dates.old
+        → IsMomentOfPart bytes.now (get_or bounds.now k (pos 0)) (get_or bounds.now (k + 1) (pos 0))
+        (moment_row (get_or dates.new k (pos 0)) (get_or times.new k 0) (get_or offsets.new k (pos 0)) (get_or statuses.new k 0)) }
+    ensures count { Bounded4 (length dates.old) (length bounds.now) (length times.old) (length offsets.old) (length statuses.old)
+        → result ≡ count_by is_refused statuses.new }
+{
+    let rows = dates.len();
+    if !are_bounds(bounds, rows)
+        || times.len() != rows
+        || offsets.len() != rows
+        || statuses.len() != rows
+    {
+        return UNLIKE;
+    }
+    for row in 0..rows {
+        let (moment, status) = moment_in(bytes, bounds[row], bounds[row + 1]);
+        dates[row] = moment.date;
+        times[row] = moment.time;
+        offsets[row] = moment.offset;
+        statuses[row] = status;
+    }
+    refused_in(statuses)
+}
+
+/// Whether there is one bound more than there are rows.
+pub(super) fn are_bounds(bounds: &[i32], rows: usize) -> bool
+    ensures { IsTrue result ↔ (length bounds.now ≡ rows + 1) }
+{
+    bounds.len() > rows && bounds.len() - 1 == rows
+}
+
+/// The bytes from the one bound to the other, where both lie in the array, one after the other.
+fn part(bytes: &[u8], from: i32, to: i32) -> Option<&[u8]>
+    ensures { MatchOption result (¬ ArePartOf bytes.now from to) (λ text. ArePartOf bytes.now from to × (text.now ≡ part bytes.now from to)) }
+{
+    let Ok(from) = usize::try_from(from) else {
+        return None;
+    };
+    let Ok(to) = usize::try_from(to) else {
+        return None;
+    };
+    if from <= to && to <= bytes.len() {
+        Some(&bytes[from..to])
+    } else {
+        None
+    }
+}
+
+/// The date of the text between the bounds, and the status.
+fn date_in(bytes: &[u8], from: i32, to: i32) -> (i32, u8)
+    ensures { IsDateOfPart bytes.now from to (date_row result.0 result.1) }
+{
+    match part(bytes, from, to) {
+        Some(text) => date_of_text(text),
+        None => (NOTHING, BAD_TEXT),
+    }
+}
+
+/// The date of the text, and the status.
+fn date_of_text(text: &[u8]) -> (i32, u8)
+    ensures { IsDateOfText text.now (date_row result.0 result.1) }
+{
+    let read = fots_date_read(text);
+    (read.date, byte_of(read.status))
+}
+
+/// The moment of the text between the bounds, and the status.
+fn moment_in(bytes: &[u8], from: i32, to: i32) -> (Moment, u8)
+    ensures { IsMomentOfPart bytes.now from to (moment_row result.0.date result.0.time result.0.offset result.1) }
+{
+    match part(bytes, from, to) {
+        Some(text) => moment_of_text(text),
+        None => (MomentResult::refused(0).moment, BAD_TEXT),
+    }
+}
+
+/// The moment of the text, and the status.
+fn moment_of_text(text: &[u8]) -> (Moment, u8)
+    ensures { IsMomentOfText text.now (moment_row result.0.date result.0.time result.0.offset result.1) }
+{
+    let read = fots_moment_read(text);
+    let moment = Moment {
+        date: read.date,
+        offset: read.offset,
+        time: read.time,
+    };
+    (moment, byte_of(read.status))
+}
