@@ -2540,7 +2540,7 @@ class TextColumns(NamedTuple):
     refused: int
 
 
-def _read(name: str, texts: object, bounds: object) -> Tuple[Any, ...]:
+def _over_texts(name: str, texts: object, bounds: object) -> Tuple[Any, ...]:
     found = [_column(texts, _U8, False), _column(bounds, _I32, False)]
     rows = len(found[1]) - 1
     if rows < 0:
@@ -2557,15 +2557,15 @@ def dates_read(texts: object, bounds: object) -> DateColumns:
     >>> dates_read(b"2024-02-292024-0602024-02-30", array.array("i", [0, 10, 18, 28]))
     DateColumns(dates=array('i', [2460370, 2460370, -2147483648]), statuses=array('B', [0, 0, 64]), refused=1)
     """
-    return DateColumns(*_read("dates_read", texts, bounds))
+    return DateColumns(*_over_texts("dates_read", texts, bounds))
 
 
 def moments_read(texts: object, bounds: object) -> MomentColumns:
     """The moments of such texts, as `read_rfc3339` reads them."""
-    return MomentColumns(*_read("moments_read", texts, bounds))
+    return MomentColumns(*_over_texts("moments_read", texts, bounds))
 
 
-def _texts(name: str, room: int, columns: Tuple[object, ...]) -> TextColumns:
+def _printed(name: str, room: int, columns: Tuple[object, ...]) -> TextColumns:
     found = [_column(values, kind, place == 0) for place, (values, kind) in enumerate(zip(columns, _COLUMNS[name][0]))]
     rows = len(found[0])
     if any(len(column) != rows for column in found):
@@ -2583,9 +2583,9 @@ def dates_calendar_texts(dates: object) -> TextColumns:
     >>> dates_calendar_texts(array.array("i", [2460370, -2147483648]))
     TextColumns(texts=b'2024-02-29', bounds=array('i', [0, 10, 10]), statuses=array('B', [0, 2]), refused=1)
     """
-    return _texts("dates_calendar_texts", 13, (dates,))
+    return _printed("dates_calendar_texts", 13, (dates,))
 
 
 def moments_texts(dates: object, times: object, offsets: object) -> TextColumns:
     """The texts of RFC 3339 of dates, nanoseconds since midnight and seconds of offsets, one after another, as `rfc3339_text` makes them."""
-    return _texts("moments_texts", 38, (dates, times, offsets))
+    return _printed("moments_texts", 38, (dates, times, offsets))

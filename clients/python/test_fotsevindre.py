@@ -1023,6 +1023,8 @@ class Header(Cases):
                     continue
                 if type_name.endswith("*"):
                     declared, type_name = declared._type_, type_name[:-1].strip()
+                    # The bytes of a buffer are numbers in Python.
+                    type_name = "uint8_t" if type_name == "char" else type_name
                 self.assertTrue(self.is_of(declared, type_name), (name, part))
 
     def test_statuses(self):
@@ -1032,6 +1034,7 @@ class Header(Cases):
         self.assertEqual(fotsevindre._PAST_RANGE, self.statuses["FOTS_PAST_RANGE"])
         self.assertEqual(fotsevindre._BAD_COUNT, self.statuses["FOTS_BAD_COUNT"])
         self.assertEqual(fotsevindre._UNREADABLE, self.statuses["FOTS_UNREADABLE"])
+        self.assertEqual(fotsevindre._BAD_TEXT, self.statuses["FOTS_BAD_TEXT"])
 
 
 class Documentation(Cases):
