@@ -1987,6 +1987,18 @@ class _DateTime(_Value):
         """The nanoseconds of the second, as those of `time()`."""
         return self.time().nanosecond()
 
+    def replace(self: _D, *, year: Optional[SupportsIndex] = None, month: Optional[SupportsIndex] = None,
+                day: Optional[SupportsIndex] = None, hour: Optional[SupportsIndex] = None, minute: Optional[SupportsIndex] = None,
+                second: Optional[SupportsIndex] = None, nanosecond: Optional[SupportsIndex] = None) -> _D:
+        """The date-time of these parts and the others the same; `ComponentRange` as by `Date.replace` and then by `Time.replace`.
+
+        >>> PlainDateTime.new(Date.read("2024-02-29"), Time.from_hms(9, 5, 0)).replace(year=2023, day=28, hour=10)
+        2023-02-28 10:05:00.0
+        """
+        date = self.date().replace(year=year, month=month, day=day)
+        time = self.time().replace(hour=hour, minute=minute, second=second, nanosecond=nanosecond)
+        return _made(type(self), _C.moment_new(date._key, time._key, self._key.offset))
+
     def replace_date(self: _D, date: Date) -> _D:
         """The same time of day on that date."""
         return _made(type(self), _C.moment_new(_is(date, Date)._key, self._key.time, self._key.offset))

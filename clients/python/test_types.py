@@ -21,8 +21,8 @@ is_less: bool = day < last and day.weekday() == Weekday.Friday and UtcOffset.UTC
 pair: Optional[Tuple[Date, Time]] = add_to_pair(day, Time.MIDNIGHT, no_time * 2 / 3)
 text: Optional[str] = rfc3339_text(day, Time.MAX, UtcOffset.UTC)
 date: datetime.date = day.replace(year=2025, day=1).to_date()
-local: PlainDateTime = PlainDateTime.new(day, Time.MIDNIGHT).replace_hour(23) + no_time
-moment: OffsetDateTime = local.assume_utc().replace_date(last) - no_time
+local: PlainDateTime = PlainDateTime.new(day, Time.MIDNIGHT).replace(day=1, hour=23) + no_time
+moment: OffsetDateTime = local.assume_utc().replace_date(last).replace(minute=30) - no_time
 shown: Optional[OffsetDateTime] = moment.checked_to_utc()
 since: SignedDuration = moment - OffsetDateTime.UNIX_EPOCH
 is_later: bool = local > PlainDateTime.MIN and moment >= OffsetDateTime.from_datetime(moment.to_datetime())
@@ -42,5 +42,6 @@ same.to_calendar_date()[0].upper()  # refused
 local < moment  # refused
 moment - local  # refused
 moment + 1  # refused
+moment.replace(hour="1")  # refused
 moment.to_offset(3600)  # refused
 shown.unix_timestamp()  # refused
