@@ -8,3 +8,4 @@ pub mod Cases
 pub mod Occurrences
 pub mod Schedules
 pub mod Holidays
+pub mod Recurring

@@ -7,3 +7,4 @@ pub mod Unread
 pub mod Moments
 pub mod Schedule
 pub mod Workweeks
+pub mod Recurrences

@@ -36,6 +36,14 @@ unreadable = pos 8
 abbrev pub bad_moment : ℤ
 bad_moment = pos 9
 
+-- the number is no frequency of a rule
+abbrev pub bad_frequency : ℤ
+bad_frequency = pos 10
+
+-- a rule has more months or weekdays than a call takes
+abbrev pub many_parts : ℤ
+many_parts = pos 11
+
 -- the number is no convention
 abbrev pub bad_convention : ℤ
 bad_convention = pos 12

@@ -29,6 +29,12 @@ pub const UNREADABLE: i32 = 8;
 
 pub const BAD_MOMENT: i32 = 9;
 
+/// The number is no frequency of a rule.
+pub const BAD_FREQUENCY: i32 = 10;
+
+/// A rule has more months or weekdays than a call takes.
+pub const MANY_PARTS: i32 = 11;
+
 /// The number is no convention of day counts or of working days.
 pub const BAD_CONVENTION: i32 = 12;
 
