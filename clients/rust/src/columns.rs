@@ -150,6 +150,12 @@ pub fn dates_add_workdays(dates: &[i32], days: &[i32], workdays: &Workdays, move
 /// How many working days there are from each of these dates to the day before the other one, as [`Workdays::workdays_between`] counts them.
 /// A row with no answer has `i32::MIN`.
 #[track_caller]
-pub fn dates_workdays_between(dates: &[i32], others: &[i32], workdays: &Workdays, numbers: &mut [i32], statuses: &mut [u8]) -> usize {
+pub fn dates_workdays_between(
+    dates: &[i32],
+    others: &[i32],
+    workdays: &Workdays,
+    numbers: &mut [i32],
+    statuses: &mut [u8],
+) -> usize {
     ffi::fots_dates_workdays_between(dates, others, workdays.week, workdays.holidays, numbers, statuses)
 }

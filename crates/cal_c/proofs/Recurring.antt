@@ -1,8 +1,11 @@
 -- The parts of a rule: lists that are read one by one, and months and weekdays by their numbers.
-use Rattle.std.proofs.Common.{◌≡◌, ◌≢◌, refl, ℕ, zero, suc, ◌+◌, ◌-◌, ◌<◌, ◌≤◌, ap, sym, ◌∙◌, subst, List, [], ◌∷◌, ◌++◌, All, length, get_or, map, take, take_all, slice_get, ℤ, pos, negsuc, Option, Some, None, MatchOption}
+use Rattle.std.proofs.Common.{◌≡◌, ◌≢◌, refl, ℕ, zero, suc, ◌+◌, ◌-◌, ◌<◌, ◌≤◌, ap, sym, ◌∙◌, subst, arith, below_more, add-one, filter, List, [], ◌∷◌, ◌++◌, All, length, get_or, get_or-set_other, get_or-set_same, map, take, take_all, drop, drop-cons, length-drop, slice_get, ℤ, pos, negsuc, Option, Some, None, MatchOption}
 use Rattle.std.proofs.Math.ListN.{set}
 use Rattle.std.proofs.lemmas.List.{map_more, take_more_set}
+use Rattle.cal_time.specs.Date.{julian_day_at, last_day}
+use Rattle.cal_time.specs.Filters.{IsFirstDay, filter-first, first_passing}
 use Rattle.cal_time.specs.Month.{month_at, number}
+use Rattle.cal_time.specs.Occurrence.{days_from}
 use Rattle.cal_time.specs.Weekday.{place, weekday_at}
 use Rattle.cal_time.specs.declared.Month.{Month}
 use Rattle.cal_time.specs.declared.Month.TheVariants.{January, February, March, April, May, June, July, August, September, October, November, December}
@@ -10,6 +13,8 @@ use Rattle.cal_time.specs.declared.Weekday.{Weekday}
 use Rattle.cal_time.specs.declared.Weekday.TheVariants.{Monday, Tuesday, Wednesday, Thursday, Friday, Saturday, Sunday}
 use Rattle.cal_schedule.specs.declared.rule.kinds.ByDay.{ByDay}
 use Rattle.cal_schedule.specs.declared.rule.kinds.ByDay.TheVariants.{Every, Nth}
+use Rattle.cal_schedule.specs.declared.rule.kinds.Rule.{Rule}
+use Rattle.cal_schedule.specs.Rule.{days_after, is_on}
 use Rattle.cal_c.specs.Recurrences.{by_day, AreDates, IsFrequency, IsRule, IsRuleStatus}
 use Rattle.cal_c.specs.Statuses.{bad_date, bad_frequency, bad_weekday}
 use Rattle.cal_c.specs.Values.{IsWeekday}
@@ -107,3 +112,36 @@ refused_week_start p dates frequency out = (
 pub first_given : (r : Option ℕ) (xs ys : List ℕ) → MatchOption r ((xs ≡ []) × (ys ≡ [])) (λ x. xs ≡ x ∷ ys) → r ≡ slice_get xs 0
 first_given None xs ys h = ap (λ l. slice_get l 0) (sym h.0)
 first_given (Some x) xs ys h = ap (λ l. slice_get l 0) (sym h)
+
+-- the days after a day, from the first of them on
+after_first : (rule : Rule) (n x : ℕ) → IsFirstDay (is_on rule) (n + 1) (last_day - n) x → days_after rule n ≡ x ∷ days_after rule x
+after_first rule n x h =
+    let count : n + 1 + (last_day - n) - (x + 1) ≡ last_day - x = omega (arith, h.not_before, h.within) in
+    filter-first (is_on rule) (n + 1) (last_day - n) x h ∙ ap (λ c. x ∷ filter (is_on rule) (days_from (x + 1) c)) count
+
+pub after_next : (rule : Rule) (n x : ℕ) → Some x ≡ slice_get (days_after rule n) 0 → days_after rule n ≡ x ∷ days_after rule x
+after_next rule n x e = after_first rule n x (first_passing (is_on rule) (n + 1) (last_day - n) (Some x) e)
+
+pub none_first : (xs : List ℕ) → None ≡ slice_get xs 0 → xs ≡ []
+none_first [] e = refl
+none_first (x ∷ xs) e = absurd (cc)
+
+-- a list, of which so many are taken, goes on
+pub goes_on : (ns xs : List ℕ) (i x : ℕ) → i < length ns → drop i ns ≡ x ∷ xs → (get_or ns i 0 ≡ x) × (drop (i + 1) ns ≡ xs)
+goes_on ns xs i x lt e = let same = drop-cons ns i 0 lt in (cc, rw (add-one) (cc))
+
+pub more_left : (ns xs : List ℕ) (i x : ℕ) → drop i ns ≡ x ∷ xs → i < length ns
+more_left ns xs i x e = omega (arith, length-drop i ns, ap length e)
+
+pub none_left : (ns : List ℕ) (i : ℕ) → drop i ns ≡ [] → length ns ≤ i
+none_left ns i e = omega (arith, length-drop i ns, ap length e)
+
+-- one more number is written
+pub written_more : (P : ℕ → ℤ → Type 0) (zs : List ℤ) (i : ℕ) (z : ℤ) → i < length zs → ((k : ℕ) → k < i → P k (get_or zs k (pos 0))) → P i z
+    → (k : ℕ) → k < i + 1 → P k (get_or (set zs i z) k (pos 0))
+written_more P zs i z lt before here =
+    below_more (λ k. P k (get_or (set zs i z) k (pos 0))) i (λ k below. let ne : k ≢ i = omega arith in rw get_or-set_other (before k below)) (rw get_or-set_same here)
+
+pub kept_more : (old zs : List ℤ) (i : ℕ) (z : ℤ) → ((k : ℕ) → i ≤ k → get_or zs k (pos 0) ≡ get_or old k (pos 0))
+    → (k : ℕ) → i + 1 ≤ k → get_or (set zs i z) k (pos 0) ≡ get_or old k (pos 0)
+kept_more old zs i z kept k past = let ne : k ≢ i = omega arith in rw get_or-set_other (kept k (omega arith))

@@ -1,5 +1,6 @@
 -- Rules of days that come back, from the parts that C passes.
-use Rattle.std.specs.Prelude.{◌≡◌, ℕ, zero, ◌+◌, ◌-◌, ◌≤◌, ℤ, pos, List, All, length, map, Some}
+use Rattle.std.specs.Prelude.{◌≡◌, ℕ, zero, ◌+◌, ◌-◌, ◌<◌, ◌≤◌, min, ℤ, pos, List, All, get_or, length, map, Some}
+use Rattle.cal_time.specs.Date.{julian_day_at}
 use Rattle.cal_schedule.specs.declared.rule.kinds.ByDay.{ByDay}
 use Rattle.cal_schedule.specs.declared.rule.kinds.ByDay.TheVariants.{Every, Nth}
 use Rattle.cal_schedule.specs.declared.rule.kinds.Frequency.{Frequency}
@@ -9,10 +10,11 @@ use Rattle.cal_time.specs.Month.{month_at}
 use Rattle.cal_time.specs.Weekday.{place, weekday_at}
 use Rattle.cal_time.specs.declared.Month.{Month}
 use Rattle.cal_time.specs.declared.Weekday.{Weekday}
-use Rattle.cal_c.specs.Statuses.{bad_date, bad_frequency, bad_weekday, many_parts, month_refused}
+use Rattle.cal_c.specs.Statuses.{bad_date, bad_frequency, bad_weekday, done, many_parts, month_refused}
 use Rattle.cal_c.specs.Values.{IsJulianDay, IsMonth, IsWeekday, day_of}
 use Rattle.cal_c.specs.declared.schedule.recurrences.parts.RuleParts.{RuleParts}
 use Rattle.cal_c.specs.declared.schedule.recurrences.parts.RuleWeekday.{RuleWeekday}
+use Rattle.cal_c.specs.declared.schedule.results.DaysResult.{DaysResult}
 
 -- a frequency is its number from daily, 1
 abbrev pub frequency_number : Frequency → ℕ
@@ -91,3 +93,16 @@ pub record IsRuleOf (p : RuleParts) (rule : Rule) : Type 0 where
   pub plain : IsPlainRuleOf p rule
   pub months : rule.months.now ≡ months_in p.months.now
   pub weekdays : rule.weekdays.now ≡ weekdays_in p.weekdays.now
+
+-- so many days were written
+abbrev pub days_done : ℕ → DaysResult
+days_done count = record { status = done; length = count }
+
+abbrev pub days_refused : ℤ → DaysResult
+days_refused s = record { status = s; length = 0 }
+
+-- they are the first ones of the list, as many as the array has room for, and the array goes on as before
+pub record AreWritten (ns : List ℕ) (old new : List ℤ) (count : ℕ) : Type 0 where
+  pub count_is : count ≡ min (length ns) (length old)
+  pub days : (k : ℕ) → k < count → get_or new k (pos 0) ≡ julian_day_at (get_or ns k 0)
+  pub others : (k : ℕ) → count ≤ k → get_or new k (pos 0) ≡ get_or old k (pos 0)
