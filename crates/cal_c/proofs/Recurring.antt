@@ -1,21 +1,16 @@
--- The parts of a rule: lists that are read one by one, and months and weekdays by their numbers.
-use Rattle.std.proofs.Common.{◌≡◌, ◌≢◌, refl, ℕ, zero, suc, ◌+◌, ◌-◌, ◌<◌, ◌≤◌, ap, sym, ◌∙◌, subst, arith, below_more, add-one, filter, List, [], ◌∷◌, ◌++◌, All, length, get_or, get_or-set_other, get_or-set_same, map, take, take_all, drop, drop-cons, length-drop, slice_get, ℤ, pos, negsuc, Option, Some, None, MatchOption}
+-- The parts of a rule, which are read one by one, and its days, which are written one by one.
+use Rattle.std.proofs.Common.{◌≡◌, ◌≢◌, refl, ℕ, ◌+◌, ◌-◌, ◌<◌, ◌≤◌, ap, sym, ◌∙◌, arith, below_more, add-one, filter, List, [], ◌∷◌, ◌++◌, length, get_or, get_or-set_other, get_or-set_same, map, take, drop, drop-cons, length-drop, slice_get, ℤ, pos, Option, Some, None, MatchOption}
 use Rattle.std.proofs.Math.ListN.{set}
 use Rattle.std.proofs.lemmas.List.{map_more, take_more_set}
-use Rattle.cal_time.specs.Date.{julian_day_at, last_day}
+use Rattle.cal_time.specs.Date.{last_day}
 use Rattle.cal_time.specs.Filters.{IsFirstDay, filter-first, first_passing}
 use Rattle.cal_time.specs.Month.{month_at, number}
 use Rattle.cal_time.specs.Occurrence.{days_from}
-use Rattle.cal_time.specs.Weekday.{place, weekday_at}
 use Rattle.cal_time.specs.declared.Month.{Month}
 use Rattle.cal_time.specs.declared.Month.TheVariants.{January, February, March, April, May, June, July, August, September, October, November, December}
-use Rattle.cal_time.specs.declared.Weekday.{Weekday}
-use Rattle.cal_time.specs.declared.Weekday.TheVariants.{Monday, Tuesday, Wednesday, Thursday, Friday, Saturday, Sunday}
-use Rattle.cal_schedule.specs.declared.rule.kinds.ByDay.{ByDay}
-use Rattle.cal_schedule.specs.declared.rule.kinds.ByDay.TheVariants.{Every, Nth}
 use Rattle.cal_schedule.specs.declared.rule.kinds.Rule.{Rule}
 use Rattle.cal_schedule.specs.Rule.{days_after, is_on}
-use Rattle.cal_c.specs.Recurrences.{by_day, AreDates, IsFrequency, IsRule, IsRuleStatus}
+use Rattle.cal_c.specs.Recurrences.{AreDates, IsFrequency, IsRule, IsRuleStatus}
 use Rattle.cal_c.specs.Statuses.{bad_date, bad_frequency, bad_weekday}
 use Rattle.cal_c.specs.Values.{IsWeekday}
 use Rattle.cal_c.specs.declared.schedule.recurrences.parts.RuleParts.{RuleParts}
@@ -23,15 +18,6 @@ use Rattle.cal_c.specs.declared.schedule.recurrences.parts.RuleParts.{RuleParts}
 pub mapped_more : {A B : Type 0} (f : A → B) (xs : List A) (ys : List B) (i : ℕ) (d : A) (y : B) → i < length xs → i < length ys
     → take i ys ≡ map f (take i xs) → y ≡ f (get_or xs i d) → take (i + 1) (set ys i y) ≡ map f (take (i + 1) xs)
 mapped_more f xs ys i d y lt room e q = take_more_set ys i y room ∙ (λ k. e k ++ q k ∷ []) ∙ sym (map_more f xs i d lt)
-
-pub mapped_all : {A B : Type 0} (f : A → B) (xs : List A) (ys : List B) (i n : ℕ) → length xs ≤ i → i ≡ n → take i ys ≡ map f (take i xs) → take n ys ≡ map f xs
-mapped_all f xs ys i n le same e = ap (λ k. take k ys) (sym same) ∙ e ∙ ap (map f) (take_all i xs le)
-
-pub all_read : {A : Type 0} (P : A → Type 0) (xs : List A) (i : ℕ) → length xs ≤ i → All P (take i xs) → All P xs
-all_read P xs i le h = subst (All P) (take_all i xs le) h
-
-pub none_read : {A : Type 0} (P : A → Type 0) (xs : List A) (i : ℕ) (d : A) → i < length xs → (P (get_or xs i d) → ⊥) → All P xs → ⊥
-none_read P xs i d lt out h = out (h i d lt)
 
 month_at-number : (m : Month) → month_at (number m - 1) ≡ m
 month_at-number January = refl
@@ -49,24 +35,6 @@ month_at-number December = refl
 
 pub month_numbered : (m : Month) (k : ℕ) → number m ≡ k → m ≡ month_at (k - 1)
 month_numbered m k e = sym (month_at-number m) ∙ ap (λ n. month_at (n - 1)) e
-
-weekday_at-number : (w : Weekday) → weekday_at (place w + 1 - 1) ≡ w
-weekday_at-number Monday = refl
-weekday_at-number Tuesday = refl
-weekday_at-number Wednesday = refl
-weekday_at-number Thursday = refl
-weekday_at-number Friday = refl
-weekday_at-number Saturday = refl
-weekday_at-number Sunday = refl
-
-pub weekday_numbered : (w : Weekday) (k : ℕ) → place w + 1 ≡ k → w ≡ weekday_at (k - 1)
-weekday_numbered w k e = sym (weekday_at-number w) ∙ ap (λ n. weekday_at (n - 1)) e
-
--- a weekday with its number, and with none
-pub by_day-nth : (k : ℤ) (w : Weekday) → k ≢ pos 0 → by_day k w ≡ Nth k w
-by_day-nth (pos zero) w ne = absurd (ne refl)
-by_day-nth (pos (suc k)) w ne = refl
-by_day-nth (negsuc k) w ne = refl
 
 -- what the parts are refused with, from the front
 pub refused_dates : (p : RuleParts) → ¬ AreDates p → (¬ IsRule p) × IsRuleStatus p bad_date

@@ -1,4 +1,4 @@
-use Rattle.std.proofs.Common.{◌≡◌, ◌∙◌, arith, ap, rules, sym, get_or, refl, to_z, of_z, FitsSigned, w32}
+use Rattle.std.proofs.Common.{◌≡◌, ◌∙◌, arith, ap, rules, sym, get_or, to_z, of_z, FitsSigned, w32}
 use Rattle.std.proofs.lemmas.Grind.{common_steps}
 use Rattle.std.proofs.lemmas.Int.{to_z-of_z}
 use Rattle.cal_time.specs.Date.{julian_day_at}

@@ -1,6 +1,5 @@
 use Rattle.std.proofs.Common.{rules, FitsSigned, w32}
 use Rattle.std.proofs.lemmas.Int.{to_z-of_z}
-use Rattle.cal_c.specs.Recurrences.{AreDates}
 use Rattle.cal_c.proofs.Recurring.{refused_dates, refused_frequency, refused_week_start}
 use Rattle.cal_c.proofs.schedule.recurrences.reading.plain_rule_of.Goals as goal
 
