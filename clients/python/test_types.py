@@ -1,9 +1,9 @@
 """What a checker of types makes of calls: it takes all of these but the marked ones. Nothing runs this file."""
 
 import datetime
-from typing import Optional, Tuple
+from typing import List, Optional, Tuple
 
-from fotsevindre import OffsetDateTime, PlainDateTime
+from fotsevindre import Frequency, OffsetDateTime, PlainDateTime, Rule
 from fotsevindre import Date, Days, Month, SignedDuration, Time, UtcOffset, Weekday, add_to_pair, rfc3339_text
 
 day: Date = Date.from_calendar_date(2024, Month.February, 29)
@@ -26,6 +26,9 @@ moment: OffsetDateTime = local.assume_utc().replace_date(last).replace(minute=30
 shown: Optional[OffsetDateTime] = moment.checked_to_utc()
 since: SignedDuration = moment - OffsetDateTime.UNIX_EPOCH
 is_later: bool = local > PlainDateTime.MIN and moment >= OffsetDateTime.from_datetime(moment.to_datetime())
+rule: Rule = Rule(day, Frequency.Monthly, months=[Month.June, 7], weekdays=[Weekday.Monday, (-1, Weekday.Friday)], until=last)
+of_rule: List[Date] = [date for date in rule] + rule.take(3) + list(rule.days_after(day))
+next_of_rule: Optional[Date] = rule.next_after(day)
 
 Date.from_calendar_date("2024", 2, 29)  # refused
 Date.from_calendar_date(2024.0, 2, 29)  # refused
@@ -44,4 +47,7 @@ moment - local  # refused
 moment + 1  # refused
 moment.replace(hour="1")  # refused
 moment.to_offset(3600)  # refused
+Rule(day, 3)  # refused
+Rule(day, Frequency.Monthly, weekdays=[5])  # refused
+rule.next_after(day).year()  # refused
 shown.unix_timestamp()  # refused
