@@ -31,8 +31,8 @@
  * FOTS_MONTH; then what the call itself refuses, in the order of the parameters.
  *
  * No call keeps a pointer, allocates, reads or writes anything but its arguments, or has a state: any thread may make any call at
- * any time. Only the calls that read a text, or take holidays or columns, take a pointer; the others answer for each argument whatever its
- * bits.
+ * any time. Only the calls that read a text, or take holidays, a rule or columns, take a pointer; the others answer for each argument
+ * whatever its bits.
  *
  * The library is for Linux on x86-64 processors of level 2.
  */
@@ -101,7 +101,8 @@ enum fots_status {
     FOTS_BAD_COUNT = 7, /* a count above 255 */
     FOTS_UNREADABLE = 8, /* the bytes have none of the forms that the call reads */
     FOTS_BAD_MOMENT = 9,
-    FOTS_BAD_TEXT = 11, /* the bounds of a text do not lie in the bytes, one after the other */
+    FOTS_BAD_FREQUENCY = 10, /* a number of no frequency */
+    FOTS_MANY_PARTS = 11, /* a rule of more than 12 months or 64 weekdays */
     FOTS_BAD_CONVENTION = 12, /* a number of no convention */
     FOTS_BAD_WEEK = 13, /* marks above 127 */
     FOTS_BAD_HOLIDAYS = 14, /* holidays that do not rise, or one that is no date */
@@ -120,6 +121,7 @@ enum fots_status {
     FOTS_OFFSET_SECOND = 27,
     FOTS_SECONDS = 28,
     FOTS_TIMESTAMP = 29, /* a Unix time of no day of the range */
+    FOTS_BOUNDS = 30, /* those of a text do not lie in the bytes, one after the other */
     FOTS_DAY = 64,
     FOTS_ORDINAL = 65,
     FOTS_WEEK = 66,
@@ -141,7 +143,8 @@ static inline const char *fots_status_name(int32_t status)
     case FOTS_BAD_COUNT: return "bad count";
     case FOTS_UNREADABLE: return "unreadable";
     case FOTS_BAD_MOMENT: return "bad moment";
-    case FOTS_BAD_TEXT: return "bad text";
+    case FOTS_BAD_FREQUENCY: return "bad frequency";
+    case FOTS_MANY_PARTS: return "many parts";
     case FOTS_BAD_CONVENTION: return "bad convention";
     case FOTS_BAD_WEEK: return "bad week";
     case FOTS_BAD_HOLIDAYS: return "bad holidays";
@@ -160,6 +163,7 @@ static inline const char *fots_status_name(int32_t status)
     case FOTS_OFFSET_SECOND: return "offset second";
     case FOTS_SECONDS: return "seconds";
     case FOTS_TIMESTAMP: return "timestamp";
+    case FOTS_BOUNDS: return "bounds";
     case FOTS_DAY: return "day";
     case FOTS_ORDINAL: return "ordinal";
     case FOTS_WEEK: return "week";
@@ -302,6 +306,12 @@ typedef struct fots_period_result {
 } fots_period_result;
 
 /* A fraction of a year: what was counted, over what a year counts. */
+/* How many dates were written. */
+typedef struct fots_days_result {
+    int32_t status;
+    size_t length; /* or 0 */
+} fots_days_result;
+
 typedef struct fots_year_fraction_result {
     int32_t status;
     uint32_t denominator; /* or 0 */
@@ -467,6 +477,73 @@ enum fots_convention {
  * FOTS_BAD_DATE, of another number. That of Saturday 2000-04-29, 2451664, is 2451666 as FOTS_FOLLOWING, and 2451663 as
  * FOTS_MODIFIED_FOLLOWING. */
 fots_date_result fots_date_adjusted(fots_date date, uint32_t convention, uint32_t week, const fots_date *holidays, size_t holidays_length);
+
+/* ---- recurrences */
+
+/* What a rule counts by. */
+enum fots_frequency { FOTS_DAILY = 1, FOTS_WEEKLY = 2, FOTS_MONTHLY = 3, FOTS_YEARLY = 4 };
+
+/* A weekday of a rule: each one where the number is 0, or else the so-and-so-many-th of the month, or of the year in a yearly rule that
+ * names no month: from 1 on, or from the end by -1 for the last one. {-1, 5} is the last Friday. */
+typedef struct fots_rule_weekday {
+    int8_t number;
+    uint8_t weekday;
+} fots_rule_weekday;
+
+/* Days that come back, as RFC 5545 writes them in a RRULE. A rule that names no day takes that of its start. A part of length 0 leaves out
+ * no day, and of the others a day of the rule passes each. The three arrays must be there, also those of length 0. */
+typedef struct fots_rule {
+    fots_date start; /* the first day that may be one of the rule; it is one where it passes the other parts */
+    fots_date until; /* the last day that may be one of the rule: {FOTS_MAX_JULIAN_DAY} where it has no end */
+    uint32_t frequency;
+    uint32_t interval; /* each so-many-th day, week, month or year from that of the start on; 0 counts as 1 */
+    uint32_t week_start; /* the weekday that a week begins with */
+    const uint8_t *months;
+    size_t months_length; /* at most FOTS_MOST_MONTHS */
+    const int8_t *month_days; /* from 1 on, or from the end by -1 for the last one; none is the 0th */
+    size_t month_days_length;
+    const fots_rule_weekday *weekdays;
+    size_t weekdays_length; /* at most FOTS_MOST_WEEKDAYS */
+} fots_rule;
+
+#define FOTS_MOST_MONTHS 12
+#define FOTS_MOST_WEEKDAYS 64
+
+/* The rule of each day, or of the same day of each week, month or year, from the start on, with no end and no other part. Its weeks begin on
+ * Monday. */
+static inline fots_rule fots_rule_of(fots_date start, uint32_t frequency)
+{
+    static const fots_rule_weekday none = {0, 0};
+    fots_rule rule;
+    rule.start = start;
+    rule.until.julian_day = FOTS_MAX_JULIAN_DAY;
+    rule.frequency = frequency;
+    rule.interval = 1;
+    rule.week_start = 1;
+    rule.months = &none.weekday;
+    rule.months_length = 0;
+    rule.month_days = &none.number;
+    rule.month_days_length = 0;
+    rule.weekdays = &none;
+    rule.weekdays_length = 0;
+    return rule;
+}
+
+/* Each call refuses parts of no rule: a start or an end that is no date as FOTS_BAD_DATE, then FOTS_BAD_FREQUENCY, FOTS_BAD_WEEKDAY of the
+ * start of the week, FOTS_MANY_PARTS, FOTS_MONTH and FOTS_BAD_WEEKDAY; and after that FOTS_BAD_DATE of the date. The examples have the
+ * rule of each month's last Friday from 2460311, 2024-01-01. */
+
+/* The first day of the rule, and the first one after the date; FOTS_PAST_RANGE where the range has none. The first is 2460336, 2024-01-26,
+ * and that after it 2460364. */
+fots_date_result fots_rule_first(const fots_rule *rule);
+fots_date_result fots_rule_next_after(const fots_rule *rule, fots_date date);
+
+/* Whether the date is one of the rule's days: 1 or 0. That of 2460336 is 1, and of 2460329 it is 0. */
+fots_part_result fots_rule_contains(const fots_rule *rule, fots_date date);
+
+/* Writes the days of the rule after the date, in order, as many as there is room for, and answers how many they are: fewer where the range
+ * has no more. The array must be there, also one of length 0, and shares no memory with the rule. */
+fots_days_result fots_rule_days_after(const fots_rule *rule, fots_date date, fots_date *days, size_t days_length);
 
 /* ---- day counts */
 
@@ -823,7 +900,7 @@ size_t fots_dates_workdays_between(const int32_t *dates, size_t dates_length, co
  * One array has the bytes of all texts, and another one their bounds, one more than there are rows: the text of row k is the bytes from
  * bounds[k] to bounds[k + 1], as Arrow has its strings. The other columns are as above, times as uint64_t and offsets as int32_t. */
 
-/* As fots_date_read, but for the place. FOTS_BAD_TEXT where a row's bounds are not from 0 to bytes_length and rising. */
+/* As fots_date_read, but for the place. FOTS_BOUNDS where a row's bounds are not from 0 to bytes_length and rising. */
 size_t fots_dates_read(const char *bytes, size_t bytes_length, const int32_t *bounds, size_t bounds_length, int32_t *dates,
     size_t dates_length, uint8_t *statuses, size_t length);
 

@@ -1,11 +1,12 @@
 // The calendar of Fotsevindre for C++17 and later: small classes over the calls of fotsevindre.h, with nothing of their own to link.
 //
-// Values compare, copy as plain numbers and have no default. A call that has no answer throws an error, which says why; those that begin
-// with checked_, and next_day, previous_day and the pairs, return an empty std::optional past the range. What each call takes and refuses
-// is said at the call of the same name in fotsevindre.h; the calls of OffsetDateTime are those of fots_moment.
+// Values compare, copy as plain numbers and have no default. A call that has no answer throws an error, which says why; one that returns a
+// std::optional returns an empty one past the range. What each call takes and refuses is said at the call of the same name in
+// fotsevindre.h; the calls of PlainDateTime and OffsetDateTime are those of fots_moment, and those of Rule of fots_rule.
 #ifndef FOTSEVINDRE_HPP
 #define FOTSEVINDRE_HPP
 
+#include <array>
 #include <cstddef>
 #include <cstdint>
 #include <functional>
@@ -16,6 +17,7 @@
 #include <string_view>
 #include <tuple>
 #include <utility>
+#include <vector>
 
 #if __cplusplus >= 202002L
 #include <chrono>
@@ -224,6 +226,30 @@ private:
     fots_offset value_;
 };
 
+// Years, months and days, all of one sign.
+struct Period {
+    std::int32_t years, months, days;
+
+    friend bool operator==(Period one, Period other)
+    {
+        return one.years == other.years && one.months == other.months && one.days == other.days;
+    }
+};
+
+// A fraction of a year: what was counted, over what a year counts.
+struct YearFraction {
+    std::int64_t numerator;
+    std::uint32_t denominator;
+};
+
+enum class DayCount : std::uint32_t {
+    Actual360 = FOTS_ACTUAL_360,
+    Actual365Fixed = FOTS_ACTUAL_365_FIXED,
+    Thirty360 = FOTS_THIRTY_360,
+    ThirtyE360 = FOTS_THIRTY_E_360,
+    ActualActual = FOTS_ACTUAL_ACTUAL
+};
+
 // A day of the proleptic Gregorian calendar, from -999999-01-01 to 999999-12-31.
 class Date : public detail::Ordered<Date> {
 public:
@@ -294,6 +320,50 @@ public:
     Date replace_day(std::uint32_t day) const { return from(fots_date_replace_day(value_, day)); }
     Date replace_ordinal(std::uint32_t ordinal) const { return from(fots_date_replace_ordinal(value_, ordinal)); }
 
+    std::optional<Date> checked_add_months(std::int32_t months) const { return if_any(fots_date_add_months(value_, months)); }
+    std::optional<Date> checked_add_years(std::int32_t years) const { return if_any(fots_date_add_years(value_, years)); }
+    Date saturating_add_months(std::int32_t months) const { return from(fots_date_saturating_add_months(value_, months)); }
+    std::int32_t months_until(Date other) const { return detail::done(fots_date_months_until(value_, other.value_)).number; }
+    std::int32_t years_until(Date other) const { return detail::done(fots_date_years_until(value_, other.value_)).number; }
+    Period period_until(Date other) const
+    {
+        const fots_period_result found = detail::done(fots_date_period_until(value_, other.value_));
+        return {found.years, found.months, found.days};
+    }
+    YearFraction day_count(Date other, DayCount convention) const
+    {
+        const fots_year_fraction_result found =
+            detail::done(fots_date_day_count(value_, other.value_, static_cast<std::uint32_t>(convention)));
+        return {found.numerator, found.denominator};
+    }
+
+    Date first_of_month() const { return from(fots_date_first_of_month(value_)); }
+    Date last_of_month() const { return from(fots_date_last_of_month(value_)); }
+    Date first_of_quarter() const { return from(fots_date_first_of_quarter(value_)); }
+    Date last_of_quarter() const { return from(fots_date_last_of_quarter(value_)); }
+    Date first_of_year() const { return from(fots_date_first_of_year(value_)); }
+    Date last_of_year() const { return from(fots_date_last_of_year(value_)); }
+    Date first_of_iso_week() const { return from(fots_date_first_of_iso_week(value_)); }
+    std::optional<Date> last_of_iso_week() const { return if_any(fots_date_last_of_iso_week(value_)); }
+    std::uint32_t quarter() const { return detail::done(fots_date_quarter(value_)).number; }
+    static Date nth_weekday_of_month(std::int32_t year, Month month, Weekday weekday, std::uint32_t n)
+    {
+        return from(fots_date_nth_weekday_of_month(
+            year, static_cast<std::uint32_t>(month), static_cast<std::uint32_t>(weekday), n));
+    }
+    static Date last_weekday_of_month(std::int32_t year, Month month, Weekday weekday)
+    {
+        return from(fots_date_last_weekday_of_month(year, static_cast<std::uint32_t>(month), static_cast<std::uint32_t>(weekday)));
+    }
+    std::optional<Date> on_or_after(Weekday weekday) const
+    {
+        return if_any(fots_date_on_or_after(value_, static_cast<std::uint32_t>(weekday)));
+    }
+    std::optional<Date> on_or_before(Weekday weekday) const
+    {
+        return if_any(fots_date_on_or_before(value_, static_cast<std::uint32_t>(weekday)));
+    }
+
     // The day so many whole days of the duration later, or earlier, cut toward zero.
     friend Date operator+(Date date, Duration duration) { return from(fots_date_checked_add(date.value_, duration.c())); }
     friend Date operator-(Date date, Duration duration) { return from(fots_date_checked_sub(date.value_, duration.c())); }
@@ -320,6 +390,12 @@ public:
     }
 #endif
 
+    // The date of a result of C, or none past the range.
+    static std::optional<Date> if_any(fots_date_result result)
+    {
+        return detail::is_in_range(result) ? std::optional<Date>(Date(result.date, {})) : std::nullopt;
+    }
+
     fots_date c() const noexcept { return value_; }
     std::int32_t key() const noexcept { return value_.julian_day; }
 
@@ -329,16 +405,164 @@ private:
 
     static const char *data(std::string_view text) noexcept { return text.empty() ? "" : text.data(); }
     static Date from(fots_date_result result) { return Date(detail::done(result).date, {}); }
-    static std::optional<Date> if_any(fots_date_result result)
-    {
-        return detail::is_in_range(result) ? std::optional<Date>(Date(result.date, {})) : std::nullopt;
-    }
 
     fots_date value_;
 };
 
 inline std::string to_string(Date date) { return date.calendar_text(); }
 inline std::ostream &operator<<(std::ostream &out, Date date) { return out << date.calendar_text(); }
+
+enum class Convention : std::uint32_t {
+    Unadjusted = FOTS_UNADJUSTED,
+    Following = FOTS_FOLLOWING,
+    ModifiedFollowing = FOTS_MODIFIED_FOLLOWING,
+    Preceding = FOTS_PRECEDING,
+    ModifiedPreceding = FOTS_MODIFIED_PRECEDING
+};
+
+// The working days of a week, but for the holidays: these rise, and are at most FOTS_MOST_HOLIDAYS.
+class Workdays {
+public:
+    // Monday to Friday.
+    explicit Workdays(const std::vector<Date> &holidays = {}) : Workdays({true, true, true, true, true, false, false}, holidays) {}
+    // The days that are marked, from Monday to Sunday.
+    Workdays(std::array<bool, 7> marks, const std::vector<Date> &holidays) : week_(0)
+    {
+        for (std::size_t place = 0; place < marks.size(); ++place) {
+            week_ |= std::uint32_t{marks[place]} << place;
+        }
+        // One more than there are, so that the array is there.
+        holidays_.reserve(holidays.size() + 1);
+        for (const Date holiday : holidays) {
+            holidays_.push_back(holiday.c());
+        }
+        is_workday(Date::min());
+    }
+
+    bool is_workday(Date date) const
+    {
+        return detail::done(fots_date_is_workday(date.c(), week_, holidays_.data(), holidays_.size())).number == 1;
+    }
+    std::optional<Date> next_workday(Date date) const
+    {
+        return Date::if_any(fots_date_next_workday(date.c(), week_, holidays_.data(), holidays_.size()));
+    }
+    std::optional<Date> previous_workday(Date date) const
+    {
+        return Date::if_any(fots_date_previous_workday(date.c(), week_, holidays_.data(), holidays_.size()));
+    }
+    std::optional<Date> checked_add_workdays(Date date, std::int32_t days) const
+    {
+        return Date::if_any(fots_date_add_workdays(date.c(), days, week_, holidays_.data(), holidays_.size()));
+    }
+    std::int32_t workdays_between(Date from, Date to) const
+    {
+        return detail::done(fots_date_workdays_between(from.c(), to.c(), week_, holidays_.data(), holidays_.size())).number;
+    }
+    std::optional<Date> adjusted(Date date, Convention convention) const
+    {
+        return Date::if_any(
+            fots_date_adjusted(date.c(), static_cast<std::uint32_t>(convention), week_, holidays_.data(), holidays_.size()));
+    }
+
+private:
+    std::uint32_t week_;
+    std::vector<fots_date> holidays_;
+};
+
+enum class Frequency : std::uint32_t { Daily = FOTS_DAILY, Weekly = FOTS_WEEKLY, Monthly = FOTS_MONTHLY, Yearly = FOTS_YEARLY };
+
+// A weekday of a rule: each one, or the so-and-so-many-th, from the end where the number is below 0; 0 stands for each one.
+struct ByDay {
+    ByDay(Weekday each) : number(0), weekday(each) {}
+    ByDay(std::int8_t nth, Weekday day) : number(nth), weekday(day) {}
+
+    std::int8_t number;
+    Weekday weekday;
+};
+
+// Days that come back, as RFC 5545 writes them in a RRULE: a part that is empty leaves out no day, and of the others a day of the rule
+// passes each. At most FOTS_MOST_MONTHS months and FOTS_MOST_WEEKDAYS weekdays, else a call throws FOTS_MANY_PARTS.
+class Rule {
+public:
+    Rule(Date its_start, Frequency its_frequency) : start(its_start), frequency(its_frequency) {}
+
+    Date start;
+    Frequency frequency;
+    std::uint32_t interval = 1;
+    Weekday week_start = Weekday::Monday;
+    std::vector<Month> months{};
+    std::vector<std::int8_t> month_days{};
+    std::vector<ByDay> weekdays{};
+    std::optional<Date> until{};
+
+    std::optional<Date> first() const { return Date::if_any(with([](const fots_rule *rule) { return fots_rule_first(rule); })); }
+    std::optional<Date> next_after(Date date) const
+    {
+        return Date::if_any(with([date](const fots_rule *rule) { return fots_rule_next_after(rule, date.c()); }));
+    }
+    bool contains(Date date) const
+    {
+        return detail::done(with([date](const fots_rule *rule) { return fots_rule_contains(rule, date.c()); })).number == 1;
+    }
+    // The days after the date, in order: so many, or fewer where the range has no more.
+    std::vector<Date> days_after(Date date, std::size_t count) const
+    {
+        // One more than there are, so that the array is there.
+        std::vector<fots_date> room(count + 1);
+        const fots_days_result written = detail::done(
+            with([&](const fots_rule *rule) { return fots_rule_days_after(rule, date.c(), room.data(), count); }));
+        std::vector<Date> days;
+        days.reserve(written.length);
+        for (std::size_t place = 0; place < written.length; ++place) {
+            days.push_back(Date(room[place], {}));
+        }
+        return days;
+    }
+    // The first days of the rule: a rule that ends after a number of times.
+    std::vector<Date> take(std::size_t count) const
+    {
+        const std::optional<Date> one = first();
+        if (count == 0 || !one) {
+            return {};
+        }
+        std::vector<Date> days = days_after(*one, count - 1);
+        days.insert(days.begin(), *one);
+        return days;
+    }
+
+private:
+    // What the call answers that is given the rule of C, whose arrays are there until it returns.
+    template <class Call> auto with(Call call) const -> decltype(call(static_cast<const fots_rule *>(nullptr)))
+    {
+        fots_rule rule = fots_rule_of(start.c(), static_cast<std::uint32_t>(frequency));
+        rule.until = until.value_or(Date::max()).c();
+        rule.interval = interval;
+        rule.week_start = static_cast<std::uint32_t>(week_start);
+        std::vector<std::uint8_t> numbers;
+        for (const Month month : months) {
+            numbers.push_back(static_cast<std::uint8_t>(month));
+        }
+        std::vector<fots_rule_weekday> parts;
+        for (const ByDay by : weekdays) {
+            parts.push_back(fots_rule_weekday{by.number, static_cast<std::uint8_t>(by.weekday)});
+        }
+        // An empty array stays that of fots_rule_of.
+        if (!numbers.empty()) {
+            rule.months = numbers.data();
+            rule.months_length = numbers.size();
+        }
+        if (!month_days.empty()) {
+            rule.month_days = month_days.data();
+            rule.month_days_length = month_days.size();
+        }
+        if (!parts.empty()) {
+            rule.weekdays = parts.data();
+            rule.weekdays_length = parts.size();
+        }
+        return call(&rule);
+    }
+};
 
 // The date and the time so much later, to the nanosecond, or none past the range.
 inline std::optional<std::pair<Date, Time>> add_to_pair(Date date, Time time, Duration duration)
@@ -381,6 +605,54 @@ inline std::optional<std::pair<Date, Time>> unix_pair(Duration duration, UtcOffs
     return detail::is_in_range(pair) ? std::optional(std::pair(Date(pair.date, {}), Time(pair.time, {}))) : std::nullopt;
 }
 
+class OffsetDateTime;
+
+// A date and a time of day, with no offset.
+class PlainDateTime : public detail::Ordered<PlainDateTime> {
+public:
+    PlainDateTime(Date date, Time time) : value_(detail::done(fots_moment_new(date.c(), time.c(), fots_offset{0})).moment) {}
+
+    Date date() const noexcept { return Date(value_.date, {}); }
+    Time time() const noexcept { return Time(value_.time, {}); }
+    PlainDateTime replace_date(Date date) const { return {date, time()}; }
+    PlainDateTime replace_time(Time time) const { return {date(), time}; }
+
+    std::optional<PlainDateTime> checked_add(Duration duration) const { return if_any(fots_moment_checked_add(value_, duration.c())); }
+    std::optional<PlainDateTime> checked_sub(Duration duration) const { return if_any(fots_moment_checked_sub(value_, duration.c())); }
+    PlainDateTime saturating_add(Duration duration) const { return from(fots_moment_saturating_add(value_, duration.c())); }
+    PlainDateTime saturating_sub(Duration duration) const { return from(fots_moment_saturating_sub(value_, duration.c())); }
+
+    friend PlainDateTime operator+(PlainDateTime one, Duration duration)
+    {
+        return from(fots_moment_checked_add(one.value_, duration.c()));
+    }
+    friend PlainDateTime operator-(PlainDateTime one, Duration duration)
+    {
+        return from(fots_moment_checked_sub(one.value_, duration.c()));
+    }
+    friend Duration operator-(PlainDateTime one, PlainDateTime other)
+    {
+        return Duration(detail::done(fots_moment_duration_since(one.value_, other.value_)).duration, {});
+    }
+
+    // The same clock at an offset.
+    OffsetDateTime assume_offset(UtcOffset offset) const;
+    OffsetDateTime assume_utc() const;
+
+    std::pair<std::int32_t, fots_time> key() const noexcept { return {value_.date.julian_day, value_.time}; }
+
+private:
+    explicit PlainDateTime(fots_moment value) noexcept : value_(value) {}
+    static PlainDateTime from(fots_moment_result result) { return PlainDateTime(detail::done(result).moment); }
+    static std::optional<PlainDateTime> if_any(fots_moment_result result)
+    {
+        return detail::is_in_range(result) ? std::optional<PlainDateTime>(PlainDateTime(result.moment)) : std::nullopt;
+    }
+
+    // That of UTC.
+    fots_moment value_;
+};
+
 // What a clock at an offset from UTC shows. Compared by the instant, so two that show different clocks can be equal.
 class OffsetDateTime : public detail::Ordered<OffsetDateTime> {
 public:
@@ -398,6 +670,7 @@ public:
     Date date() const noexcept { return Date(value_.date, {}); }
     Time time() const noexcept { return Time(value_.time, {}); }
     UtcOffset offset() const noexcept { return UtcOffset(value_.offset, {}); }
+    PlainDateTime local() const { return {date(), time()}; }
 
     // The Unix time in whole seconds, rounded toward the past, and exactly.
     std::int64_t unix_timestamp() const { return detail::done(fots_moment_unix_timestamp(value_)).number; }
@@ -441,6 +714,13 @@ private:
 
     fots_moment value_;
 };
+
+inline OffsetDateTime PlainDateTime::assume_offset(UtcOffset offset) const
+{
+    return OffsetDateTime::new_in_offset(date(), time(), offset);
+}
+
+inline OffsetDateTime PlainDateTime::assume_utc() const { return assume_offset(UtcOffset::utc()); }
 
 } // namespace fotsevindre
 

@@ -1,5 +1,5 @@
-/* Months, the ends of periods, working days and day counts: rows whose values are not from this library, wrong values, and drawn values
- * against a count of one day at a time. */
+/* Months, the ends of periods, working days, recurrences and day counts: rows whose values are not from this library, wrong values, and
+ * drawn values against a count of one day at a time. */
 #include "fotsevindre.h"
 #include "testing.h"
 
@@ -194,6 +194,162 @@ static void workdays(void)
     }
 }
 
+/* The weekdays and the parts of a row, up to a weekday of 0 and a part of 0. */
+typedef struct {
+    const char *text;
+    uint32_t frequency, interval, week_start;
+    uint8_t months[4];
+    int8_t month_days[14];
+    fots_rule_weekday weekdays[8];
+    int32_t start, until; /* as 19970902, and 0 for no end */
+    int32_t days[12]; /* the first ones, up to a 0 */
+    int ends; /* whether these are all */
+} recurrence;
+
+static fots_date of_number(int32_t number)
+{
+    return day(number / 10000, (uint32_t)(number / 100 % 100), (uint32_t)(number % 100));
+}
+
+/* The examples of RFC 5545, each with its first days. */
+static const recurrence recurrences[] = {
+    {"FREQ=DAILY;INTERVAL=10;COUNT=5", FOTS_DAILY, 10, 1, {0}, {0}, {{0, 0}}, 19970902, 0, {19970902, 19970912, 19970922, 19971002, 19971012}, 0},
+    {"FREQ=DAILY;UNTIL=19970905", FOTS_DAILY, 1, 1, {0}, {0}, {{0, 0}}, 19970902, 19970905, {19970902, 19970903, 19970904, 19970905}, 1},
+    {"FREQ=WEEKLY;INTERVAL=2;WKST=SU", FOTS_WEEKLY, 2, 7, {0}, {0}, {{0, 0}}, 19970902, 0, {19970902, 19970916, 19970930, 19971014}, 0},
+    {"FREQ=WEEKLY;UNTIL=19971006;WKST=SU;BYDAY=TU,TH", FOTS_WEEKLY, 1, 7, {0}, {0}, {{0, 2}, {0, 4}}, 19970902, 19971006,
+        {19970902, 19970904, 19970909, 19970911, 19970916, 19970918, 19970923, 19970925, 19970930, 19971002}, 1},
+    {"FREQ=WEEKLY;INTERVAL=2;COUNT=4;BYDAY=TU,SU;WKST=MO", FOTS_WEEKLY, 2, 1, {0}, {0}, {{0, 2}, {0, 7}}, 19970805, 0,
+        {19970805, 19970810, 19970819, 19970824}, 0},
+    {"FREQ=WEEKLY;INTERVAL=2;COUNT=4;BYDAY=TU,SU;WKST=SU", FOTS_WEEKLY, 2, 7, {0}, {0}, {{0, 2}, {0, 7}}, 19970805, 0,
+        {19970805, 19970817, 19970819, 19970831}, 0},
+    {"FREQ=MONTHLY;COUNT=10;BYDAY=1FR", FOTS_MONTHLY, 1, 1, {0}, {0}, {{1, 5}}, 19970905, 0, {19970905, 19971003, 19971107, 19971205, 19980102}, 0},
+    {"FREQ=MONTHLY;INTERVAL=2;COUNT=10;BYDAY=1SU,-1SU", FOTS_MONTHLY, 2, 1, {0}, {0}, {{1, 7}, {-1, 7}}, 19970907, 0,
+        {19970907, 19970928, 19971102, 19971130, 19980104, 19980125, 19980301, 19980329, 19980503, 19980531}, 0},
+    {"FREQ=MONTHLY;COUNT=6;BYDAY=-2MO", FOTS_MONTHLY, 1, 1, {0}, {0}, {{-2, 1}}, 19970922, 0, {19970922, 19971020, 19971117, 19971222, 19980119, 19980216}, 0},
+    {"FREQ=MONTHLY;BYMONTHDAY=-3", FOTS_MONTHLY, 1, 1, {0}, {-3}, {{0, 0}}, 19970928, 0, {19970928, 19971029, 19971128, 19971229, 19980129, 19980226}, 0},
+    {"FREQ=MONTHLY;BYDAY=FR;BYMONTHDAY=13", FOTS_MONTHLY, 1, 1, {0}, {13}, {{0, 5}}, 19970902, 0, {19980213, 19980313, 19981113, 19990813, 20001013}, 0},
+    {"FREQ=MONTHLY;BYDAY=SA;BYMONTHDAY=7,8,9,10,11,12,13", FOTS_MONTHLY, 1, 1, {0}, {7, 8, 9, 10, 11, 12, 13}, {{0, 6}}, 19970913, 0,
+        {19970913, 19971011, 19971108, 19971213, 19980110, 19980207, 19980307, 19980411, 19980509, 19980613}, 0},
+    {"FREQ=YEARLY;COUNT=10;BYMONTH=6,7", FOTS_YEARLY, 1, 1, {6, 7}, {0}, {{0, 0}}, 19970610, 0, {19970610, 19970710, 19980610, 19980710, 19990610}, 0},
+    {"FREQ=YEARLY;BYDAY=20MO", FOTS_YEARLY, 1, 1, {0}, {0}, {{20, 1}}, 19970519, 0, {19970519, 19980518, 19990517}, 0},
+    {"FREQ=YEARLY;BYMONTH=3;BYDAY=TH", FOTS_YEARLY, 1, 1, {3}, {0}, {{0, 4}}, 19970313, 0,
+        {19970313, 19970320, 19970327, 19980305, 19980312, 19980319, 19980326, 19990304, 19990311, 19990318, 19990325}, 0},
+    {"FREQ=YEARLY;INTERVAL=4;BYMONTH=11;BYDAY=TU;BYMONTHDAY=2,3,4,5,6,7,8", FOTS_YEARLY, 4, 1, {11}, {2, 3, 4, 5, 6, 7, 8}, {{0, 2}}, 19961105, 0,
+        {19961105, 20001107, 20041102}, 0},
+};
+
+/* Against the first day, the next ones, a column of them, and whether each day in between is one. */
+static void recurrences_of_the_rfc(void)
+{
+    for (int row = 0; row < COUNT(recurrences); row++) {
+        const recurrence *its = &recurrences[row];
+        fots_rule rule = fots_rule_of(of_number(its->start), its->frequency);
+        rule.interval = its->interval;
+        rule.week_start = its->week_start;
+        if (its->until != 0) {
+            rule.until = of_number(its->until);
+        }
+        rule.months = its->months;
+        while (its->months[rule.months_length] != 0) {
+            rule.months_length++;
+        }
+        rule.month_days = its->month_days;
+        while (its->month_days[rule.month_days_length] != 0) {
+            rule.month_days_length++;
+        }
+        rule.weekdays = its->weekdays;
+        while (its->weekdays[rule.weekdays_length].weekday != 0) {
+            rule.weekdays_length++;
+        }
+        fots_date found[COUNT(its->days)];
+        const fots_days_result written = fots_rule_days_after(&rule, date_at(rule.start.julian_day - 1), found, COUNT(found));
+        check(written.status == FOTS_DONE && written.length <= (size_t)COUNT(found), its->text, row, (long long)written.length);
+        fots_date_result next = fots_rule_first(&rule);
+        size_t place = 0;
+        for (; place < (size_t)COUNT(found) && its->days[place] != 0; place++) {
+            is_day(next, of_number(its->days[place]), its->text);
+            check(found[place].julian_day == next.date.julian_day, its->text, row, (long long)place);
+            const fots_date_result after = fots_rule_next_after(&rule, next.date);
+            for (fots_date date = next.date; date.julian_day <= next.date.julian_day + 6; date.julian_day++) {
+                const int is_one = date.julian_day == next.date.julian_day || (after.status == FOTS_DONE && after.date.julian_day <= date.julian_day);
+                if (after.status != FOTS_DONE || date.julian_day <= after.date.julian_day) {
+                    check((int)fots_rule_contains(&rule, date).number == is_one, its->text, row, date.julian_day);
+                }
+            }
+            next = after;
+        }
+        if (its->ends) {
+            refuses(next, FOTS_PAST_RANGE, its->text);
+            check(written.length == place, its->text, row, (long long)written.length);
+        }
+    }
+}
+
+static void recurrences_refused(void)
+{
+    const fots_rule daily = fots_rule_of(day(2024, 1, 1), FOTS_DAILY);
+    fots_date days[3] = {{1}, {2}, {3}};
+    check(fots_rule_days_after(&daily, daily.start, days, 0).length == 0 && days[0].julian_day == 1, "no room", 0, 0);
+    check(fots_rule_days_after(&daily, daily.start, days, 2).length == 2 && days[2].julian_day == 3, "room for two", 0, 0);
+    is_day(fots_rule_next_after(&daily, date_at(FOTS_MIN_JULIAN_DAY)), day(2024, 1, 1), "the start, from long before");
+    refuses(fots_rule_next_after(&daily, date_at(FOTS_MAX_JULIAN_DAY)), FOTS_PAST_RANGE, "past the last day");
+    check(fots_rule_days_after(&daily, date_at(FOTS_MAX_JULIAN_DAY - 2), days, 3).length == 2, "the last two days", 0, 0);
+    const uint8_t february = 2;
+    const int8_t the_30th = 30;
+    fots_rule never = daily;
+    never.months = &february;
+    never.months_length = 1;
+    never.month_days = &the_30th;
+    never.month_days_length = 1;
+    refuses(fots_rule_first(&never), FOTS_PAST_RANGE, "30 February");
+    check(fots_rule_days_after(&never, never.start, days, 3).length == 0, "30 February", 0, 0);
+
+    static uint8_t months[13] = {1, 2, 3, 4, 5, 6, 7, 8, 9, 10, 11, 12, 12};
+    static fots_rule_weekday weekdays[65];
+    for (int place = 0; place < 65; place++) {
+        weekdays[place].number = (int8_t)(place / 7 - 4);
+        weekdays[place].weekday = (uint8_t)(place % 7 + 1);
+    }
+    fots_rule rule = daily;
+    rule.months = months;
+    rule.weekdays = weekdays;
+    rule.months_length = 12;
+    rule.weekdays_length = 64;
+    is_day(fots_rule_first(&rule), day(2024, 1, 1), "as many parts as there can be");
+    /* From the last part to the first, each is wrong before those that are wrong already. */
+    weekdays[63].weekday = 8;
+    refuses(fots_rule_first(&rule), FOTS_BAD_WEEKDAY, "weekday 8");
+    weekdays[63].weekday = 0;
+    refuses(fots_rule_first(&rule), FOTS_BAD_WEEKDAY, "weekday 0");
+    months[11] = 13;
+    refuses(fots_rule_first(&rule), FOTS_MONTH, "month 13");
+    months[11] = 0;
+    refuses(fots_rule_first(&rule), FOTS_MONTH, "month 0");
+    rule.months_length = 13;
+    refuses(fots_rule_first(&rule), FOTS_MANY_PARTS, "13 months");
+    rule.months_length = 12;
+    rule.weekdays_length = 65;
+    refuses(fots_rule_first(&rule), FOTS_MANY_PARTS, "65 weekdays");
+    rule.week_start = 8;
+    refuses(fots_rule_first(&rule), FOTS_BAD_WEEKDAY, "a week that begins with weekday 8");
+    rule.frequency = 5;
+    refuses(fots_rule_first(&rule), FOTS_BAD_FREQUENCY, "frequency 5");
+    rule.frequency = 0;
+    refuses(fots_rule_first(&rule), FOTS_BAD_FREQUENCY, "frequency 0");
+    rule.until = date_at(FOTS_MAX_JULIAN_DAY + 1);
+    refuses(fots_rule_first(&rule), FOTS_BAD_DATE, "until no date");
+    refuses(fots_rule_next_after(&rule, date_at(0)), FOTS_BAD_DATE, "until no date");
+    rule = daily;
+    rule.start = date_at(FOTS_NOTHING);
+    refuses(fots_rule_next_after(&rule, date_at(0)), FOTS_BAD_DATE, "from no date");
+    refuses(fots_rule_next_after(&daily, date_at(FOTS_NOTHING)), FOTS_BAD_DATE, "after no date");
+    check(fots_rule_contains(&daily, date_at(FOTS_NOTHING)).number == FOTS_NO_PART, "no date of a rule", 0, 0);
+    days[0].julian_day = 1;
+    const fots_days_result none = fots_rule_days_after(&daily, date_at(FOTS_NOTHING), days, 3);
+    check(none.status == FOTS_BAD_DATE && none.length == 0 && days[0].julian_day == 1, "days after no date", none.status, 0);
+    check(fots_rule_days_after(&rule, daily.start, days, 3).status == FOTS_BAD_DATE && days[0].julian_day == 1, "days from no date", 0, 0);
+}
+
 static void bad_dates(void)
 {
     static const int32_t bad[] = {FOTS_MIN_JULIAN_DAY - 1, FOTS_MAX_JULIAN_DAY + 1, INT32_MIN, INT32_MAX};
@@ -217,6 +373,8 @@ int main(void)
     day_counts();
     workdays();
     drawn_months();
+    recurrences_of_the_rfc();
+    recurrences_refused();
     bad_dates();
     return ended("schedule");
 }

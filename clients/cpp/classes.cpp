@@ -1,9 +1,12 @@
 // The classes of fotsevindre.hpp: worked rows, the order of values, what is thrown and what is none, and days of <chrono> both ways.
+#include <array>
 #include <cstdio>
+#include <initializer_list>
 #include <map>
 #include <sstream>
 #include <type_traits>
 #include <unordered_set>
+#include <vector>
 
 #include "fotsevindre.hpp"
 
@@ -148,6 +151,93 @@ void moments()
     throws([] { OffsetDateTime(fots_moment{{0}, {0}, FOTS_NO_TIME}); }, FOTS_BAD_MOMENT, "bad moment", "no moment");
 }
 
+void schedule()
+{
+    const Date end = Date::read("2024-01-31"), leap = Date::read("2024-02-29");
+    check(end.checked_add_months(1) == leap && leap.checked_add_years(1) == Date::read("2025-02-28"), "the ends of February");
+    check(Date::max().checked_add_months(1) == std::nullopt && Date::max().saturating_add_months(1) == Date::max(), "past the last month");
+    const Date born = Date::read("1980-06-01");
+    check(born.years_until(Date::read("2024-05-31")) == 43 && born.years_until(Date::read("2024-06-01")) == 44, "an age");
+    check(end.months_until(leap) == 1 && end.period_until(Date::read("2025-03-02")) == Period{1, 1, 2}, "months, and a period");
+    check(leap.first_of_month() == Date::read("2024-02-01") && leap.last_of_month() == leap, "the ends of the month");
+    check(leap.first_of_quarter() == Date::read("2024-01-01") && leap.last_of_quarter() == Date::read("2024-03-31")
+        && leap.quarter() == 1, "the quarter");
+    check(leap.first_of_year() == Date::read("2024-01-01") && leap.last_of_year() == Date::read("2024-12-31"), "the year");
+    check(leap.first_of_iso_week() == Date::read("2024-02-26") && leap.last_of_iso_week() == Date::read("2024-03-03"), "the week");
+    check(Date::max().last_of_iso_week() == std::nullopt && Date::max().on_or_after(Weekday::Saturday) == std::nullopt, "none");
+    check(Date::nth_weekday_of_month(2024, Month::November, Weekday::Thursday, 4) == Date::read("2024-11-28"), "Thanksgiving");
+    check(Date::last_weekday_of_month(2024, Month::May, Weekday::Friday) == Date::read("2024-05-31"), "a last Friday");
+    check(leap.on_or_after(Weekday::Monday) == Date::read("2024-03-04") && leap.on_or_before(Weekday::Thursday) == leap, "a weekday");
+    const YearFraction fraction = Date::read("2003-11-01").day_count(Date::read("2004-05-01"), DayCount::ActualActual);
+    check(fraction.numerator == 61 * 366 + 121 * 365 && fraction.denominator == 133590, "the memorandum of the ISDA");
+    throws([] { Date::nth_weekday_of_month(2024, Month::November, Weekday::Thursday, 5); }, FOTS_WEEKDAY, "weekday was not in range", "a fifth");
+}
+
+void workdays()
+{
+    const Date labor_day = Date::read("2024-09-02"), friday = Date::read("2024-08-30"), tuesday = Date::read("2024-09-03");
+    const Workdays plain, work({labor_day});
+    check(plain.is_workday(labor_day) && !work.is_workday(labor_day) && !work.is_workday(Date::read("2024-08-31")), "working days");
+    check(work.next_workday(friday) == tuesday && work.previous_workday(tuesday) == friday, "round a holiday");
+    check(work.checked_add_workdays(friday, 2) == Date::read("2024-09-04") && work.workdays_between(friday, tuesday) == 1, "counted");
+    check(work.adjusted(Date::read("2024-08-31"), Convention::Following) == tuesday
+        && work.adjusted(Date::read("2024-08-31"), Convention::ModifiedFollowing) == friday, "moved to one");
+    check(plain.workdays_between(Date::read("2024-01-01"), Date::read("2025-01-01")) == 262, "those of 2024");
+    check(Workdays({false, false, false, false, false, true, true}, {}).next_workday(friday) == Date::read("2024-08-31"), "a weekend");
+    check(Workdays(std::array<bool, 7>{}, {}).next_workday(friday) == std::nullopt, "no working day");
+    throws([&] { Workdays({labor_day, labor_day}); }, FOTS_BAD_HOLIDAYS, "bad holidays", "a holiday twice");
+}
+
+// Examples of RFC 5545.
+void recurrences()
+{
+    const auto dates = [](std::initializer_list<const char *> texts) {
+        std::vector<Date> made;
+        for (const char *text : texts) {
+            made.push_back(Date::read(text));
+        }
+        return made;
+    };
+    Rule mondays(Date::read("1997-09-22"), Frequency::Monthly);
+    mondays.weekdays = {{-2, Weekday::Monday}};
+    check(mondays.take(6) == dates({"1997-09-22", "1997-10-20", "1997-11-17", "1997-12-22", "1998-01-19", "1998-02-16"}), "BYDAY=-2MO");
+    check(mondays.next_after(Date::read("1997-12-22")) == Date::read("1998-01-19") && mondays.contains(Date::read("1998-02-16"))
+        && !mondays.contains(Date::read("1998-02-23")), "one at a time");
+    check(mondays.take(0).empty() && mondays.days_after(Date::read("1997-11-17"), 1) == dates({"1997-12-22"}), "after a day");
+    Rule election(Date::read("1996-11-05"), Frequency::Yearly);
+    election.interval = 4;
+    election.months = {Month::November};
+    election.weekdays = {Weekday::Tuesday};
+    election.month_days = {2, 3, 4, 5, 6, 7, 8};
+    check(election.take(3) == dates({"1996-11-05", "2000-11-07", "2004-11-02"}), "BYMONTH=11;BYDAY=TU;BYMONTHDAY=2,3,4,5,6,7,8");
+    Rule weeks(Date::read("1997-08-05"), Frequency::Weekly);
+    weeks.interval = 2;
+    weeks.weekdays = {Weekday::Tuesday, Weekday::Sunday};
+    check(weeks.take(4) == dates({"1997-08-05", "1997-08-10", "1997-08-19", "1997-08-24"}), "WKST=MO");
+    weeks.week_start = Weekday::Sunday;
+    check(weeks.take(4) == dates({"1997-08-05", "1997-08-17", "1997-08-19", "1997-08-31"}), "WKST=SU");
+    weeks.until = Date::read("1997-08-18");
+    check(weeks.take(4) == dates({"1997-08-05", "1997-08-17"}), "an end");
+    weeks.until = Date::min();
+    check(weeks.first() == std::nullopt && weeks.take(4).empty(), "no day");
+    weeks.weekdays.assign(65, Weekday::Sunday);
+    throws([&] { weeks.first(); }, FOTS_MANY_PARTS, "many parts", "65 weekdays");
+}
+
+void plain_moments()
+{
+    const PlainDateTime night(Date::read("2020-12-31"), Time::from_hms(23, 0, 0));
+    check(night + Duration::hours(2) == PlainDateTime(Date::read("2021-01-01"), Time::from_hms(1, 0, 0)), "two hours later");
+    check((night + Duration::hours(2)) - night == Duration::hours(2) && night - Duration::days(1) < night, "the difference, and order");
+    const PlainDateTime last(Date::max(), Time(FOTS_MAX_TIME));
+    check(last.checked_add(Duration::nanoseconds(1)) == std::nullopt && last.saturating_add(Duration::days(1)) == last, "past the last");
+    check(last.checked_sub(Duration::days(1)) == last.replace_date(*Date::max().previous_day()), "a day before it");
+    check(last.saturating_sub(Duration::seconds(INT64_MAX)) == PlainDateTime(Date::min(), Time(0)), "the first");
+    const OffsetDateTime shown = night.assume_offset(UtcOffset::from_hms(1, 0, 0));
+    check(shown.local() == night && shown.to_utc().local() == night - Duration::hours(1) && night.assume_utc() > shown, "at offsets");
+    check(night.replace_time(Time(0)).date() == night.date() && night.time() == Time::from_hms(23, 0, 0), "the parts");
+}
+
 #if __cplusplus >= 202002L
 void days_of_chrono()
 {
@@ -183,6 +273,10 @@ int main()
     refusals();
     others();
     moments();
+    schedule();
+    workdays();
+    recurrences();
+    plain_moments();
 #if __cplusplus >= 202002L
     days_of_chrono();
 #endif

@@ -24,8 +24,10 @@ from __future__ import annotations
 import array
 import ctypes
 import ctypes.util
+import dataclasses
 import datetime
 import enum
+import itertools
 import operator
 import os
 import pathlib
@@ -36,14 +38,14 @@ from typing import Any, Callable, ClassVar, Dict, Iterable, Iterator, List, Name
 __version__ = "0.1.0"
 
 __all__ = [
-    "CalendarDateColumns", "ComponentRange", "Convention", "Date", "DateColumns", "DayCount", "Days", "IsoWeekDateColumns", "MomentColumns",
-    "Month", "NumberColumns", "OffsetDateTime", "OrdinalDateColumns", "Period", "PlainDateTime", "SignedDuration", "TextColumns", "Time",
-    "Unreadable", "UtcOffset", "Weekday", "WeekdayColumns", "Workdays", "YearFraction", "add_to_pair", "calendar_dates_to_iso_week_dates",
-    "dates_add_days", "dates_add_months", "dates_add_workdays", "dates_calendar_texts", "dates_from_calendar_dates",
-    "dates_from_iso_week_dates", "dates_from_julian_days", "dates_from_ordinal_dates", "dates_read", "dates_to_calendar_dates",
-    "dates_to_iso_week_dates", "dates_to_ordinal_dates", "dates_weekdays", "dates_workdays_between", "days_in_month", "days_in_year",
-    "days_in_year_month", "is_leap_year", "moments_read", "moments_texts", "read_rfc3339", "read_unix", "rfc3339_text", "status_error",
-    "sub_from_pair", "unix_duration", "unix_pair", "unix_text", "weeks_in_year",
+    "CalendarDateColumns", "ComponentRange", "Convention", "Date", "DateColumns", "DayCount", "Days", "Frequency", "IsoWeekDateColumns",
+    "MomentColumns", "Month", "NumberColumns", "OffsetDateTime", "OrdinalDateColumns", "Period", "PlainDateTime", "Rule", "SignedDuration",
+    "TextColumns", "Time", "Unreadable", "UtcOffset", "Weekday", "WeekdayColumns", "Workdays", "YearFraction", "add_to_pair",
+    "calendar_dates_to_iso_week_dates", "dates_add_days", "dates_add_months", "dates_add_workdays", "dates_calendar_texts",
+    "dates_from_calendar_dates", "dates_from_iso_week_dates", "dates_from_julian_days", "dates_from_ordinal_dates", "dates_read",
+    "dates_to_calendar_dates", "dates_to_iso_week_dates", "dates_to_ordinal_dates", "dates_weekdays", "dates_workdays_between",
+    "days_in_month", "days_in_year", "days_in_year_month", "is_leap_year", "moments_read", "moments_texts", "read_rfc3339", "read_unix",
+    "rfc3339_text", "status_error", "sub_from_pair", "unix_duration", "unix_pair", "unix_text", "weeks_in_year",
 ]
 
 # ---- the library
@@ -63,6 +65,7 @@ def _load() -> ctypes.CDLL:
     return library
 
 
+_I8 = ctypes.c_int8
 _U8 = ctypes.c_uint8
 _U16 = ctypes.c_uint16
 _I32 = ctypes.c_int32
@@ -84,6 +87,19 @@ class _CMoment(ctypes.Structure):
     date: int
     offset: int
     time: int
+
+
+class _CRuleWeekday(ctypes.Structure):
+    _fields_ = [("number", _I8), ("weekday", _U8)]
+
+
+class _CRule(ctypes.Structure):
+    _fields_ = [
+        ("start", _I32), ("until", _I32), ("frequency", _U32), ("interval", _U32), ("week_start", _U32),
+        ("months", ctypes.POINTER(_U8)), ("months_length", ctypes.c_size_t),
+        ("month_days", ctypes.POINTER(_I8)), ("month_days_length", ctypes.c_size_t),
+        ("weekdays", ctypes.POINTER(_CRuleWeekday)), ("weekdays_length", ctypes.c_size_t),
+    ]
 
 
 class _Result(ctypes.Structure):
@@ -142,6 +158,7 @@ _PAIR = _result(("date", _I32), ("time", _U64))
 _MOMENT = _result(("moment", _CMoment))
 _PERIOD = _result(("years", _I32), ("months", _I32), ("days", _I32))
 _YEAR_FRACTION = _result(("denominator", _U32), ("numerator", _I64))
+_DAYS = _result(("length", ctypes.c_size_t))
 _TEXT = _result(("length", _U32), ("bytes", ctypes.c_char * 40))
 _READ_DATE = _result(("date", _I32), ("place", ctypes.c_size_t))
 _READ_MOMENT = _result(("date", _I32), ("time", _U64), ("offset", _I32), ("place", ctypes.c_size_t))
@@ -221,6 +238,10 @@ _FORMS: List[Tuple[Any, List[Any], str]] = [
     (_DATE, [_I32, _I32, _U32, ctypes.POINTER(_I32), ctypes.c_size_t], "date_add_workdays"),
     (_NUMBER, [_I32, _I32, _U32, ctypes.POINTER(_I32), ctypes.c_size_t], "date_workdays_between"),
     (_DATE, [_I32, _U32, _U32, ctypes.POINTER(_I32), ctypes.c_size_t], "date_adjusted"),
+    (_DATE, [ctypes.POINTER(_CRule)], "rule_first"),
+    (_DATE, [ctypes.POINTER(_CRule), _I32], "rule_next_after"),
+    (_PART, [ctypes.POINTER(_CRule), _I32], "rule_contains"),
+    (_DAYS, [ctypes.POINTER(_CRule), _I32, ctypes.POINTER(_I32), ctypes.c_size_t], "rule_days_after"),
 ]
 
 _library = _load()
@@ -268,11 +289,10 @@ _C: Any = type("_C", (), _calls)
 _PAST_RANGE = 1
 _BAD_COUNT = 7
 _UNREADABLE = 8
-_BAD_TEXT = 11
 _REFUSALS = {
     16: "year", 17: "month", 18: "julian_day", 19: "hour", 20: "minute", 21: "second", 22: "millisecond", 23: "microsecond",
     24: "nanosecond", 25: "offset hour", 26: "offset minute", 27: "offset second", 28: "seconds", 29: "timestamp",
-    64: "day", 65: "ordinal", 66: "week", 67: "weekday",
+    30: "bounds", 64: "day", 65: "ordinal", 66: "week", 67: "weekday",
 }
 _FIRST_CONDITIONAL = 64
 
@@ -331,8 +351,6 @@ def _error(status: int) -> Exception:
         return OverflowError("a count of occurrences is from 0 to 255")
     if status == _UNREADABLE:
         return ValueError("the text has no form that is read")
-    if status == _BAD_TEXT:
-        return ValueError("the bounds of the text do not lie in the bytes, one after the other")
     return ValueError(f"the library refused a value, with status {status}")
 
 
@@ -1811,6 +1829,102 @@ class Workdays:
         return _date_or_none(_C.date_adjusted(_is(date, Date)._key, _is(convention, Convention).value, self._week, self._holidays, len(self._holidays)))
 
 
+class Frequency(enum.IntEnum):
+    """What a rule counts by: its interval is so many of them, and a rule that names no day takes that of its start."""
+
+    Daily = 1
+    Weekly = 2
+    Monthly = 3
+    Yearly = 4
+
+
+# How many days of a rule are asked for at once.
+_DAYS_AT_ONCE = 64
+
+
+@dataclasses.dataclass(frozen=True)
+class Rule:
+    """Days that come back, as RFC 5545 writes them in a `RRULE`: an iteration gives them in order.
+
+    They are each so-many-th day, week, month or year from the start on, of those months, days of the month and weekdays, where these are
+    named: at most 12 months and 64 weekdays, and else `ValueError`. A day of the month is counted from the end where it is below 0. A
+    weekday alone is each one, and with a number before it the so-many-th of the month, or of the year in a yearly rule that names no month,
+    from the end where the number is below 0.
+
+    >>> last_fridays = Rule(Date.read("2024-01-01"), Frequency.Monthly, weekdays=[(-1, Weekday.Friday)])
+    >>> last_fridays.take(2), last_fridays.next_after(Date.read("2024-08-30")), Date.read("2024-05-31") in last_fridays
+    ([2024-01-26, 2024-02-23], 2024-09-27, True)
+    """
+
+    start: Date
+    frequency: Frequency
+    interval: int = 1
+    week_start: Weekday = Weekday.Monday
+    months: Sequence[int] = ()
+    month_days: Sequence[int] = ()
+    weekdays: Sequence[Union[Weekday, Tuple[int, Weekday]]] = ()
+    until: Optional[Date] = None
+
+    def __post_init__(self) -> None:
+        for name in ("months", "month_days", "weekdays"):
+            object.__setattr__(self, name, tuple(getattr(self, name)))
+        months = [min(_component(month), 255) for month in self.months]
+        month_days = [_fit(day, -128, 127) for day in self.month_days]
+        weekdays = [_rule_weekday(weekday) for weekday in self.weekdays]
+        until = Date.MAX if self.until is None else _is(self.until, Date)
+        parts = _CRule(
+            _is(self.start, Date)._key, until._key, _is(self.frequency, Frequency).value, _u32(self.interval), _weekday(self.week_start),
+            (_U8 * len(months))(*months), len(months), (_I8 * len(month_days))(*month_days), len(month_days),
+            (_CRuleWeekday * len(weekdays))(*weekdays), len(weekdays))
+        object.__setattr__(self, "_parts", parts)
+        _number(_C.rule_contains(parts, self.start._key))
+
+    def next_after(self, date: Date) -> Optional[Date]:
+        """The first day of the rule after the day, or `None` where the range has none."""
+        return _date_or_none(_C.rule_next_after(self._c(), _is(date, Date)._key))
+
+    def days_after(self, date: Date) -> Iterator[Date]:
+        """The days of the rule after the day, in order."""
+        return self._walk(_is(date, Date)._key)
+
+    def take(self, count: SupportsIndex) -> List[Date]:
+        """The first days of the rule, so many where there are so many: a rule that ends after a number of times."""
+        return list(itertools.islice(self, operator.index(count)))
+
+    def __iter__(self) -> Iterator[Date]:
+        first = _date_or_none(_C.rule_first(self._c()))
+        return iter(()) if first is None else itertools.chain((first,), self._walk(first._key))
+
+    def __contains__(self, date: object) -> bool:
+        return isinstance(date, Date) and bool(_number(_C.rule_contains(self._c(), date._key)))
+
+    def __reduce__(self) -> Tuple[Any, ...]:
+        return Rule, tuple(getattr(self, field.name) for field in dataclasses.fields(self))
+
+    def _c(self) -> _CRule:
+        """The struct that crosses: it is not changed."""
+        return cast(_CRule, getattr(self, "_parts"))
+
+    def _walk(self, key: int) -> Iterator[Date]:
+        """The days of the rule after the Julian day."""
+        room = (_I32 * _DAYS_AT_ONCE)()
+        length = _DAYS_AT_ONCE
+        while length == _DAYS_AT_ONCE:
+            length = _done(_C.rule_days_after(self._c(), key, room, _DAYS_AT_ONCE)).length
+            key = room[length - 1]
+            yield from [Date._of(day) for day in room[:length]]
+
+
+def _rule_weekday(weekday: Union[Weekday, Tuple[int, Weekday]]) -> _CRuleWeekday:
+    """A weekday of a rule, as it crosses: its number, 0 for each one, and that of the weekday."""
+    if isinstance(weekday, Weekday):
+        return _CRuleWeekday(0, _weekday(weekday))
+    number, weekday = weekday
+    if operator.index(number) == 0:
+        raise ValueError("no weekday of a month or a year is the 0th")
+    return _CRuleWeekday(_fit(number, -128, 127), _weekday(weekday))
+
+
 # ---- moments
 
 
@@ -1996,6 +2110,18 @@ class _DateTime(_Value):
     def nanosecond(self) -> int:
         """The nanoseconds of the second, as those of `time()`."""
         return self.time().nanosecond()
+
+    def replace(self: _D, *, year: Optional[SupportsIndex] = None, month: Optional[SupportsIndex] = None,
+                day: Optional[SupportsIndex] = None, hour: Optional[SupportsIndex] = None, minute: Optional[SupportsIndex] = None,
+                second: Optional[SupportsIndex] = None, nanosecond: Optional[SupportsIndex] = None) -> _D:
+        """The date-time of these parts and the others the same; `ComponentRange` as by `Date.replace` and then by `Time.replace`.
+
+        >>> PlainDateTime.new(Date.read("2024-02-29"), Time.from_hms(9, 5, 0)).replace(year=2023, day=28, hour=10)
+        2023-02-28 10:05:00.0
+        """
+        date = self.date().replace(year=year, month=month, day=day)
+        time = self.time().replace(hour=hour, minute=minute, second=second, nanosecond=nanosecond)
+        return _made(type(self), _C.moment_new(date._key, time._key, self._key.offset))
 
     def replace_date(self: _D, date: Date) -> _D:
         """The same time of day on that date."""

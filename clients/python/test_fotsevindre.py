@@ -851,8 +851,8 @@ class Columns(Cases):
                     self.assertEqual(found, [date.to_julian_day(), *rest])
         self.assertEqual((dates.refused, moments.refused), (5, 6))
         wrong = fotsevindre.dates_read(b"2024-02-29", array.array("i", [0, 10, 11, 4, -1]))
-        self.assertEqual((list(wrong.statuses), wrong.refused), ([0, 11, 11, 11], 3))
-        self.assertEqual(str(fotsevindre.status_error(11)), "the bounds of the text do not lie in the bytes, one after the other")
+        self.assertEqual((list(wrong.statuses), wrong.refused), ([0, 30, 30, 30], 3))
+        self.assertEqual(repr(fotsevindre.status_error(30)), "ComponentRange('bounds', False)")
         with self.assertRaises(ValueError):
             fotsevindre.dates_read(b"", array.array("i"))
         with self.assertRaises(TypeError):
@@ -985,7 +985,7 @@ class Header(Cases):
 
     TEXT = (pathlib.Path(__file__).resolve().parents[2] / "include" / "fotsevindre.h").read_text(encoding="utf-8")
     NUMBERS = {
-        "uint8_t": ctypes.c_uint8, "uint16_t": ctypes.c_uint16, "int32_t": ctypes.c_int32, "uint32_t": ctypes.c_uint32, "int64_t": ctypes.c_int64, "uint64_t": ctypes.c_uint64,
+        "int8_t": ctypes.c_int8, "uint8_t": ctypes.c_uint8, "uint16_t": ctypes.c_uint16, "int32_t": ctypes.c_int32, "uint32_t": ctypes.c_uint32, "int64_t": ctypes.c_int64, "uint64_t": ctypes.c_uint64,
         "size_t": ctypes.c_size_t, "char": ctypes.c_char, "fots_date": ctypes.c_int32, "fots_offset": ctypes.c_int32,
         "fots_time": ctypes.c_uint64,
     }
@@ -1001,11 +1001,14 @@ class Header(Cases):
         """Whether the type that the client declares is that of the header with this name."""
         if name in self.NUMBERS:
             return declared is self.NUMBERS[name]
+        if name.endswith("*"):
+            return self.is_of(declared._type_, name[:-1].replace("const ", "").strip())
         if name.endswith("]"):
             name, length = name[:-1].split("[")
             return declared._length_ == int(length) and self.is_of(declared._type_, name)
         fields = [field.strip().rsplit(" ", 1) for field in self.structs[name].split(";") if field.strip()]
         fields = [(kind + field[field.index("["):], field.split("[")[0]) if "[" in field else (kind, field) for kind, field in fields]
+        fields = [(kind + " *", field[1:]) if field.startswith("*") else (kind, field) for kind, field in fields]
         return len(fields) == len(declared._fields_) and all(
             field == own and self.is_of(kind, type_name) for (type_name, field), (own, kind) in zip(fields, declared._fields_))
 
@@ -1034,7 +1037,6 @@ class Header(Cases):
         self.assertEqual(fotsevindre._PAST_RANGE, self.statuses["FOTS_PAST_RANGE"])
         self.assertEqual(fotsevindre._BAD_COUNT, self.statuses["FOTS_BAD_COUNT"])
         self.assertEqual(fotsevindre._UNREADABLE, self.statuses["FOTS_UNREADABLE"])
-        self.assertEqual(fotsevindre._BAD_TEXT, self.statuses["FOTS_BAD_TEXT"])
 
 
 class Documentation(Cases):

@@ -162,6 +162,10 @@ class Rows(Cases):
             self.assertEqual(str(getattr(NIGHT, "truncate_to_" + name)()), f"2024-02-29 {text} +01:00:00")
         self.assertEqual(str(NIGHT.replace_date_time(PlainDateTime.MIN)), "-999999-01-01 0:00:00.0 +01:00:00")
         self.assertEqual(str(NIGHT.replace_offset(UtcOffset.UTC)), "2024-02-29 23:59:59.25 +00:00:00")
+        self.assertEqual(str(NIGHT.replace(year=2023, day=28, hour=1, nanosecond=0)), "2023-02-28 1:59:59.0 +01:00:00")
+        self.assertEqual(type(NIGHT.local().replace(month=None, minute=0)), PlainDateTime)
+        self.assertRaises(TypeError, NIGHT.replace, hour="1")
+        self.assertRaises(TypeError, NIGHT.replace, 2023)
         for value in (NIGHT, NIGHT.local()):
             self.refused("day", True, value.replace_year, 2023)
             self.refused("hour", False, value.replace_hour, 24)
@@ -231,6 +235,26 @@ class OfTheStandardLibrary(Cases):
             self.assertEqual((moment.to_datetime(), moment.to_datetime().utcoffset()), (aware, aware.utcoffset()))
             since = (aware - datetime.datetime(1970, 1, 1, tzinfo=datetime.timezone.utc)) // datetime.timedelta(microseconds=1)
             self.assertEqual(moment.unix_timestamp_nanos(), since * 1000)
+
+    def test_several_parts(self):
+        draw = random.Random(46)
+        ranges = {"year": (1900, 2100), "month": (0, 13), "day": (0, 31), "hour": (0, 24), "minute": (0, 60), "second": (0, 60)}
+        refused = 0
+        for _ in range(2000):
+            value = datetime.datetime(2024, 2, 29, 23, 59, 59, 250_000) + datetime.timedelta(days=draw.randrange(400))
+            parts = {name: draw.randint(*ranges[name]) for name in draw.sample(sorted(ranges), draw.randint(0, 3))}
+            own = PlainDateTime.from_datetime(value)
+            moment = own.assume_offset(NIGHT.offset())
+            try:
+                wanted = value.replace(**parts)
+            except ValueError:
+                refused += 1
+                self.assertRaises(ComponentRange, own.replace, **parts)
+                self.assertRaises(ComponentRange, moment.replace, **parts)
+                continue
+            self.assertEqual(own.replace(**parts).to_datetime(), wanted)
+            self.assertEqual(shows(moment.replace(**parts)), shows(PlainDateTime.from_datetime(wanted).assume_offset(NIGHT.offset())))
+        self.assertGreater(refused, 50)
 
     def test_what_does_not_fit(self):
         aware = datetime.datetime(2024, 2, 29, tzinfo=datetime.timezone.utc)

@@ -1,12 +1,16 @@
-"""Tests of the months, the working days and the day counts of the Python client. Expected values are from calendars, from the memorandum of the
-ISDA, and from the calendar of the standard library, one day at a time."""
+"""Tests of the months, the working days, the recurrences and the day counts of the Python client. Expected values are from calendars, from the
+memorandum of the ISDA, from the examples of RFC 5545, and from the calendar of the standard library, one day at a time."""
 
 import calendar
+import copy
+import dataclasses
 import datetime
+import itertools
+import pickle
 import random
 import unittest
 
-from fotsevindre import ComponentRange, Convention, Date, DayCount, Month, Weekday, Workdays
+from fotsevindre import ComponentRange, Convention, Date, DayCount, Frequency, Month, Rule, Weekday, Workdays
 
 
 def day(year, month, day_of_month):
@@ -105,6 +109,82 @@ class WorkingDays(unittest.TestCase):
         self.assertRaises(ValueError, Workdays, holidays=day(2000, 1, 1).iter_to(day(2010, 1, 1)))
         self.assertRaises(TypeError, Workdays, holidays=[1])
         self.assertRaises(TypeError, Workdays, [1])
+
+
+TU, TH, FR, SA, SU = (Weekday[name] for name in ("Tuesday", "Thursday", "Friday", "Saturday", "Sunday"))
+
+
+def numbered(number):
+    return day(number // 10000, number // 100 % 100, number % 100)
+
+
+class Recurrences(unittest.TestCase):
+    # Examples of RFC 5545 with their first days.
+    ROWS = [
+        ("FREQ=DAILY;INTERVAL=10;COUNT=5", 19970902, Frequency.Daily, {"interval": 10}, [19970902, 19970912, 19970922, 19971002, 19971012]),
+        ("FREQ=WEEKLY;INTERVAL=2;COUNT=4;BYDAY=TU,SU;WKST=MO", 19970805, Frequency.Weekly, {"interval": 2, "weekdays": [TU, SU]},
+            [19970805, 19970810, 19970819, 19970824]),
+        ("FREQ=WEEKLY;INTERVAL=2;COUNT=4;BYDAY=TU,SU;WKST=SU", 19970805, Frequency.Weekly, {"interval": 2, "weekdays": [TU, SU], "week_start": SU},
+            [19970805, 19970817, 19970819, 19970831]),
+        ("FREQ=MONTHLY;COUNT=6;BYDAY=-2MO", 19970922, Frequency.Monthly, {"weekdays": [(-2, Weekday.Monday)]},
+            [19970922, 19971020, 19971117, 19971222, 19980119, 19980216]),
+        ("FREQ=MONTHLY;BYMONTHDAY=-3", 19970928, Frequency.Monthly, {"month_days": [-3]}, [19970928, 19971029, 19971128, 19971229, 19980129, 19980226]),
+        ("FREQ=MONTHLY;BYDAY=FR;BYMONTHDAY=13", 19970902, Frequency.Monthly, {"weekdays": [FR], "month_days": [13]},
+            [19980213, 19980313, 19981113, 19990813, 20001013]),
+        ("FREQ=YEARLY;COUNT=10;BYMONTH=6,7", 19970610, Frequency.Yearly, {"months": [6, 7]}, [19970610, 19970710, 19980610, 19980710, 19990610]),
+        ("FREQ=YEARLY;BYDAY=20MO", 19970519, Frequency.Yearly, {"weekdays": [(20, Weekday.Monday)]}, [19970519, 19980518, 19990517]),
+        ("FREQ=YEARLY;INTERVAL=4;BYMONTH=11;BYDAY=TU;BYMONTHDAY=2,3,4,5,6,7,8", 19961105, Frequency.Yearly,
+            {"interval": 4, "months": [Month.November], "weekdays": [TU], "month_days": range(2, 9)}, [19961105, 20001107, 20041102]),
+    ]
+
+    def test_examples_of_the_rfc(self):
+        for text, start, frequency, parts, wanted in self.ROWS:
+            rule = Rule(numbered(start), frequency, **parts)
+            wanted = [numbered(number) for number in wanted]
+            self.assertEqual(rule.take(len(wanted)), wanted, text)
+            self.assertEqual([rule.next_after(one) for one in wanted[:-1]], wanted[1:], text)
+            span = wanted[0].iter_to(wanted[-1])
+            self.assertEqual([date for date in span if date in rule], wanted, text)
+
+    def test_ends(self):
+        rule = Rule(numbered(19970902), Frequency.Weekly, week_start=SU, weekdays=[TU, TH], until=numbered(19971006))
+        self.assertEqual([date.day() for date in rule], [2, 4, 9, 11, 16, 18, 23, 25, 30, 2])
+        never = Rule(day(2024, 1, 1), Frequency.Yearly, months=[2], month_days=[30])
+        self.assertEqual((list(never), never.take(3), never.next_after(Date.MIN)), ([], [], None))
+        daily = Rule(day(999999, 12, 30), Frequency.Daily)
+        self.assertEqual(list(daily), [day(999999, 12, 30), Date.MAX])
+        self.assertNotIn(datetime.date(2024, 1, 1), daily)
+
+    def test_long_walks(self):
+        rule = Rule(day(2000, 1, 1), Frequency.Daily, interval=3)
+        days = rule.take(1000)
+        self.assertEqual(days, [Date.from_julian_day(2451545 + 3 * place) for place in range(1000)])
+        self.assertEqual(list(itertools.islice(rule.days_after(days[70]), 200)), days[71:271])
+        ended = Rule(day(2000, 1, 1), Frequency.Daily, interval=3, until=days[128])
+        self.assertEqual(list(ended), days[:129])
+
+    def test_fields(self):
+        rule = Rule(day(2024, 1, 1), Frequency.Monthly, weekdays=[FR, (-1, SA)], months=iter([1, 2]))
+        same = Rule(start=day(2024, 1, 1), frequency=Frequency.Monthly, interval=1, months=(1, 2), weekdays=(FR, (-1, SA)))
+        for copied in (same, copy.deepcopy(rule), pickle.loads(pickle.dumps(rule)), dataclasses.replace(rule, interval=1)):
+            self.assertEqual((copied, hash(copied), list(copied.take(9))), (rule, hash(rule), rule.take(9)))
+        self.assertRaises(dataclasses.FrozenInstanceError, setattr, rule, "interval", 2)
+
+    def test_refusals(self):
+        start = day(2024, 1, 1)
+        with self.assertRaises(ComponentRange) as refused:
+            Rule(start, Frequency.Yearly, months=[13])
+        self.assertEqual(refused.exception.name, "month")
+        for parts in ({"months": [300]}, {"months": [1] * 13}, {"weekdays": [FR] * 65}, {"weekdays": [(0, FR)]}):
+            self.assertRaises(ValueError, Rule, start, Frequency.Yearly, **parts)
+        for parts in ({"month_days": [128]}, {"weekdays": [(-129, FR)]}, {"interval": -1}, {"interval": 2**32}):
+            self.assertRaises(OverflowError, Rule, start, Frequency.Yearly, **parts)
+        for arguments in ((start, 4), (datetime.date(2024, 1, 1), Frequency.Daily), (start, Frequency.Daily, 1.0)):
+            self.assertRaises(TypeError, Rule, *arguments)
+        for parts in ({"weekdays": [5]}, {"months": ["1"]}, {"until": 1}, {"week_start": 1}, {"weekdays": [(1, 5)]}):
+            self.assertRaises(TypeError, Rule, start, Frequency.Yearly, **parts)
+        for call in (Rule(start, Frequency.Daily).next_after, Rule(start, Frequency.Daily).days_after):
+            self.assertRaises(TypeError, call, 1)
 
 
 if __name__ == "__main__":

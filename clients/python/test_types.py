@@ -1,9 +1,9 @@
 """What a checker of types makes of calls: it takes all of these but the marked ones. Nothing runs this file."""
 
 import datetime
-from typing import Optional, Tuple
+from typing import List, Optional, Tuple
 
-from fotsevindre import OffsetDateTime, PlainDateTime
+from fotsevindre import Frequency, OffsetDateTime, PlainDateTime, Rule
 from fotsevindre import Date, Days, Month, SignedDuration, Time, UtcOffset, Weekday, add_to_pair, rfc3339_text
 
 day: Date = Date.from_calendar_date(2024, Month.February, 29)
@@ -21,11 +21,14 @@ is_less: bool = day < last and day.weekday() == Weekday.Friday and UtcOffset.UTC
 pair: Optional[Tuple[Date, Time]] = add_to_pair(day, Time.MIDNIGHT, no_time * 2 / 3)
 text: Optional[str] = rfc3339_text(day, Time.MAX, UtcOffset.UTC)
 date: datetime.date = day.replace(year=2025, day=1).to_date()
-local: PlainDateTime = PlainDateTime.new(day, Time.MIDNIGHT).replace_hour(23) + no_time
-moment: OffsetDateTime = local.assume_utc().replace_date(last) - no_time
+local: PlainDateTime = PlainDateTime.new(day, Time.MIDNIGHT).replace(day=1, hour=23) + no_time
+moment: OffsetDateTime = local.assume_utc().replace_date(last).replace(minute=30) - no_time
 shown: Optional[OffsetDateTime] = moment.checked_to_utc()
 since: SignedDuration = moment - OffsetDateTime.UNIX_EPOCH
 is_later: bool = local > PlainDateTime.MIN and moment >= OffsetDateTime.from_datetime(moment.to_datetime())
+rule: Rule = Rule(day, Frequency.Monthly, months=[Month.June, 7], weekdays=[Weekday.Monday, (-1, Weekday.Friday)], until=last)
+of_rule: List[Date] = [date for date in rule] + rule.take(3) + list(rule.days_after(day))
+next_of_rule: Optional[Date] = rule.next_after(day)
 
 Date.from_calendar_date("2024", 2, 29)  # refused
 Date.from_calendar_date(2024.0, 2, 29)  # refused
@@ -42,5 +45,9 @@ same.to_calendar_date()[0].upper()  # refused
 local < moment  # refused
 moment - local  # refused
 moment + 1  # refused
+moment.replace(hour="1")  # refused
 moment.to_offset(3600)  # refused
+Rule(day, 3)  # refused
+Rule(day, Frequency.Monthly, weekdays=[5])  # refused
+rule.next_after(day).year()  # refused
 shown.unix_timestamp()  # refused

@@ -1,11 +1,12 @@
 //! The calls of the library, each declared as in `fotsevindre.h`, and each behind a safe function of the same name.
 //!
 //! A call of one value takes numbers and returns numbers. It takes no pointer, answers for each argument whatever its bits, and keeps
-//! no state. A call that reads a text, columns or holidays takes slices, each of them passed on with its own length. So each is safe to call
-//! wherever the declaration here is that of the header.
+//! no state. A call that reads a text, a rule, columns or holidays takes slices, each of them passed on with its own length. So each is safe
+//! to call wherever the declaration here is that of the header.
 
 use crate::columns::Refusal;
 use crate::error::{ComponentRange, Unreadable};
+use crate::rule::{ByDay, Rule};
 use crate::Date;
 
 /// The status of a call that has an answer.
@@ -23,7 +24,7 @@ const BAD_WEEKDAY: i32 = 6;
 /// The status of a call that was given bytes of none of its forms.
 const UNREADABLE: i32 = 8;
 
-const BAD_TEXT: i32 = 11;
+const BOUNDS: i32 = 30;
 /// What a call over columns returns where these are not of one length.
 const UNLIKE: usize = usize::MAX;
 
@@ -42,6 +43,30 @@ pub(crate) struct CMoment {
     pub(crate) date: i32,
     pub(crate) offset: i32,
     pub(crate) time: u64,
+}
+
+/// A weekday of a rule as it crosses: its number is 0 for each one.
+#[repr(C)]
+#[derive(Clone, Copy)]
+pub(crate) struct CRuleWeekday {
+    pub(crate) number: i8,
+    pub(crate) weekday: u8,
+}
+
+/// A rule as it crosses.
+#[repr(C)]
+pub(crate) struct CRule {
+    pub(crate) start: i32,
+    pub(crate) until: i32,
+    pub(crate) frequency: u32,
+    pub(crate) interval: u32,
+    pub(crate) week_start: u32,
+    pub(crate) months: *const u8,
+    pub(crate) months_length: usize,
+    pub(crate) month_days: *const i8,
+    pub(crate) month_days_length: usize,
+    pub(crate) weekdays: *const CRuleWeekday,
+    pub(crate) weekdays_length: usize,
 }
 
 /// What a call returned: its answer, or a status that is not [`DONE`].
@@ -331,6 +356,64 @@ pub(crate) fn fots_version() -> u32 {
     unsafe { declared_alone::fots_version() }
 }
 
+/// Calls of rules.
+macro_rules! calls_of_rules {
+    ($($name:ident(rule: *const CRule $(, $argument:ident: $kind:ty)*) -> $result:ident;)*) => {
+        mod declared_of_rules {
+            use super::*;
+
+            extern "C" {
+                $(pub(super) fn $name(rule: *const CRule $(, $argument: $kind)*) -> $result;)*
+            }
+        }
+
+        $(
+            pub(crate) fn $name(rule: &Rule<'_> $(, $argument: $kind)*) -> Answer<<$result as Returned>::Value> {
+                with_parts(rule, |rule| unsafe { declared_of_rules::$name(rule $(, $argument)*) }.answer())
+            }
+        )*
+    };
+}
+
+calls_of_rules! {
+    fots_rule_first(rule: *const CRule) -> DateResult;
+    fots_rule_next_after(rule: *const CRule, date: i32) -> DateResult;
+    fots_rule_contains(rule: *const CRule, date: i32) -> PartResult;
+}
+
+/// What a call answers that is given the parts of the rule, which lie there until it returns. A rule of more months or weekdays than the
+/// library takes panics.
+fn with_parts<T>(rule: &Rule<'_>, call: impl FnOnce(*const CRule) -> T) -> T {
+    assert!(rule.months.len() <= Rule::MOST_MONTHS, "a rule has more than {} months", Rule::MOST_MONTHS);
+    assert!(rule.weekdays.len() <= Rule::MOST_WEEKDAYS, "a rule has more than {} weekdays", Rule::MOST_WEEKDAYS);
+    let mut months = [0; Rule::MOST_MONTHS];
+    for (number, month) in months.iter_mut().zip(rule.months) {
+        *number = *month as u8;
+    }
+    let mut weekdays = [CRuleWeekday { number: 0, weekday: 0 }; Rule::MOST_WEEKDAYS];
+    for (parts, by) in weekdays.iter_mut().zip(rule.weekdays) {
+        *parts = match by {
+            ByDay::Every(weekday) => CRuleWeekday { number: 0, weekday: weekday.number_from_monday() },
+            // No weekday is the 0th, nor the 127th.
+            ByDay::Nth(0, weekday) => CRuleWeekday { number: i8::MAX, weekday: weekday.number_from_monday() },
+            ByDay::Nth(number, weekday) => CRuleWeekday { number: *number, weekday: weekday.number_from_monday() },
+        };
+    }
+    call(&CRule {
+        start: rule.start.to_c(),
+        until: rule.until.unwrap_or(Date::MAX).to_c(),
+        frequency: rule.frequency as u32,
+        interval: rule.interval,
+        week_start: rule.week_start.number(),
+        months: months.as_ptr(),
+        months_length: rule.months.len(),
+        month_days: rule.month_days.as_ptr(),
+        month_days_length: rule.month_days.len(),
+        weekdays: weekdays.as_ptr(),
+        weekdays_length: rule.weekdays.len(),
+    })
+}
+
 /// Calls of years, which answer for each.
 macro_rules! calls_of_years {
     ($($name:ident;)*) => {
@@ -481,7 +564,7 @@ pub(crate) fn refusal_of(status: i32) -> Option<Refusal> {
         BAD_TIME => Some(Refusal::NoTime),
         BAD_OFFSET => Some(Refusal::NoOffset),
         UNREADABLE => Some(Refusal::Unreadable),
-        BAD_TEXT => Some(Refusal::NoText),
+        BOUNDS => Some(Refusal::NoText),
         status => Some(Refusal::OutOfRange(ComponentRange::of_status(status))),
     }
 }

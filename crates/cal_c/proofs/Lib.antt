@@ -10,3 +10,4 @@ pub mod Schedules
 pub mod Holidays
 pub mod PrintedRows
 pub mod TextRows
+pub mod Recurring

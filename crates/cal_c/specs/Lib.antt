@@ -8,3 +8,4 @@ pub mod Moments
 pub mod Schedule
 pub mod Workweeks
 pub mod TextColumns
+pub mod Recurrences

@@ -36,9 +36,13 @@ unreadable = pos 8
 abbrev pub bad_moment : ℤ
 bad_moment = pos 9
 
--- the bounds of a text do not lie in the bytes, one after the other
-abbrev pub bad_text : ℤ
-bad_text = pos 11
+-- the number is no frequency of a rule
+abbrev pub bad_frequency : ℤ
+bad_frequency = pos 10
+
+-- a rule has more months or weekdays than a call takes
+abbrev pub many_parts : ℤ
+many_parts = pos 11
 
 -- the number is no convention
 abbrev pub bad_convention : ℤ
@@ -98,6 +102,10 @@ seconds_refused = pos 28
 
 abbrev pub timestamp_refused : ℤ
 timestamp_refused = pos 29
+
+-- the bounds of a text do not lie in the bytes, one after the other
+abbrev pub bounds_refused : ℤ
+bounds_refused = pos 30
 
 -- those whose range depends on the arguments before
 abbrev pub day_refused : ℤ

@@ -13,7 +13,7 @@ use Rattle.cal_text.specs.Rfc3339Form as moments
 use Rattle.cal_text.specs.Rfc3339Form.{HasMomentThat, IsMomentText, LacksHour, LacksMinute, LacksSecond, LacksOffsetHour, LacksOffsetMinute}
 use Rattle.cal_c.specs.Moments.{moment_done, moment_refused}
 use Rattle.cal_c.specs.Results.{date_done, date_refused}
-use Rattle.cal_c.specs.Statuses.{done, past_range, bad_date, bad_time, bad_offset, bad_text, unreadable, year_refused, month_refused, day_refused, ordinal_refused, week_refused, weekday_refused, hour_refused, minute_refused, second_refused, offset_hour_refused, offset_minute_refused}
+use Rattle.cal_c.specs.Statuses.{done, past_range, bad_date, bad_time, bad_offset, bounds_refused, unreadable, year_refused, month_refused, day_refused, ordinal_refused, week_refused, weekday_refused, hour_refused, minute_refused, second_refused, offset_hour_refused, offset_minute_refused}
 use Rattle.cal_c.specs.Texts.{HasDateForm, HasFormOfMoment}
 use Rattle.cal_c.specs.Values.{IsJulianDay, day_of, moment_of}
 use Rattle.cal_c.specs.declared.results.DateResult.{DateResult}
@@ -60,7 +60,7 @@ pub record IsDateOfText (bytes : List ℕ) (r : DateResult) : Type 0 where
   pub weekday : HasFormThat LacksWeekday bytes → r ≡ date_refused weekday_refused
 
 pub record IsDateOfPart (bytes : List ℕ) (from to : ℤ) (r : DateResult) : Type 0 where
-  pub bad_text : (ArePartOf bytes from to → ⊥) → r ≡ date_refused bad_text
+  pub bounds : (ArePartOf bytes from to → ⊥) → r ≡ date_refused bounds_refused
   pub read : ArePartOf bytes from to → IsDateOfText (part bytes from to) r
 
 -- as `fots_moment_read`, but for the place
@@ -76,7 +76,7 @@ pub record IsMomentOfText (bytes : List ℕ) (r : MomentResult) : Type 0 where
   pub offset_minute : HasMomentThat LacksOffsetMinute bytes → r ≡ moment_refused offset_minute_refused
 
 pub record IsMomentOfPart (bytes : List ℕ) (from to : ℤ) (r : MomentResult) : Type 0 where
-  pub bad_text : (ArePartOf bytes from to → ⊥) → r ≡ moment_refused bad_text
+  pub bounds : (ArePartOf bytes from to → ⊥) → r ≡ moment_refused bounds_refused
   pub read : ArePartOf bytes from to → IsMomentOfText (part bytes from to) r
 
 -- as `fots_date_calendar_text`

@@ -29,8 +29,11 @@ pub const UNREADABLE: i32 = 8;
 
 pub const BAD_MOMENT: i32 = 9;
 
-/// The bounds of a text do not lie in the bytes, one after the other.
-pub const BAD_TEXT: i32 = 11;
+/// The number is no frequency of a rule.
+pub const BAD_FREQUENCY: i32 = 10;
+
+/// A rule has more months or weekdays than a call takes.
+pub const MANY_PARTS: i32 = 11;
 
 /// The number is no convention of day counts or of working days.
 pub const BAD_CONVENTION: i32 = 12;
@@ -71,6 +74,9 @@ pub const OFFSET_SECOND: i32 = 27;
 pub const SECONDS: i32 = 28;
 
 pub const TIMESTAMP: i32 = 29;
+
+/// The bounds of a text do not lie in the bytes, one after the other.
+pub const BOUNDS: i32 = 30;
 
 pub const DAY: i32 = 64;
 

@@ -19,7 +19,7 @@ pub(super) const BAD_OFFSET: u8 = status::BAD_OFFSET as u8;
 
 pub(super) const BAD_WEEKDAY: u8 = status::BAD_WEEKDAY as u8;
 
-pub(super) const BAD_TEXT: u8 = status::BAD_TEXT as u8;
+pub(super) const BOUNDS: u8 = status::BOUNDS as u8;
 
 pub(super) const YEAR: u8 = status::YEAR as u8;
 

@@ -1,5 +1,6 @@
 //! What the calls of schedules answer besides a date and a number.
 ghost use Rattle.std.specs.Prelude.{◌≡◌};
+ghost use Rattle.cal_c.specs.Recurrences.{days_done, days_refused};
 ghost use Rattle.cal_c.specs.Schedule.{period_done, period_refused, year_fraction_done, year_fraction_refused};
 
 use crate::status::DONE;
@@ -22,6 +23,31 @@ pub struct YearFractionResult {
     pub status: i32,
     pub denominator: u32,
     pub numerator: i64,
+}
+
+/// How many days were written.
+#[repr(C)]
+#[derive(Clone, Copy)]
+pub struct DaysResult {
+    pub status: i32,
+    pub length: usize,
+}
+
+impl DaysResult {
+    pub fn of(length: usize) -> Self
+        ensures { result ≡ days_done length }
+    {
+        DaysResult {
+            status: DONE,
+            length,
+        }
+    }
+
+    pub fn refused(status: i32) -> Self
+        ensures { result ≡ days_refused status }
+    {
+        DaysResult { status, length: 0 }
+    }
 }
 
 impl PeriodResult {

@@ -3,10 +3,10 @@ ghost use Rattle.std.specs.Prelude.{◌≡◌, ◌↔◌, ℕ, ◌+◌, ◌<◌,
 ghost use Rattle.cal_c.specs.Columns.{date_row, is_refused};
 ghost use Rattle.cal_c.specs.Moments.{moment_refused};
 ghost use Rattle.cal_c.specs.Results.{date_refused};
-ghost use Rattle.cal_c.specs.Statuses.{bad_text};
+ghost use Rattle.cal_c.specs.Statuses.{bounds_refused};
 ghost use Rattle.cal_c.specs.TextColumns.{ArePartOf, Bounded2, Bounded4, IsDateOfPart, IsDateOfText, IsMomentOfPart, IsMomentOfText, moment_row, part};
 
-use crate::columns::statuses::{BAD_TEXT, byte_of};
+use crate::columns::statuses::{BOUNDS, byte_of};
 use crate::columns::{NOTHING, UNLIKE, refused_in};
 use crate::results::{Moment, MomentResult};
 use crate::texts::reading::{fots_date_read, fots_moment_read};
@@ -106,7 +106,7 @@ fn date_in(bytes: &[u8], from: i32, to: i32) -> (i32, u8)
 {
     match part(bytes, from, to) {
         Some(text) => date_of_text(text),
-        None => (NOTHING, BAD_TEXT),
+        None => (NOTHING, BOUNDS),
     }
 }
 
@@ -124,7 +124,7 @@ fn moment_in(bytes: &[u8], from: i32, to: i32) -> (Moment, u8)
 {
     match part(bytes, from, to) {
         Some(text) => moment_of_text(text),
-        None => (MomentResult::refused(0).moment, BAD_TEXT),
+        None => (MomentResult::refused(0).moment, BOUNDS),
     }
 }
 

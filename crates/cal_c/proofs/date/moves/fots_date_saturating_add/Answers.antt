@@ -1,8 +1,8 @@
-use Rattle.std.proofs.Common.{◌≡◌, rules, w64, FitsSigned, ap, ◌∙◌, ◌+ℤ◌}
+use Rattle.std.proofs.Common.{rules, w64, FitsSigned, ap, ◌∙◌, ◌+ℤ◌}
 use Rattle.std.proofs.lemmas.Int.{to_z-of_z}
 use Rattle.cal_time.specs.SignedDuration.{whole_days}
 use Rattle.cal_c.specs.Results.{date_done}
-use Rattle.cal_c.specs.Values.{julian_nearest, nanoseconds_in}
+use Rattle.cal_c.specs.Values.{julian_nearest}
 use Rattle.cal_c.proofs.date.moves.fots_date_saturating_add.Goals as goal
 
 pub returns-in-Some-clause-bad_date : goal.returns-in-Some-clause-bad_date

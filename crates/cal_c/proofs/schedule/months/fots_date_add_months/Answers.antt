@@ -1,4 +1,4 @@
-use Rattle.std.proofs.Common.{◌≡◌, ◌+ℤ◌, sym, subst, ◌∙◌}
+use Rattle.std.proofs.Common.{◌+ℤ◌, sym, subst, ◌∙◌}
 use Rattle.std.proofs.lemmas.Int.{to_z-of_z}
 use Rattle.cal_schedule.specs.Months.{month_number_at, IsMonthNumber, IsMonthsLater}
 use Rattle.cal_c.specs.Results.{IsDayWith}

@@ -1,4 +1,4 @@
-use Rattle.std.proofs.Common.{◌≡◌, pos, ◌+ℤ◌, ◌*ℤ◌, sym, subst, ◌∙◌}
+use Rattle.std.proofs.Common.{pos, ◌+ℤ◌, ◌*ℤ◌, sym, subst, ◌∙◌}
 use Rattle.std.proofs.lemmas.Int.{to_z-of_z}
 use Rattle.cal_time.specs.Date.{year_at, IsYear}
 use Rattle.cal_schedule.specs.Months.{IsMonthsLater}

@@ -1,7 +1,6 @@
 use Rattle.std.proofs.Common.{◌≡◌, ◌-◌, ap, ◌∙◌, sym, subst, arith}
 use Rattle.std.proofs.lemmas.Int.{to_z-of_z}
 use Rattle.cal_time.specs.Date.{julian_day_at}
-use Rattle.cal_time.specs.Month.{number}
 use Rattle.cal_time.specs.Weekday.{place}
 use Rattle.cal_schedule.specs.Weekdays.{IsNthWeekday}
 use Rattle.cal_c.specs.Results.{date_done}

@@ -2,7 +2,6 @@ use Rattle.std.proofs.Common.{ap, ◌∙◌, sym}
 use Rattle.std.proofs.lemmas.Int.{to_z-of_z}
 use Rattle.cal_schedule.specs.WorkdaysConvention.{adjusted}
 use Rattle.cal_c.specs.Results.{date_if_any}
-use Rattle.cal_c.specs.Values.{day_of}
 use Rattle.cal_c.specs.Workweeks.{work_week}
 use Rattle.cal_c.proofs.Equals.{same_value}
 use Rattle.cal_c.proofs.Schedules.{same_convention}

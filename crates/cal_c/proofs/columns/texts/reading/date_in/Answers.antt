@@ -10,6 +10,6 @@ returns-in-Some c =
     let to : FitsSigned w32 c.args.to = search rules in
     let is : ArePartOf c.args.bytes.now c.args.from c.args.to × (c.in-Some.text.now ≡ part c.args.bytes.now c.args.from c.args.to) = simp to_z-of_z at c.in-Some.ensures in
     record {
-      bad_text = λ no. absurd (no is.0);
+      bounds = λ no. absurd (no is.0);
       read = λ _. subst (λ t. IsDateOfText t (date_row c.date_of_text.result.0 c.date_of_text.result.1)) is.1 c.date_of_text.ensures;
     }

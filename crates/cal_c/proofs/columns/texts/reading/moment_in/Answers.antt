@@ -9,6 +9,6 @@ returns-in-Some c =
     let to : FitsSigned w32 c.args.to = search rules in
     let is : ArePartOf c.args.bytes.now c.args.from c.args.to × (c.in-Some.text.now ≡ part c.args.bytes.now c.args.from c.args.to) = simp to_z-of_z at c.in-Some.ensures in
     record {
-      bad_text = λ no. absurd (no is.0);
+      bounds = λ no. absurd (no is.0);
       read = λ _. subst (λ t. IsMomentOfText t (moment_row c.moment_of_text.result.0.date c.moment_of_text.result.0.time c.moment_of_text.result.0.offset c.moment_of_text.result.1)) is.1 c.moment_of_text.ensures;
     }

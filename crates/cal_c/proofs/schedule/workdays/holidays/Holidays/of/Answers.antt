@@ -1,4 +1,4 @@
-use Rattle.std.proofs.Common.{◌+◌, ◌∙◌, get_or, pos, arith, rules, FitsSigned, w32}
+use Rattle.std.proofs.Common.{◌∙◌, get_or, pos, arith, rules, FitsSigned, w32}
 use Rattle.std.proofs.lemmas.Int.{to_z-of_z}
 use Rattle.std.proofs.lemmas.Grind.{common_steps}
 use Rattle.cal_c.proofs.Holidays.{days_more, dates_more}

@@ -1,0 +1,131 @@
+//! Recurrences, by examples of RFC 5545 with their first days.
+
+use fotsevindre::ByDay::{Every, Nth};
+use fotsevindre::Frequency::{Daily, Monthly, Weekly, Yearly};
+use fotsevindre::Month::{February, January, July, June, November};
+use fotsevindre::Weekday::{Friday, Monday, Saturday, Sunday, Thursday, Tuesday};
+use fotsevindre::{Date, Frequency, Month, Rule};
+
+/// The day with the number of eight digits, as `1997_09_02`.
+fn date(number: i32) -> Date {
+    let month = Month::try_from((number / 100 % 100) as u8).unwrap();
+    Date::from_calendar_date(number / 10_000, month, (number % 100) as u8).unwrap()
+}
+
+fn rule(frequency: Frequency, start: i32) -> Rule<'static> {
+    Rule::new(date(start), frequency)
+}
+
+/// The days by the walk, one after the other, and one day at a time; and where the rule ends with them, there is no other.
+fn begins(text: &str, rule: &Rule<'_>, days: &[i32], ends: bool) {
+    let days: Vec<_> = days.iter().map(|number| date(*number)).collect();
+    assert_eq!(rule.days().take(days.len()).collect::<Vec<_>>(), days, "{text}");
+    for pair in days.windows(2) {
+        assert_eq!(rule.next_after(pair[0]), Some(pair[1]), "{text}");
+    }
+    let last = *days.last().unwrap();
+    assert!(days[0].iter_to(last).filter(|day| rule.contains(*day)).eq(days.iter().copied()), "{text}");
+    assert!(!ends || (rule.next_after(last).is_none() && rule.days().count() == days.len()), "{text}");
+}
+
+#[test]
+fn examples_of_the_rfc() {
+    begins(
+        "FREQ=DAILY;UNTIL=19970905",
+        &Rule { until: Some(date(1997_09_05)), ..rule(Daily, 1997_09_02) },
+        &[1997_09_02, 1997_09_03, 1997_09_04, 1997_09_05],
+        true,
+    );
+    begins(
+        "FREQ=WEEKLY;UNTIL=19971006;WKST=SU;BYDAY=TU,TH",
+        &Rule {
+            until: Some(date(1997_10_06)),
+            week_start: Sunday,
+            weekdays: &[Every(Tuesday), Every(Thursday)],
+            ..rule(Weekly, 1997_09_02)
+        },
+        &[1997_09_02, 1997_09_04, 1997_09_09, 1997_09_11, 1997_09_16, 1997_09_18, 1997_09_23, 1997_09_25, 1997_09_30, 1997_10_02],
+        true,
+    );
+    for (text, week_start, days) in [
+        ("FREQ=WEEKLY;INTERVAL=2;BYDAY=TU,SU;WKST=MO", Monday, [1997_08_05, 1997_08_10, 1997_08_19, 1997_08_24]),
+        ("FREQ=WEEKLY;INTERVAL=2;BYDAY=TU,SU;WKST=SU", Sunday, [1997_08_05, 1997_08_17, 1997_08_19, 1997_08_31]),
+    ] {
+        let rule = Rule { interval: 2, week_start, weekdays: &[Every(Tuesday), Every(Sunday)], ..rule(Weekly, 1997_08_05) };
+        begins(text, &rule, &days, false);
+    }
+    begins(
+        "FREQ=MONTHLY;INTERVAL=2;BYDAY=1SU,-1SU",
+        &Rule { interval: 2, weekdays: &[Nth(1, Sunday), Nth(-1, Sunday)], ..rule(Monthly, 1997_09_07) },
+        &[1997_09_07, 1997_09_28, 1997_11_02, 1997_11_30, 1998_01_04, 1998_01_25, 1998_03_01, 1998_03_29],
+        false,
+    );
+    begins(
+        "FREQ=MONTHLY;BYMONTHDAY=-3",
+        &Rule { month_days: &[-3], ..rule(Monthly, 1997_09_28) },
+        &[1997_09_28, 1997_10_29, 1997_11_28, 1997_12_29, 1998_01_29, 1998_02_26],
+        false,
+    );
+    begins(
+        "FREQ=MONTHLY;BYDAY=SA;BYMONTHDAY=7,8,9,10,11,12,13",
+        &Rule { weekdays: &[Every(Saturday)], month_days: &[7, 8, 9, 10, 11, 12, 13], ..rule(Monthly, 1997_09_13) },
+        &[1997_09_13, 1997_10_11, 1997_11_08, 1997_12_13, 1998_01_10, 1998_02_07, 1998_03_07],
+        false,
+    );
+    begins(
+        "FREQ=YEARLY;BYMONTH=6,7",
+        &Rule { months: &[June, July], ..rule(Yearly, 1997_06_10) },
+        &[1997_06_10, 1997_07_10, 1998_06_10, 1998_07_10, 1999_06_10],
+        false,
+    );
+    begins(
+        "FREQ=YEARLY;BYDAY=20MO",
+        &Rule { weekdays: &[Nth(20, Monday)], ..rule(Yearly, 1997_05_19) },
+        &[1997_05_19, 1998_05_18, 1999_05_17],
+        false,
+    );
+    begins(
+        "FREQ=YEARLY;INTERVAL=4;BYMONTH=11;BYDAY=TU;BYMONTHDAY=2,3,4,5,6,7,8",
+        &Rule {
+            interval: 4,
+            months: &[November],
+            weekdays: &[Every(Tuesday)],
+            month_days: &[2, 3, 4, 5, 6, 7, 8],
+            ..rule(Yearly, 1996_11_05)
+        },
+        &[1996_11_05, 2000_11_07, 2004_11_02],
+        false,
+    );
+}
+
+#[test]
+fn rules_of_no_day() {
+    let of_february = Rule { months: &[February], month_days: &[30], ..rule(Yearly, 2024_01_01) };
+    assert_eq!((of_february.days().next(), of_february.next_after(Date::MIN)), (None, None));
+    let of_the_0th = Rule { weekdays: &[Nth(0, Friday)], ..rule(Monthly, 2024_01_01) };
+    assert_eq!(of_the_0th.days().next(), None);
+    let daily = rule(Daily, 2024_01_01);
+    assert_eq!((daily.next_after(Date::MIN), daily.next_after(Date::MAX)), (Some(date(2024_01_01)), None));
+}
+
+#[test]
+fn as_many_parts_as_there_can_be() {
+    let rule =
+        Rule { months: &[January; Rule::MOST_MONTHS], weekdays: &[Every(Monday); Rule::MOST_WEEKDAYS], ..rule(Yearly, 2024_01_01) };
+    assert_eq!(rule.days().nth(5), Some(date(2025_01_06)));
+    let header = include_str!("../../../include/fotsevindre.h");
+    assert!(header.contains(&format!("#define FOTS_MOST_MONTHS {}", Rule::MOST_MONTHS)));
+    assert!(header.contains(&format!("#define FOTS_MOST_WEEKDAYS {}", Rule::MOST_WEEKDAYS)));
+}
+
+#[test]
+#[should_panic = "more than 12 months"]
+fn months_past_them() {
+    Rule { months: &[January; 13], ..rule(Daily, 2024_01_01) }.days();
+}
+
+#[test]
+#[should_panic = "more than 64 weekdays"]
+fn weekdays_past_them() {
+    Rule { weekdays: &[Every(Monday); 65], ..rule(Daily, 2024_01_01) }.contains(Date::MAX);
+}

@@ -1,0 +1,115 @@
+-- The parts of a rule, which are read one by one, and its days, which are written one by one.
+use Rattle.std.proofs.Common.{◌≡◌, ◌≢◌, refl, ℕ, ◌+◌, ◌-◌, ◌<◌, ◌≤◌, ap, sym, ◌∙◌, arith, below_more, add-one, filter, List, [], ◌∷◌, ◌++◌, length, get_or, get_or-set_other, get_or-set_same, map, take, drop, drop-cons, length-drop, slice_get, ℤ, pos, Option, Some, None, MatchOption}
+use Rattle.std.proofs.Math.ListN.{set}
+use Rattle.std.proofs.lemmas.List.{map_more, take_more_set}
+use Rattle.cal_time.specs.Date.{last_day}
+use Rattle.cal_time.specs.Filters.{IsFirstDay, filter-first, first_passing}
+use Rattle.cal_time.specs.Month.{month_at, number}
+use Rattle.cal_time.specs.Occurrence.{days_from}
+use Rattle.cal_time.specs.declared.Month.{Month}
+use Rattle.cal_time.specs.declared.Month.TheVariants.{January, February, March, April, May, June, July, August, September, October, November, December}
+use Rattle.cal_schedule.specs.declared.rule.kinds.Rule.{Rule}
+use Rattle.cal_schedule.specs.Rule.{days_after, is_on}
+use Rattle.cal_c.specs.Recurrences.{AreDates, IsFrequency, IsRule, IsRuleStatus}
+use Rattle.cal_c.specs.Statuses.{bad_date, bad_frequency, bad_weekday}
+use Rattle.cal_c.specs.Values.{IsWeekday}
+use Rattle.cal_c.specs.declared.schedule.recurrences.parts.RuleParts.{RuleParts}
+
+pub mapped_more : {A B : Type 0} (f : A → B) (xs : List A) (ys : List B) (i : ℕ) (d : A) (y : B) → i < length xs → i < length ys
+    → take i ys ≡ map f (take i xs) → y ≡ f (get_or xs i d) → take (i + 1) (set ys i y) ≡ map f (take (i + 1) xs)
+mapped_more f xs ys i d y lt room e q = take_more_set ys i y room ∙ (λ k. e k ++ q k ∷ []) ∙ sym (map_more f xs i d lt)
+
+month_at-number : (m : Month) → month_at (number m - 1) ≡ m
+month_at-number January = refl
+month_at-number February = refl
+month_at-number March = refl
+month_at-number April = refl
+month_at-number May = refl
+month_at-number June = refl
+month_at-number July = refl
+month_at-number August = refl
+month_at-number September = refl
+month_at-number October = refl
+month_at-number November = refl
+month_at-number December = refl
+
+pub month_numbered : (m : Month) (k : ℕ) → number m ≡ k → m ≡ month_at (k - 1)
+month_numbered m k e = sym (month_at-number m) ∙ ap (λ n. month_at (n - 1)) e
+
+-- what the parts are refused with, from the front
+pub refused_dates : (p : RuleParts) → ¬ AreDates p → (¬ IsRule p) × IsRuleStatus p bad_date
+refused_dates p out = (
+  λ is. out is.plain.dates,
+  record {
+    dates = λ n. refl;
+    frequency = λ d n. absurd (out d);
+    week_start = λ d f n. absurd (out d);
+    few = λ a n. absurd (out a.dates);
+    months = λ a l n. absurd (out a.dates);
+    weekdays = λ a l m n. absurd (out a.dates);
+  },
+)
+
+pub refused_frequency : (p : RuleParts) → AreDates p → ¬ IsFrequency p.frequency → (¬ IsRule p) × IsRuleStatus p bad_frequency
+refused_frequency p dates out = (
+  λ is. out is.plain.frequency,
+  record {
+    dates = λ n. absurd (n dates);
+    frequency = λ d n. refl;
+    week_start = λ d f n. absurd (out f);
+    few = λ a n. absurd (out a.frequency);
+    months = λ a l n. absurd (out a.frequency);
+    weekdays = λ a l m n. absurd (out a.frequency);
+  },
+)
+
+pub refused_week_start : (p : RuleParts) → AreDates p → IsFrequency p.frequency → ¬ IsWeekday p.week_start → (¬ IsRule p) × IsRuleStatus p bad_weekday
+refused_week_start p dates frequency out = (
+  λ is. out is.plain.week_start,
+  record {
+    dates = λ n. absurd (n dates);
+    frequency = λ d n. absurd (n frequency);
+    week_start = λ d f n. refl;
+    few = λ a n. absurd (out a.week_start);
+    months = λ a l n. absurd (out a.week_start);
+    weekdays = λ a l m n. absurd (out a.week_start);
+  },
+)
+
+-- what a walk gives next is the first of the days that are left
+pub first_given : (r : Option ℕ) (xs ys : List ℕ) → MatchOption r ((xs ≡ []) × (ys ≡ [])) (λ x. xs ≡ x ∷ ys) → r ≡ slice_get xs 0
+first_given None xs ys h = ap (λ l. slice_get l 0) (sym h.0)
+first_given (Some x) xs ys h = ap (λ l. slice_get l 0) (sym h)
+
+-- the days after a day, from the first of them on
+after_first : (rule : Rule) (n x : ℕ) → IsFirstDay (is_on rule) (n + 1) (last_day - n) x → days_after rule n ≡ x ∷ days_after rule x
+after_first rule n x h =
+    let count : n + 1 + (last_day - n) - (x + 1) ≡ last_day - x = omega (arith, h.not_before, h.within) in
+    filter-first (is_on rule) (n + 1) (last_day - n) x h ∙ ap (λ c. x ∷ filter (is_on rule) (days_from (x + 1) c)) count
+
+pub after_next : (rule : Rule) (n x : ℕ) → Some x ≡ slice_get (days_after rule n) 0 → days_after rule n ≡ x ∷ days_after rule x
+after_next rule n x e = after_first rule n x (first_passing (is_on rule) (n + 1) (last_day - n) (Some x) e)
+
+pub none_first : (xs : List ℕ) → None ≡ slice_get xs 0 → xs ≡ []
+none_first [] e = refl
+none_first (x ∷ xs) e = absurd (cc)
+
+-- a list, of which so many are taken, goes on
+pub goes_on : (ns xs : List ℕ) (i x : ℕ) → i < length ns → drop i ns ≡ x ∷ xs → (get_or ns i 0 ≡ x) × (drop (i + 1) ns ≡ xs)
+goes_on ns xs i x lt e = let same = drop-cons ns i 0 lt in (cc, rw (add-one) (cc))
+
+pub more_left : (ns xs : List ℕ) (i x : ℕ) → drop i ns ≡ x ∷ xs → i < length ns
+more_left ns xs i x e = omega (arith, length-drop i ns, ap length e)
+
+pub none_left : (ns : List ℕ) (i : ℕ) → drop i ns ≡ [] → length ns ≤ i
+none_left ns i e = omega (arith, length-drop i ns, ap length e)
+
+-- one more number is written
+pub written_more : (P : ℕ → ℤ → Type 0) (zs : List ℤ) (i : ℕ) (z : ℤ) → i < length zs → ((k : ℕ) → k < i → P k (get_or zs k (pos 0))) → P i z
+    → (k : ℕ) → k < i + 1 → P k (get_or (set zs i z) k (pos 0))
+written_more P zs i z lt before here =
+    below_more (λ k. P k (get_or (set zs i z) k (pos 0))) i (λ k below. let ne : k ≢ i = omega arith in rw get_or-set_other (before k below)) (rw get_or-set_same here)
+
+pub kept_more : (old zs : List ℤ) (i : ℕ) (z : ℤ) → ((k : ℕ) → i ≤ k → get_or zs k (pos 0) ≡ get_or old k (pos 0))
+    → (k : ℕ) → i + 1 ≤ k → get_or (set zs i z) k (pos 0) ≡ get_or old k (pos 0)
+kept_more old zs i z kept k past = let ne : k ≢ i = omega arith in rw get_or-set_other (kept k (omega arith))

@@ -1,0 +1,19 @@
+use Rattle.std.proofs.Common.{◌∙◌, arith, subst}
+use Rattle.std.proofs.lemmas.Grind.{common_steps}
+use Rattle.std.proofs.lemmas.List.Elements.{All-more}
+use Rattle.cal_c.specs.Values.{IsMonth}
+use Rattle.cal_c.proofs.Recurring.{mapped_more, month_numbered}
+use Rattle.cal_c.proofs.schedule.recurrences.months.Months.of.Goals as goal
+
+pub loop-place-preserved : goal.loop-place-preserved
+loop-place-preserved c =
+    let kept = c.loop-place.invariant in
+    let numbers = c.args.numbers.now in
+    let place = c.loop-place.place in
+    let month = c.in_ok-months.field-0 in
+    let has = c.in_ok-months.ensures in
+    record {
+      room = grind (arith, common_steps);
+      months = mapped_more _ numbers c.loop-place.months place 0 month (omega arith) (omega arith) kept.months (month_numbered month _ (has.1 ∙ c.from.ensures));
+      read = All-more IsMonth numbers place 0 (omega arith) kept.read (subst IsMonth c.from.ensures has.0);
+    }

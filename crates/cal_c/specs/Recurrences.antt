@@ -1,0 +1,108 @@
+-- Rules of days that come back, from the parts that C passes.
+use Rattle.std.specs.Prelude.{◌≡◌, ℕ, zero, ◌+◌, ◌-◌, ◌<◌, ◌≤◌, min, ℤ, pos, List, All, get_or, length, map, Some}
+use Rattle.cal_time.specs.Date.{julian_day_at}
+use Rattle.cal_schedule.specs.declared.rule.kinds.ByDay.{ByDay}
+use Rattle.cal_schedule.specs.declared.rule.kinds.ByDay.TheVariants.{Every, Nth}
+use Rattle.cal_schedule.specs.declared.rule.kinds.Frequency.{Frequency}
+use Rattle.cal_schedule.specs.declared.rule.kinds.Frequency.TheVariants.{Daily, Weekly, Monthly, Yearly}
+use Rattle.cal_schedule.specs.declared.rule.kinds.Rule.{Rule}
+use Rattle.cal_time.specs.Month.{month_at}
+use Rattle.cal_time.specs.Weekday.{place, weekday_at}
+use Rattle.cal_time.specs.declared.Month.{Month}
+use Rattle.cal_time.specs.declared.Weekday.{Weekday}
+use Rattle.cal_c.specs.Statuses.{bad_date, bad_frequency, bad_weekday, done, many_parts, month_refused}
+use Rattle.cal_c.specs.Values.{IsJulianDay, IsMonth, IsWeekday, day_of}
+use Rattle.cal_c.specs.declared.schedule.recurrences.parts.RuleParts.{RuleParts}
+use Rattle.cal_c.specs.declared.schedule.recurrences.parts.RuleWeekday.{RuleWeekday}
+use Rattle.cal_c.specs.declared.schedule.results.DaysResult.{DaysResult}
+
+-- a frequency is its number from daily, 1
+abbrev pub frequency_number : Frequency → ℕ
+frequency_number Daily = 1
+frequency_number Weekly = 2
+frequency_number Monthly = 3
+frequency_number Yearly = 4
+
+abbrev pub IsFrequency : ℕ → Type 0
+IsFrequency k = (1 ≤ k) × (k ≤ 4)
+
+-- as many months and weekdays as a rule takes
+abbrev pub most_months : ℕ
+most_months = 12
+
+abbrev pub most_weekdays : ℕ
+most_weekdays = 64
+
+abbrev pub months_in : List ℕ → List Month
+months_in ms = map (λ m. month_at (m - 1)) ms
+
+-- a weekday of a rule is its number in the month or the year, and itself; the number 0 stands for each one
+abbrev pub by_day : ℤ → Weekday → ByDay
+by_day (pos zero) w = Every w
+by_day k w = Nth k w
+
+abbrev pub weekday_in : RuleWeekday → ByDay
+weekday_in w = by_day w.number (weekday_at (w.weekday - 1))
+
+abbrev pub weekdays_in : List RuleWeekday → List ByDay
+weekdays_in ws = map weekday_in ws
+
+-- each part is one of a rule
+abbrev pub AreDates : RuleParts → Type 0
+AreDates p = IsJulianDay p.start × IsJulianDay p.until
+
+abbrev pub AreFew : RuleParts → Type 0
+AreFew p = (length p.months.now ≤ most_months) × (length p.weekdays.now ≤ most_weekdays)
+
+abbrev pub AreMonths : List ℕ → Type 0
+AreMonths ms = All IsMonth ms
+
+abbrev pub AreWeekdays : List RuleWeekday → Type 0
+AreWeekdays ws = All (λ w. IsWeekday w.weekday) ws
+
+pub record ArePlain (p : RuleParts) : Type 0 where
+  pub dates : AreDates p
+  pub frequency : IsFrequency p.frequency
+  pub week_start : IsWeekday p.week_start
+
+pub record IsRule (p : RuleParts) : Type 0 where
+  pub plain : ArePlain p
+  pub few : AreFew p
+  pub months : AreMonths p.months.now
+  pub weekdays : AreWeekdays p.weekdays.now
+
+-- the status for the first part that is none
+pub record IsRuleStatus (p : RuleParts) (s : ℤ) : Type 0 where
+  pub dates : ¬ AreDates p → s ≡ bad_date
+  pub frequency : AreDates p → ¬ IsFrequency p.frequency → s ≡ bad_frequency
+  pub week_start : AreDates p → IsFrequency p.frequency → ¬ IsWeekday p.week_start → s ≡ bad_weekday
+  pub few : ArePlain p → ¬ AreFew p → s ≡ many_parts
+  pub months : ArePlain p → AreFew p → ¬ AreMonths p.months.now → s ≡ month_refused
+  pub weekdays : ArePlain p → AreFew p → AreMonths p.months.now → ¬ AreWeekdays p.weekdays.now → s ≡ bad_weekday
+
+-- the rule of the parts
+pub record IsPlainRuleOf (p : RuleParts) (rule : Rule) : Type 0 where
+  pub start : rule.start ≡ day_of p.start
+  pub until : rule.until ≡ Some (day_of p.until)
+  pub frequency : frequency_number rule.frequency ≡ p.frequency
+  pub interval : rule.interval ≡ p.interval
+  pub week_start : place rule.week_start + 1 ≡ p.week_start
+  pub month_days : rule.month_days.now ≡ p.month_days.now
+
+pub record IsRuleOf (p : RuleParts) (rule : Rule) : Type 0 where
+  pub plain : IsPlainRuleOf p rule
+  pub months : rule.months.now ≡ months_in p.months.now
+  pub weekdays : rule.weekdays.now ≡ weekdays_in p.weekdays.now
+
+-- so many days were written
+abbrev pub days_done : ℕ → DaysResult
+days_done count = record { status = done; length = count }
+
+abbrev pub days_refused : ℤ → DaysResult
+days_refused s = record { status = s; length = 0 }
+
+-- they are the first ones of the list, as many as the array has room for, and the array goes on as before
+pub record AreWritten (ns : List ℕ) (old new : List ℤ) (count : ℕ) : Type 0 where
+  pub count_is : count ≡ min (length ns) (length old)
+  pub days : (k : ℕ) → k < count → get_or new k (pos 0) ≡ julian_day_at (get_or ns k 0)
+  pub others : (k : ℕ) → count ≤ k → get_or new k (pos 0) ≡ get_or old k (pos 0)

@@ -1,0 +1,113 @@
+//! Days that come back, by the rules of RFC 5545.
+//!
+//! A rule is a struct of its parts, of which the months, the days of the month and the weekdays are arrays: at most 12 months and 64
+//! weekdays.
+ghost use Rattle.std.specs.Prelude.{◌≡◌, pos, slice_get, if◌then◌else◌};
+ghost use Rattle.cal_schedule.specs.Rule.{days_after, days_of, is_on};
+ghost use Rattle.cal_schedule.specs.declared.rule.kinds.Rule.{Rule};
+ghost use Rattle.cal_c.specs.Recurrences.{days_done, days_refused, AreWritten, IsRule, IsRuleOf, IsRuleStatus};
+ghost use Rattle.cal_c.specs.Results.{date_if_any, date_refused, number_done, number_refused};
+ghost use Rattle.cal_c.specs.Statuses.{bad_date};
+ghost use Rattle.cal_c.specs.Values.{IsJulianDay, day_of};
+
+mod months;
+mod parts;
+mod reading;
+mod weekdays;
+
+use crate::results::{DateResult, NumberResult};
+use crate::schedule::results::DaysResult;
+use crate::status::BAD_DATE;
+use crate::values::date_of;
+use cal_schedule::Rule;
+use cal_time::Date;
+use parts::RuleParts;
+use reading::Recurrence;
+
+/// The first day of the rule, or none where the range has none. That of each month's last Friday from 2460311, 2024-01-01, is 2460336,
+/// 2024-01-26.
+#[unsafe(no_mangle)]
+pub extern "C" fn fots_rule_first(rule: &RuleParts<'_>) -> DateResult
+    ensures refused { ¬ IsRule rule.now → IsRuleStatus rule.now result.status × (result ≡ date_refused result.status) }
+    ensures day { IsRule rule.now → ((its : Rule) × IsRuleOf rule.now its × (result ≡ date_if_any (slice_get (days_of its) 0))) }
+{
+    match Recurrence::of(rule) {
+        Ok(found) => DateResult::of_option(found.rule().days().next()),
+        Err(status) => DateResult::refused(status),
+    }
+}
+
+/// The first day of the rule after the date, or none where the range has none. That of each month's last Friday after 2460336,
+/// 2024-01-26, is 2460364, 2024-02-23.
+#[unsafe(no_mangle)]
+pub extern "C" fn fots_rule_next_after(rule: &RuleParts<'_>, date: i32) -> DateResult
+    ensures refused { ¬ IsRule rule.now → IsRuleStatus rule.now result.status × (result ≡ date_refused result.status) }
+    ensures bad_date { IsRule rule.now → ¬ IsJulianDay date → result ≡ date_refused bad_date }
+    ensures day { IsRule rule.now → IsJulianDay date
+        → ((its : Rule) × IsRuleOf rule.now its × (result ≡ date_if_any (slice_get (days_after its (day_of date)) 0))) }
+{
+    let found = match Recurrence::of(rule) {
+        Ok(found) => found,
+        Err(status) => return DateResult::refused(status),
+    };
+    match date_of(date) {
+        Some(date) => DateResult::of_option(found.rule().next_after(date)),
+        None => DateResult::refused(BAD_DATE),
+    }
+}
+
+/// Whether the date is one of the rule's days: 1 where it is, else 0.
+#[unsafe(no_mangle)]
+pub extern "C" fn fots_rule_contains(rule: &RuleParts<'_>, date: i32) -> NumberResult
+    ensures refused { ¬ IsRule rule.now → IsRuleStatus rule.now result.status × (result ≡ number_refused result.status) }
+    ensures bad_date { IsRule rule.now → ¬ IsJulianDay date → result ≡ number_refused bad_date }
+    ensures value { IsRule rule.now → IsJulianDay date
+        → ((its : Rule) × IsRuleOf rule.now its × (result ≡ number_done (if is_on its (day_of date) then pos 1 else pos 0))) }
+{
+    let found = match Recurrence::of(rule) {
+        Ok(found) => found,
+        Err(status) => return NumberResult::refused(status),
+    };
+    match date_of(date) {
+        Some(date) => NumberResult::of(i32::from(found.rule().contains(date))),
+        None => NumberResult::refused(BAD_DATE),
+    }
+}
+
+/// The days of the rule after the date, in order, as many as the array has room for; and how many they are. What is past them in the
+/// array stays as it was.
+#[unsafe(no_mangle)]
+pub extern "C" fn fots_rule_days_after(
+    rule: &RuleParts<'_>,
+    date: i32,
+    days: &mut [i32],
+) -> DaysResult
+    ensures refused { ¬ IsRule rule.now → IsRuleStatus rule.now result.status × (result ≡ days_refused result.status) × (days.new ≡ days.old) }
+    ensures bad_date { IsRule rule.now → ¬ IsJulianDay date → (result ≡ days_refused bad_date) × (days.new ≡ days.old) }
+    ensures days { IsRule rule.now → IsJulianDay date
+        → ((its : Rule) × IsRuleOf rule.now its × (result ≡ days_done result.length) × AreWritten (days_after its (day_of date)) days.old days.new result.length) }
+{
+    let found = match Recurrence::of(rule) {
+        Ok(found) => found,
+        Err(status) => return DaysResult::refused(status),
+    };
+    match date_of(date) {
+        Some(date) => DaysResult::of(write(&found.rule(), date, days)),
+        None => DaysResult::refused(BAD_DATE),
+    }
+}
+
+/// Writes the days of the rule after the date, in order and as many as there is room for: so many.
+fn write(rule: &Rule<'_>, date: Date, days: &mut [i32]) -> usize
+    ensures { AreWritten (days_after rule.now date) days.old days.new result }
+{
+    let mut last = date;
+    for place in 0..days.len() {
+        let Some(day) = rule.next_after(last) else {
+            return place;
+        };
+        days[place] = day.to_julian_day();
+        last = day;
+    }
+    days.len()
+}

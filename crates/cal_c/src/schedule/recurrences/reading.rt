@@ -1,0 +1,101 @@
+//! The rule of the parts that C passes.
+ghost use Rattle.std.specs.Prelude.{◌≡◌, IfErr, IfOk, MatchOption};
+ghost use Rattle.cal_c.specs.Recurrences.{frequency_number, months_in, weekdays_in, ArePlain, IsFrequency, IsPlainRuleOf, IsRule, IsRuleOf, IsRuleStatus};
+ghost use Rattle.cal_c.specs.declared.schedule.recurrences.parts.RuleParts.{RuleParts};
+
+use super::months::{self, Months};
+use super::parts::RuleParts;
+use super::weekdays::{self, Weekdays};
+use crate::status::{BAD_DATE, BAD_FREQUENCY, BAD_WEEKDAY, MANY_PARTS, MONTH};
+use crate::values::{date_of, weekday_of};
+use cal_schedule::{Frequency, Rule};
+
+/// A rule, and the months and the weekdays that it has.
+#[derive(Drop)]
+pub(super) struct Recurrence<'a> {
+    plain: Rule<'a>,
+    months: Months,
+    weekdays: Weekdays,
+}
+
+/// The frequency that has the number, from daily, 1.
+fn frequency_of(number: u32) -> Option<Frequency>
+    ensures { MatchOption result (¬ IsFrequency number) (λ found. IsFrequency number × (frequency_number found ≡ number)) }
+{
+    match number {
+        1 => Some(Frequency::Daily),
+        2 => Some(Frequency::Weekly),
+        3 => Some(Frequency::Monthly),
+        4 => Some(Frequency::Yearly),
+        _ => None,
+    }
+}
+
+/// The rule of the parts but for its months and its weekdays, or the status that they are refused with.
+fn plain_rule_of<'a>(parts: &RuleParts<'a>) -> Result<Rule<'a>, i32>
+    ensures refused { IfErr result (λ status. (¬ IsRule parts.now) × IsRuleStatus parts.now status) }
+    ensures rule { IfOk result (λ rule. ArePlain parts.now × IsPlainRuleOf parts.now rule) }
+{
+    let Some(start) = date_of(parts.start) else {
+        return Err(BAD_DATE);
+    };
+    let Some(until) = date_of(parts.until) else {
+        return Err(BAD_DATE);
+    };
+    let Some(frequency) = frequency_of(parts.frequency) else {
+        return Err(BAD_FREQUENCY);
+    };
+    let Some(week_start) = weekday_of(parts.week_start) else {
+        return Err(BAD_WEEKDAY);
+    };
+    Ok(Rule {
+        start,
+        frequency,
+        interval: parts.interval,
+        week_start,
+        months: &[],
+        month_days: parts.month_days,
+        weekdays: &[],
+        until: Some(until),
+    })
+}
+
+impl<'a> Recurrence<'a> {
+    /// What the parts stand for, or the status that they are refused with.
+    pub(super) fn of(parts: &RuleParts<'a>) -> Result<Self, i32>
+        ensures refused { IfErr result (λ status. (¬ IsRule parts.now) × IsRuleStatus parts.now status) }
+        ensures rule { IfOk result (λ found. IsRule parts.now × IsPlainRuleOf parts.now found.plain × (found.months ≡ months_in parts.now.months.now)
+            × (found.weekdays ≡ weekdays_in parts.now.weekdays.now)) }
+    {
+        let plain = match plain_rule_of(parts) {
+            Ok(plain) => plain,
+            Err(status) => return Err(status),
+        };
+        if parts.months.len() > months::MOST || parts.weekdays.len() > weekdays::MOST {
+            return Err(MANY_PARTS);
+        }
+        let Some(months) = Months::of(parts.months) else {
+            return Err(MONTH);
+        };
+        let Some(weekdays) = Weekdays::of(parts.weekdays) else {
+            return Err(BAD_WEEKDAY);
+        };
+        Ok(Recurrence {
+            plain,
+            months,
+            weekdays,
+        })
+    }
+
+    /// The rule.
+    pub(super) fn rule(&self) -> Rule<'_>
+        ensures { (p : RuleParts) → IsPlainRuleOf p self.now.plain → self.now.months ≡ months_in p.months.now → self.now.weekdays ≡ weekdays_in p.weekdays.now
+            → IsRuleOf p result }
+    {
+        Rule {
+            months: self.months.as_slice(),
+            weekdays: self.weekdays.as_slice(),
+            ..self.plain
+        }
+    }
+}
