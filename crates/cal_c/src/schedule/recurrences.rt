@@ -92,13 +92,13 @@ pub extern "C" fn fots_rule_days_after(
         Err(status) => return DaysResult::refused(status),
     };
     match date_of(date) {
-        Some(date) => DaysResult::of(write(&found.rule(), date, days)),
+        Some(date) => DaysResult::of(write_days(&found.rule(), date, days)),
         None => DaysResult::refused(BAD_DATE),
     }
 }
 
 /// Writes the days of the rule after the date, in order and as many as there is room for: so many.
-fn write(rule: &Rule<'_>, date: Date, days: &mut [i32]) -> usize
+fn write_days(rule: &Rule<'_>, date: Date, days: &mut [i32]) -> usize
     ensures { AreWritten (days_after rule.now date) days.old days.new result }
 {
     let mut last = date;

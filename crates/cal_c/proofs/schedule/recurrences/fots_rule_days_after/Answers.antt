@@ -12,10 +12,10 @@ returns-in-Some-clause-days c = λ h k.
     let its = c.rule.result in
     let count = ap (λ r. r.length) c.of-in-Some.ensures in
     let old = c.args.days.now in
-    let new = c.write.new.days in (
+    let new = c.write_days.new.days in (
       its,
       c.rule.ensures c.args.rule.now read.1 read.2 read.3,
       c.of-in-Some.ensures ∙ ap days_done (sym count),
       subst (λ n. AreWritten (days_after its n) old new c.of-in-Some.result.length) at.1
-          (subst (AreWritten (days_after its c.in-Some.date) old new) (sym count) c.write.ensures),
+          (subst (AreWritten (days_after its c.in-Some.date) old new) (sym count) c.write_days.ensures),
     )

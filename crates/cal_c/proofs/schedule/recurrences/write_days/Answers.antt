@@ -4,7 +4,7 @@ use Rattle.std.proofs.lemmas.Int.{to_z-of_z}
 use Rattle.cal_time.specs.Date.{julian_day_at}
 use Rattle.cal_schedule.specs.Rule.{days_after}
 use Rattle.cal_c.proofs.Recurring.{after_next, goes_on, kept_more, more_left, none_first, none_left, written_more}
-use Rattle.cal_c.proofs.schedule.recurrences.write.Goals as goal
+use Rattle.cal_c.proofs.schedule.recurrences.write_days.Goals as goal
 
 pub loop-place-preserved : goal.loop-place-preserved
 loop-place-preserved c =

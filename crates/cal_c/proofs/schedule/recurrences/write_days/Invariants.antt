@@ -1,7 +1,7 @@
 use Rattle.std.proofs.Common.{◌≡◌, ℕ, ◌<◌, ◌≤◌, drop, get_or, length, pos}
 use Rattle.cal_time.specs.Date.{julian_day_at}
 use Rattle.cal_schedule.specs.Rule.{days_after}
-use Rattle.cal_c.proofs.schedule.recurrences.write.Given as goal
+use Rattle.cal_c.proofs.schedule.recurrences.write_days.Given as goal
 
 abbrev pub invariant-loop-place : goal.invariant-loop-place
 invariant-loop-place l = record {
