@@ -44,8 +44,6 @@ pub enum Refusal {
     NoOffset,
     /// The text has none of the forms that the call reads.
     Unreadable,
-    /// The bounds of the text do not lie in the bytes, one after the other.
-    NoText,
 }
 
 /// Why a row with this status has no answer, or `None` where it has one.
@@ -177,7 +175,7 @@ pub const MOMENT_ROOM: usize = 38;
 /// The dates of texts that stand one after another in the bytes, as [`text::date::read`](crate::text::date::read) reads them.
 ///
 /// There is one bound more than there are rows: the text of row `k` is `bytes[bounds[k]..bounds[k + 1]]`, and a row whose bounds do not
-/// lie there is refused as [`Refusal::NoText`].
+/// lie there is refused as `bounds`, unconditionally.
 ///
 /// ```
 /// use fotsevindre::columns;

@@ -24,7 +24,6 @@ const BAD_WEEKDAY: i32 = 6;
 /// The status of a call that was given bytes of none of its forms.
 const UNREADABLE: i32 = 8;
 
-const BOUNDS: i32 = 30;
 /// What a call over columns returns where these are not of one length.
 const UNLIKE: usize = usize::MAX;
 
@@ -564,7 +563,6 @@ pub(crate) fn refusal_of(status: i32) -> Option<Refusal> {
         BAD_TIME => Some(Refusal::NoTime),
         BAD_OFFSET => Some(Refusal::NoOffset),
         UNREADABLE => Some(Refusal::Unreadable),
-        BOUNDS => Some(Refusal::NoText),
         status => Some(Refusal::OutOfRange(ComponentRange::of_status(status))),
     }
 }

@@ -290,7 +290,7 @@ fn texts_of_moments() {
     assert_eq!((dates[0], times[0], offsets[0]), (2_460_370, 86_399_250_000_000, 3600));
     assert_eq!((dates[2], times[2], offsets[2]), (NOTHING, u64::MAX, NOTHING));
     assert_eq!(component(statuses[2]), ("day", true));
-    assert_eq!([3, 4].map(|row| refusal(statuses[row])), [Some(Refusal::NoText); 2]);
+    assert_eq!([3, 4].map(|row| component(statuses[row])), [("bounds", false); 2]);
 
     (times[1], offsets[2], dates[2]) = (86_400_000_000_000, 93_600, 0);
     (times[2], dates[3], times[3], offsets[3]) = (0, 5_373_485, 0, 0);
