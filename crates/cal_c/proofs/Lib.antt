@@ -1,6 +1,6 @@
+pub mod Counts
 pub mod Days
 pub mod Durations
-pub mod Moves
 pub mod Rows
 pub mod TextBytes
 pub mod Equals

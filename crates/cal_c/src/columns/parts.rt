@@ -9,6 +9,7 @@ ghost use Rattle.cal_c.specs.Values.{IsJulianDay, IsMonth, day_of};
 use super::making::month_of;
 use super::statuses::{BAD_DATE, DONE, MONTH, status_of};
 use super::{NOTHING, UNLIKE, refused_in};
+use crate::number::{number_of, weekday_of_number};
 use crate::values::date_of;
 use cal_time::Date;
 
@@ -212,8 +213,8 @@ fn weekday_of(date: i32) -> (u8, u8)
     ensures bad_date { ¬ IsJulianDay date → (result.0 ≡ 0) × (pos result.1 ≡ bad_date) }
     ensures value { IsJulianDay date → (result.0 ≡ weekday_at (day_of date) + 1) × (pos result.1 ≡ done) }
 {
-    match date_of(date) {
-        Some(date) => (date.weekday().number_from_monday(), DONE),
+    match number_of(date) {
+        Some(number) => (weekday_of_number(number), DONE),
         None => (0, BAD_DATE),
     }
 }
