@@ -1,6 +1,7 @@
 pub mod Counts
 pub mod Days
 pub mod Durations
+pub mod MarchYears
 pub mod Rows
 pub mod TextBytes
 pub mod Equals

@@ -9,7 +9,8 @@ ghost use Rattle.cal_c.specs.Results.{date_done, date_if_any, date_refused, IsDa
 ghost use Rattle.cal_c.specs.Statuses.{bad_weekday, julian_day_refused, year_refused, month_refused, day_refused, ordinal_refused, week_refused, weekday_refused};
 ghost use Rattle.cal_c.specs.Values.{IsJulianDay, IsMonth, IsWeekday};
 
-use super::statuses::{BAD_WEEKDAY, DONE, JULIAN_DAY, MONTH, PAST_RANGE, status_of};
+use super::days::{has_day, julian_day_at};
+use super::statuses::{BAD_WEEKDAY, DAY, DONE, JULIAN_DAY, MONTH, PAST_RANGE, YEAR, status_of};
 use super::{NOTHING, UNLIKE, is_date, refused_in};
 use crate::values;
 use cal_time::{Date, Month, Weekday};
@@ -191,12 +192,32 @@ fn date_of_calendar_date(year: i32, month: u8, day: u8) -> (i32, u8)
     ensures date { IsMonth month → IsYear year → IsDayOfMonth year month day
         → IsDayWith (HasCalendarDate year month day) (date_row result.0 result.1) }
 {
-    let Some(month) = month_of(month) else {
-        return refused(MONTH);
-    };
-    match Date::from_calendar_date(year, month, day) {
-        Ok(date) => made(date),
-        Err(error) => refused(status_of(error)),
+    let date = julian_day_at(year, month, day);
+    let status = status_of_calendar_date(year, month, day);
+    if status == DONE {
+        (date, DONE)
+    } else {
+        refused(status)
+    }
+}
+
+/// The status of a year, a month and a day of the month: of the month before the year, and of the year before the day.
+#[inline(always)]
+pub(super) fn status_of_calendar_date(year: i32, month: u8, day: u8) -> u8
+    ensures no_month { ¬ IsMonth month → pos result ≡ month_refused }
+    ensures no_year { IsMonth month → ¬ IsYear year → pos result ≡ year_refused }
+    ensures no_day { IsMonth month → IsYear year → ¬ IsDayOfMonth year month day → pos result ≡ day_refused }
+    ensures date { IsMonth month → IsYear year → IsDayOfMonth year month day → result ≡ 0 }
+{
+    let is_day = has_day(year, month, day);
+    if month == 0 || month > 12 {
+        MONTH
+    } else if year < -999_999 || year > 999_999 {
+        YEAR
+    } else if is_day {
+        DONE
+    } else {
+        DAY
     }
 }
 
