@@ -4,6 +4,7 @@ pub mod Durations
 pub mod MarchYears
 pub mod Rows
 pub mod TextBytes
+pub mod Thursdays
 pub mod Equals
 pub mod Cases
 pub mod Occurrences

@@ -1,11 +1,14 @@
 //! Days by sums alone: with no table, and with each value chosen at the end, so that a loop over rows takes several at a time. What
 //! stands for no date gives some number, which the caller does not take.
-ghost use Rattle.std.specs.Prelude.{◌≡◌, ℤ, ◌≤◌, ◌↔◌, IsTrue};
-ghost use Rattle.cal_time.specs.Date.{last_day, IsYear, IsDayOfMonth, HasCalendarDate};
+ghost use Rattle.std.specs.Prelude.{◌≡◌, ℤ, ◌+◌, ◌≤◌, ◌↔◌, IsTrue};
+ghost use Rattle.cal_time.specs.Date.{last_day, weekday_at, IsYear, IsDayOfMonth, HasCalendarDate, HasOrdinalDate};
+ghost use Rattle.cal_time.specs.IsoWeekDate.{iso_year_at, iso_week_at};
 ghost use Rattle.cal_time.specs.Lengths.{is_leap_year, days_in_month};
 ghost use Rattle.cal_c.specs.Values.{IsJulianDay, IsMonth, day_of};
 
+use super::NOTHING;
 use crate::number::{DAY_ZERO, LAST_NUMBER};
+use cal_time::Date;
 use cal_time::util::is_leap_year;
 
 /// The number of the day that has the Julian day, or that of some day where none has it.
@@ -17,6 +20,32 @@ pub(super) fn number_held(date: i32) -> u32
     date.cast_unsigned()
         .wrapping_add(DAY_ZERO.cast_unsigned())
         .min(LAST_NUMBER)
+}
+
+/// The year and the ordinal of the day that has the number.
+#[inline(always)]
+fn ordinal_date_at(number: u32) -> (i32, u16)
+    requires { number ≤ last_day }
+    ensures date { HasOrdinalDate result.0 result.1 number }
+    ensures most { result.1 ≤ 366 }
+{
+    match Date::from_julian_day(number as i32 - DAY_ZERO) {
+        Ok(date) => date.to_ordinal_date(),
+        Err(_) => (NOTHING, 1),
+    }
+}
+
+/// The ISO year, the week and the weekday of a date. The week is that of its Thursday, in the year of which it lies.
+#[inline(always)]
+pub(super) fn iso_week_date_at(date: i32) -> (i32, u8, u8)
+    ensures year { IsJulianDay date → result.0 ≡ iso_year_at (day_of date) }
+    ensures week { IsJulianDay date → result.1 ≡ iso_week_at (day_of date) }
+    ensures weekday { IsJulianDay date → result.2 ≡ weekday_at (day_of date) + 1 }
+{
+    let number = number_held(date);
+    let weekday = number % 7;
+    let (year, ordinal) = ordinal_date_at(number - weekday + 3);
+    (year, ((ordinal + 6) / 7) as u8, weekday as u8 + 1)
 }
 
 /// The days of a month, in a leap year or in a common one.

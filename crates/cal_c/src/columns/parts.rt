@@ -6,10 +6,11 @@ ghost use Rattle.cal_c.specs.Results.{calendar_date_done, calendar_date_refused,
 ghost use Rattle.cal_c.specs.Statuses.{done, bad_date, year_refused, month_refused, day_refused};
 ghost use Rattle.cal_c.specs.Values.{IsJulianDay, IsMonth, day_of};
 
+use super::days::iso_week_date_at;
 use super::making::month_of;
 use super::statuses::{BAD_DATE, DONE, MONTH, status_of};
 use super::{NOTHING, UNLIKE, refused_in};
-use crate::number::{number_of, weekday_of_number};
+use crate::number::{is_julian_day, number_of, weekday_of_number};
 use crate::values::date_of;
 use cal_time::Date;
 
@@ -202,9 +203,11 @@ fn iso_week_date_of(date: i32) -> (i32, u8, u8, u8)
     ensures bad_date { ¬ IsJulianDay date → iso_week_date_row result.0 result.1 result.2 result.3 ≡ iso_week_date_refused bad_date }
     ensures value { IsJulianDay date → iso_week_date_row result.0 result.1 result.2 result.3 ≡ iso_week_date_done (day_of date) }
 {
-    match date_of(date) {
-        Some(date) => week_date_found(date),
-        None => (NOTHING, 0, 0, BAD_DATE),
+    let (year, week, weekday) = iso_week_date_at(date);
+    if is_julian_day(date) {
+        (year, week, weekday, DONE)
+    } else {
+        (NOTHING, 0, 0, BAD_DATE)
     }
 }
 
