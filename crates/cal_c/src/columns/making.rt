@@ -2,7 +2,6 @@
 ghost use Rattle.std.specs.Prelude.{◌≡◌, ℕ, ◌+◌, ◌-◌, ◌<◌, MatchOption, length, get_or, count_by, pos};
 ghost use Rattle.cal_time.specs.Date.{julian_day_at, IsDate, IsYear, IsDayOfMonth, IsOrdinal, HasCalendarDate, HasOrdinalDate, NoDate};
 ghost use Rattle.cal_time.specs.IsoWeekDate.{IsWeek, HasIsoWeekDate};
-ghost use Rattle.cal_time.specs.Month.{number};
 ghost use Rattle.cal_time.specs.Weekday.{place};
 ghost use Rattle.cal_c.specs.Columns.{Alike3, Alike4, Alike5, date_row, is_refused, IsDateOfJulianDay, IsDateOfCalendarDate, IsDateOfOrdinalDate, IsDateOfIsoWeekDate};
 ghost use Rattle.cal_c.specs.Results.{date_done, date_if_any, date_refused, IsDayWith};
@@ -13,7 +12,7 @@ use super::days::{has_day, julian_day_at};
 use super::statuses::{BAD_WEEKDAY, DAY, DONE, JULIAN_DAY, MONTH, PAST_RANGE, YEAR, status_of};
 use super::{NOTHING, UNLIKE, is_date, refused_in};
 use crate::values;
-use cal_time::{Date, Month, Weekday};
+use cal_time::{Date, Weekday};
 
 /// The dates of a column of Julian days, row by row as `fots_date_from_julian_day`, and how many rows have none.
 #[unsafe(no_mangle)]
@@ -152,16 +151,6 @@ pub(super) fn made_if_any(date: Option<Date>) -> (i32, u8)
     match date {
         Some(date) => made(date),
         None => refused(PAST_RANGE),
-    }
-}
-
-/// The month that has the number, from January, 1.
-pub(super) fn month_of(month: u8) -> Option<Month>
-    ensures { MatchOption result (¬ IsMonth month) (λ found. IsMonth month × (number found ≡ month)) }
-{
-    match Month::try_from(month) {
-        Ok(month) => Some(month),
-        Err(_) => None,
     }
 }
 
