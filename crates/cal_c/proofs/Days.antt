@@ -1,13 +1,11 @@
 -- Days by their Julian days: what the answers of the calls come to.
-use Rattle.std.proofs.Common.{◌≡◌, ℕ, ◌≤◌, refl, sym, ap, ◌∙◌, subst, arith, ℤ, pos, ◌+ℤ◌, ◌-ℤ◌, Option, Some, None, SomeIff, Result, Ok, ◌⊎◌, inl, inr}
+use Rattle.std.proofs.Common.{◌≡◌, ℕ, ◌≤◌, refl, sym, subst, arith, ℤ, Result, Ok, ◌⊎◌, inl, inr}
 use Rattle.std.proofs.lemmas.Int.{ints}
 use Rattle.std.proofs.lemmas.Bool.Decides.{nat_tests}
 use Rattle.cal_time.specs.Date.{julian_day_at, IsDate}
 use Rattle.cal_time.specs.Lengths.{days_in_month}
-use Rattle.cal_time.specs.Move.{IsDateNumber, date_nearest}
-use Rattle.cal_c.specs.Results.{date_done, date_refused, date_if_any, IsDayWith}
-use Rattle.cal_c.specs.Statuses.{past_range}
-use Rattle.cal_c.specs.Values.{IsJulianDay, day_of, julian_nearest}
+use Rattle.cal_c.specs.Results.{date_done, IsDayWith}
+use Rattle.cal_c.specs.Values.{IsJulianDay, day_of}
 
 pub day_of-julian_day_at : (n : ℕ) → day_of (julian_day_at n) ≡ n
 day_of-julian_day_at n = omega (arith, ints)

@@ -6,7 +6,7 @@ use Rattle.std.proofs.lemmas.Bool.{cases_Bool}
 use Rattle.std.proofs.lemmas.Bool.Decides.{nat_tests, Decides-int_eq}
 use Rattle.std.proofs.lemmas.Int.{ints}
 use Rattle.cal_time.specs.CalendarDay.{CalendarDay, day_after, is_first_of_january}
-use Rattle.cal_time.specs.Date.{day_at, year_at, ordinal_at, weekday_at, HasOrdinalDate}
+use Rattle.cal_time.specs.Date.{day_at, year_at, ordinal_at, HasOrdinalDate}
 use Rattle.cal_time.specs.IsoWeekDate.{count_before, is_weekday_of_year, weekdays_upto, thursday_of, iso_year_at, iso_week_at}
 use Rattle.cal_time.specs.Laws.{weekday_at-is}
 use Rattle.cal_time.specs.Parts.{year_at-rises, ordinals-apart}

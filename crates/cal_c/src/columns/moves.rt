@@ -55,7 +55,7 @@ fn moved_date(date: i32, days: i64) -> (i32, u8)
     }
 }
 
-/// The number of the day so many days later, or one past the last where there is none.
+/// The number of the day so many days later, or a number past the last one where there is none.
 fn moved_number(number: u32, days: i64) -> u32
     requires { number ≤ last_day }
     ensures within { IsDateNumber (pos number +ℤ days) → pos result ≡ pos number +ℤ days }

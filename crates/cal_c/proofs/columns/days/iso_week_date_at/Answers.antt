@@ -1,4 +1,4 @@
-use Rattle.std.proofs.Common.{◌≡◌, ◌+◌, ◌%◌, ◌∙◌, sym, ap, rules, FitsSigned, w32}
+use Rattle.std.proofs.Common.{◌+◌, ◌%◌, ◌∙◌, sym, ap, rules, FitsSigned, w32}
 use Rattle.std.proofs.lemmas.Int.{to_z-of_z}
 use Rattle.cal_time.specs.IsoWeekDate.{iso_year_at, iso_week_at}
 use Rattle.cal_time.specs.Laws.{weekday_at-is}

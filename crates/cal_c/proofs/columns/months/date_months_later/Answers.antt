@@ -1,11 +1,11 @@
-use Rattle.std.proofs.Common.{◌≡◌, ◌≤◌, ◌∙◌, refl, sym, ap, arith, rules, pos, ◌+ℤ◌, min, FitsSigned, w32}
+use Rattle.std.proofs.Common.{◌≡◌, ◌∙◌, refl, ap, arith, rules, ◌+ℤ◌, min, FitsSigned, w32}
 use Rattle.std.proofs.lemmas.Int.{ints, to_z-of_z}
 use Rattle.cal_time.specs.Date.{year_at, month_at, day_of_month_at}
 use Rattle.cal_time.specs.Lengths.{days_in_month}
-use Rattle.cal_schedule.specs.Months.{month_number_at, IsMonthNumber, IsMonthsLater}
+use Rattle.cal_schedule.specs.Months.{month_number_at, IsMonthsLater}
 use Rattle.cal_c.specs.Columns.{date_row}
 use Rattle.cal_c.specs.Results.{IsDayWith}
-use Rattle.cal_c.specs.Values.{IsJulianDay, day_of}
+use Rattle.cal_c.specs.Values.{day_of}
 use Rattle.cal_c.proofs.columns.months.date_months_later.Goals as goal
 
 pub returns-then-not-is_julian_day-clause-day : goal.returns-then-not-is_julian_day-clause-day

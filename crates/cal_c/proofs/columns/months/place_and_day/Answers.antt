@@ -1,4 +1,4 @@
-use Rattle.std.proofs.Common.{◌≡◌, ◌∙◌, ap, arith, ℤ, pos, ◌+ℤ◌}
+use Rattle.std.proofs.Common.{◌∙◌, ap, arith, pos, ◌+ℤ◌}
 use Rattle.std.proofs.lemmas.Int.{ints, to_z-of_z}
 use Rattle.cal_time.specs.CalendarDay.{CalendarDay}
 use Rattle.cal_time.specs.Days.{month_at-range}

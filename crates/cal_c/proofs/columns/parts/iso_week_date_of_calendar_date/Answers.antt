@@ -1,4 +1,4 @@
-use Rattle.std.proofs.Common.{◌≡◌, rules, FitsSigned, w32}
+use Rattle.std.proofs.Common.{rules, FitsSigned, w32}
 use Rattle.std.proofs.lemmas.Int.{to_z-of_z}
 use Rattle.cal_c.specs.Values.{day_of}
 use Rattle.cal_c.proofs.Days.{IsDate-day_of}
