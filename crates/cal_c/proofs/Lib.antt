@@ -1,8 +1,10 @@
+pub mod Counts
 pub mod Days
 pub mod Durations
-pub mod Moves
+pub mod MarchYears
 pub mod Rows
 pub mod TextBytes
+pub mod Thursdays
 pub mod Equals
 pub mod Cases
 pub mod Occurrences

@@ -2,10 +2,11 @@
 //!
 //! A column is one array for each part of a value, and one of status bytes. What one call writes is what the next one takes. Where
 //! the arrays of a call are not of one length, nothing is written, and the answer is the greatest number.
-ghost use Rattle.std.specs.Prelude.{◌≡◌, ◌↔◌, IsTrue, count_by, if◌then◌else◌};
+ghost use Rattle.std.specs.Prelude.{◌≡◌, ◌≤◌, ◌↔◌, IsTrue, count_by, length, if◌then◌else◌};
 ghost use Rattle.cal_c.specs.Columns.{is_refused};
 ghost use Rattle.cal_c.specs.Values.{IsJulianDay};
 
+mod days;
 mod making;
 mod months;
 mod moves;
@@ -20,6 +21,9 @@ use statuses::DONE;
 /// What a call answers where its arrays are not of one length.
 const UNLIKE: usize = usize::MAX;
 
+/// How many rows are counted in one byte.
+const BLOCK: usize = 192;
+
 /// What stands for the date or the year of a row that has none.
 const NOTHING: i32 = i32::MIN;
 
@@ -31,8 +35,23 @@ fn is_date(julian_day: i64) -> bool
     julian_day >= FIRST_JULIAN_DAY && julian_day <= LAST_JULIAN_DAY
 }
 
-/// How many rows have no answer: counted apart, as a sum in 64 bits would keep a loop over rows from several at a time.
+/// How many rows have no answer.
 fn refused_in(statuses: &[u8]) -> usize
+    ensures { result ≡ count_by is_refused statuses.now }
+{
+    let mut refused = 0;
+    let mut counted = 0;
+    while counted < statuses.len() {
+        let end = statuses.len().min(counted + BLOCK);
+        refused += usize::from(refused_among(&statuses[counted..end]));
+        counted = end;
+    }
+    refused
+}
+
+/// How many of so few rows have no answer: counted in a byte, so that a loop takes many rows at a time.
+fn refused_among(statuses: &[u8]) -> u8
+    requires { length statuses.now ≤ 192 }
     ensures { result ≡ count_by is_refused statuses.now }
 {
     let mut refused = 0;
@@ -44,7 +63,7 @@ fn refused_in(statuses: &[u8]) -> usize
 
 /// 1 where there is no answer, else 0.
 #[inline(always)]
-fn one_if_refused(status: u8) -> usize
+fn one_if_refused(status: u8) -> u8
     ensures { result ≡ (if is_refused status then 1 else 0) }
 {
     if status == DONE { 0 } else { 1 }

@@ -15,7 +15,11 @@ pub const FIRST_JULIAN_DAY: i64 = -363_521_074;
 
 pub const LAST_JULIAN_DAY: i64 = 366_963_559;
 
-const LAST_NUMBER: u32 = 730_484_633;
+/// The number of the day whose Julian day is 0.
+pub const DAY_ZERO: i32 = 363_521_074;
+
+/// The number of the last day.
+pub const LAST_NUMBER: u32 = 730_484_633;
 
 /// Says whether a day of the range has the Julian day.
 pub fn is_julian_day(julian_day: i32) -> bool

@@ -2,17 +2,17 @@
 ghost use Rattle.std.specs.Prelude.{◌≡◌, ℕ, ◌+◌, ◌-◌, ◌<◌, MatchOption, length, get_or, count_by, pos};
 ghost use Rattle.cal_time.specs.Date.{julian_day_at, IsDate, IsYear, IsDayOfMonth, IsOrdinal, HasCalendarDate, HasOrdinalDate, NoDate};
 ghost use Rattle.cal_time.specs.IsoWeekDate.{IsWeek, HasIsoWeekDate};
-ghost use Rattle.cal_time.specs.Month.{number};
 ghost use Rattle.cal_time.specs.Weekday.{place};
 ghost use Rattle.cal_c.specs.Columns.{Alike3, Alike4, Alike5, date_row, is_refused, IsDateOfJulianDay, IsDateOfCalendarDate, IsDateOfOrdinalDate, IsDateOfIsoWeekDate};
 ghost use Rattle.cal_c.specs.Results.{date_done, date_if_any, date_refused, IsDayWith};
 ghost use Rattle.cal_c.specs.Statuses.{bad_weekday, julian_day_refused, year_refused, month_refused, day_refused, ordinal_refused, week_refused, weekday_refused};
 ghost use Rattle.cal_c.specs.Values.{IsJulianDay, IsMonth, IsWeekday};
 
-use super::statuses::{BAD_WEEKDAY, DONE, JULIAN_DAY, MONTH, PAST_RANGE, status_of};
+use super::days::{has_day, julian_day_at};
+use super::statuses::{BAD_WEEKDAY, DAY, DONE, JULIAN_DAY, MONTH, PAST_RANGE, YEAR, status_of};
 use super::{NOTHING, UNLIKE, is_date, refused_in};
 use crate::values;
-use cal_time::{Date, Month, Weekday};
+use cal_time::{Date, Weekday};
 
 /// The dates of a column of Julian days, row by row as `fots_date_from_julian_day`, and how many rows have none.
 #[unsafe(no_mangle)]
@@ -154,16 +154,6 @@ pub(super) fn made_if_any(date: Option<Date>) -> (i32, u8)
     }
 }
 
-/// The month that has the number, from January, 1.
-pub(super) fn month_of(month: u8) -> Option<Month>
-    ensures { MatchOption result (¬ IsMonth month) (λ found. IsMonth month × (number found ≡ month)) }
-{
-    match Month::try_from(month) {
-        Ok(month) => Some(month),
-        Err(_) => None,
-    }
-}
-
 /// The weekday that has the number, from Monday, 1.
 fn weekday_of(weekday: u8) -> Option<Weekday>
     ensures { MatchOption result (¬ IsWeekday weekday) (λ found. IsWeekday weekday × (place found + 1 ≡ weekday)) }
@@ -191,12 +181,32 @@ fn date_of_calendar_date(year: i32, month: u8, day: u8) -> (i32, u8)
     ensures date { IsMonth month → IsYear year → IsDayOfMonth year month day
         → IsDayWith (HasCalendarDate year month day) (date_row result.0 result.1) }
 {
-    let Some(month) = month_of(month) else {
-        return refused(MONTH);
-    };
-    match Date::from_calendar_date(year, month, day) {
-        Ok(date) => made(date),
-        Err(error) => refused(status_of(error)),
+    let date = julian_day_at(year, month, day);
+    let status = status_of_calendar_date(year, month, day);
+    if status == DONE {
+        (date, DONE)
+    } else {
+        refused(status)
+    }
+}
+
+/// The status of a year, a month and a day of the month: of the month before the year, and of the year before the day.
+#[inline(always)]
+pub(super) fn status_of_calendar_date(year: i32, month: u8, day: u8) -> u8
+    ensures no_month { ¬ IsMonth month → pos result ≡ month_refused }
+    ensures no_year { IsMonth month → ¬ IsYear year → pos result ≡ year_refused }
+    ensures no_day { IsMonth month → IsYear year → ¬ IsDayOfMonth year month day → pos result ≡ day_refused }
+    ensures date { IsMonth month → IsYear year → IsDayOfMonth year month day → result ≡ 0 }
+{
+    let is_day = has_day(year, month, day);
+    if month == 0 || month > 12 {
+        MONTH
+    } else if year < -999_999 || year > 999_999 {
+        YEAR
+    } else if is_day {
+        DONE
+    } else {
+        DAY
     }
 }
 

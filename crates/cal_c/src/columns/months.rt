@@ -1,16 +1,24 @@
 //! Columns of dates that are moved by months.
-ghost use Rattle.std.specs.Prelude.{◌≡◌, ℕ, ◌<◌, ◌+ℤ◌, length, get_or, count_by, pos};
+ghost use Rattle.std.specs.Prelude.{◌≡◌, ℕ, ◌<◌, ◌≤◌, ◌+ℤ◌, min, length, get_or, count_by, pos};
+ghost use Rattle.cal_time.specs.Date.{year_at, month_at, day_of_month_at};
+ghost use Rattle.cal_time.specs.Lengths.{days_in_month};
 ghost use Rattle.cal_schedule.specs.Months.{month_number_at, IsMonthNumber, IsMonthsLater};
 ghost use Rattle.cal_c.specs.Columns.{Alike4, date_row, is_refused, IsDateMonthsLater};
 ghost use Rattle.cal_c.specs.Results.{date_refused, IsDayWith};
 ghost use Rattle.cal_c.specs.Statuses.{bad_date, past_range};
 ghost use Rattle.cal_c.specs.Values.{IsJulianDay, day_of};
 
-use super::making::{made_if_any, refused};
-use super::statuses::BAD_DATE;
+use super::days::{julian_day_at, length_of};
+use super::making::refused;
+use super::statuses::{BAD_DATE, DONE, PAST_RANGE};
 use super::{UNLIKE, refused_in};
+use crate::number::is_julian_day;
 use crate::values::date_of;
-use cal_schedule::checked_add_months;
+use cal_time::Cycle;
+use cal_time::util::is_leap_year;
+
+/// The months of the range that come before its last one.
+const LAST_MONTH: u32 = 23_999_987;
 
 /// The dates of a column, each moved by the months of another column, row by row as `fots_date_add_months`, and how many rows have none.
 #[unsafe(no_mangle)]
@@ -46,8 +54,46 @@ fn date_months_later(date: i32, months: i32) -> (i32, u8)
     ensures day { IsJulianDay date → IsMonthNumber (month_number_at (day_of date) +ℤ months)
         → IsDayWith (IsMonthsLater (day_of date) months) (date_row result.0 result.1) }
 {
-    match date_of(date) {
-        Some(date) => made_if_any(checked_add_months(date, months)),
-        None => refused(BAD_DATE),
+    let (place, day) = place_and_day(date);
+    // A sum below zero wraps, far above the last month.
+    let place = place.wrapping_add(months.cast_unsigned());
+    let later = day_in_month(place.min(LAST_MONTH), day);
+    if !is_julian_day(date) {
+        refused(BAD_DATE)
+    } else if place > LAST_MONTH {
+        refused(PAST_RANGE)
+    } else {
+        (later, DONE)
     }
+}
+
+/// The months of the range that come before the month of a date, and its day of the month.
+#[inline(always)]
+fn place_and_day(date: i32) -> (u32, u8)
+    ensures place { IsJulianDay date → pos result.0 ≡ month_number_at (day_of date) +ℤ pos 11_999_988 }
+    ensures day { IsJulianDay date → result.1 ≡ day_of_month_at (day_of date) }
+    ensures most { result.0 ≤ 23_999_987 }
+    ensures some { 1 ≤ result.1 }
+{
+    match date_of(date) {
+        Some(date) => {
+            let (year, month, day) = date.to_calendar_date();
+            ((year + 999_999) as u32 * 12 + u32::from(month.place()), day)
+        }
+        None => (0, 1),
+    }
+}
+
+/// The day of the month that has so many months of the range before it, or its last day where it has no such day.
+#[inline(always)]
+fn day_in_month(place: u32, day: u8) -> i32
+    requires place { place ≤ 23_999_987 }
+    requires day { 1 ≤ day }
+    ensures month { month_number_at (day_of result) +ℤ pos 11_999_988 ≡ pos place }
+    ensures day { day_of_month_at (day_of result) ≡ min day (days_in_month (year_at (day_of result)) (month_at (day_of result))) }
+    ensures in_range { IsJulianDay result }
+{
+    let year = (place / 12) as i32 - 999_999;
+    let month = (place % 12) as u8 + 1;
+    julian_day_at(year, month, day.min(length_of(month, is_leap_year(year))))
 }

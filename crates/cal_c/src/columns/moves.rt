@@ -1,13 +1,16 @@
 //! Columns of dates that are moved.
-ghost use Rattle.std.specs.Prelude.{◌≡◌, ℕ, ◌<◌, ◌+ℤ◌, ◌≤ℤ◌, length, get_or, count_by, pos, IsTrue, ◌↔◌};
+ghost use Rattle.std.specs.Prelude.{◌≡◌, ℕ, ◌<◌, ◌≤◌, ◌+ℤ◌, length, get_or, count_by, pos};
+ghost use Rattle.cal_time.specs.Date.{last_day};
+ghost use Rattle.cal_time.specs.Move.{IsDateNumber};
 ghost use Rattle.cal_c.specs.Columns.{Alike4, date_row, is_refused, IsDateMoved};
 ghost use Rattle.cal_c.specs.Results.{date_done, date_refused};
 ghost use Rattle.cal_c.specs.Statuses.{bad_date, past_range};
 ghost use Rattle.cal_c.specs.Values.{IsJulianDay};
 
+use super::days::number_held;
 use super::statuses::{BAD_DATE, DONE, PAST_RANGE};
-use super::{NOTHING, UNLIKE, is_date, refused_in};
-use crate::number::{FIRST_JULIAN_DAY, LAST_JULIAN_DAY};
+use super::{NOTHING, UNLIKE, refused_in};
+use crate::number::{DAY_ZERO, LAST_NUMBER, is_julian_day};
 
 /// The dates of a column, each moved by the days of another column, row by row as `fots_date_add_days`, and how many rows have none.
 #[unsafe(no_mangle)]
@@ -42,33 +45,27 @@ fn moved_date(date: i32, days: i64) -> (i32, u8)
     ensures past_range { IsJulianDay date → ¬ IsJulianDay (date +ℤ days) → date_row result.0 result.1 ≡ date_refused past_range }
     ensures day { IsJulianDay date → IsJulianDay (date +ℤ days) → date_row result.0 result.1 ≡ date_done (date +ℤ days) }
 {
-    let julian_day = i64::from(date);
-    if !is_date(julian_day) {
-        return (NOTHING, BAD_DATE);
+    let moved = moved_number(number_held(date), days);
+    if !is_julian_day(date) {
+        (NOTHING, BAD_DATE)
+    } else if moved > LAST_NUMBER {
+        (NOTHING, PAST_RANGE)
+    } else {
+        (moved as i32 - DAY_ZERO, DONE)
     }
-    if !is_within(julian_day, days) {
-        return (NOTHING, PAST_RANGE);
-    }
-    ((julian_day + days) as i32, DONE)
 }
 
-/// Whether the day so many days later is one of the range.
-#[inline(always)]
-fn is_within(julian_day: i64, days: i64) -> bool
-    requires { IsJulianDay julian_day }
-    ensures { IsTrue result ↔ IsJulianDay (julian_day +ℤ days) }
+/// The number of the day so many days later, or a number past the last one where there is none.
+fn moved_number(number: u32, days: i64) -> u32
+    requires { number ≤ last_day }
+    ensures within { IsDateNumber (pos number +ℤ days) → pos result ≡ pos number +ℤ days }
+    ensures past { ¬ IsDateNumber (pos number +ℤ days) → last_day < result }
 {
-    is_between(
-        days,
-        FIRST_JULIAN_DAY - julian_day,
-        LAST_JULIAN_DAY - julian_day,
-    )
-}
-
-/// Whether the number is one from the least to the greatest.
-#[inline(always)]
-fn is_between(number: i64, least: i64, greatest: i64) -> bool
-    ensures { IsTrue result ↔ (least ≤ℤ number) × (number ≤ℤ greatest) }
-{
-    number >= least && number <= greatest
+    // A sum below zero wraps, and then its upper half is not zero either.
+    let sum = days.cast_unsigned().wrapping_add(u64::from(number));
+    if (sum >> 32) as u32 == 0 {
+        sum as u32
+    } else {
+        u32::MAX
+    }
 }

@@ -6,11 +6,12 @@ ghost use Rattle.cal_c.specs.Results.{calendar_date_done, calendar_date_refused,
 ghost use Rattle.cal_c.specs.Statuses.{done, bad_date, year_refused, month_refused, day_refused};
 ghost use Rattle.cal_c.specs.Values.{IsJulianDay, IsMonth, day_of};
 
-use super::making::month_of;
-use super::statuses::{BAD_DATE, DONE, MONTH, status_of};
+use super::days::{iso_week_date_at, julian_day_at};
+use super::making::status_of_calendar_date;
+use super::statuses::{BAD_DATE, DONE};
 use super::{NOTHING, UNLIKE, refused_in};
+use crate::number::{is_julian_day, number_of, weekday_of_number};
 use crate::values::date_of;
-use cal_time::Date;
 
 /// The calendar dates of a column of dates, row by row as `fots_date_to_calendar_date`, and how many rows have none.
 #[unsafe(no_mangle)]
@@ -201,9 +202,11 @@ fn iso_week_date_of(date: i32) -> (i32, u8, u8, u8)
     ensures bad_date { ¬ IsJulianDay date → iso_week_date_row result.0 result.1 result.2 result.3 ≡ iso_week_date_refused bad_date }
     ensures value { IsJulianDay date → iso_week_date_row result.0 result.1 result.2 result.3 ≡ iso_week_date_done (day_of date) }
 {
-    match date_of(date) {
-        Some(date) => week_date_found(date),
-        None => (NOTHING, 0, 0, BAD_DATE),
+    let (year, week, weekday) = iso_week_date_at(date);
+    if is_julian_day(date) {
+        (year, week, weekday, DONE)
+    } else {
+        (NOTHING, 0, 0, BAD_DATE)
     }
 }
 
@@ -212,18 +215,10 @@ fn weekday_of(date: i32) -> (u8, u8)
     ensures bad_date { ¬ IsJulianDay date → (result.0 ≡ 0) × (pos result.1 ≡ bad_date) }
     ensures value { IsJulianDay date → (result.0 ≡ weekday_at (day_of date) + 1) × (pos result.1 ≡ done) }
 {
-    match date_of(date) {
-        Some(date) => (date.weekday().number_from_monday(), DONE),
+    match number_of(date) {
+        Some(number) => (weekday_of_number(number), DONE),
         None => (0, BAD_DATE),
     }
-}
-
-/// The ISO year, the week and the weekday of a day, and the status.
-fn week_date_found(date: Date) -> (i32, u8, u8, u8)
-    ensures { iso_week_date_row result.0 result.1 result.2 result.3 ≡ iso_week_date_done date }
-{
-    let (year, week, weekday) = date.to_iso_week_date();
-    (year, week, weekday.number_from_monday(), DONE)
 }
 
 /// The ISO year, the week and the weekday of a year, a month and a day of the month, and the status.
@@ -236,11 +231,11 @@ fn iso_week_date_of_calendar_date(year: i32, month: u8, day: u8) -> (i32, u8, u8
     ensures value { IsMonth month → IsYear year → IsDayOfMonth year month day
         → (n : ℕ) × IsDate n × HasCalendarDate year month day n × (iso_week_date_row result.0 result.1 result.2 result.3 ≡ iso_week_date_done n) }
 {
-    let Some(month) = month_of(month) else {
-        return (NOTHING, 0, 0, MONTH);
-    };
-    match Date::from_calendar_date(year, month, day) {
-        Ok(date) => week_date_found(date),
-        Err(error) => (NOTHING, 0, 0, status_of(error)),
+    let (iso_year, week, weekday) = iso_week_date_at(julian_day_at(year, month, day));
+    let status = status_of_calendar_date(year, month, day);
+    if status == DONE {
+        (iso_year, week, weekday, DONE)
+    } else {
+        (NOTHING, 0, 0, status)
     }
 }

@@ -1,25 +1,45 @@
-use Rattle.std.proofs.Common.{◌+ℤ◌, sym, subst, ◌∙◌}
-use Rattle.std.proofs.lemmas.Int.{to_z-of_z}
-use Rattle.cal_schedule.specs.Months.{month_number_at, IsMonthNumber, IsMonthsLater}
+use Rattle.std.proofs.Common.{◌≡◌, ◌∙◌, refl, ap, arith, rules, ◌+ℤ◌, min, FitsSigned, w32}
+use Rattle.std.proofs.lemmas.Int.{ints, to_z-of_z}
+use Rattle.cal_time.specs.Date.{year_at, month_at, day_of_month_at}
+use Rattle.cal_time.specs.Lengths.{days_in_month}
+use Rattle.cal_schedule.specs.Months.{month_number_at, IsMonthsLater}
 use Rattle.cal_c.specs.Columns.{date_row}
 use Rattle.cal_c.specs.Results.{IsDayWith}
-use Rattle.cal_c.proofs.Schedules.{day-if-any, past-if-any}
+use Rattle.cal_c.specs.Values.{day_of}
 use Rattle.cal_c.proofs.columns.months.date_months_later.Goals as goal
 
-pub returns-in-Some-clause-past_range : goal.returns-in-Some-clause-past_range
-returns-in-Some-clause-past_range c = λ h out.
+pub returns-then-not-is_julian_day-clause-day : goal.returns-then-not-is_julian_day-clause-day
+returns-then-not-is_julian_day-clause-day c = λ h k.
     let f = c.ranges.date in
-    let g = c.ranges.months in
-    let at = simp to_z-of_z at c.in-Some.ensures in
-    let some = simp to_z-of_z at c.checked_add_months.ensures.some in
-    c.made_if_any.ensures ∙ past-if-any _ _ some (subst (λ n. IsMonthNumber (month_number_at n +ℤ c.args.months) → ⊥) (sym at.1) out)
+    let is = simp to_z-of_z at c.if-not-is_julian_day.ensures in
+    let e = is.1 h in
+    absurd (cc)
 
-pub returns-in-Some-clause-day : goal.returns-in-Some-clause-day
-returns-in-Some-clause-day c = λ h k.
+pub returns-then-place-gt-LAST_MONTH-clause-day : goal.returns-then-place-gt-LAST_MONTH-clause-day
+returns-then-place-gt-LAST_MONTH-clause-day c = λ h k.
     let f = c.ranges.date in
     let g = c.ranges.months in
-    let at = simp to_z-of_z at c.in-Some.ensures in
-    let has = simp to_z-of_z at c.checked_add_months.ensures.has in
-    let none = simp to_z-of_z at c.checked_add_months.ensures.none in
-    let day = day-if-any _ _ _ has none (subst (λ n. IsMonthNumber (month_number_at n +ℤ c.args.months)) (sym at.1) k) in
-    subst (λ n. IsDayWith (IsMonthsLater n c.args.months) (date_row c.made_if_any.result.0 c.made_if_any.result.1)) at.1 (subst (IsDayWith _) (sym c.made_if_any.ensures) day)
+    let first = simp to_z-of_z at c.place_and_day-place.ensures.place in
+    absurd (omega (arith, ints, first h, k.not_before, k.not_after))
+
+pub returns-else-place-gt-LAST_MONTH-clause-past_range : goal.returns-else-place-gt-LAST_MONTH-clause-past_range
+returns-else-place-gt-LAST_MONTH-clause-past_range c = λ h out.
+    let f = c.ranges.date in
+    let g = c.ranges.months in
+    let first = simp to_z-of_z at c.place_and_day-place.ensures.place in
+    absurd (out (record { not_before = omega (arith, ints, first h); not_after = omega (arith, ints, first h) }))
+
+pub returns-else-place-gt-LAST_MONTH-clause-day : goal.returns-else-place-gt-LAST_MONTH-clause-day
+returns-else-place-gt-LAST_MONTH-clause-day c = λ h k.
+    let f = c.ranges.date in
+    let g = c.ranges.months in
+    let fits : FitsSigned w32 c.day_in_month-later.result = search rules in
+    let first = simp to_z-of_z at c.place_and_day-place.ensures.place in
+    let same = simp to_z-of_z at c.place_and_day-place.ensures.day in
+    let n = day_of c.args.date in
+    let r = day_of c.day_in_month-later.result in
+    let month : month_number_at r ≡ month_number_at n +ℤ c.args.months = omega (arith, ints, first h, c.day_in_month-later.ensures.month) in
+    let day : day_of_month_at r ≡ min (day_of_month_at n) (days_in_month (year_at r) (month_at r)) =
+    c.day_in_month-later.ensures.day ∙ ap (λ k. min k (days_in_month (year_at r) (month_at r))) (same h) in
+    let here : IsDayWith (IsMonthsLater n c.args.months) (date_row c.day_in_month-later.result 0) = record { status_is = refl; in_range = c.day_in_month-later.ensures.in_range; has = record { month = month; day = day } } in
+    simp to_z-of_z here

@@ -1,20 +1,18 @@
-use Rattle.std.proofs.Common.{ap, ◌∙◌, sym, subst}
+use Rattle.std.proofs.Common.{rules, FitsSigned, w32}
 use Rattle.std.proofs.lemmas.Int.{to_z-of_z}
-use Rattle.cal_time.specs.CalendarDay.{calendar_day}
-use Rattle.cal_time.specs.Date.{IsDayOfMonth}
+use Rattle.cal_c.specs.Values.{day_of}
+use Rattle.cal_c.proofs.Days.{IsDate-day_of}
 use Rattle.cal_c.proofs.columns.parts.iso_week_date_of_calendar_date.Goals as goal
 
-pub returns-in-Ok-clause-no_year : goal.returns-in-Ok-clause-no_year
-returns-in-Ok-clause-no_year c = λ m out. let f = c.ranges.year in let year = simp to_z-of_z at c.in-Ok.ensures.year in absurd (year.1 out)
-
-pub returns-in-Ok-clause-no_day : goal.returns-in-Ok-clause-no_day
-returns-in-Ok-clause-no_day c = λ m y out.
+pub returns-then-status-eq-DONE-clause-value : goal.returns-then-status-eq-DONE-clause-value
+returns-then-status-eq-DONE-clause-value c = λ m y d.
     let f = c.ranges.year in
-    let day = simp to_z-of_z at c.in-Ok.ensures.day in
-    absurd (day.1 (y, subst (λ k. IsDayOfMonth c.args.year k c.args.day → ⊥) (sym c.in-Some.ensures.1) out))
-
-pub returns-in-Ok-clause-value : goal.returns-in-Ok-clause-value
-returns-in-Ok-clause-value c = λ m y d.
-    let f = c.ranges.year in
-    let has = simp to_z-of_z at c.in-Ok.ensures.has in
-    (c.in-Ok.date, has.0, has.1 ∙ ap (λ k. calendar_day c.args.year k c.args.day) c.in-Some.ensures.1, c.week_date_found.ensures)
+    let fits : FitsSigned w32 c.julian_day_at.result = search rules in
+    let out : FitsSigned w32 c.iso_week_date_at-iso_year.result.0 = search rules in
+    let has = simp to_z-of_z at c.julian_day_at.ensures.has in
+    let is = simp to_z-of_z at c.julian_day_at.ensures.in_range in
+    let h = is y m d in
+    let year = simp to_z-of_z at c.iso_week_date_at-iso_year.ensures.year in
+    let week = simp to_z-of_z at c.iso_week_date_at-iso_year.ensures.week in
+    let weekday = simp to_z-of_z at c.iso_week_date_at-iso_year.ensures.weekday in
+    (day_of c.julian_day_at.result, IsDate-day_of c.julian_day_at.result h, has y m d, simp to_z-of_z (cc (year h, week h, weekday h)))
