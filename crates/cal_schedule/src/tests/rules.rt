@@ -143,6 +143,22 @@ fn daily_rules(rt: HostRuntime) {
 }
 
 #[test]
+fn so_many_days(rt: HostRuntime) {
+    let rt = &rt;
+    let text = "FREQ=DAILY;INTERVAL=10;COUNT=5";
+    let rule = Rule {
+        interval: 10,
+        ..rule(rt, Daily, 1997_09_02)
+    };
+    let mut walk = rule.first_days(5);
+    for day in [1997_09_02, 1997_09_12, 1997_09_22, 1997_10_02, 1997_10_12] {
+        gives(rt, text, walk.next(), Some(date(rt, day)));
+    }
+    gives(rt, text, walk.next(), None);
+    gives(rt, text, rule.first_days(0).next(), None);
+}
+
+#[test]
 fn weekly_rules(rt: HostRuntime) {
     let rt = &rt;
     begins(
