@@ -49,7 +49,7 @@ found_at n m (Ok k) e h =
     sym (ap (λ days. slice_get days 0) first)
 found_at n m (Err why) e h =
     sym (ap (λ days. slice_get days 0) (filter-none (has_digits n) 0 (last_day + 1) (λ k low high.
-        false_from_ne_true _ (λ on. h.none refl k (omega arith) (has_them n (number m) k e on)))))
+    false_from_ne_true _ (λ on. h.none refl k (omega arith) (has_them n (number m) k e on)))))
 
 pub found : (n : ℕ) (y : ℤ) (m : Month) (r : Result ℕ ComponentRange) → y ≡ pos (n / 10000) → number m ≡ n / 100 % 100
     → ((k : ℕ) → IsDate k → HasCalendarDate y (number m) (n % 100) k → r ≡ Ok k)
@@ -63,9 +63,9 @@ pub no_month : (n : ℕ) → ((n / 100 % 100 ≡ 0) ⊎ (12 < n / 100 % 100)) �
 unfolding day_with
 no_month n h =
     sym (ap (λ days. slice_get days 0) (filter-none (has_digits n) 0 (last_day + 1) (λ k low high.
-        false_from_ne_true _ (λ on.
-            let month : month_at k ≡ n / 100 % 100 = eqb-true _ _ (and_parts _ _ (and_parts _ _ on).1).0 in
-            omega (arith, month, (month_at-range k).0, (month_at-range k).1, h)))))
+    false_from_ne_true _ (λ on.
+    let month : month_at k ≡ n / 100 % 100 = eqb-true _ _ (and_parts _ _ (and_parts _ _ on).1).0 in
+    omega (arith, month, (month_at-range k).0, (month_at-range k).1, h)))))
 
 -- the month with a number
 pub month_with : (n : ℕ) (r : Result Month ComponentRange) → FromNumber n r → 1 ≤ n → n ≤ 12 → result_ok r ≡ Some (month_with_place (n - 1))

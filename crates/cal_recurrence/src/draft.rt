@@ -71,7 +71,11 @@ impl Draft {
                 Ok(self)
             }
             RulePart::Interval => {
-                self.interval = Some(fresh(part, self.interval.is_some(), count_of(value, u32::MAX))?);
+                self.interval = Some(fresh(
+                    part,
+                    self.interval.is_some(),
+                    count_of(value, u32::MAX),
+                )?);
                 Ok(self)
             }
             RulePart::WeekStart => {
@@ -83,7 +87,11 @@ impl Draft {
                 Ok(self)
             }
             RulePart::MonthDays => {
-                self.month_days = Some(fresh(part, self.month_days.is_some(), month_days_of(value))?);
+                self.month_days = Some(fresh(
+                    part,
+                    self.month_days.is_some(),
+                    month_days_of(value),
+                )?);
                 Ok(self)
             }
             RulePart::Weekdays => {
@@ -119,7 +127,9 @@ impl Draft {
             week_start: self.week_start.unwrap_or(Weekday::Monday),
             months: self.months.unwrap_or(Values::none(Month::January)),
             month_days: self.month_days.unwrap_or(Values::none(0)),
-            weekdays: self.weekdays.unwrap_or(Values::none(ByDay::Every(Weekday::Monday))),
+            weekdays: self
+                .weekdays
+                .unwrap_or(Values::none(ByDay::Every(Weekday::Monday))),
             end: self.end.unwrap_or(RuleEnd::Never),
         })
     }

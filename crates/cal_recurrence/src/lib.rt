@@ -15,3 +15,6 @@ pub use fault::{RuleFault, RulePart, RuleReason};
 pub use reading::parse;
 pub use recurrence::{Recurrence, RuleEnd};
 pub use values::Values;
+
+#[cfg(test)]
+mod tests;

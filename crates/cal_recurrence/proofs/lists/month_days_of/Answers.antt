@@ -11,4 +11,4 @@ loop-words-preserved c =
     let room : length so_far < 62 = grind (arith, nat_tests) in
     let same : to_z w8 (of_z w8 c.in_ok-day.day) ≡ c.in_ok-day.day = search (rules, to_z-of_z) in
     rw (c.push.ensures, same) (more_read month_day_of so_far c.in_ok-day.day c.cut.result.0.now _ (parts_left 44 c.loop-words.words) _ c.loop-words.invariant
-        (ap (parts_left 44) c.in-Some.is ∙ c.cut.ensures.parts) c.in_ok-day.ensures room)
+    (ap (parts_left 44) c.in-Some.is ∙ c.cut.ensures.parts) c.in_ok-day.ensures room)

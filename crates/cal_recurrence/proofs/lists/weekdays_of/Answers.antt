@@ -9,4 +9,4 @@ loop-words-preserved c =
     let so_far = c.loop-words.weekdays in
     let room : length so_far < 62 = grind (arith, nat_tests) in
     rw c.push.ensures (more_read by_day_of so_far c.in_ok-weekday.weekday c.cut.result.0.now _ (parts_left 44 c.loop-words.words) _ c.loop-words.invariant
-        (ap (parts_left 44) c.in-Some.is ∙ c.cut.ensures.parts) c.in_ok-weekday.ensures room)
+    (ap (parts_left 44) c.in-Some.is ∙ c.cut.ensures.parts) c.in_ok-weekday.ensures room)
