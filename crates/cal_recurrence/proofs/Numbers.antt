@@ -1,7 +1,6 @@
 -- What std's `parse` says, in the words of the definition of a number.
-use Rattle.std.proofs.Common.{◌≡◌, ◌≢◌, ℕ, ◌<◌, Bool, true, false, cond, get_or, length, List, [], ◌∷◌, Some, None, Result, Ok, Err, refl, sym, ap, ◌∙◌, arith, inl, inr, ◌&&◌}
+use Rattle.std.proofs.Common.{◌≡◌, ◌≢◌, ℕ, ◌<◌, Bool, true, false, cond, get_or, length, List, Some, None, Result, Ok, Err, refl, sym, ap, ◌∙◌, arith, inl, inr}
 use Rattle.std.specs.Prelude.{IsUtf8, Decides, nat_lt}
-use Rattle.std.specs.Char.{is_ascii_digit}
 use Rattle.std.specs.Result.{OkIff, result_ok}
 use Rattle.std.specs.Str.{all_ascii_digits}
 use Rattle.std.specs.Str.Parse.{ParsesUnsigned, digits_value}
@@ -56,7 +55,7 @@ parsed bs r h plain =
       | inr e ↦ none_where r _ _ own (λ q. false≢true (sym e ∙ numeral_is bs q)) ∙ sym (guard_no _ _ e)
     ]
 
--- digits are text, and have no sign
+-- digits are text
 no_digits : (bs : List ℕ) → (all_ascii_digits bs ≡ true → ⊥) → None ≡ number_of bs
 no_digits bs n = elim (cases_Bool (is_number bs)) [
   | inl e ↦ absurd (n (is_numeral bs e).0)
@@ -65,10 +64,3 @@ no_digits bs n = elim (cases_Bool (is_number bs)) [
 
 pub not_text : (bs : List ℕ) → (IsUtf8 bs → ⊥) → None ≡ number_of bs
 not_text bs t = no_digits bs (λ e. t (IsUtf8-from_ascii bs (IsAscii-from_digits bs (digits.to bs e))))
-
-signed : (bs : List ℕ) → get_or bs 0 0 ≡ 43 → all_ascii_digits bs ≡ true → ⊥
-signed [] e h = absurd (omega (arith, e))
-signed (c ∷ cs) e h = let plus : is_ascii_digit 43 && all_ascii_digits cs ≡ true = ap (λ b. is_ascii_digit b && all_ascii_digits cs) (sym e) ∙ h in false≢true plus
-
-pub plus_first : (bs : List ℕ) → get_or bs 0 0 ≡ 43 → None ≡ number_of bs
-plus_first bs e = no_digits bs (signed bs e)

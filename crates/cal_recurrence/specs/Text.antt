@@ -11,7 +11,7 @@ use Rattle.cal_recurrence.specs.declared.draft.Draft.{Draft}
 use Rattle.cal_recurrence.specs.declared.fault.RulePart.{RulePart}
 use Rattle.cal_recurrence.specs.declared.fault.RulePart.TheVariants as part
 use Rattle.cal_recurrence.specs.declared.fault.RuleReason.{RuleReason}
-use Rattle.cal_recurrence.specs.declared.fault.RuleReason.TheVariants.{Unknown, Twice, Value, Missing}
+use Rattle.cal_recurrence.specs.declared.fault.RuleReason.TheVariants.{Unknown, Twice, TooMany, Value, Missing}
 use Rattle.cal_recurrence.specs.declared.fault.RuleFault.{RuleFault}
 use Rattle.cal_recurrence.specs.declared.recurrence.Recurrence.{Recurrence}
 use Rattle.cal_recurrence.specs.declared.recurrence.RuleEnd.TheVariants.{Never, Until, Count}
@@ -22,12 +22,12 @@ abbrev pub each : {X : Type 0} → (List ℕ → Option X) → List (List ℕ) �
 each meaning [] = Some []
 each meaning (word ∷ words) = option_map (λ both. both.0 ∷ both.1) (option_zip (meaning word) (each meaning words))
 
--- the same of at most 62 words
-abbrev pub listed : {X : Type 0} → (List ℕ → Option X) → List (List ℕ) → Option (List X)
-listed meaning words = if nat_le (length words) most_values then each meaning words else None
-
 abbrev pub list_of : {X : Type 0} → (List ℕ → Option X) → List ℕ → Option (List X)
-list_of meaning value = listed meaning (parts_at 44 value)
+list_of meaning value = each meaning (parts_at 44 value)
+
+-- there is room for the words
+abbrev pub has_few_words : List ℕ → Bool
+has_few_words value = nat_le (length (parts_at 44 value)) most_values
 
 -- ---- parts
 -- a value that is one, of a part that was not given before
@@ -50,8 +50,11 @@ put draft part.Weekdays value = changed (λ x. record draft { weekdays = Some x 
 put draft part.Until value = changed (λ x. record draft { end = Some (Until x) }) (fresh part.Until (is_some draft.end) (date_of value))
 put draft part.Count value = changed (λ x. record draft { end = Some (Count x) }) (fresh part.Count (is_some draft.end) (count_of 4294967295 value))
 
+abbrev pub put_value : Draft → List ℕ → RulePart → Result Draft RuleReason
+put_value draft value at = if has_few_words value then put draft at value else Err (TooMany at)
+
 abbrev pub put_part : Draft → List ℕ → Result Draft RuleReason
-put_part draft text = option_map_or (λ at. put draft at (rest_at 61 text)) (part_of (front_at 61 text)) (Err Unknown)
+put_part draft text = option_map_or (put_value draft (rest_at 61 text)) (part_of (front_at 61 text)) (Err Unknown)
 
 -- ---- the whole
 abbrev pub fault : ℕ → RuleReason → RuleFault

@@ -1,9 +1,11 @@
 //! The parts of a recurrence that were read so far.
-ghost use Rattle.std.specs.Prelude.{◌≡◌};
-ghost use Rattle.cal_recurrence.specs.Text.{finished, fresh, nothing, put, put_part};
+ghost use Rattle.std.specs.Prelude.{◌≡◌, ◌≤◌, length};
+ghost use Rattle.cal_recurrence.specs.Text.{finished, fresh, nothing, put, put_part, put_value};
+ghost use Rattle.cal_recurrence.specs.Values.{most_values};
+ghost use Rattle.cal_recurrence.specs.Words.{parts_at};
 
 use crate::fault::{RuleFault, RulePart, RuleReason};
-use crate::lists::{month_days_of, months_of, weekdays_of};
+use crate::lists::{has_few_words, month_days_of, months_of, weekdays_of};
 use crate::recurrence::{Recurrence, RuleEnd};
 use crate::values::Values;
 use crate::words::{count_of, cut, date_of, frequency_of, part_of, weekday_of};
@@ -57,12 +59,22 @@ impl Draft {
     {
         let (name, value) = cut(text, b'=');
         match part_of(name) {
-            Some(part) => self.with(part, value.unwrap_or(b"".as_slice())),
+            Some(part) => self.with_value(part, value.unwrap_or(b"".as_slice())),
             None => Err(RuleReason::Unknown),
         }
     }
 
+    fn with_value(self, part: RulePart, value: &[u8]) -> Result<Self, RuleReason>
+        ensures { result ≡ put_value self value.now part }
+    {
+        if !has_few_words(value) {
+            return Err(RuleReason::TooMany(part));
+        }
+        self.with(part, value)
+    }
+
     fn with(mut self, part: RulePart, value: &[u8]) -> Result<Self, RuleReason>
+        requires { length (parts_at 44 value.now) ≤ most_values }
         ensures { result ≡ put self part value.now }
     {
         match part {

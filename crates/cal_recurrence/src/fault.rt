@@ -28,6 +28,8 @@ pub enum RuleReason {
     Unknown,
     /// A part of this name comes before it. `UNTIL` and `COUNT` both say where the rule ends, and count as one.
     Twice(RulePart),
+    /// The value of the part has more than 62 words with commas between them.
+    TooMany(RulePart),
     /// The part has no value of those that are read, as `FREQ=HOURLY`.
     Value(RulePart),
     /// No part says the frequency.

@@ -1,15 +1,37 @@
 //! The values of the parts that are lists.
-ghost use Rattle.std.specs.Prelude.{◌≡◌};
-ghost use Rattle.cal_recurrence.specs.Text.{list_of};
-ghost use Rattle.cal_recurrence.specs.Words.{by_day_of, month_day_of, month_of};
+ghost use Rattle.std.specs.Prelude.{◌≡◌, ◌≤◌, ◌==◌, count_by, length};
+ghost use Rattle.cal_recurrence.specs.Text.{has_few_words, list_of};
+ghost use Rattle.cal_recurrence.specs.Values.{most_values};
+ghost use Rattle.cal_recurrence.specs.Words.{by_day_of, month_day_of, month_of, parts_at};
 
-use crate::values::Values;
+use crate::values::{MOST, Values};
 use crate::words::{by_day_of, cut, month_day_of, month_of};
 use cal_schedule::ByDay;
 use cal_time::{Month, Weekday};
 
+/// How many commas the value has.
+fn commas(value: &[u8]) -> usize
+    ensures { result ≡ count_by (λ b. b == 44) value.now }
+{
+    let mut commas = 0;
+    for byte in value {
+        if *byte == b',' {
+            commas += 1;
+        }
+    }
+    commas
+}
+
+/// Whether a list has room for the words of the value.
+pub fn has_few_words(value: &[u8]) -> bool
+    ensures { result ≡ has_few_words value.now }
+{
+    commas(value) < MOST
+}
+
 /// The months, with commas between them.
 pub fn months_of(value: &[u8]) -> Option<Values<Month>>
+    requires { length (parts_at 44 value.now) ≤ most_values }
     ensures { result ≡ list_of month_of value.now }
 {
     let mut months = Values::none(Month::January);
@@ -17,9 +39,6 @@ pub fn months_of(value: &[u8]) -> Option<Values<Month>>
     while let Some(left) = words {
         let (word, rest) = cut(left, b',');
         let month = month_of(word)?;
-        if months.is_full() {
-            return None;
-        }
         months.push(month);
         words = rest;
     }
@@ -28,6 +47,7 @@ pub fn months_of(value: &[u8]) -> Option<Values<Month>>
 
 /// The days of the month, with commas between them.
 pub fn month_days_of(value: &[u8]) -> Option<Values<i8>>
+    requires { length (parts_at 44 value.now) ≤ most_values }
     ensures { result ≡ list_of month_day_of value.now }
 {
     let mut month_days = Values::none(0);
@@ -35,9 +55,6 @@ pub fn month_days_of(value: &[u8]) -> Option<Values<i8>>
     while let Some(left) = words {
         let (word, rest) = cut(left, b',');
         let day = month_day_of(word)?;
-        if month_days.is_full() {
-            return None;
-        }
         month_days.push(day);
         words = rest;
     }
@@ -46,6 +63,7 @@ pub fn month_days_of(value: &[u8]) -> Option<Values<i8>>
 
 /// The weekdays, with commas between them.
 pub fn weekdays_of(value: &[u8]) -> Option<Values<ByDay>>
+    requires { length (parts_at 44 value.now) ≤ most_values }
     ensures { result ≡ list_of by_day_of value.now }
 {
     let mut weekdays = Values::none(ByDay::Every(Weekday::Monday));
@@ -53,9 +71,6 @@ pub fn weekdays_of(value: &[u8]) -> Option<Values<ByDay>>
     while let Some(left) = words {
         let (word, rest) = cut(left, b',');
         let weekday = by_day_of(word)?;
-        if weekdays.is_full() {
-            return None;
-        }
         weekdays.push(weekday);
         words = rest;
     }

@@ -12,7 +12,8 @@ use crate::words::cut;
 ///
 /// The parts are those of RFC 5545 for days: `FREQ`, `INTERVAL`, `WKST`, `BYMONTH`, `BYMONTHDAY`, `BYDAY`, and `UNTIL` with a day or
 /// `COUNT`, in any order and in any case of their letters. Refused are a name that is none of these as `Unknown`, a part that comes
-/// again, or a second end, as `Twice`, a value that the part does not have as `Value`, and a text without `FREQ` as `Missing`.
+/// again, or a second end, as `Twice`, a value of more than 62 words as `TooMany`, one that the part does not have as `Value`, and a text
+/// without `FREQ` as `Missing`.
 pub fn parse(text: &[u8]) -> Result<Recurrence, RuleFault>
     ensures { result ≡ recurrence_of text.now }
 {

@@ -5,7 +5,7 @@ ghost use Rattle.cal_recurrence.specs.Values.{most_values};
 use std::marker::Model;
 
 /// The most values of a part. A month has at most 31 days, counted from either end.
-const MOST: usize = 62;
+pub(crate) const MOST: usize = 62;
 
 /// The values of a part of a rule in order, in place: at most 62. Contracts see them as a list.
 #[derive(Drop)]

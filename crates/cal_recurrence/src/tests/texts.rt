@@ -4,6 +4,10 @@ use cal_schedule::{ByDay, Frequency};
 use cal_time::{Date, Month, Weekday};
 use std::process::Abort;
 
+/// A list of 63 values.
+const TOO_MANY: &str =
+    "FREQ=DAILY;BYMONTHDAY=1,1,1,1,1,1,1,1,1,1,1,1,1,1,1,1,1,1,1,1,1,1,1,1,1,1,1,1,1,1,1,1,1,1,1,1,1,1,1,1,1,1,1,1,1,1,1,1,1,1,1,1,1,1,1,1,1,1,1,1,1,1,2;COUNT=1";
+
 /// Stops the test unless the text is refused so.
 fn refused(rt: &impl Abort, text: &str, position: usize, reason: RuleReason) {
     match parse(text.as_bytes()) {
@@ -68,6 +72,7 @@ fn faults(rt: HostRuntime) {
         RuleReason::Twice(RulePart::Until),
     );
     refused(rt, "BYDAY=MO", 8, RuleReason::Missing);
+    refused(rt, TOO_MANY, 11, RuleReason::TooMany(RulePart::MonthDays));
     refused(rt, "FREQ", 0, RuleReason::Value(RulePart::Frequency));
     refused(rt, "FREQ=HOURLY", 0, RuleReason::Value(RulePart::Frequency));
     refused(rt, "FREQ=DAILY=", 0, RuleReason::Value(RulePart::Frequency));
@@ -111,7 +116,6 @@ fn wrong_values(rt: HostRuntime) {
             "FREQ=DAILY;BYMONTHDAY=32",
             "FREQ=DAILY;BYMONTHDAY=-32",
             "FREQ=DAILY;BYMONTHDAY=--1",
-            "FREQ=DAILY;BYMONTHDAY=1,1,1,1,1,1,1,1,1,1,1,1,1,1,1,1,1,1,1,1,1,1,1,1,1,1,1,1,1,1,1,1,1,1,1,1,1,1,1,1,1,1,1,1,1,1,1,1,1,1,1,1,1,1,1,1,1,1,1,1,1,1,1",
         ],
     );
     refused_value(
