@@ -1,5 +1,5 @@
--- The text of a recurrence, after the grammar of `recur` in RFC 5545: parts with `;` (59) between them, each a name, `=` (61) and a value,
--- which in some parts is a list with `,` (44) between its words.
+-- The text of a recurrence, after the grammar of `recur` in RFC 5545: parts with `;` (59) between them, each a name, `=` (61) and a
+-- value, which in some parts is a list with `,` (44) between its words.
 use Rattle.std.specs.Prelude.{ℕ, ◌+◌, ◌-◌, nat_le, Bool, true, false, List, [], ◌∷◌, length, Option, Some, None, is_some, unwrap_or, option_map, Result, Ok, Err, if◌then◌else◌}
 use Rattle.std.specs.Option.{option_map_or, option_zip}
 use Rattle.std.specs.Result.{result_map_both}
@@ -41,14 +41,22 @@ abbrev pub changed : {X : Type 0} → (X → Draft) → Result X RuleReason → 
 changed to value = result_map_both to (λ reason. reason) value
 
 abbrev pub put : Draft → RulePart → List ℕ → Result Draft RuleReason
-put draft part.Frequency value = changed (λ x. record draft { frequency = Some x }) (fresh part.Frequency (is_some draft.frequency) (frequency_of value))
-put draft part.Interval value = changed (λ x. record draft { interval = Some x }) (fresh part.Interval (is_some draft.interval) (count_of 4294967295 value))
-put draft part.WeekStart value = changed (λ x. record draft { week_start = Some x }) (fresh part.WeekStart (is_some draft.week_start) (weekday_of value))
-put draft part.Months value = changed (λ x. record draft { months = Some x }) (fresh part.Months (is_some draft.months) (list_of month_of value))
-put draft part.MonthDays value = changed (λ x. record draft { month_days = Some x }) (fresh part.MonthDays (is_some draft.month_days) (list_of month_day_of value))
-put draft part.Weekdays value = changed (λ x. record draft { weekdays = Some x }) (fresh part.Weekdays (is_some draft.weekdays) (list_of by_day_of value))
-put draft part.Until value = changed (λ x. record draft { end = Some (Until x) }) (fresh part.Until (is_some draft.end) (date_of value))
-put draft part.Count value = changed (λ x. record draft { end = Some (Count x) }) (fresh part.Count (is_some draft.end) (count_of 4294967295 value))
+put draft part.Frequency value =
+    changed (λ x. record draft { frequency = Some x }) (fresh part.Frequency (is_some draft.frequency) (frequency_of value))
+put draft part.Interval value =
+    changed (λ x. record draft { interval = Some x }) (fresh part.Interval (is_some draft.interval) (count_of 4294967295 value))
+put draft part.WeekStart value =
+    changed (λ x. record draft { week_start = Some x }) (fresh part.WeekStart (is_some draft.week_start) (weekday_of value))
+put draft part.Months value =
+    changed (λ x. record draft { months = Some x }) (fresh part.Months (is_some draft.months) (list_of month_of value))
+put draft part.MonthDays value =
+    changed (λ x. record draft { month_days = Some x }) (fresh part.MonthDays (is_some draft.month_days) (list_of month_day_of value))
+put draft part.Weekdays value =
+    changed (λ x. record draft { weekdays = Some x }) (fresh part.Weekdays (is_some draft.weekdays) (list_of by_day_of value))
+put draft part.Until value =
+    changed (λ x. record draft { end = Some (Until x) }) (fresh part.Until (is_some draft.end) (date_of value))
+put draft part.Count value =
+    changed (λ x. record draft { end = Some (Count x) }) (fresh part.Count (is_some draft.end) (count_of 4294967295 value))
 
 abbrev pub put_value : Draft → List ℕ → RulePart → Result Draft RuleReason
 put_value draft value at = if has_few_words value then put draft at value else Err (TooMany at)

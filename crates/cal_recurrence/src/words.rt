@@ -20,7 +20,8 @@ pub fn cut(bytes: &[u8], byte: u8) -> (&[u8], Option<&[u8]>)
     ensures parts { parts_at byte bytes.now ≡ result.0.now ∷ parts_left byte result.1 }
     ensures front { result.0.now ≡ front_at byte bytes.now }
     ensures rest { bytes_left result.1 ≡ rest_at byte bytes.now }
-    ensures size { MatchOption result.1 (length result.0.now ≡ length bytes.now) (λ rest. length result.0.now + 1 + length rest.now ≡ length bytes.now) }
+    ensures size { MatchOption result.1 (length result.0.now ≡ length bytes.now)
+        (λ rest. length result.0.now + 1 + length rest.now ≡ length bytes.now) }
 {
     match position_of(byte, bytes) {
         Some(at) => (&bytes[..at], Some(&bytes[at + 1..])),

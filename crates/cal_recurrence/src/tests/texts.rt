@@ -6,7 +6,8 @@ use std::process::Abort;
 
 /// A list of 63 values.
 const TOO_MANY: &str =
-    "FREQ=DAILY;BYMONTHDAY=1,1,1,1,1,1,1,1,1,1,1,1,1,1,1,1,1,1,1,1,1,1,1,1,1,1,1,1,1,1,1,1,1,1,1,1,1,1,1,1,1,1,1,1,1,1,1,1,1,1,1,1,1,1,1,1,1,1,1,1,1,1,2;COUNT=1";
+    "FREQ=DAILY;BYMONTHDAY=1,1,1,1,1,1,1,1,1,1,1,1,1,1,1,1,1,1,1,1,1,1,1,1,1,1,1,1,1,1,1,\
+    1,1,1,1,1,1,1,1,1,1,1,1,1,1,1,1,1,1,1,1,1,1,1,1,1,1,1,1,1,1,1,2;COUNT=1";
 
 /// Stops the test unless the text is refused so.
 fn refused(rt: &impl Abort, text: &str, position: usize, reason: RuleReason) {
