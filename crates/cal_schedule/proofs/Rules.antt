@@ -1,9 +1,11 @@
 -- The next day of a rule: what is skipped, and where the search ends.
-use Rattle.std.proofs.Common.{◌≡◌, refl, ℕ, zero, suc, ◌+◌, ◌-◌, ◌*◌, ◌/◌, ◌%◌, ◌<◌, ◌≤◌, min, sym, ap, ◌∙◌, arith, pos, ◌+ℤ◌, Option, Some, None, true, false, inl, inr, [], ◌∷◌, filter, slice_get}
+use Rattle.std.proofs.Common.{◌≡◌, ◌≢◌, refl, ℕ, zero, suc, ◌+◌, ◌-◌, ◌*◌, ◌/◌, ◌%◌, ◌<◌, ◌≤◌, min, sym, ap, ◌∙◌, arith, pos, ◌+ℤ◌, Option, Some, None, true, false, inl, inr, [], ◌∷◌, filter, slice_get, length, take}
 use Rattle.std.specs.Prelude.{MatchOption, SomeIff, IfSome, Bool, List, ◌==◌, ◌&&◌, if◌then◌else◌}
 use Rattle.std.specs.List.{list_any}
 use Rattle.std.proofs.lemmas.Int.{ints}
 use Rattle.std.proofs.lemmas.Bool.{and_parts, cases_lt, false_from_ne_true, false≢true, or_cases, or_left, or_right}
+use Rattle.std.proofs.lemmas.List.{take_all}
+use Rattle.std.proofs.lemmas.List.Sums.{count_by-le-length, length-filter}
 use Rattle.std.proofs.lemmas.Nat.{div-add-mod'}
 use Rattle.std.proofs.Math.Nat.{mul-le-mul_left}
 use Rattle.cal_time.specs.Date.{last_day, IsDate, year_at, month_at, day_of_month_at, weekday_at}
@@ -241,5 +243,30 @@ left_from_start rule (Some x) h =
       passes = h.2;
       none_before = none-joined rule 0 rule.start x (before_start rule 0) h.3;
     }) ∙ ap (λ c. x ∷ filter (is_on rule) (days_from (x + 1) c)) count)
+
+-- as the range has fewer days than a walk may give, so many of them are all
+length-days_from : (n count : ℕ) → length (days_from n count) ≡ count
+unfolding days_from
+length-days_from n zero = refl
+length-days_from n (suc count) = ap suc (length-days_from (n + 1) count)
+
+pub all_of_them : (rule : Rule) → take 4294967295 (days_of rule) ≡ days_of rule
+all_of_them rule =
+    let days = days_from 0 (last_day + 1) in
+    take_all 4294967295 (days_of rule) (omega (arith, length-filter (is_on rule) days, count_by-le-length (is_on rule) days, length-days_from 0 (last_day + 1)))
+
+-- one day of the walk: the last one that it may give, or one with others after it
+pub last_left : (rule : Rule) (n left : ℕ) (front : Option ℕ) → left ≢ 0 → left - 1 ≡ 0
+    → take left (days_left rule (Some n)) ≡ n ∷ take (left - 1) (days_left rule front)
+last_left rule n left front some e =
+    let one : left ≡ 1 = omega arith in
+    rw one refl
+
+pub some_left : (rule : Rule) (n left : ℕ) (front : Option ℕ) → left ≢ 0 → front ≡ slice_get (days_after rule n) 0
+    → take left (days_left rule (Some n)) ≡ n ∷ take (left - 1) (days_left rule front)
+some_left rule n zero front some e = absurd (some refl)
+some_left rule n (suc left) front some e =
+    let less : left ≡ suc left - 1 = omega arith in
+    ap (λ days. n ∷ take left days) (sym (left_after rule n front e)) ∙ ap (λ m. n ∷ take m (days_left rule front)) less
 
 pub ruleset firsts = (first_day-month, no_month, first_of_year, arith)

@@ -1,5 +1,5 @@
 //! The walk over the days of a rule.
-ghost use Rattle.std.specs.Prelude.{◌≡◌, length, None, List};
+ghost use Rattle.std.specs.Prelude.{◌≡◌, length, None, List, take};
 ghost use Rattle.std.specs.Iterator.{YieldsFirst, item_count};
 ghost use Rattle.cal_time.specs.declared.Weekday.TheVariants.{Monday};
 ghost use Rattle.cal_schedule.specs.Rule.{days_of};
@@ -8,20 +8,22 @@ use crate::rule::kinds::{Frequency, Rule};
 use cal_time::{Date, Weekday};
 use std::marker::Model;
 
-/// A walk over the days of a rule, in order. Contracts see it as the list of the days that it still gives.
+/// A walk over days of a rule, in order. Contracts see it as the list of the days that it still gives.
 #[derive(Drop)]
-pub struct RuleDays<'r, 'a> {
-    rule: &'r Rule<'a>,
+pub struct RuleDays<'a> {
+    rule: Rule<'a>,
     front: Option<Date>,
+    /// How many days it still gives at most.
+    left: u32,
 }
 
-impl<'r, 'a> Model for RuleDays<'r, 'a> {
-    ghost use Rattle.std.specs.Prelude.{ℕ, List};
+impl<'a> Model for RuleDays<'a> {
+    ghost use Rattle.std.specs.Prelude.{ℕ, List, take};
     ghost use Rattle.cal_schedule.specs.Rule.{days_left};
 
     ghost Value = { List ℕ };
 
-    ghost view = { λ walk. days_left walk.rule.now walk.front };
+    ghost view = { λ walk. take walk.left (days_left walk.rule walk.front) };
 }
 
 impl<'a> Rule<'a> {
@@ -50,18 +52,47 @@ impl<'a> Rule<'a> {
         }
     }
 
+    /// The rule again, with the same borrowed parts.
+    fn copied(&self) -> Self
+        ensures { result ≡ self.now }
+    {
+        Rule {
+            start: self.start,
+            frequency: self.frequency,
+            interval: self.interval,
+            week_start: self.week_start,
+            months: self.months,
+            month_days: self.month_days,
+            weekdays: self.weekdays,
+            until: self.until,
+        }
+    }
+
     /// The walk over the days of the rule, the first one first.
-    ///
-    /// A rule that ends after a number of times is the first so many of them, as `rule.days().take(12)`.
-    pub fn days<'r>(&'r self) -> RuleDays<'r, 'a>
+    #[tactic(auto, using(crate::proofs::Rules::all_of_them))]
+    pub fn days(&self) -> RuleDays<'a>
         ensures { result ≡ days_of self.now }
     {
-        let front = self.next_from(self.start);
-        RuleDays { rule: self, front }
+        // The range has fewer days.
+        self.first_days(u32::MAX)
+    }
+
+    /// The walk over the first so many days of the rule, or over all of them where it has no more.
+    ///
+    /// Of a rule of each month's last Friday from January 2024 on the first two are 26 January and 23 February. In the text of
+    /// RFC 5545 the number is its `COUNT`.
+    pub fn first_days(&self, count: u32) -> RuleDays<'a>
+        ensures { result ≡ take count (days_of self.now) }
+    {
+        RuleDays {
+            rule: self.copied(),
+            front: self.next_from(self.start),
+            left: count,
+        }
     }
 }
 
-impl Iterator for RuleDays<'_, '_> {
+impl Iterator for RuleDays<'_> {
     type Item = Date;
 
     ghost next_gives = { YieldsFirst (λ days. days) };
@@ -70,7 +101,15 @@ impl Iterator for RuleDays<'_, '_> {
 
     /// The first of the days that are left, which is taken from the walk, or `None`.
     fn next(&mut self) -> Option<Date> {
+        if self.left == 0 {
+            return None;
+        }
         let item = self.front?;
+        self.left -= 1;
+        if self.left == 0 {
+            // No other one is searched for.
+            return Some(item);
+        }
         self.front = self.rule.next_after(item);
         Some(item)
     }

@@ -1,0 +1,4 @@
+pub mod Cuts
+pub mod Numbers
+pub mod Dates
+pub mod Listed

@@ -1,0 +1,34 @@
+-- The days of a recurrence: those of the rule with its parts, from a start on, and of a number of times the first so many of them.
+use Rattle.std.specs.Prelude.{◌≡◌, ℕ, List, take, Option, Some, None}
+use Rattle.cal_schedule.specs.declared.rule.kinds.Rule.{Rule}
+use Rattle.cal_schedule.specs.Rule.{days_of}
+use Rattle.cal_recurrence.specs.declared.recurrence.Recurrence.{Recurrence}
+use Rattle.cal_recurrence.specs.declared.recurrence.RuleEnd.{RuleEnd}
+use Rattle.cal_recurrence.specs.declared.recurrence.RuleEnd.TheVariants.{Never, Until, Count}
+
+-- the last day of the rule, where it has one
+abbrev pub last_of : RuleEnd → Option ℕ
+last_of Never = None
+last_of (Until day) = Some day
+last_of (Count count) = None
+
+-- the rule has the parts of the recurrence
+pub record IsRuleOf (recurrence : Recurrence) (first : ℕ) (rule : Rule) : Type 0 where
+  pub start : rule.start ≡ first
+  pub frequency : rule.frequency ≡ recurrence.frequency
+  pub interval : rule.interval ≡ recurrence.interval
+  pub week_start : rule.week_start ≡ recurrence.week_start
+  pub months : rule.months.now ≡ recurrence.months
+  pub month_days : rule.month_days.now ≡ recurrence.month_days
+  pub weekdays : rule.weekdays.now ≡ recurrence.weekdays
+  pub until : rule.until ≡ last_of recurrence.end
+
+-- the first so many days, where it ends after a number of times
+abbrev pub up_to_end : RuleEnd → List ℕ → List ℕ
+up_to_end Never days = days
+up_to_end (Until day) days = days
+up_to_end (Count count) days = take count days
+
+-- the days of the recurrence from that start on
+abbrev pub AreDays : Recurrence → ℕ → List ℕ → Type 0
+AreDays recurrence first days = (rule : Rule) × IsRuleOf recurrence first rule × (days ≡ up_to_end recurrence.end (days_of rule))

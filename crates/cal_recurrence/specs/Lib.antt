@@ -1,0 +1,4 @@
+pub mod Values
+pub mod Words
+pub mod Text
+pub mod Days

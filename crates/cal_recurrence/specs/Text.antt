@@ -1,0 +1,100 @@
+-- The text of a recurrence, after the grammar of `recur` in RFC 5545: parts with `;` (59) between them, each a name, `=` (61) and a
+-- value, which in some parts is a list with `,` (44) between its words.
+use Rattle.std.specs.Prelude.{ℕ, ◌+◌, ◌-◌, nat_le, Bool, true, false, List, [], ◌∷◌, length, Option, Some, None, is_some, unwrap_or, option_map, Result, Ok, Err, if◌then◌else◌}
+use Rattle.std.specs.Option.{option_map_or, option_zip}
+use Rattle.std.specs.Result.{result_map_both}
+use Rattle.cal_time.specs.declared.Weekday.TheVariants.{Monday}
+use Rattle.cal_schedule.specs.declared.rule.kinds.Frequency.{Frequency}
+use Rattle.cal_recurrence.specs.Values.{most_values}
+use Rattle.cal_recurrence.specs.Words.{parts_at, front_at, rest_at, part_of, frequency_of, weekday_of, count_of, month_of, month_day_of, by_day_of, date_of}
+use Rattle.cal_recurrence.specs.declared.draft.Draft.{Draft}
+use Rattle.cal_recurrence.specs.declared.fault.RulePart.{RulePart}
+use Rattle.cal_recurrence.specs.declared.fault.RulePart.TheVariants as part
+use Rattle.cal_recurrence.specs.declared.fault.RuleReason.{RuleReason}
+use Rattle.cal_recurrence.specs.declared.fault.RuleReason.TheVariants.{Unknown, Twice, TooMany, Value, Missing}
+use Rattle.cal_recurrence.specs.declared.fault.RuleFault.{RuleFault}
+use Rattle.cal_recurrence.specs.declared.recurrence.Recurrence.{Recurrence}
+use Rattle.cal_recurrence.specs.declared.recurrence.RuleEnd.TheVariants.{Never, Until, Count}
+
+-- ---- lists
+-- what the words spell, if each of them spells something
+abbrev pub each : {X : Type 0} → (List ℕ → Option X) → List (List ℕ) → Option (List X)
+each meaning [] = Some []
+each meaning (word ∷ words) = option_map (λ both. both.0 ∷ both.1) (option_zip (meaning word) (each meaning words))
+
+abbrev pub list_of : {X : Type 0} → (List ℕ → Option X) → List ℕ → Option (List X)
+list_of meaning value = each meaning (parts_at 44 value)
+
+-- there is room for the words
+abbrev pub has_few_words : List ℕ → Bool
+has_few_words value = nat_le (length (parts_at 44 value)) most_values
+
+-- ---- parts
+-- a value that is one, of a part that was not given before
+abbrev pub fresh : {X : Type 0} → RulePart → Bool → Option X → Result X RuleReason
+fresh at true value = Err (Twice at)
+fresh at false None = Err (Value at)
+fresh at false (Some x) = Ok x
+
+-- with the part put to what was given before it; UNTIL and COUNT are both the end
+abbrev pub changed : {X : Type 0} → (X → Draft) → Result X RuleReason → Result Draft RuleReason
+changed to value = result_map_both to (λ reason. reason) value
+
+abbrev pub put : Draft → RulePart → List ℕ → Result Draft RuleReason
+put draft part.Frequency value =
+    changed (λ x. record draft { frequency = Some x }) (fresh part.Frequency (is_some draft.frequency) (frequency_of value))
+put draft part.Interval value =
+    changed (λ x. record draft { interval = Some x }) (fresh part.Interval (is_some draft.interval) (count_of 4294967295 value))
+put draft part.WeekStart value =
+    changed (λ x. record draft { week_start = Some x }) (fresh part.WeekStart (is_some draft.week_start) (weekday_of value))
+put draft part.Months value =
+    changed (λ x. record draft { months = Some x }) (fresh part.Months (is_some draft.months) (list_of month_of value))
+put draft part.MonthDays value =
+    changed (λ x. record draft { month_days = Some x }) (fresh part.MonthDays (is_some draft.month_days) (list_of month_day_of value))
+put draft part.Weekdays value =
+    changed (λ x. record draft { weekdays = Some x }) (fresh part.Weekdays (is_some draft.weekdays) (list_of by_day_of value))
+put draft part.Until value =
+    changed (λ x. record draft { end = Some (Until x) }) (fresh part.Until (is_some draft.end) (date_of value))
+put draft part.Count value =
+    changed (λ x. record draft { end = Some (Count x) }) (fresh part.Count (is_some draft.end) (count_of 4294967295 value))
+
+abbrev pub put_value : Draft → List ℕ → RulePart → Result Draft RuleReason
+put_value draft value at = if has_few_words value then put draft at value else Err (TooMany at)
+
+abbrev pub put_part : Draft → List ℕ → Result Draft RuleReason
+put_part draft text = option_map_or (put_value draft (rest_at 61 text)) (part_of (front_at 61 text)) (Err Unknown)
+
+-- ---- the whole
+abbrev pub fault : ℕ → RuleReason → RuleFault
+fault at why = record { position = at; reason = why }
+
+-- what is not given is not bounded, and each week begins with Monday; but there is a frequency
+abbrev pub with_frequency : Draft → Frequency → Recurrence
+with_frequency draft f = record {
+  frequency = f;
+  interval = unwrap_or draft.interval 1;
+  week_start = unwrap_or draft.week_start Monday;
+  months = unwrap_or draft.months [];
+  month_days = unwrap_or draft.month_days [];
+  weekdays = unwrap_or draft.weekdays [];
+  end = unwrap_or draft.end Never;
+}
+
+abbrev pub finished : ℕ → Draft → Result Recurrence RuleFault
+finished at draft = option_map_or (λ f. Ok (with_frequency draft f)) draft.frequency (Err (fault at Missing))
+
+-- the parts, one after another, of which the first begins at this byte
+abbrev pub and_on : ℕ → (Draft → Result Recurrence RuleFault) → Result Draft RuleReason → Result Recurrence RuleFault
+and_on at others (Ok draft) = others draft
+and_on at others (Err why) = Err (fault at why)
+
+abbrev pub read_on : ℕ → Draft → List (List ℕ) → Result Recurrence RuleFault
+read_on at draft [] = finished (at - 1) draft
+read_on at draft (text ∷ texts) = and_on at (λ more. read_on (at + length text + 1) more texts) (put_part draft text)
+
+abbrev pub nothing : Draft
+nothing = record { frequency = None; interval = None; week_start = None; months = None; month_days = None; weekdays = None; end = None }
+
+-- what a text says, or what is at fault
+abbrev pub recurrence_of : List ℕ → Result Recurrence RuleFault
+recurrence_of text = read_on 0 nothing (parts_at 59 text)

@@ -1,0 +1,124 @@
+-- What single words of the text of a rule spell. Letters count in either case.
+use denote.Ref.{Bor}
+use Rattle.std.specs.Prelude.{ℕ, ◌+◌, ◌-◌, ◌/◌, ◌%◌, nat_lt, nat_le, ◌==◌, ◌&&◌, Bool, ℤ, pos, neg_ℤ, List, [], length, take, drop, slice_get, slice_index, filter, Option, Some, None, option_map, option_and_then, codes, if◌then◌else◌}
+use Rattle.std.specs.List.{slice_split, before_first, after_first}
+use Rattle.std.specs.Option.{option_zip}
+use Rattle.std.specs.Ordering.{int_eq}
+use Rattle.std.specs.Str.{all_ascii_digits, str_eq_ignore_ascii_case}
+use Rattle.std.specs.Str.Parse.{digits_value}
+use Rattle.cal_time.specs.Date.{last_day, year_at, month_at, day_of_month_at}
+use Rattle.cal_time.specs.Month.{month_at as month_with_place}
+use Rattle.cal_time.specs.Occurrence.{days_from}
+use Rattle.cal_time.specs.declared.Month.{Month}
+use Rattle.cal_time.specs.declared.Weekday.{Weekday}
+use Rattle.cal_time.specs.declared.Weekday.TheVariants as weekday
+use Rattle.cal_schedule.specs.declared.rule.kinds.Frequency.{Frequency}
+use Rattle.cal_schedule.specs.declared.rule.kinds.Frequency.TheVariants as frequency
+use Rattle.cal_schedule.specs.declared.rule.kinds.ByDay.{ByDay}
+use Rattle.cal_schedule.specs.declared.rule.kinds.ByDay.TheVariants.{Every, Nth}
+use Rattle.cal_recurrence.specs.declared.fault.RulePart.{RulePart}
+use Rattle.cal_recurrence.specs.declared.fault.RulePart.TheVariants as part
+
+-- ---- how a text is cut: at each place where the byte stands, and at the first one
+abbrev pub parts_at : ℕ → List ℕ → List (List ℕ)
+parts_at byte text = slice_split (λ b. b == byte) text
+
+abbrev pub front_at : ℕ → List ℕ → List ℕ
+front_at byte text = before_first (λ b. b == byte) text
+
+abbrev pub rest_at : ℕ → List ℕ → List ℕ
+rest_at byte text = after_first (λ b. b == byte) text
+
+-- what comes after the first one, if it is there
+abbrev pub parts_left : ℕ → Option (Bor (List ℕ)) → List (List ℕ)
+parts_left byte None = []
+parts_left byte (Some rest) = parts_at byte rest.now
+
+abbrev pub bytes_left : Option (Bor (List ℕ)) → List ℕ
+bytes_left None = []
+bytes_left (Some rest) = rest.now
+
+-- ---- names
+abbrev pub is_alike : List ℕ → List ℕ → Bool
+is_alike word name = str_eq_ignore_ascii_case word name
+
+abbrev pub part_of : List ℕ → Option RulePart
+part_of word =
+    if is_alike word (codes "FREQ") then Some part.Frequency else
+    if is_alike word (codes "INTERVAL") then Some part.Interval else
+    if is_alike word (codes "WKST") then Some part.WeekStart else
+    if is_alike word (codes "BYMONTH") then Some part.Months else
+    if is_alike word (codes "BYMONTHDAY") then Some part.MonthDays else
+    if is_alike word (codes "BYDAY") then Some part.Weekdays else
+    if is_alike word (codes "UNTIL") then Some part.Until else
+    if is_alike word (codes "COUNT") then Some part.Count else
+    None
+
+abbrev pub frequency_of : List ℕ → Option Frequency
+frequency_of word =
+    if is_alike word (codes "DAILY") then Some frequency.Daily else
+    if is_alike word (codes "WEEKLY") then Some frequency.Weekly else
+    if is_alike word (codes "MONTHLY") then Some frequency.Monthly else
+    if is_alike word (codes "YEARLY") then Some frequency.Yearly else
+    None
+
+abbrev pub weekday_of : List ℕ → Option Weekday
+weekday_of word =
+    if is_alike word (codes "MO") then Some weekday.Monday else
+    if is_alike word (codes "TU") then Some weekday.Tuesday else
+    if is_alike word (codes "WE") then Some weekday.Wednesday else
+    if is_alike word (codes "TH") then Some weekday.Thursday else
+    if is_alike word (codes "FR") then Some weekday.Friday else
+    if is_alike word (codes "SA") then Some weekday.Saturday else
+    if is_alike word (codes "SU") then Some weekday.Sunday else
+    None
+
+-- ---- numbers: digits, of a number below 2^32
+abbrev pub is_number : List ℕ → Bool
+is_number word = nat_lt 0 (length word) && (all_ascii_digits word && nat_lt (digits_value 10 word) 4294967296)
+
+abbrev pub number_of : List ℕ → Option ℕ
+number_of word = if is_number word then Some (digits_value 10 word) else None
+
+-- from 1 to the most
+abbrev pub from_one_to : ℕ → ℕ → Option ℕ
+from_one_to most n = if nat_le 1 n && nat_le n most then Some n else None
+
+abbrev pub count_of : ℕ → List ℕ → Option ℕ
+count_of most word = option_and_then (from_one_to most) (number_of word)
+
+-- the same in one digit or two
+abbrev pub short_count_of : ℕ → List ℕ → Option ℕ
+short_count_of most word = if nat_le (length word) 2 then count_of most word else None
+
+-- the same, perhaps after a sign: 45 is the minus sign and 43 the plus sign
+abbrev pub place_of : ℕ → List ℕ → Option ℤ
+place_of most word =
+    if slice_index word 0 == 45 then option_map (λ n. neg_ℤ (pos n)) (short_count_of most (drop 1 word)) else
+    if slice_index word 0 == 43 then option_map pos (short_count_of most (drop 1 word)) else
+    option_map pos (short_count_of most word)
+
+-- ---- values
+abbrev pub month_of : List ℕ → Option Month
+month_of word = option_map (λ n. month_with_place (n - 1)) (short_count_of 12 word)
+
+abbrev pub month_day_of : List ℕ → Option ℤ
+month_day_of word = place_of 31 word
+
+-- a weekday of two letters, perhaps after a place among those of the month or the year
+abbrev pub by_day_of : List ℕ → Option ByDay
+by_day_of word =
+    let front = length word - 2 in
+    if front == 0 then option_map Every (weekday_of word)
+    else option_map (λ both. Nth both.0 both.1) (option_zip (place_of 53 (take front word)) (weekday_of (drop front word)))
+
+-- day k has the year, the month and the day of the month that the eight digits of n spell
+abbrev pub has_digits : ℕ → ℕ → Bool
+has_digits n k = int_eq (year_at k) (pos (n / 10000)) && ((month_at k == n / 100 % 100) && (day_of_month_at k == n % 100))
+
+-- the day of the range that has them
+unfoldable pub day_with : ℕ → Option ℕ
+day_with n = slice_get (filter (has_digits n) (days_from 0 (last_day + 1))) 0
+
+abbrev pub date_of : List ℕ → Option ℕ
+date_of word = if length word == 8 then option_and_then day_with (number_of word) else None

@@ -1,0 +1,148 @@
+//! The parts of a recurrence that were read so far.
+ghost use Rattle.std.specs.Prelude.{◌≡◌, ◌≤◌, length};
+ghost use Rattle.cal_recurrence.specs.Text.{finished, fresh, nothing, put, put_part, put_value};
+ghost use Rattle.cal_recurrence.specs.Values.{most_values};
+ghost use Rattle.cal_recurrence.specs.Words.{parts_at};
+
+use crate::fault::{RuleFault, RulePart, RuleReason};
+use crate::lists::{has_few_words, month_days_of, months_of, weekdays_of};
+use crate::recurrence::{Recurrence, RuleEnd};
+use crate::values::Values;
+use crate::words::{count_of, cut, date_of, frequency_of, part_of, weekday_of};
+use cal_schedule::{ByDay, Frequency};
+use cal_time::{Month, Weekday};
+
+/// The parts, as far as they are given.
+#[derive(Drop)]
+pub struct Draft {
+    pub frequency: Option<Frequency>,
+    pub interval: Option<u32>,
+    pub week_start: Option<Weekday>,
+    pub months: Option<Values<Month>>,
+    pub month_days: Option<Values<i8>>,
+    pub weekdays: Option<Values<ByDay>>,
+    pub end: Option<RuleEnd>,
+}
+
+/// The value of a part that was not given before.
+fn fresh<T: Drop>(part: RulePart, is_given: bool, value: Option<T>) -> Result<T, RuleReason>
+    ensures { result ≡ fresh part is_given value }
+{
+    if is_given {
+        return Err(RuleReason::Twice(part));
+    }
+    match value {
+        Some(value) => Ok(value),
+        None => Err(RuleReason::Value(part)),
+    }
+}
+
+impl Draft {
+    /// No part.
+    pub fn new() -> Self
+        ensures { result ≡ nothing }
+    {
+        Draft {
+            frequency: None,
+            interval: None,
+            week_start: None,
+            months: None,
+            month_days: None,
+            weekdays: None,
+            end: None,
+        }
+    }
+
+    /// With one more part.
+    pub fn with_part(self, text: &[u8]) -> Result<Self, RuleReason>
+        ensures { result ≡ put_part self text.now }
+    {
+        let (name, value) = cut(text, b'=');
+        match part_of(name) {
+            Some(part) => self.with_value(part, value.unwrap_or(b"".as_slice())),
+            None => Err(RuleReason::Unknown),
+        }
+    }
+
+    fn with_value(self, part: RulePart, value: &[u8]) -> Result<Self, RuleReason>
+        ensures { result ≡ put_value self value.now part }
+    {
+        if !has_few_words(value) {
+            return Err(RuleReason::TooMany(part));
+        }
+        self.with(part, value)
+    }
+
+    fn with(mut self, part: RulePart, value: &[u8]) -> Result<Self, RuleReason>
+        requires { length (parts_at 44 value.now) ≤ most_values }
+        ensures { result ≡ put self part value.now }
+    {
+        match part {
+            RulePart::Frequency => {
+                self.frequency = Some(fresh(part, self.frequency.is_some(), frequency_of(value))?);
+                Ok(self)
+            }
+            RulePart::Interval => {
+                self.interval = Some(fresh(
+                    part,
+                    self.interval.is_some(),
+                    count_of(value, u32::MAX),
+                )?);
+                Ok(self)
+            }
+            RulePart::WeekStart => {
+                self.week_start = Some(fresh(part, self.week_start.is_some(), weekday_of(value))?);
+                Ok(self)
+            }
+            RulePart::Months => {
+                self.months = Some(fresh(part, self.months.is_some(), months_of(value))?);
+                Ok(self)
+            }
+            RulePart::MonthDays => {
+                self.month_days = Some(fresh(
+                    part,
+                    self.month_days.is_some(),
+                    month_days_of(value),
+                )?);
+                Ok(self)
+            }
+            RulePart::Weekdays => {
+                self.weekdays = Some(fresh(part, self.weekdays.is_some(), weekdays_of(value))?);
+                Ok(self)
+            }
+            RulePart::Until => {
+                let day = fresh(part, self.end.is_some(), date_of(value))?;
+                self.end = Some(RuleEnd::Until(day));
+                Ok(self)
+            }
+            RulePart::Count => {
+                let count = fresh(part, self.end.is_some(), count_of(value, u32::MAX))?;
+                self.end = Some(RuleEnd::Count(count));
+                Ok(self)
+            }
+        }
+    }
+
+    /// The recurrence of these parts, which end at this byte.
+    pub fn finished(self, end: usize) -> Result<Recurrence, RuleFault>
+        ensures { result ≡ finished end self }
+    {
+        let Some(frequency) = self.frequency else {
+            return Err(RuleFault {
+                position: end,
+                reason: RuleReason::Missing,
+            });
+        };
+        Ok(Recurrence {
+            frequency,
+            interval: self.interval.unwrap_or(1),
+            week_start: self.week_start.unwrap_or(Weekday::Monday),
+            months: self.months.unwrap_or(Values::none(Month::January)),
+            month_days: self.month_days.unwrap_or(Values::none(0)),
+            weekdays: self
+                .weekdays
+                .unwrap_or(Values::none(ByDay::Every(Weekday::Monday))),
+            end: self.end.unwrap_or(RuleEnd::Never),
+        })
+    }
+}

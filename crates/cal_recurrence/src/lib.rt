@@ -1,0 +1,20 @@
+//! Recurrences and their texts, after RFC 5545: what a `RRULE` says, read from its text.
+//!
+//! A text is read as the one recurrence that it is the text of, or refused with the place and the reason.
+#![tactic(auto)]
+
+mod draft;
+mod fault;
+mod lists;
+mod reading;
+mod recurrence;
+mod values;
+mod words;
+
+pub use fault::{RuleFault, RulePart, RuleReason};
+pub use reading::parse;
+pub use recurrence::{Recurrence, RuleEnd};
+pub use values::Values;
+
+#[cfg(test)]
+mod tests;

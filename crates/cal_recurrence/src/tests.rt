@@ -1,0 +1,4 @@
+//! Worked values: the examples of RFC 5545 and of published calendars, and texts that are refused.
+
+mod rules;
+mod texts;

@@ -1,0 +1,61 @@
+//! The values of a part of a rule, in place.
+ghost use Rattle.std.specs.Prelude.{◌≡◌, ◌<◌, ◌++◌, [], ◌∷◌, length, nat_le};
+ghost use Rattle.cal_recurrence.specs.Values.{most_values};
+
+use std::marker::Model;
+
+/// The most values of a part. A month has at most 31 days, counted from either end.
+pub(crate) const MOST: usize = 62;
+
+/// The values of a part of a rule in order, in place: at most 62. Contracts see them as a list.
+#[derive(Drop)]
+pub struct Values<T> {
+    items: [T; MOST],
+    filled: usize,
+}
+
+impl<T> Model for Values<T> {
+    ghost use Rattle.std.specs.Prelude.{◌≤◌, List, take};
+    ghost use Rattle.cal_recurrence.specs.Values.{most_values};
+
+    ghost Value = { List T };
+
+    ghost view = { λ values. take values.filled values.items };
+
+    ghost invariant = { λ values. values.filled ≤ most_values };
+}
+
+impl<T: Copy> Values<T> {
+    /// No values. What is passed stands at the places that are free, where no call sees it.
+    pub fn none(filler: T) -> Self
+        ensures { result ≡ [] }
+    {
+        Values {
+            items: [filler; MOST],
+            filled: 0,
+        }
+    }
+
+    /// The values.
+    pub fn as_slice(&self) -> &[T]
+        ensures { result.now ≡ self.now }
+    {
+        &self.items[..self.filled]
+    }
+
+    /// Whether there is no room for another one.
+    pub fn is_full(&self) -> bool
+        ensures { result ≡ nat_le most_values (length self.now) }
+    {
+        self.as_slice().len() >= MOST
+    }
+
+    /// Appends a value.
+    pub fn push(&mut self, value: T)
+        requires { length self.old < most_values }
+        ensures { self.new ≡ self.old ++ value ∷ [] }
+    {
+        self.items[self.filled] = value;
+        self.filled += 1;
+    }
+}

@@ -1,0 +1,205 @@
+//! What single words of the text of a rule spell, and how the text is cut.
+ghost use Rattle.std.specs.Prelude.{◌≡◌, ◌+◌, ◌<◌, ◌≤◌, ◌==◌, ◌∷◌, length, position, slice_index, MatchOption, IfSome};
+ghost use Rattle.cal_recurrence.specs.Words.{by_day_of, bytes_left, count_of, date_of, day_with, frequency_of, from_one_to, front_at, is_alike, month_day_of, month_of, number_of, part_of, parts_at, parts_left, place_of, rest_at, short_count_of, weekday_of};
+
+use crate::fault::RulePart;
+use cal_schedule::{ByDay, Frequency};
+use cal_time::{Date, Month, Weekday};
+use std::str;
+
+/// Where a byte first stands.
+fn position_of(byte: u8, bytes: &[u8]) -> Option<usize>
+    ensures { result ≡ position (λ b. b == byte) bytes.now }
+{
+    bytes.iter().position(|b| *b == byte)
+}
+
+/// The bytes before the first place where a byte stands, and those after it, if it stands there.
+#[tactic(auto, using(crate::proofs::Cuts::cut_some, crate::proofs::Cuts::cut_none, std::proofs::lemmas::List::take_rest))]
+pub fn cut(bytes: &[u8], byte: u8) -> (&[u8], Option<&[u8]>)
+    ensures parts { parts_at byte bytes.now ≡ result.0.now ∷ parts_left byte result.1 }
+    ensures front { result.0.now ≡ front_at byte bytes.now }
+    ensures rest { bytes_left result.1 ≡ rest_at byte bytes.now }
+    ensures size { MatchOption result.1 (length result.0.now ≡ length bytes.now)
+        (λ rest. length result.0.now + 1 + length rest.now ≡ length bytes.now) }
+{
+    match position_of(byte, bytes) {
+        Some(at) => (&bytes[..at], Some(&bytes[at + 1..])),
+        None => (bytes, None),
+    }
+}
+
+/// Whether the two differ at most in the case of ASCII letters.
+fn is_alike(word: &[u8], name: &[u8]) -> bool
+    ensures { result ≡ is_alike word.now name.now }
+{
+    word.eq_ignore_ascii_case(name)
+}
+
+/// The part that has the name.
+pub fn part_of(name: &[u8]) -> Option<RulePart>
+    ensures { result ≡ part_of name.now }
+{
+    if is_alike(name, b"FREQ") {
+        Some(RulePart::Frequency)
+    } else if is_alike(name, b"INTERVAL") {
+        Some(RulePart::Interval)
+    } else if is_alike(name, b"WKST") {
+        Some(RulePart::WeekStart)
+    } else if is_alike(name, b"BYMONTH") {
+        Some(RulePart::Months)
+    } else if is_alike(name, b"BYMONTHDAY") {
+        Some(RulePart::MonthDays)
+    } else if is_alike(name, b"BYDAY") {
+        Some(RulePart::Weekdays)
+    } else if is_alike(name, b"UNTIL") {
+        Some(RulePart::Until)
+    } else if is_alike(name, b"COUNT") {
+        Some(RulePart::Count)
+    } else {
+        None
+    }
+}
+
+/// The frequency that has the name.
+pub fn frequency_of(word: &[u8]) -> Option<Frequency>
+    ensures { result ≡ frequency_of word.now }
+{
+    if is_alike(word, b"DAILY") {
+        Some(Frequency::Daily)
+    } else if is_alike(word, b"WEEKLY") {
+        Some(Frequency::Weekly)
+    } else if is_alike(word, b"MONTHLY") {
+        Some(Frequency::Monthly)
+    } else if is_alike(word, b"YEARLY") {
+        Some(Frequency::Yearly)
+    } else {
+        None
+    }
+}
+
+/// The weekday that the two letters stand for.
+pub fn weekday_of(word: &[u8]) -> Option<Weekday>
+    ensures { result ≡ weekday_of word.now }
+{
+    if is_alike(word, b"MO") {
+        Some(Weekday::Monday)
+    } else if is_alike(word, b"TU") {
+        Some(Weekday::Tuesday)
+    } else if is_alike(word, b"WE") {
+        Some(Weekday::Wednesday)
+    } else if is_alike(word, b"TH") {
+        Some(Weekday::Thursday)
+    } else if is_alike(word, b"FR") {
+        Some(Weekday::Friday)
+    } else if is_alike(word, b"SA") {
+        Some(Weekday::Saturday)
+    } else if is_alike(word, b"SU") {
+        Some(Weekday::Sunday)
+    } else {
+        None
+    }
+}
+
+/// Whether a plus sign stands first, which std reads before a number.
+fn begins_with_plus(word: &[u8]) -> bool
+    ensures { result ≡ (slice_index word.now 0 == 43) }
+{
+    matches!(word, [b'+', ..])
+}
+
+/// The number that digits spell, where it is below 4294967296.
+fn number_of(word: &[u8]) -> Option<u32>
+    ensures { result ≡ number_of word.now }
+{
+    if begins_with_plus(word) {
+        return None;
+    }
+    let Ok(text) = str::from_utf8(word) else {
+        return None;
+    };
+    text.parse().ok()
+}
+
+/// The number from 1 to the most that digits spell.
+pub fn count_of(word: &[u8], most: u32) -> Option<u32>
+    ensures value { result ≡ count_of most word.now }
+    ensures least { IfSome result (λ n. 1 ≤ n) }
+    ensures most { IfSome result (λ n. n ≤ most) }
+{
+    let number = number_of(word)?;
+    if number < 1 || number > most {
+        return None;
+    }
+    Some(number)
+}
+
+/// The same in one digit or two.
+fn short_count_of(word: &[u8], most: u8) -> Option<u8>
+    ensures value { result ≡ short_count_of most word.now }
+    ensures least { IfSome result (λ n. 1 ≤ n) }
+    ensures most { IfSome result (λ n. n ≤ most) }
+{
+    if word.len() > 2 {
+        return None;
+    }
+    Some(count_of(word, u32::from(most))? as u8)
+}
+
+/// The same, perhaps after a sign.
+fn place_of(word: &[u8], most: u8) -> Option<i8>
+    requires { most ≤ 127 }
+    ensures { result ≡ place_of most word.now }
+{
+    match word {
+        [b'-', digits @ ..] => Some(-(short_count_of(digits, most)? as i8)),
+        [b'+', digits @ ..] => Some(short_count_of(digits, most)? as i8),
+        _ => Some(short_count_of(word, most)? as i8),
+    }
+}
+
+/// The month with the number.
+pub fn month_of(word: &[u8]) -> Option<Month>
+    ensures { result ≡ month_of word.now }
+{
+    Month::try_from(short_count_of(word, 12)?).ok()
+}
+
+/// The day of the month, from 1 or from -1 for the last one.
+pub fn month_day_of(word: &[u8]) -> Option<i8>
+    ensures { result ≡ month_day_of word.now }
+{
+    place_of(word, 31)
+}
+
+/// The weekday, perhaps with a place among those of the month or the year.
+pub fn by_day_of(word: &[u8]) -> Option<ByDay>
+    ensures { result ≡ by_day_of word.now }
+{
+    if word.len() <= 2 {
+        return Some(ByDay::Every(weekday_of(word)?));
+    }
+    let front = word.len() - 2;
+    let place = place_of(&word[..front], 53)?;
+    Some(ByDay::Nth(place, weekday_of(&word[front..])?))
+}
+
+/// The day whose year, month and day of the month the eight digits of the number are.
+fn day_with(number: u32) -> Option<Date>
+    ensures { result ≡ day_with number }
+{
+    let Ok(month) = Month::try_from((number / 100 % 100) as u8) else {
+        return None;
+    };
+    Date::from_calendar_date((number / 10_000) as i32, month, (number % 100) as u8).ok()
+}
+
+/// The day that eight digits spell, as `20241231`.
+pub fn date_of(word: &[u8]) -> Option<Date>
+    ensures { result ≡ date_of word.now }
+{
+    if word.len() != 8 {
+        return None;
+    }
+    day_with(number_of(word)?)
+}
