@@ -4,7 +4,7 @@ ghost use Rattle.std.specs.List.{fold};
 ghost use Rattle.std.specs.Hash.DefaultHasher as hasher;
 
 use crate::error::ComponentRange;
-use crate::{Date, Month, Time, UtcOffset};
+use crate::{Counted, Date, Month, Time, UtcOffset};
 use std::fmt::Debug;
 use std::hash::{DefaultHasher, Hash, Hasher};
 use std::process::Abort;
@@ -16,7 +16,6 @@ mod dates;
 mod durations;
 mod ends;
 mod hidden;
-mod laws;
 mod moves;
 mod offsets;
 mod one_answer;
@@ -26,35 +25,29 @@ mod texts;
 mod times;
 mod walks;
 
+/// The number of a value, or the name and the mark of a refusal.
+type Told = Result<i128, (&'static str, bool)>;
+
+/// What a constructor tells.
+fn told<T: Counted>(answer: &Result<T, ComponentRange>) -> Told {
+    match answer {
+        Ok(value) => Ok(value.number()),
+        Err(error) => Err((error.name(), error.is_conditional())),
+    }
+}
+
 /// The day of that year, number of the month and day of the month.
 fn date(rt: &impl Abort, year: i32, month: u8, day: u8) -> Date {
-    let Ok(month) = Month::try_from(month) else {
-        panic!(rt; "{month} is no month");
-    };
-    let Ok(date) = Date::from_calendar_date(year, month, day) else {
-        panic!(rt; "{year} {month} {day} is refused");
-    };
-    date
+    let month = Month::try_from(month).expect(rt, "no month");
+    Date::from_calendar_date(year, month, day).expect(rt, "no date")
 }
 
 fn time(rt: &impl Abort, hour: u8, minute: u8, second: u8, nanosecond: u32) -> Time {
-    let Ok(time) = Time::from_hms_nano(hour, minute, second, nanosecond) else {
-        panic!(rt; "{hour}:{minute}:{second}.{nanosecond} is refused");
-    };
-    time
+    Time::from_hms_nano(hour, minute, second, nanosecond).expect(rt, "no time")
 }
 
 fn offset(rt: &impl Abort, hours: i8, minutes: i8, seconds: i8) -> UtcOffset {
-    let Ok(offset) = UtcOffset::from_hms(hours, minutes, seconds) else {
-        panic!(rt; "{hours}:{minutes}:{seconds} is refused");
-    };
-    offset
-}
-
-/// Stops the test unless the error has this name and this mark.
-fn check(rt: &impl Abort, error: ComponentRange, name: &str, is_conditional: bool) {
-    same(rt, error.name(), name);
-    same_at(rt, name, error.is_conditional(), is_conditional);
+    UtcOffset::from_hms(hours, minutes, seconds).expect(rt, "no offset")
 }
 
 /// Stops the test unless the two are equal. One function for all is proved once, where `assert_eq!` is proved at each place.

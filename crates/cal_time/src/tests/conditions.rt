@@ -6,7 +6,7 @@ ghost use Rattle.cal_span.specs.SignedDuration.{second, minute, hour, day, week,
 use crate::SignedDuration;
 use crate::tests::same;
 
-fn made(weeks: i64, days: i64, hours: i64, minutes: i64) -> [SignedDuration; 4]
+pub(super) fn made(weeks: i64, days: i64, hours: i64, minutes: i64) -> [SignedDuration; 4]
     requires weeks { IsDuration (weeks *ℤ pos week) }
     requires days { IsDuration (days *ℤ pos day) }
     requires hours { IsDuration (hours *ℤ pos hour) }
@@ -96,7 +96,7 @@ fn scaled_by_u16(a: SignedDuration, b: SignedDuration, k: u16) -> [SignedDuratio
     scaled!(a, b, k)
 }
 
-fn scaled_by_u32(a: SignedDuration, b: SignedDuration, k: u32) -> [SignedDuration; 4]
+pub(super) fn scaled_by_u32(a: SignedDuration, b: SignedDuration, k: u32) -> [SignedDuration; 4]
     requires product { IsDuration (a *ℤ pos k) }
     requires quotient { HasQuotient b (pos k) }
 {
@@ -107,20 +107,14 @@ fn scaled_by_u32(a: SignedDuration, b: SignedDuration, k: u32) -> [SignedDuratio
 fn calls_within_their_conditions(rt: HostRuntime) {
     let [week, day, hour, minute] = made(1, 1, 1, 1);
     same(&rt, week, SignedDuration::WEEK);
-    same(
-        &rt,
-        (day, hour),
-        (SignedDuration::DAY, SignedDuration::HOUR),
-    );
+    let found = (day, hour);
+    same(&rt, found, (SignedDuration::DAY, SignedDuration::HOUR));
     same(&rt, minute, SignedDuration::MINUTE);
     let second = SignedDuration::SECOND;
     let half = SignedDuration::milliseconds(500);
     let double = SignedDuration::seconds(2);
-    same(
-        &rt,
-        made_of_nanoseconds(0, 1_000_000_000, 1_000_000_000),
-        [second, second],
-    );
+    let found = made_of_nanoseconds(0, 1_000_000_000, 1_000_000_000);
+    same(&rt, found, [second, second]);
     same(&rt, sum(second, second), [double, double]);
     same(&rt, difference(double, second), [second, second]);
     same(&rt, opposite(second), SignedDuration::seconds(-1));

@@ -1,9 +1,10 @@
 //! Lengths of years and months, months and weekdays, and endless walks over them.
 use crate::error::InvalidVariant;
-use crate::iter::{MonthIter, WeekdayIter};
-use crate::tests::{check, same, same_at};
+use crate::iter::{CycleIter, MonthIter};
+use crate::tests::{same, same_at};
 use crate::util::{days_in_month, days_in_year, days_in_year_month, is_leap_year, weeks_in_year};
 use crate::{Cycle, Month, Weekday, nth_in};
+use std::process::Abort;
 
 #[test]
 fn years_have_their_lengths(rt: HostRuntime) {
@@ -18,246 +19,213 @@ fn years_have_their_lengths(rt: HostRuntime) {
         (i32::MAX, false, 365, 52),
     ] {
         same_at(&rt, year, is_leap_year(year), is_leap);
-        same_at(&rt, year, days_in_year(year), days);
-        same_at(&rt, year, weeks_in_year(year), weeks);
+        let found = (days_in_year(year), weeks_in_year(year));
+        same_at(&rt, year, found, (days, weeks));
     }
 }
 
-#[test]
-fn months_have_their_lengths(rt: HostRuntime) {
-    let common = [31, 28, 31, 30, 31, 30, 31, 31, 30, 31, 30, 31];
-    for (month, length) in Month::iter_from(Month::January).take(12).zip(&common) {
-        let in_leap_year = if month == Month::February {
-            29
-        } else {
-            *length
-        };
-        same(&rt, days_in_month(month, 1900), *length);
-        same(&rt, days_in_year_month(2000, month), in_leap_year);
-        same(&rt, month.length(2020), in_leap_year);
-    }
-}
-
-#[test]
-fn months_have_numbers_and_names(rt: HostRuntime) {
-    let names = [
-        "January",
-        "February",
-        "March",
-        "April",
-        "May",
-        "June",
-        "July",
-        "August",
-        "September",
-        "October",
-        "November",
-        "December",
-    ];
-    for (number, name) in (1u8..13).zip(&names) {
-        let Ok(month) = Month::try_from(number) else {
-            panic!(rt; "{number} is refused");
-        };
-        same(&rt, month as u8, number);
-        same(&rt, u8::from(month), number);
-        same(&rt, name.parse::<Month>(), Ok(month));
-    }
-    for number in [0, 13] {
-        let Err(error) = Month::try_from(number) else {
-            panic!(rt; "{number} is let through");
-        };
-        check(&rt, error, "month", false);
-    }
-    assert!(rt; Month::September < Month::October);
-}
-
-#[test]
-fn weekdays_have_numbers_and_names(rt: HostRuntime) {
-    for (name, weekday, from_monday, from_sunday) in [
-        ("Monday", Weekday::Monday, 1, 2),
-        ("Tuesday", Weekday::Tuesday, 2, 3),
-        ("Wednesday", Weekday::Wednesday, 3, 4),
-        ("Thursday", Weekday::Thursday, 4, 5),
-        ("Friday", Weekday::Friday, 5, 6),
-        ("Saturday", Weekday::Saturday, 6, 7),
-        ("Sunday", Weekday::Sunday, 7, 1),
+/// Stops the test unless the month has so many days in common years and in leap years.
+fn check_lengths(rt: &impl Abort, month: Month, common: u8, leap: u8) {
+    for (year, length) in [
+        (1900, common),
+        (i32::MAX, common),
+        (2000, leap),
+        (2020, leap),
+        (i32::MIN, leap),
     ] {
-        same(&rt, name.parse::<Weekday>(), Ok(weekday));
-        same(&rt, weekday.number_from_monday(), from_monday);
-        same(&rt, weekday.number_from_sunday(), from_sunday);
-        same(&rt, weekday.number_days_from_monday(), weekday as u8);
+        let (by_month, by_year) = (days_in_month(month, year), days_in_year_month(year, month));
+        let lengths = [by_month, by_year, month.length(year)];
+        same_at(rt, (month, year), lengths, [length, length, length]);
     }
-    same(&rt, Weekday::Monday as u8, 0);
-    same(&rt, Weekday::Sunday as u8, 6);
-    same(&rt, Weekday::Sunday.number_days_from_sunday(), 0);
-    same(&rt, Weekday::Monday.number_days_from_sunday(), 1);
+}
+
+// The columns: a month, its name, its number, and its days in a common year and in a leap year.
+#[test]
+fn months_have_names_numbers_and_lengths(rt: HostRuntime) {
+    for (month, name, number, common, leap) in [
+        (Month::January, "January", 1, 31, 31),
+        (Month::February, "February", 2, 28, 29),
+        (Month::March, "March", 3, 31, 31),
+        (Month::April, "April", 4, 30, 30),
+        (Month::May, "May", 5, 31, 31),
+        (Month::June, "June", 6, 30, 30),
+        (Month::July, "July", 7, 31, 31),
+        (Month::August, "August", 8, 31, 31),
+        (Month::September, "September", 9, 30, 30),
+        (Month::October, "October", 10, 31, 31),
+        (Month::November, "November", 11, 30, 30),
+        (Month::December, "December", 12, 31, 31),
+    ] {
+        let found = (name.parse::<Month>(), month.name());
+        same(&rt, found, (Ok(month), name));
+        same(&rt, Month::try_from(number).ok(), Some(month));
+        let found = (month as u8, u8::from(month), month.place().wrapping_add(1));
+        same(&rt, found, (number, number, number));
+        check_lengths(&rt, month, common, leap);
+    }
+}
+
+#[test]
+fn weekdays_have_names_and_numbers(rt: HostRuntime) {
+    for (weekday, name, numbers, days) in [
+        (Weekday::Monday, "Monday", (1, 2), (0, 1)),
+        (Weekday::Tuesday, "Tuesday", (2, 3), (1, 2)),
+        (Weekday::Wednesday, "Wednesday", (3, 4), (2, 3)),
+        (Weekday::Thursday, "Thursday", (4, 5), (3, 4)),
+        (Weekday::Friday, "Friday", (5, 6), (4, 5)),
+        (Weekday::Saturday, "Saturday", (6, 7), (5, 6)),
+        (Weekday::Sunday, "Sunday", (7, 1), (6, 0)),
+    ] {
+        same(&rt, weekday.name(), name);
+        same(&rt, name.parse::<Weekday>(), Ok(weekday));
+        let found = (weekday.number_from_monday(), weekday.number_from_sunday());
+        same(&rt, found, numbers);
+        same(&rt, weekday.number_days_from_monday(), days.0);
+        same(&rt, weekday.number_days_from_sunday(), days.1);
+        same(&rt, (weekday as u8, weekday.place()), (days.0, days.0));
+    }
 }
 
 #[test]
 fn other_texts_are_no_names(rt: HostRuntime) {
-    for text in ["march", "MARCH", "Mar", "March ", ""] {
+    for text in [
+        "march", "MARCH", "Mar", "March ", "monday", "friday", "Fri", "Friday ", "",
+    ] {
         same_at(&rt, text, text.parse::<Month>(), Err(InvalidVariant));
-    }
-    for text in ["monday", "friday", "Fri", "Friday ", ""] {
         same_at(&rt, text, text.parse::<Weekday>(), Err(InvalidVariant));
     }
 }
 
 #[test]
 fn cycles_turn_both_ways(rt: HostRuntime) {
-    for (month, want) in [
-        (Month::July.nth_next(9), Month::April),
-        (Month::January.nth_next(255), Month::April),
-        (Month::January.nth_prev(4), Month::September),
-        (Month::July.nth_prev(9), Month::October),
-        (Month::January.nth_prev(255), Month::October),
-        (Month::December.next(), Month::January),
-        (Month::January.previous(), Month::December),
-        (nth_in(Month::June, usize::MAX), Month::September),
-        (Month::at(Month::May.place()), Month::May),
+    for (month, n, next, prev) in [
+        (Month::July, 9, Month::April, Month::October),
+        (Month::January, 255, Month::April, Month::October),
+        (Month::January, 4, Month::May, Month::September),
     ] {
-        same(&rt, month, want);
+        let found = (month.nth_next(n), month.nth_prev(n));
+        same_at(&rt, (month, n), found, (next, prev));
     }
-    for (weekday, want) in [
-        (Weekday::Sunday.nth_next(10), Weekday::Wednesday),
-        (Weekday::Sunday.nth_next(255), Weekday::Wednesday),
-        (Weekday::Sunday.nth_prev(10), Weekday::Thursday),
-        (Weekday::Sunday.next(), Weekday::Monday),
-        (Weekday::Monday.previous(), Weekday::Sunday),
-        (Weekday::at(6), Weekday::Sunday),
+    for (weekday, n, next, prev) in [
+        (Weekday::Sunday, 10, Weekday::Wednesday, Weekday::Thursday),
+        (Weekday::Sunday, 255, Weekday::Wednesday, Weekday::Thursday),
     ] {
-        same(&rt, weekday, want);
+        let found = (weekday.nth_next(n), weekday.nth_prev(n));
+        same_at(&rt, (weekday, n), found, (next, prev));
     }
-    same(&rt, (Month::LENGTH, Weekday::LENGTH), (12, 7));
+    let (december, sunday) = (Month::December, Weekday::Sunday);
+    let found = (december.next(), Month::January.previous());
+    same(&rt, found, (Month::January, december));
+    let found = (sunday.next(), Weekday::Monday.previous());
+    same(&rt, found, (Weekday::Monday, sunday));
+    let found = (nth_in(Month::June, usize::MAX), Month::at(4));
+    same(&rt, found, (Month::September, Month::May));
+    let found = (Month::LENGTH, Weekday::LENGTH, Weekday::at(6));
+    same(&rt, found, (12, 7, sunday));
 }
 
+/// What a walk gives `n` items on and then, what it gives turned round at its start, by the same calls, and turned round where it
+/// stands.
+fn walked<C: Cycle>(start: C, n: usize) -> [Option<C>; 5] {
+    let mut walk = CycleIter::new(start);
+    let mut back = walk.clone().rev();
+    let (item, then) = (walk.nth(n), walk.next());
+    [item, then, back.nth(n), back.next(), walk.rev().next()]
+}
+
+// The greatest step is 3 more than a multiple of 12, and 1 more than one of 7.
 #[test]
 fn walks_go_on_without_end(rt: HostRuntime) {
-    let mut walk = MonthIter::new(Month::June);
-    same(&rt, walk.nth(usize::MAX), Some(Month::September));
-    same(&rt, walk.next(), Some(Month::October));
-    same(&rt, walk.size_hint(), (usize::MAX, None));
-    assert!(rt; walk.clone() == walk);
-
-    // Turned round, a walk that was moved begins where it stands.
-    let mut back = walk.rev();
-    same(&rt, back.next(), Some(Month::November));
-    same(&rt, back.nth(10), Some(Month::December));
-    same(&rt, back.size_hint(), (usize::MAX, None));
-    assert!(rt; back.clone() == back);
-    let mut walk = Weekday::iter_from(Weekday::Sunday);
-    same(&rt, walk.nth(7), Some(Weekday::Sunday));
-    same(&rt, walk.next(), Some(Weekday::Monday));
+    for (start, n, numbers) in [
+        (6, usize::MAX, [9, 10, 3, 2, 11]),
+        (1, usize::MAX, [4, 5, 10, 9, 6]),
+        (10, 10, [8, 9, 12, 11, 10]),
+    ] {
+        let start = Month::try_from(start).expect(&rt, "no month");
+        let months = numbers.map(|number| Month::try_from(number).ok());
+        same_at(&rt, (start, n), walked(start, n), months);
+    }
+    let (monday, tuesday, wednesday) = (Weekday::Monday, Weekday::Tuesday, Weekday::Wednesday);
+    let (saturday, sunday) = (Weekday::Saturday, Weekday::Sunday);
+    let thursday = Weekday::Thursday;
+    for (start, n, weekdays) in [
+        (
+            monday,
+            usize::MAX,
+            [tuesday, wednesday, sunday, saturday, thursday],
+        ),
+        (sunday, 7, [sunday, monday, sunday, saturday, tuesday]),
+    ] {
+        same_at(&rt, (start, n), walked(start, n), weekdays.map(Some));
+    }
 }
 
 #[test]
 fn walks_over_the_months_have_bounds(rt: HostRuntime) {
     let (first, last) = (Some(Month::January), Some(Month::December));
     let walk = MonthIter::new(Month::June);
-    same(&rt, walk.clone().min(), first);
-    same(&rt, walk.clone().max(), last);
-    assert!(rt; !walk.clone().is_sorted());
-    let back = walk.rev();
-    same(&rt, back.clone().min(), first);
-    same(&rt, back.clone().max(), last);
-    assert!(rt; !back.is_sorted());
+    let back = walk.clone().rev();
+    let found = [walk.clone().min(), back.clone().min()];
+    same(&rt, found, [first, first]);
+    same(&rt, [walk.clone().max(), back.clone().max()], [last, last]);
+    let found = [walk.size_hint(), back.size_hint()];
+    same(&rt, found, [(usize::MAX, None), (usize::MAX, None)]);
+    let found = [walk.clone() == walk, back.clone() == back];
+    same(&rt, found, [true, true]);
+    same(&rt, [walk.is_sorted(), back.is_sorted()], [false, false]);
 }
 
-#[test]
-fn all_and_any_ask_each_value(rt: HostRuntime) {
-    for (start, limit, answers) in [
-        (Month::June, 5, [false, true, false, true]),
-        (Month::June, 13, [true, true, true, true]),
-        (Month::December, 1, [false, false, false, false]),
-    ] {
-        let mut walk = MonthIter::new(start);
-        let (all, any) = (
-            walk.all_once(|month| (month as u8) < limit),
-            walk.any_once(|month| (month as u8) < limit),
-        );
-        let mut back = walk.rev();
-        let backwards = (
-            back.all_once(|month| (month as u8) < limit),
-            back.any_once(|month| (month as u8) < limit),
-        );
-        same_at(
-            &rt,
-            (start, limit),
-            [all, any, backwards.0, backwards.1],
-            answers,
-        );
-    }
+/// Whether all and whether any value has a place below the limit, or not below it, each with the number of values asked: by a walk
+/// from there and by the same turned round. Then what both walks give next.
+fn asked<C: Cycle>(start: C, limit: u8, is_below: bool) -> ([(bool, u8); 4], [Option<C>; 2]) {
+    let mut walk = CycleIter::new(start);
+    let mut back = walk.clone().rev();
+    let mut count = 0u8;
+    let all = walk.all_once(|value: C| {
+        count = count.wrapping_add(1);
+        (value.place() < limit) == is_below
+    });
+    let all = (all, count);
+    let mut count = 0u8;
+    let any = walk.any_once(|value: C| {
+        count = count.wrapping_add(1);
+        (value.place() < limit) == is_below
+    });
+    let any = (any, count);
+    let mut count = 0u8;
+    let back_all = back.all_once(|value: C| {
+        count = count.wrapping_add(1);
+        (value.place() < limit) == is_below
+    });
+    let back_all = (back_all, count);
+    let mut count = 0u8;
+    let back_any = back.any_once(|value: C| {
+        count = count.wrapping_add(1);
+        (value.place() < limit) == is_below
+    });
+    (
+        [all, any, back_all, (back_any, count)],
+        [walk.next(), back.next()],
+    )
 }
 
 // The questions are counted, as no contract says that none is asked after the deciding answer.
 #[test]
-fn months_are_asked_up_to_the_deciding_answer(rt: HostRuntime) {
-    let mut walk = MonthIter::new(Month::June);
-    let mut questions = 0u8;
-    let all = walk.all_once(|month| {
-        questions = questions.wrapping_add(1);
-        (month as u8) < 5
-    });
-    same(&rt, (all, questions), (false, 5));
-    let mut questions = 0u8;
-    let any = walk.any_once(|month| {
-        questions = questions.wrapping_add(1);
-        (month as u8) >= 5
-    });
-    same(&rt, (any, questions), (true, 5));
-    same(&rt, walk.next(), Some(Month::June));
-}
-
-#[test]
-fn months_turned_round_are_asked_forwards_too(rt: HostRuntime) {
-    let mut walk = MonthIter::new(Month::June).rev();
-    let mut questions = 0u8;
-    let all = walk.all_once(|month| {
-        questions = questions.wrapping_add(1);
-        (month as u8) < 5
-    });
-    same(&rt, (all, questions), (false, 5));
-    let mut questions = 0u8;
-    let any = walk.any_once(|month| {
-        questions = questions.wrapping_add(1);
-        (month as u8) >= 5
-    });
-    same(&rt, (any, questions), (true, 5));
-    same(&rt, walk.next(), Some(Month::June));
-}
-
-#[test]
-fn weekdays_are_asked_up_to_the_deciding_answer(rt: HostRuntime) {
-    let mut walk = WeekdayIter::new(Weekday::Friday);
-    let mut questions = 0u8;
-    let any = walk.any_once(|weekday| {
-        questions = questions.wrapping_add(1);
-        weekday == Weekday::Tuesday
-    });
-    same(&rt, (any, questions), (true, 2));
-    let mut questions = 0u8;
-    let all = walk.all_once(|weekday| {
-        questions = questions.wrapping_add(1);
-        weekday != Weekday::Tuesday
-    });
-    same(&rt, (all, questions), (false, 2));
-    same(&rt, walk.next(), Some(Weekday::Friday));
-}
-
-#[test]
-fn weekdays_turned_round_are_asked_forwards_too(rt: HostRuntime) {
-    let mut walk = WeekdayIter::new(Weekday::Friday).rev();
-    let mut questions = 0u8;
-    let any = walk.any_once(|weekday| {
-        questions = questions.wrapping_add(1);
-        weekday == Weekday::Tuesday
-    });
-    same(&rt, (any, questions), (true, 2));
-    let mut questions = 0u8;
-    let all = walk.all_once(|weekday| {
-        questions = questions.wrapping_add(1);
-        weekday != Weekday::Tuesday
-    });
-    same(&rt, (all, questions), (false, 2));
-    same(&rt, walk.next(), Some(Weekday::Friday));
+fn values_are_asked_up_to_the_deciding_answer(rt: HostRuntime) {
+    for (start, limit, is_below, all, any) in [
+        (Month::June, 4, true, (false, 5), (true, 1)),
+        (Month::June, 4, false, (false, 1), (true, 5)),
+        (Month::June, 12, true, (true, 12), (true, 1)),
+        (Month::December, 0, true, (false, 1), (false, 12)),
+    ] {
+        let wanted = ([all, any, all, any], [Some(start), Some(start)]);
+        same_at(&rt, start, asked(start, limit, is_below), wanted);
+    }
+    for (start, limit, is_below, all, any) in [
+        (Weekday::Friday, 1, true, (false, 2), (true, 1)),
+        (Weekday::Friday, 1, false, (false, 1), (true, 2)),
+    ] {
+        let wanted = ([all, any, all, any], [Some(start), Some(start)]);
+        same_at(&rt, start, asked(start, limit, is_below), wanted);
+    }
 }

@@ -1,112 +1,98 @@
 //! Dates in their four forms, their parts and their neighbours.
 use crate::tests::range::{DAYS, FIRST_JULIAN_DAY, FIRST_YEAR, LAST_JULIAN_DAY, LAST_YEAR};
-use crate::tests::{check, date, same, same_at};
-use crate::{Date, Month, Weekday};
+use crate::tests::{date, same, same_at, told};
+use crate::{Counted, Date, Month, Weekday};
+use std::process::Abort;
 
+// The columns: Julian day, calendar date, ordinal, ISO week date, and the weeks of the year from Sunday and from Monday on.
 #[test]
-fn days_have_julian_days_calendar_and_ordinal_dates(rt: HostRuntime) {
-    for (julian_day, (year, month, day), ordinal, weekday) in [
-        (FIRST_JULIAN_DAY, (FIRST_YEAR, 1, 1), 1, Weekday::Monday),
-        (0, (-4713, 11, 24), 328, Weekday::Monday),
-        (1721060, (0, 1, 1), 1, Weekday::Saturday),
-        (2415021, (1900, 1, 1), 1, Weekday::Monday),
-        (2415080, (1900, 3, 1), 60, Weekday::Thursday),
-        (2451545, (2000, 1, 1), 1, Weekday::Saturday),
-        (2451546, (2000, 1, 2), 2, Weekday::Sunday),
-        (2451604, (2000, 2, 29), 60, Weekday::Tuesday),
-        (2458485, (2019, 1, 1), 1, Weekday::Tuesday),
-        (2458849, (2019, 12, 31), 365, Weekday::Tuesday),
-        (2459215, (2020, 12, 31), 366, Weekday::Thursday),
-        (2459216, (2021, 1, 1), 1, Weekday::Friday),
-        (5373484, (9999, 12, 31), 365, Weekday::Friday),
-        (5373485, (10000, 1, 1), 1, Weekday::Saturday),
-        (LAST_JULIAN_DAY, (LAST_YEAR, 12, 31), 365, Weekday::Friday),
+fn days_in_all_forms(rt: HostRuntime) {
+    for (julian_day, calendar, ordinal, iso, weeks) in [
+        (
+            FIRST_JULIAN_DAY,
+            (FIRST_YEAR, 1, 1),
+            1,
+            (FIRST_YEAR, 1, 1),
+            (0, 1),
+        ),
+        (0, (-4713, 11, 24), 328, (-4713, 48, 1), (47, 47)),
+        (1721060, (0, 1, 1), 1, (-1, 52, 6), (0, 0)),
+        (2415021, (1900, 1, 1), 1, (1900, 1, 1), (0, 1)),
+        (2415080, (1900, 3, 1), 60, (1900, 9, 4), (8, 9)),
+        (2451545, (2000, 1, 1), 1, (1999, 52, 6), (0, 0)),
+        (2451546, (2000, 1, 2), 2, (1999, 52, 7), (1, 0)),
+        (2451604, (2000, 2, 29), 60, (2000, 9, 2), (9, 9)),
+        (2458485, (2019, 1, 1), 1, (2019, 1, 2), (0, 0)),
+        (2458761, (2019, 10, 4), 277, (2019, 40, 5), (39, 39)),
+        (2458848, (2019, 12, 30), 364, (2020, 1, 1), (52, 52)),
+        (2458849, (2019, 12, 31), 365, (2020, 1, 2), (52, 52)),
+        (2458850, (2020, 1, 1), 1, (2020, 1, 3), (0, 0)),
+        (2459215, (2020, 12, 31), 366, (2020, 53, 4), (52, 52)),
+        (2459216, (2021, 1, 1), 1, (2020, 53, 5), (0, 0)),
+        (5373484, (9999, 12, 31), 365, (9999, 52, 5), (52, 52)),
+        (5373485, (10000, 1, 1), 1, (9999, 52, 6), (0, 0)),
+        (5373544, (10000, 2, 29), 60, (10000, 9, 2), (9, 9)),
+        (
+            LAST_JULIAN_DAY,
+            (LAST_YEAR, 12, 31),
+            365,
+            (LAST_YEAR, 52, 5),
+            (52, 52),
+        ),
     ] {
-        let Ok(found) = Date::from_julian_day(julian_day) else {
-            panic!(rt; "{julian_day} is refused");
-        };
-        let Ok(by_ordinal) = Date::from_ordinal_date(year, ordinal) else {
-            panic!(rt; "{year} {ordinal} is refused");
-        };
-        same_at(&rt, julian_day, found, date(&rt, year, month, day));
-        same_at(&rt, julian_day, found, by_ordinal);
-        same(&rt, found.to_julian_day(), julian_day);
-        same(&rt, found.to_ordinal_date(), (year, ordinal));
-        same_at(&rt, julian_day, found.weekday(), weekday);
+        let (year, month, day) = calendar;
+        let date = date(&rt, year, month, day);
+        same_at(&rt, calendar, date.to_julian_day(), julian_day);
+        check_constructors(&rt, date, julian_day, (year, ordinal), iso);
+        check_parts(&rt, date, calendar, ordinal, iso);
+        same(&rt, date.sunday_based_week(), weeks.0);
+        same(&rt, date.monday_based_week(), weeks.1);
     }
+}
+
+/// Stops the test unless each other form gives the date. The weekdays of the ISO week dates are numbered from Monday, which is 1.
+fn check_constructors(
+    rt: &impl Abort,
+    date: Date,
+    julian_day: i32,
+    (year, ordinal): (i32, u16),
+    (iso_year, week, weekday): (i32, u8, u8),
+) {
+    let weekday = Weekday::Sunday.nth_next(weekday);
+    for answer in [
+        Date::from_julian_day(julian_day),
+        Date::from_ordinal_date(year, ordinal),
+        Date::from_iso_week_date(iso_year, week, weekday),
+    ] {
+        same(rt, told(&answer), Ok(date.number()));
+    }
+}
+
+/// Stops the test unless the date has these parts, one by one and together.
+fn check_parts(
+    rt: &impl Abort,
+    date: Date,
+    calendar: (i32, u8, u8),
+    ordinal: u16,
+    iso: (i32, u8, u8),
+) {
+    let (year, month, day) = date.to_calendar_date();
+    same(rt, (year, month as u8, day), calendar);
+    let found = (date.year(), date.month(), date.day());
+    same(rt, found, (year, month, day));
+    same(rt, date.to_ordinal_date(), (year, ordinal));
+    same(rt, date.ordinal(), ordinal);
+    let (iso_year, week, weekday) = date.to_iso_week_date();
+    same(rt, (iso_year, week, weekday.number_from_monday()), iso);
+    same(rt, (date.iso_week(), date.weekday()), (week, weekday));
 }
 
 #[test]
 fn the_ends_of_the_range(rt: HostRuntime) {
     same(&rt, Date::MIN, date(&rt, FIRST_YEAR, 1, 1));
     same(&rt, Date::MAX, date(&rt, LAST_YEAR, 12, 31));
-    same(&rt, Date::MIN.to_julian_day(), FIRST_JULIAN_DAY);
-    same(&rt, Date::MAX.to_julian_day(), LAST_JULIAN_DAY);
     let (first, last) = (i64::from(FIRST_JULIAN_DAY), i64::from(LAST_JULIAN_DAY));
     same(&rt, last - first + 1, DAYS);
-}
-
-#[test]
-fn parts(rt: HostRuntime) {
-    for (year, (month, number), day, ordinal) in [
-        (2000, (Month::February, 2), 29, 60),
-        (9999, (Month::December, 12), 31, 365),
-        (10000, (Month::January, 1), 1, 1),
-        (10000, (Month::February, 2), 29, 60),
-    ] {
-        let date = date(&rt, year, number, day);
-        same(&rt, (date.year(), date.ordinal()), (year, ordinal));
-        same(&rt, (date.month(), date.day()), (month, day));
-        same(&rt, date.to_calendar_date(), (year, month, day));
-    }
-}
-
-#[test]
-fn days_have_iso_week_dates(rt: HostRuntime) {
-    for ((year, month, day), ordinal, (iso_year, week, weekday)) in [
-        ((FIRST_YEAR, 1, 1), 1, (FIRST_YEAR, 1, Weekday::Monday)),
-        ((2000, 1, 1), 1, (1999, 52, Weekday::Saturday)),
-        ((2019, 1, 1), 1, (2019, 1, Weekday::Tuesday)),
-        ((2019, 10, 4), 277, (2019, 40, Weekday::Friday)),
-        ((2019, 12, 30), 364, (2020, 1, Weekday::Monday)),
-        ((2020, 1, 1), 1, (2020, 1, Weekday::Wednesday)),
-        ((2020, 12, 31), 366, (2020, 53, Weekday::Thursday)),
-        ((2021, 1, 1), 1, (2020, 53, Weekday::Friday)),
-        ((9999, 12, 31), 365, (9999, 52, Weekday::Friday)),
-        ((10000, 1, 1), 1, (9999, 52, Weekday::Saturday)),
-        ((LAST_YEAR, 12, 31), 365, (LAST_YEAR, 52, Weekday::Friday)),
-    ] {
-        let date = date(&rt, year, month, day);
-        same(&rt, date.to_ordinal_date(), (year, ordinal));
-        let Ok(by_week) = Date::from_iso_week_date(iso_year, week, weekday) else {
-            panic!(rt; "{iso_year} {week} {weekday} is refused");
-        };
-        same_at(&rt, (iso_year, week, weekday), by_week, date);
-        same_at(
-            &rt,
-            date,
-            date.to_iso_week_date(),
-            (iso_year, week, weekday),
-        );
-        same_at(&rt, date, date.iso_week(), week);
-    }
-}
-
-#[test]
-fn weeks_of_the_year_from_sunday_and_from_monday_on(rt: HostRuntime) {
-    for ((year, month, day), weeks) in [
-        ((2019, 1, 1), (0, 0)),
-        ((2020, 12, 31), (52, 52)),
-        ((9999, 12, 31), (52, 52)),
-    ] {
-        let date = date(&rt, year, month, day);
-        same_at(
-            &rt,
-            date,
-            (date.sunday_based_week(), date.monday_based_week()),
-            weeks,
-        );
-    }
 }
 
 #[test]
@@ -120,71 +106,58 @@ fn neighbours(rt: HostRuntime) {
     ] {
         let day = date(&rt, year, month, day);
         let next = date(&rt, next_year, next_month, next_day);
-        same(&rt, day.next_day(), Some(next));
-        same(&rt, next.previous_day(), Some(day));
+        let found = (day.next_day(), next.previous_day());
+        same(&rt, found, (Some(next), Some(day)));
     }
-    same(&rt, Date::MAX.next_day(), None);
-    same(&rt, Date::MIN.previous_day(), None);
 }
 
 #[test]
-fn julian_days_and_ordinals_out_of_range(rt: HostRuntime) {
-    for julian_day in [
-        i32::MIN,
-        FIRST_JULIAN_DAY - 1,
-        LAST_JULIAN_DAY + 1,
-        i32::MAX,
+fn ordinal_dates_out_of_range(rt: HostRuntime) {
+    for (year, ordinal, refusal) in [
+        (i32::MIN, 0, ("year", false)),
+        (10000000, 1, ("year", false)),
+        (LAST_YEAR + 1, 0, ("year", false)),
+        (0, 65_535, ("ordinal", true)),
+        (1900, 366, ("ordinal", true)),
+        (2000, 0, ("ordinal", true)),
+        (2000, 367, ("ordinal", true)),
     ] {
-        let Err(error) = Date::from_julian_day(julian_day) else {
-            panic!(rt; "{julian_day} is let through");
-        };
-        check(&rt, error, "julian_day", false);
-    }
-    for (year, ordinal, name, is_conditional) in [
-        (10000000, 1, "year", false),
-        (LAST_YEAR + 1, 0, "year", false),
-        (1900, 366, "ordinal", true),
-        (2000, 0, "ordinal", true),
-        (2000, 367, "ordinal", true),
-    ] {
-        let Err(error) = Date::from_ordinal_date(year, ordinal) else {
-            panic!(rt; "{year} {ordinal} is let through");
-        };
-        check(&rt, error, name, is_conditional);
+        let told = told(&Date::from_ordinal_date(year, ordinal));
+        same_at(&rt, (year, ordinal), told, Err(refusal));
     }
 }
 
 #[test]
 fn calendar_dates_out_of_range(rt: HostRuntime) {
-    for (year, month, day, name, is_conditional) in [
-        (1900, Month::February, 29, "day", true),
-        (2000, Month::February, 0, "day", true),
-        (2000, Month::February, 30, "day", true),
-        (2000, Month::January, 32, "day", true),
-        (LAST_YEAR + 1, Month::January, 0, "year", false),
-        (FIRST_YEAR - 1, Month::December, 31, "year", false),
+    for (year, month, day, refusal) in [
+        (1900, Month::February, 29, ("day", true)),
+        (2000, Month::February, 0, ("day", true)),
+        (2000, Month::February, 30, ("day", true)),
+        (2000, Month::January, 32, ("day", true)),
+        (2020, Month::February, 255, ("day", true)),
+        (LAST_YEAR + 1, Month::January, 0, ("year", false)),
+        (FIRST_YEAR - 1, Month::December, 31, ("year", false)),
+        (i32::MIN, Month::January, 0, ("year", false)),
+        (i32::MAX, Month::December, 255, ("year", false)),
     ] {
-        let Err(error) = Date::from_calendar_date(year, month, day) else {
-            panic!(rt; "{year} {month} {day} is let through");
-        };
-        check(&rt, error, name, is_conditional);
+        let told = told(&Date::from_calendar_date(year, month, day));
+        same_at(&rt, (year, month, day), told, Err(refusal));
     }
 }
 
 #[test]
 fn iso_week_dates_out_of_range(rt: HostRuntime) {
-    for (year, week, weekday, name, is_conditional) in [
-        (LAST_YEAR + 1, 53, Weekday::Monday, "year", false),
-        (LAST_YEAR, 53, Weekday::Monday, "week", true),
-        (2019, 53, Weekday::Monday, "week", true),
-        (2020, 54, Weekday::Monday, "week", true),
-        (2020, 0, Weekday::Monday, "week", true),
-        (LAST_YEAR, 52, Weekday::Saturday, "weekday", true),
-        (LAST_YEAR, 52, Weekday::Sunday, "weekday", true),
+    for (year, week, weekday, refusal) in [
+        (LAST_YEAR + 1, 53, Weekday::Monday, ("year", false)),
+        (LAST_YEAR, 53, Weekday::Monday, ("week", true)),
+        (2019, 53, Weekday::Monday, ("week", true)),
+        (2020, 54, Weekday::Monday, ("week", true)),
+        (2020, 0, Weekday::Monday, ("week", true)),
+        (2020, 255, Weekday::Monday, ("week", true)),
+        (LAST_YEAR, 52, Weekday::Saturday, ("weekday", true)),
+        (LAST_YEAR, 52, Weekday::Sunday, ("weekday", true)),
     ] {
-        let Err(error) = Date::from_iso_week_date(year, week, weekday) else {
-            panic!(rt; "{year} {week} {weekday} is let through");
-        };
-        check(&rt, error, name, is_conditional);
+        let told = told(&Date::from_iso_week_date(year, week, weekday));
+        same_at(&rt, (year, week, weekday), told, Err(refusal));
     }
 }

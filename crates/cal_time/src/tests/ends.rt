@@ -1,8 +1,6 @@
 //! Each call at the least and the greatest value of each of its parameters.
 //!
 //! What a row must answer is written out, or worked out in the test by whole numbers of 128 bits.
-use crate::Counted;
-use crate::error::ComponentRange;
 
 mod cycles;
 mod dates;
@@ -15,13 +13,10 @@ mod pairs;
 mod times;
 mod walks;
 
-/// The number of a value, or the name and the mark of a refusal.
-type Told = Result<i128, (&'static str, bool)>;
+const SECOND: i128 = 1_000_000_000;
 
-/// What a constructor tells.
-fn told<T: Counted>(answer: &Result<T, ComponentRange>) -> Told {
-    match answer {
-        Ok(value) => Ok(value.number()),
-        Err(error) => Err((error.name(), error.is_conditional())),
-    }
-}
+const MINUTE: i128 = 60_000_000_000;
+
+const HOUR: i128 = 3_600_000_000_000;
+
+const DAY: i128 = 86_400_000_000_000;

@@ -1,18 +1,15 @@
-//! The methods of traits, called by name and through a bound.
+//! The methods of traits, called by name, and as the traits' own or through a bound.
 //!
 //! A call by name takes a function of the type itself where it has one of that name, and no contract of the trait speaks of that one.
-ghost use Rattle.std.specs.Prelude.{◌<◌};
-
-use crate::error::{Component, ComponentRange, InvalidVariant};
+use crate::error::{Component, ComponentRange, ConversionRange, InvalidVariant};
 use crate::iter::{DateIter, MonthIter, WeekdayIter};
 use crate::tests::{date, hash_of, offset, same, time};
+use crate::util::DateAdjustment;
 use crate::{Counted, Cycle, Date, Month, SignedDuration, Time, UtcOffset, Weekday};
-use std::alloc::AllocError;
 use std::cmp::Ordering;
 use std::hash::{DefaultHasher, Hash, Hasher};
 use std::ops::{Add, AddAssign, Div, Mul, Neg, Sub, SubAssign};
 use std::str::FromStr;
-use std::test::Fail;
 
 fn next<I: Iterator>(walk: &mut I) -> Option<I::Item>
     requires { I.can_next walk.old }
@@ -30,89 +27,43 @@ fn size_hint<I: Iterator>(walk: &I) -> (usize, Option<usize>) {
     walk.size_hint()
 }
 
-fn is_equal<T: PartialEq>(a: &T, b: &T) -> [bool; 2] {
-    [a.eq(b), a.ne(b)]
+/// What two values tell of each other: equality, order, and the lesser and the greater one.
+type Compared<T> = ([bool; 2], Ordering, Option<Ordering>, [T; 2]);
+
+fn compared<T: Ord + Copy>(a: T, b: T) -> Compared<T> {
+    let ends = [a.min(b), a.max(b)];
+    ([a.eq(&b), a.ne(&b)], a.cmp(&b), a.partial_cmp(&b), ends)
 }
 
-fn order<T: Ord>(a: &T, b: &T) -> (Ordering, Option<Ordering>) {
-    (a.cmp(b), a.partial_cmp(b))
+/// Stops the test unless the comparisons and the hash of each two values, by name, are those of the traits.
+macro_rules! check_compared {
+    ($rt:expr, $one:expr, $other:expr) => {
+        let (one, other) = ($one, $other);
+        for (a, b) in [(one, other), (other, one), (one, one)] {
+            let mut state = DefaultHasher::new();
+            a.hash(&mut state);
+            let ends = [a.min(b), a.max(b)];
+            let by_name = ([a.eq(&b), a.ne(&b)], a.cmp(&b), a.partial_cmp(&b), ends);
+            same($rt, by_name, compared(a, b));
+            same($rt, state.finish(), hash_of(&a));
+        }
+    };
 }
 
-fn ends<T: Ord + Copy>(a: T, b: T) -> (T, T) {
-    (a.min(b), a.max(b))
-}
-
-fn cloned<T: Clone>(value: &T) -> Result<T, AllocError> {
-    value.clone()
-}
-
-fn number<T: Counted>(value: T) -> i128 {
-    value.number()
-}
-
-fn place<C: Cycle>(value: C) -> u8 {
-    value.place()
-}
-
-fn at<C: Cycle>(place: u8) -> C
-    requires { place < C.LENGTH }
-{
-    C::at(place)
-}
-
-fn read<T: FromStr>(text: &str) -> Result<T, T::Err> {
-    T::from_str(text)
-}
-
-fn made<T: TryFrom<u8>>(number: u8) -> Result<T, T::Error> {
-    T::try_from(number)
-}
-
-fn default<T: Default>() -> T {
-    T::default()
-}
-
-fn sum<A: Add<B>, B>(a: A, b: B) -> A::Output
-    requires { A.can_add a b }
-{
-    a.add(b)
-}
-
-fn difference<A: Sub<B>, B>(a: A, b: B) -> A::Output
-    requires { A.can_sub a b }
-{
-    a.sub(b)
-}
-
-fn opposite<A: Neg>(a: A) -> A::Output
-    requires { A.can_neg a }
-{
-    a.neg()
-}
-
-fn product<A: Mul<B>, B>(a: A, b: B) -> A::Output
-    requires { A.can_mul a b }
-{
-    a.mul(b)
-}
-
-fn quotient<A: Div<B>, B>(a: A, b: B) -> A::Output
-    requires { A.can_div a b }
-{
-    a.div(b)
-}
-
-/// Whether the comparisons and the hash of two values, by name, are those through the bounds.
-macro_rules! compare_alike {
-    ($a:expr, $b:expr) => {{
-        let (a, b) = ($a, $b);
-        let mut state = DefaultHasher::new();
-        a.hash(&mut state);
-        [a.eq(&b), a.ne(&b)] == is_equal(&a, &b)
-            && (a.cmp(&b), a.partial_cmp(&b)) == order(&a, &b)
-            && (a.min(b), a.max(b)) == ends(a, b)
-            && state.finish() == hash_of(&a)
-    }};
+/// Stops the test unless the walk gives these items, by name and by the trait, and tells the same of what is left.
+macro_rules! check_walk {
+    ($rt:expr, $walk:expr, $items:expr) => {
+        let mut by_name = $walk;
+        let mut by_trait = $walk;
+        let [first, second, third] = $items;
+        let items = [Some(first), Some(second), Some(third)];
+        same($rt, [by_name.next(), by_name.next(), by_name.next()], items);
+        let walk = &mut by_trait;
+        let found = [Iterator::next(walk), Iterator::next(walk), Iterator::next(walk)];
+        same($rt, found, items);
+        same($rt, by_name.size_hint(), Iterator::size_hint(&by_trait));
+        assert!($rt; by_name == by_trait);
+    };
 }
 
 /// Whether the walk gives these three items, by name and through the bounds, and tells the same of what is left.
@@ -146,109 +97,146 @@ fn walks(rt: HostRuntime) {
 }
 
 #[test]
-fn endless_months(rt: HostRuntime) {
-    let (november, december, january) = (Month::November, Month::December, Month::January);
-    assert!(rt; gives!(MonthIter::new(november), [november, december, january]));
-    assert!(rt; gives!(MonthIter::new(january).rev(), [january, december, november]));
+fn months_forwards(rt: HostRuntime) {
+    let months = [Month::November, Month::December, Month::January];
+    check_walk!(&rt, MonthIter::new(Month::November), months);
 }
 
 #[test]
-fn endless_weekdays(rt: HostRuntime) {
-    let (saturday, sunday, monday) = (Weekday::Saturday, Weekday::Sunday, Weekday::Monday);
-    assert!(rt; gives!(WeekdayIter::new(saturday), [saturday, sunday, monday]));
-    assert!(rt; gives!(WeekdayIter::new(monday).rev(), [monday, sunday, saturday]));
+fn months_backwards(rt: HostRuntime) {
+    let months = [Month::January, Month::December, Month::November];
+    check_walk!(&rt, MonthIter::new(Month::January).rev(), months);
 }
 
 #[test]
-fn comparisons(rt: HostRuntime) {
-    let (day, noon) = (date(&rt, 2020, 1, 2), time(&rt, 12, 0, 0, 0));
-    for (a, b) in [(Date::MIN, day), (day, Date::MIN), (day, day)] {
-        assert!(rt; compare_alike!(a, b));
-    }
-    for (a, b) in [(Time::MIDNIGHT, noon), (noon, Time::MIDNIGHT), (noon, noon)] {
-        assert!(rt; compare_alike!(a, b));
-    }
-    let (zero, second) = (SignedDuration::ZERO, SignedDuration::SECOND);
-    for (a, b) in [(zero, second), (second, zero), (zero, zero)] {
-        assert!(rt; compare_alike!(a, b));
-    }
-    let (west, utc) = (offset(&rt, -5, -30, 0), UtcOffset::UTC);
-    for (a, b) in [(west, utc), (utc, west), (utc, utc)] {
-        assert!(rt; compare_alike!(a, b));
-    }
-    let (may, june) = (Month::May, Month::June);
-    for (a, b) in [(may, june), (june, may), (may, may)] {
-        assert!(rt; compare_alike!(a, b));
-    }
+fn weekdays_forwards(rt: HostRuntime) {
+    let weekdays = [Weekday::Saturday, Weekday::Sunday, Weekday::Monday];
+    check_walk!(&rt, WeekdayIter::new(Weekday::Saturday), weekdays);
 }
 
 #[test]
-fn equality_and_clones(rt: HostRuntime) -> Result<(), Fail> {
-    let (friday, sunday) = (Weekday::Friday, Weekday::Sunday);
-    for (a, b) in [(friday, sunday), (friday, friday)] {
-        same(&rt, [a.eq(&b), a.ne(&b)], is_equal(&a, &b));
+fn weekdays_backwards(rt: HostRuntime) {
+    let weekdays = [Weekday::Monday, Weekday::Sunday, Weekday::Saturday];
+    check_walk!(&rt, WeekdayIter::new(Weekday::Monday).rev(), weekdays);
+}
+
+#[test]
+fn comparisons_of_dates(rt: HostRuntime) {
+    check_compared!(&rt, Date::MIN, date(&rt, 2020, 1, 2));
+}
+
+#[test]
+fn comparisons_of_times(rt: HostRuntime) {
+    check_compared!(&rt, Time::MIDNIGHT, time(&rt, 12, 0, 0, 0));
+}
+
+#[test]
+fn comparisons_of_durations(rt: HostRuntime) {
+    check_compared!(&rt, SignedDuration::ZERO, SignedDuration::SECOND);
+}
+
+#[test]
+fn comparisons_of_offsets(rt: HostRuntime) {
+    check_compared!(&rt, offset(&rt, -5, -30, 0), UtcOffset::UTC);
+}
+
+#[test]
+fn comparisons_of_months(rt: HostRuntime) {
+    check_compared!(&rt, Month::May, Month::June);
+}
+
+#[test]
+fn equality(rt: HostRuntime) {
+    let day = ComponentRange::conditional(Component::Day);
+    for other in [day, ComponentRange::unconditional(Component::Year)] {
+        let found = [day.eq(&other), day.ne(&other)];
+        let wanted = [PartialEq::eq(&day, &other), PartialEq::ne(&day, &other)];
+        same(&rt, found, wanted);
     }
-    let (day, year) = (
-        ComponentRange::conditional(Component::Day),
-        ComponentRange::unconditional(Component::Year),
-    );
-    for (a, b) in [(day, year), (day, day)] {
-        same(&rt, [a.eq(&b), a.ne(&b)], is_equal(&a, &b));
+    let friday = Weekday::Friday;
+    for other in [friday, Weekday::Sunday] {
+        let found = [friday.eq(&other), friday.ne(&other)];
+        same(
+            &rt,
+            found,
+            [
+                PartialEq::eq(&friday, &other),
+                PartialEq::ne(&friday, &other),
+            ],
+        );
     }
     same(&rt, InvalidVariant.eq(&InvalidVariant), true);
-    same(&rt, Date::MAX.clone()?, cloned(&Date::MAX)?);
-    same(&rt, Time::MAX.clone()?, cloned(&Time::MAX)?);
-    same(
-        &rt,
-        SignedDuration::MAX.clone()?,
-        cloned(&SignedDuration::MAX)?,
-    );
-    let west = offset(&rt, -5, -30, 0);
-    same(&rt, west.clone()?, cloned(&west)?);
-    same(&rt, Month::May.clone()?, cloned(&Month::May)?);
-    same(&rt, friday.clone()?, cloned(&friday)?);
-    same(&rt, day.clone()?, cloned(&day)?);
-    Ok(())
+}
+
+/// Stops the test unless the clones of the value, by name and by the trait, are the value.
+macro_rules! check_cloned {
+    ($rt:expr, $value:expr) => {
+        let value = $value;
+        let clones = [value.clone().ok(), Clone::clone(&value).ok()];
+        same($rt, clones, [Some(value), Some(value)]);
+    };
+}
+
+#[test]
+fn clones_of_counted_values(rt: HostRuntime) {
+    check_cloned!(&rt, Date::MAX);
+    check_cloned!(&rt, Time::MAX);
+    check_cloned!(&rt, SignedDuration::MAX);
+    check_cloned!(&rt, UtcOffset::UTC);
+}
+
+#[test]
+fn clones_of_cycles_and_errors(rt: HostRuntime) {
+    check_cloned!(&rt, Month::May);
+    check_cloned!(&rt, Weekday::Friday);
+    check_cloned!(&rt, DateAdjustment::Next);
+    check_cloned!(&rt, ComponentRange::conditional(Component::Day));
+    check_cloned!(&rt, ConversionRange);
+    check_cloned!(&rt, InvalidVariant);
 }
 
 #[test]
 fn numbers_and_places(rt: HostRuntime) {
-    let west = offset(&rt, -5, -30, 0);
-    same(&rt, Date::MAX.number(), number(Date::MAX));
-    same(&rt, Time::MAX.number(), number(Time::MAX));
-    same(
-        &rt,
-        SignedDuration::MAX.number(),
-        number(SignedDuration::MAX),
-    );
-    same(&rt, west.number(), number(west));
-    same(&rt, Month::May.place(), place(Month::May));
-    same(&rt, Weekday::Friday.place(), place(Weekday::Friday));
+    let (last, friday) = (SignedDuration::MAX, Weekday::Friday);
+    for (by_name, by_trait) in [
+        (Date::MAX.number(), Counted::number(Date::MAX)),
+        (Time::MAX.number(), Counted::number(Time::MAX)),
+        (last.number(), Counted::number(last)),
+        (UtcOffset::UTC.number(), Counted::number(UtcOffset::UTC)),
+    ] {
+        same(&rt, by_name, by_trait);
+    }
+    same(&rt, Month::May.place(), Cycle::place(Month::May));
+    same(&rt, friday.place(), Cycle::place(friday));
     for place in 0..7 {
-        same(&rt, Month::at(place), at(place));
-        same(&rt, Weekday::at(place), at(place));
+        same(&rt, Month::at(place), <Month as Cycle>::at(place));
+        same(&rt, Weekday::at(place), <Weekday as Cycle>::at(place));
     }
 }
 
 #[test]
 fn conversions(rt: HostRuntime) {
     for text in ["May", "Friday", ""] {
-        same(&rt, Month::from_str(text), read(text));
-        same(&rt, Weekday::from_str(text), read(text));
+        let found = Month::from_str(text);
+        same(&rt, found, <Month as FromStr>::from_str(text));
+        let found = Weekday::from_str(text);
+        same(&rt, found, <Weekday as FromStr>::from_str(text));
     }
     for number in [0, 5, 13] {
-        same(&rt, Month::try_from(number), made(number));
+        let found = Month::try_from(number);
+        same(&rt, found, <Month as TryFrom<u8>>::try_from(number));
     }
-    same(&rt, SignedDuration::default(), default());
+    let zero = <SignedDuration as Default>::default();
+    same(&rt, SignedDuration::default(), zero);
 }
 
-/// The days so much later and so much earlier, by name and through the bounds, where both are there.
-fn moved(date: Date, duration: SignedDuration) -> Option<[(Date, Date); 2]> {
+/// The days so much later and so much earlier, by name and by the traits, where both are there.
+fn moved(date: Date, duration: SignedDuration) -> Option<[[Date; 2]; 2]> {
     date.checked_add(duration)?;
     date.checked_sub(duration)?;
     Some([
-        (date.add(duration), sum(date, duration)),
-        (date.sub(duration), difference(date, duration)),
+        [date.add(duration), Add::add(date, duration)],
+        [date.sub(duration), Sub::sub(date, duration)],
     ])
 }
 
@@ -256,29 +244,36 @@ fn moved(date: Date, duration: SignedDuration) -> Option<[(Date, Date); 2]> {
 fn operators_of_dates(rt: HostRuntime) {
     let day = date(&rt, 2020, 1, 2);
     let (next, before) = (date(&rt, 2020, 1, 3), date(&rt, 2020, 1, 1));
-    same(
-        &rt,
-        moved(day, SignedDuration::DAY),
-        Some([(next, next), (before, before)]),
-    );
-    same(&rt, day.sub(Date::MIN), difference(day, Date::MIN));
+    let wanted = Some([[next, next], [before, before]]);
+    same(&rt, moved(day, SignedDuration::DAY), wanted);
+    same(&rt, day.sub(Date::MIN), Sub::sub(day, Date::MIN));
 }
 
 #[test]
-fn operators(rt: HostRuntime) {
-    let (noon, second) = (time(&rt, 12, 0, 0, 0), SignedDuration::SECOND);
+fn operators_of_times_and_offsets(rt: HostRuntime) {
+    let (noon, second, last) = (time(&rt, 12, 0, 0, 0), SignedDuration::SECOND, Time::MAX);
     let west = offset(&rt, -5, -30, 0);
-    same(&rt, noon.add(second), sum(noon, second));
-    same(&rt, noon.sub(second), difference(noon, second));
-    same(&rt, noon.sub(Time::MAX), difference(noon, Time::MAX));
-    same(&rt, second.add(second), sum(second, second));
-    same(&rt, second.sub(second), difference(second, second));
-    same(&rt, second.neg(), opposite(second));
-    same(&rt, second.mul(3i32), product(second, 3i32));
-    same(&rt, second.div(3u8), quotient(second, 3u8));
-    same(&rt, west.neg(), opposite(west));
     let (mut later, mut earlier) = (noon, noon);
     later.add_assign(second);
     earlier.sub_assign(second);
-    same(&rt, (later, earlier), (noon + second, noon - second));
+    let found = [noon.add(second), later];
+    same(&rt, found, [Add::add(noon, second), noon + second]);
+    let found = [noon.sub(second), earlier];
+    same(&rt, found, [Sub::sub(noon, second), noon - second]);
+    same(&rt, noon.sub(last), Sub::sub(noon, last));
+    same(&rt, west.neg(), Neg::neg(west));
+}
+
+#[test]
+fn operators_of_durations(rt: HostRuntime) {
+    let second = SignedDuration::SECOND;
+    for (by_name, by_trait) in [
+        (second.add(second), Add::add(second, second)),
+        (second.sub(second), Sub::sub(second, second)),
+        (second.neg(), Neg::neg(second)),
+        (second.mul(3i32), Mul::mul(second, 3i32)),
+        (second.div(3u8), Div::div(second, 3u8)),
+    ] {
+        same(&rt, by_name, by_trait);
+    }
 }

@@ -1,60 +1,78 @@
 //! The texts of values, plain, padded, and for debugging.
 use crate::error::{Component, ComponentRange, ConversionRange, InvalidVariant};
+use crate::tests::range::{FIRST_YEAR, LAST_YEAR};
 use crate::tests::{date, offset, same, time};
 use crate::{Date, Month, SignedDuration, Time, UtcOffset, Weekday};
+use std::fmt::{Debug, Display};
+use std::process::Abort;
 use std::test::Fail;
 
-#[test]
-fn texts_of_dates(rt: HostRuntime) -> Result<(), Fail> {
-    for (date, text) in [
-        (date(&rt, 0, 1, 1), "0000-01-01"),
-        (date(&rt, -1, 1, 1), "-0001-01-01"),
-        (date(&rt, 2019, 1, 2), "2019-01-02"),
-        (date(&rt, -9999, 1, 1), "-9999-01-01"),
-        (date(&rt, 9999, 12, 31), "9999-12-31"),
-        (date(&rt, 10_000, 1, 1), "+10000-01-01"),
-        (date(&rt, -10_000, 1, 1), "-10000-01-01"),
-        (Date::MAX, "+999999-12-31"),
-        (Date::MIN, "-999999-01-01"),
-    ] {
-        same(&rt, format!(in rt.alloc(); "{date}")?.as_str(), text);
-        same(&rt, format!(in rt.alloc(); "{date:?}")?.as_str(), text);
-        same(&rt, date.text().as_str(), text);
-    }
-    Ok(())
+const NO_MEMORY: &str = "no memory is left, or the value gave up";
+
+/// Stops the test unless the value is written so.
+fn check_text<R: Abort + AllocGlobal, T: Copy + Display>(rt: &R, value: T, text: &str) {
+    let written = format!(in rt.alloc(); "{value}").expect(rt, NO_MEMORY);
+    same(rt, written.as_str(), text);
+}
+
+/// Stops the test unless the value is written so for debugging. The form of several lines is that of one line.
+fn check_debug<R: Abort + AllocGlobal, T: Copy + Debug>(rt: &R, value: T, text: &str) {
+    let written = format!(in rt.alloc(); "{value:?}").expect(rt, NO_MEMORY);
+    same(rt, written.as_str(), text);
+    let written = format!(in rt.alloc(); "{value:#?}").expect(rt, NO_MEMORY);
+    same(rt, written.as_str(), text);
 }
 
 #[test]
-fn texts_of_times(rt: HostRuntime) -> Result<(), Fail> {
+fn texts_of_dates(rt: HostRuntime) {
+    for ((year, month, day), text) in [
+        ((0, 1, 1), "0000-01-01"),
+        ((-1, 1, 1), "-0001-01-01"),
+        ((2019, 1, 2), "2019-01-02"),
+        ((-9999, 1, 1), "-9999-01-01"),
+        ((9999, 12, 31), "9999-12-31"),
+        ((10_000, 1, 1), "+10000-01-01"),
+        ((-10_000, 1, 1), "-10000-01-01"),
+        ((LAST_YEAR, 12, 31), "+999999-12-31"),
+        ((FIRST_YEAR, 1, 1), "-999999-01-01"),
+    ] {
+        let date = date(&rt, year, month, day);
+        check_text(&rt, date, text);
+        check_debug(&rt, date, text);
+        same(&rt, date.text().as_str(), text);
+    }
+}
+
+#[test]
+fn texts_of_times(rt: HostRuntime) {
     for (time, text) in [
         (Time::MIDNIGHT, "0:00:00.0"),
         (time(&rt, 9, 5, 0, 120_000_000), "9:05:00.12"),
         (Time::MAX, "23:59:59.999999999"),
     ] {
-        same(&rt, format!(in rt.alloc(); "{time}")?.as_str(), text);
-        same(&rt, format!(in rt.alloc(); "{time:?}")?.as_str(), text);
+        check_text(&rt, time, text);
+        check_debug(&rt, time, text);
         same(&rt, time.text().as_str(), text);
     }
-    Ok(())
 }
 
 #[test]
-fn texts_of_offsets(rt: HostRuntime) -> Result<(), Fail> {
-    for (offset, text) in [
-        (UtcOffset::UTC, "+00:00:00"),
-        (offset(&rt, -5, -30, 0), "-05:30:00"),
-        (offset(&rt, 0, 0, -1), "-00:00:01"),
-        (offset(&rt, 25, 59, 59), "+25:59:59"),
+fn texts_of_offsets(rt: HostRuntime) {
+    for ((hours, minutes, seconds), text) in [
+        ((0, 0, 0), "+00:00:00"),
+        ((-5, -30, 0), "-05:30:00"),
+        ((0, 0, -1), "-00:00:01"),
+        ((25, 59, 59), "+25:59:59"),
     ] {
-        same(&rt, format!(in rt.alloc(); "{offset}")?.as_str(), text);
-        same(&rt, format!(in rt.alloc(); "{offset:?}")?.as_str(), text);
+        let offset = offset(&rt, hours, minutes, seconds);
+        check_text(&rt, offset, text);
+        check_debug(&rt, offset, text);
         same(&rt, offset.text().as_str(), text);
     }
-    Ok(())
 }
 
 #[test]
-fn texts_of_durations(rt: HostRuntime) -> Result<(), Fail> {
+fn texts_of_durations(rt: HostRuntime) {
     for (duration, text) in [
         (SignedDuration::ZERO, "0s"),
         (SignedDuration::nanoseconds(-1), "-1ns"),
@@ -68,22 +86,45 @@ fn texts_of_durations(rt: HostRuntime) -> Result<(), Fail> {
             "106751991167300d15h30m7s999ms999µs999ns",
         ),
     ] {
-        same(&rt, format!(in rt.alloc(); "{duration}")?.as_str(), text);
+        check_text(&rt, duration, text);
         same(&rt, duration.text().as_str(), text);
     }
+}
+
+// A duration ignores a width.
+#[test]
+fn texts_of_durations_under_options(rt: HostRuntime) -> Result<(), Fail> {
+    let less_one = SignedDuration::nanoseconds(-1);
+    let padded = format!(in rt.alloc(); "{less_one:>9}|{less_one:09}|")?;
+    same(&rt, padded.as_str(), "-1ns|-1ns|");
+    assert!(rt; !format!(in rt.alloc(); "{less_one:?}")?.is_empty());
     Ok(())
+}
+
+#[test]
+fn texts_of_errors(rt: HostRuntime) {
+    let hour = ComponentRange::unconditional(Component::OffsetHour);
+    check_text(
+        &rt,
+        ComponentRange::conditional(Component::Day),
+        "day was not in range",
+    );
+    check_text(&rt, hour, "offset hour was not in range");
+    check_text(
+        &rt,
+        ConversionRange,
+        "Source value is out of range for the target type",
+    );
+    check_text(&rt, InvalidVariant, "value was not a valid variant");
 }
 
 // The longest text of each kind, and one that goes on where another ends.
 #[test]
 fn texts_in_place(rt: HostRuntime) {
-    same(&rt, Date::MIN.text().len(), 13);
-    same(&rt, Time::MAX.text().len(), 18);
-    same(
-        &rt,
-        UtcOffset::UTC.text().as_bytes(),
-        b"+00:00:00".as_slice(),
-    );
+    let found = (Date::MIN.text().len(), Time::MAX.text().len());
+    same(&rt, found, (13, 18));
+    let utc = UtcOffset::UTC.text();
+    same(&rt, utc.as_bytes(), b"+00:00:00".as_slice());
     let mut line = date(&rt, 2024, 2, 29).text();
     line.push("T");
     line.push(Weekday::Wednesday.name());
@@ -97,117 +138,71 @@ fn texts_of_each_hour(rt: HostRuntime) -> Result<(), Fail> {
     for hour in 0..24 {
         let text = format!(in rt.alloc(); "{hour}:00:00.0")?;
         let time = time(&rt, hour, 0, 0, 0);
-        same(
-            &rt,
-            format!(in rt.alloc(); "{time}")?.as_str(),
-            text.as_str(),
-        );
-        same(
-            &rt,
-            format!(in rt.alloc(); "{time:?}")?.as_str(),
-            text.as_str(),
-        );
+        check_text(&rt, time, text.as_str());
+        check_debug(&rt, time, text.as_str());
     }
+    Ok(())
+}
+
+#[test]
+fn texts_of_offsets_by_each_hour(rt: HostRuntime) -> Result<(), Fail> {
     for hours in -25i8..26 {
         let sign = if hours < 0 { "-" } else { "+" };
         let text = format!(in rt.alloc(); "{sign}{:02}:00:00", hours.unsigned_abs())?;
         let offset = offset(&rt, hours, 0, 0);
-        same(
-            &rt,
-            format!(in rt.alloc(); "{offset}")?.as_str(),
-            text.as_str(),
-        );
-        same(
-            &rt,
-            format!(in rt.alloc(); "{offset:?}")?.as_str(),
-            text.as_str(),
-        );
+        check_text(&rt, offset, text.as_str());
+        check_debug(&rt, offset, text.as_str());
     }
     Ok(())
+}
+
+/// Stops the test unless the value is written so under widths, of which the last one is less than its text.
+fn check_padded<R: Abort + AllocGlobal, T: Copy + Display>(rt: &R, value: T, text: &str) {
+    let written = format!(in rt.alloc(); "{value:>13}|{value:_<13}|{value:2}|");
+    same(rt, written.expect(rt, NO_MEMORY).as_str(), text);
+}
+
+/// The same, for debugging.
+fn check_padded_debug<R: Abort + AllocGlobal, T: Copy + Debug>(rt: &R, value: T, text: &str) {
+    let written = format!(in rt.alloc(); "{value:>20?}|{value:_<13?}|{value:2?}|");
+    same(rt, written.expect(rt, NO_MEMORY).as_str(), text);
 }
 
 // A width pads the whole text, and cuts none of it. A precision would cut it.
 #[test]
-fn padded_texts(rt: HostRuntime) -> Result<(), Fail> {
-    let day = date(&rt, 2019, 1, 2);
-    let padded = format!(in rt.alloc(); "{day:>12}|{day:_<11}|{day:2}|")?;
-    same(&rt, padded.as_str(), "  2019-01-02|2019-01-02_|2019-01-02|");
+fn padded_texts(rt: HostRuntime) {
+    let (day, west) = (date(&rt, 2019, 1, 2), offset(&rt, -5, -30, 0));
     let five_digits = date(&rt, 10_000, 1, 1);
-    let padded = format!(in rt.alloc(); "{five_digits:>14}|{five_digits:2}|")?;
-    same(&rt, padded.as_str(), "  +10000-01-01|+10000-01-01|");
-    let midnight = Time::MIDNIGHT;
-    let padded = format!(in rt.alloc(); "{midnight:>11}|{midnight:_<10}|{midnight:2}|")?;
-    same(&rt, padded.as_str(), "  0:00:00.0|0:00:00.0_|0:00:00.0|");
-    let west = offset(&rt, -5, -30, 0);
-    let padded = format!(in rt.alloc(); "{west:>11}|{west:_<10}|{west:2}|")?;
-    same(&rt, padded.as_str(), "  -05:30:00|-05:30:00_|-05:30:00|");
-    let padded = format!(in rt.alloc();
-        "{:>6}|{:_<5}|{:2}|",
-        Month::May,
-        Month::June,
-        Month::July
-    )?;
-    same(&rt, padded.as_str(), "   May|June_|July|");
-    let friday = Weekday::Friday;
-    let padded = format!(in rt.alloc(); "{friday:>8}|{friday:_<7}|{friday:2}|")?;
-    same(&rt, padded.as_str(), "  Friday|Friday_|Friday|");
-    Ok(())
-}
-
-// A duration ignores a width.
-#[test]
-fn texts_of_durations_under_options(rt: HostRuntime) -> Result<(), Fail> {
-    let duration = SignedDuration::nanoseconds(-1);
-    same(
+    check_padded(&rt, day, "   2019-01-02|2019-01-02___|2019-01-02|");
+    check_padded(
         &rt,
-        format!(in rt.alloc(); "{duration:>9}")?.as_str(),
-        "-1ns",
+        five_digits,
+        " +10000-01-01|+10000-01-01_|+10000-01-01|",
     );
-    same(
+    check_padded(
         &rt,
-        format!(in rt.alloc(); "{duration:09}")?.as_str(),
-        "-1ns",
+        Time::MIDNIGHT,
+        "    0:00:00.0|0:00:00.0____|0:00:00.0|",
     );
-    assert!(rt; !format!(in rt.alloc(); "{duration:?}")?.is_empty());
-    Ok(())
-}
-
-// The form of several lines is that of one line.
-#[test]
-fn styled_texts_for_debugging(rt: HostRuntime) -> Result<(), Fail> {
-    let (day, midnight, utc) = (date(&rt, 2019, 1, 2), Time::MIDNIGHT, UtcOffset::UTC);
-    let padded = format!(in rt.alloc(); "{day:>12?}|{midnight:_<10?}|{utc:2?}|")?;
-    same(&rt, padded.as_str(), "  2019-01-02|0:00:00.0_|+00:00:00|");
-    let padded = format!(in rt.alloc(); "{day:#?}|{midnight:#?}|{utc:#?}|")?;
-    same(&rt, padded.as_str(), "2019-01-02|0:00:00.0|+00:00:00|");
-    let padded = format!(in rt.alloc(); "{:>24?}|", Time::MAX)?;
-    same(&rt, padded.as_str(), "      23:59:59.999999999|");
-    Ok(())
+    check_padded(&rt, west, "    -05:30:00|-05:30:00____|-05:30:00|");
+    check_padded(&rt, Month::May, "          May|May__________|May|");
+    check_padded(&rt, Weekday::Friday, "       Friday|Friday_______|Friday|");
 }
 
 #[test]
-fn texts_of_errors(rt: HostRuntime) -> Result<(), Fail> {
-    for (error, text) in [
-        (
-            ComponentRange::conditional(Component::Day),
-            "day was not in range",
-        ),
-        (
-            ComponentRange::unconditional(Component::OffsetHour),
-            "offset hour was not in range",
-        ),
-    ] {
-        same(&rt, format!(in rt.alloc(); "{error}")?.as_str(), text);
-    }
-    same(
+fn padded_texts_for_debugging(rt: HostRuntime) {
+    let day = date(&rt, 2019, 1, 2);
+    let last = "  23:59:59.999999999|23:59:59.999999999|23:59:59.999999999|";
+    check_padded_debug(&rt, day, "          2019-01-02|2019-01-02___|2019-01-02|");
+    check_padded_debug(
         &rt,
-        format!(in rt.alloc(); "{ConversionRange}")?.as_str(),
-        "Source value is out of range for the target type",
+        Time::MIDNIGHT,
+        "           0:00:00.0|0:00:00.0____|0:00:00.0|",
     );
-    same(
+    check_padded_debug(&rt, Time::MAX, last);
+    check_padded_debug(
         &rt,
-        format!(in rt.alloc(); "{InvalidVariant}")?.as_str(),
-        "value was not a valid variant",
+        UtcOffset::UTC,
+        "           +00:00:00|+00:00:00____|+00:00:00|",
     );
-    Ok(())
 }

@@ -1,124 +1,90 @@
 //! Times of day.
-use crate::tests::{check, same, time};
+use crate::tests::{same, same_at, time, told};
 use crate::util::DateAdjustment;
 use crate::{Counted, SignedDuration, Time};
 
 #[test]
-fn making(rt: HostRuntime) {
-    let answers = [
-        Time::from_hms(1, 2, 3),
-        Time::from_hms_milli(1, 2, 3, 4),
-        Time::from_hms_micro(1, 2, 3, 4_005),
-        Time::from_hms_nano(1, 2, 3, 4_005_006),
-    ];
-    let parts = [
-        (1, 2, 3, 0),
-        (1, 2, 3, 4_000_000),
-        (1, 2, 3, 4_005_000),
-        (1, 2, 3, 4_005_006),
-    ];
-    for (answer, parts) in answers.iter().zip(&parts) {
-        let Ok(time) = answer else {
-            panic!(rt; "{:?} is refused", *parts);
-        };
-        same(&rt, time.as_hms_nano(), *parts);
-    }
-    same(&rt, Time::MIDNIGHT.as_hms_nano(), (0, 0, 0, 0));
-    same(&rt, Time::MIDNIGHT.number(), 0);
-    same(&rt, Time::MAX.as_hms_nano(), (23, 59, 59, 999_999_999));
-    same(&rt, Time::MAX.number(), 86_399_999_999_999);
-}
-
-#[test]
-fn components_out_of_range(rt: HostRuntime) {
-    let answers = [
-        Time::from_hms(24, 60, 60),
-        Time::from_hms(23, 60, 60),
-        Time::from_hms(23, 59, 60),
-        Time::from_hms_milli(0, 0, 0, 1_000),
-        Time::from_hms_micro(0, 0, 0, 4_294_968),
-        Time::from_hms_nano(0, 0, 0, 1_000_000_000),
-    ];
-    let names = [
-        "hour",
-        "minute",
-        "second",
-        "millisecond",
-        "microsecond",
-        "nanosecond",
-    ];
-    for (answer, name) in answers.iter().zip(&names) {
-        let Err(error) = answer else {
-            panic!(rt; "a {name} is let through");
-        };
-        check(&rt, *error, *name, false);
-    }
-}
-
-#[test]
-fn parts(rt: HostRuntime) {
+fn making_and_parts(rt: HostRuntime) {
     let time = time(&rt, 1, 2, 3, 4_005_006);
+    for (told, number) in [
+        (told(&Time::from_hms(1, 2, 3)), 3_723_000_000_000),
+        (told(&Time::from_hms_milli(1, 2, 3, 4)), 3_723_004_000_000),
+        (
+            told(&Time::from_hms_micro(1, 2, 3, 4_005)),
+            3_723_004_005_000,
+        ),
+        (Ok(time.number()), 3_723_004_005_006),
+        (Ok(Time::MIDNIGHT.number()), 0),
+        (Ok(Time::MAX.number()), 86_399_999_999_999),
+    ] {
+        same(&rt, told, Ok(number));
+    }
     same(&rt, time.as_hms(), (1, 2, 3));
     same(&rt, time.as_hms_milli(), (1, 2, 3, 4));
     same(&rt, time.as_hms_micro(), (1, 2, 3, 4_005));
     same(&rt, time.as_hms_nano(), (1, 2, 3, 4_005_006));
     same(&rt, (time.hour(), time.minute(), time.second()), (1, 2, 3));
-    same(&rt, time.millisecond(), 4);
-    same(&rt, time.microsecond(), 4_005);
-    same(&rt, time.nanosecond(), 4_005_006);
+    let parts = (time.millisecond(), time.microsecond(), time.nanosecond());
+    same(&rt, parts, (4, 4_005, 4_005_006));
 }
 
 #[test]
-fn replaced_parts(rt: HostRuntime) {
-    let old = time(&rt, 1, 2, 3, 4_005_006);
-    let answers = [
-        old.replace_hour(7),
-        old.replace_minute(7),
-        old.replace_second(7),
-        old.replace_millisecond(7),
-        old.replace_microsecond(7_008),
-        old.replace_nanosecond(7),
-    ];
-    let parts = [
-        (7, 2, 3, 4_005_006),
-        (1, 7, 3, 4_005_006),
-        (1, 2, 7, 4_005_006),
-        (1, 2, 3, 7_000_000),
-        (1, 2, 3, 7_008_000),
-        (1, 2, 3, 7),
-    ];
-    for (answer, parts) in answers.iter().zip(&parts) {
-        let Ok(new) = answer else {
-            panic!(rt; "{:?} is refused", *parts);
-        };
-        same(&rt, new.as_hms_nano(), *parts);
+fn clocks_out_of_range(rt: HostRuntime) {
+    for ((hour, minute, second), name) in [
+        ((24, 60, 60), "hour"),
+        ((255, 255, 255), "hour"),
+        ((23, 60, 60), "minute"),
+        ((0, 255, 255), "minute"),
+        ((23, 59, 60), "second"),
+        ((0, 0, 255), "second"),
+    ] {
+        let told = told(&Time::from_hms(hour, minute, second));
+        same_at(&rt, (hour, minute, second), told, Err((name, false)));
+    }
+}
+
+#[test]
+fn parts_of_a_second_out_of_range(rt: HostRuntime) {
+    for (milli, micro, nano) in [
+        (1_000, 4_294_968, 1_000_000_000),
+        (65_535, 4_294_967_295, 4_294_967_295),
+    ] {
+        let milli = told(&Time::from_hms_milli(0, 0, 0, milli));
+        same(&rt, milli, Err(("millisecond", false)));
+        let micro = told(&Time::from_hms_micro(0, 0, 0, micro));
+        same(&rt, micro, Err(("microsecond", false)));
+        let nano = told(&Time::from_hms_nano(0, 0, 0, nano));
+        same(&rt, nano, Err(("nanosecond", false)));
     }
 }
 
 #[test]
 fn replaced_by_what_is_out_of_range(rt: HostRuntime) {
     let old = Time::MAX;
-    let answers = [
-        old.replace_hour(24),
-        old.replace_minute(60),
-        old.replace_second(60),
-        old.replace_millisecond(1_000),
-        old.replace_microsecond(1_000_000),
-        old.replace_nanosecond(1_000_000_000),
-    ];
-    let names = [
-        "hour",
-        "minute",
-        "second",
-        "millisecond",
-        "microsecond",
-        "nanosecond",
-    ];
-    for (answer, name) in answers.iter().zip(&names) {
-        let Err(error) = answer else {
-            panic!(rt; "a {name} is let through");
-        };
-        check(&rt, *error, *name, false);
+    for (answer, name) in [
+        (old.replace_hour(24), "hour"),
+        (old.replace_minute(60), "minute"),
+        (old.replace_second(60), "second"),
+        (old.replace_millisecond(1_000), "millisecond"),
+        (old.replace_microsecond(1_000_000), "microsecond"),
+        (old.replace_nanosecond(1_000_000_000), "nanosecond"),
+    ] {
+        same(&rt, told(&answer), Err((name, false)));
+    }
+}
+
+#[test]
+fn replaced_parts(rt: HostRuntime) {
+    let old = time(&rt, 1, 2, 3, 4_005_006);
+    for (answer, parts) in [
+        (old.replace_hour(7), (7, 2, 3, 4_005_006)),
+        (old.replace_minute(7), (1, 7, 3, 4_005_006)),
+        (old.replace_second(7), (1, 2, 7, 4_005_006)),
+        (old.replace_millisecond(7), (1, 2, 3, 7_000_000)),
+        (old.replace_microsecond(7_008), (1, 2, 3, 7_008_000)),
+        (old.replace_nanosecond(7), (1, 2, 3, 7)),
+    ] {
+        same(&rt, answer.map(Time::as_hms_nano), Ok(parts));
     }
 }
 
@@ -138,45 +104,57 @@ fn truncated_times(rt: HostRuntime) {
 
 #[test]
 fn durations_between_times(rt: HostRuntime) {
-    let (one, eleven) = (time(&rt, 1, 0, 0, 0), time(&rt, 23, 0, 0, 0));
-    let (before, after) = (
-        time(&rt, 23, 59, 59, 500_000_000),
-        time(&rt, 0, 0, 0, 200_000_000),
-    );
-    let way = SignedDuration::milliseconds(700);
-    same(&rt, before.duration_until(after), way);
-    same(&rt, after.duration_since(before), way);
-    same(&rt, eleven.duration_until(one), SignedDuration::hours(2));
-    same(&rt, Time::MIDNIGHT - eleven, SignedDuration::hours(-23));
+    for ((hour, minute, second, part), (to_hour, to_part), way, difference) in [
+        (
+            (23, 59, 59, 500_000_000),
+            (0, 200_000_000),
+            700,
+            -86_399_300,
+        ),
+        ((23, 0, 0, 0), (1, 0), 7_200_000, -79_200_000),
+        ((23, 0, 0, 0), (0, 0), 3_600_000, -82_800_000),
+    ] {
+        let (from, to) = (
+            time(&rt, hour, minute, second, part),
+            time(&rt, to_hour, 0, 0, to_part),
+        );
+        let way = SignedDuration::milliseconds(way);
+        let found = (from.duration_until(to), to.duration_since(from));
+        same(&rt, found, (way, way));
+        same(&rt, to - from, SignedDuration::milliseconds(difference));
+    }
 }
 
 #[test]
 fn times_moved_into_the_neighbouring_days(rt: HostRuntime) {
-    let midnight = Time::MIDNIGHT;
-    same(
-        &rt,
-        midnight.adjusting_add(SignedDuration::MIN),
-        (DateAdjustment::Previous, time(&rt, 8, 29, 51, 1)),
-    );
-    same(
-        &rt,
-        midnight.adjusting_sub(SignedDuration::MIN),
-        (DateAdjustment::None, time(&rt, 15, 30, 8, 999_999_999)),
-    );
-    same(
-        &rt,
-        Time::MAX.adjusting_add(SignedDuration::MAX),
-        (DateAdjustment::Next, time(&rt, 15, 30, 7, 999_999_998)),
-    );
+    let (midnight, last) = (Time::MIDNIGHT, Time::MAX);
+    let (least, greatest) = (SignedDuration::MIN, SignedDuration::MAX);
+    let (before, after) = (DateAdjustment::Previous, DateAdjustment::Next);
+    for ((step, time), wanted, parts) in [
+        (midnight.adjusting_add(least), before, (8, 29, 51, 1)),
+        (
+            midnight.adjusting_sub(least),
+            DateAdjustment::None,
+            (15, 30, 8, 999_999_999),
+        ),
+        (
+            last.adjusting_add(greatest),
+            after,
+            (15, 30, 7, 999_999_998),
+        ),
+    ] {
+        same_at(&rt, step, (step, time.as_hms_nano()), (wanted, parts));
+    }
 }
 
 #[test]
 fn times_moved_round_the_clock(rt: HostRuntime) {
     let last = time(&rt, 23, 59, 59, 0);
     let mut moved = time(&rt, 0, 0, 1, 0);
-    same(&rt, moved + SignedDuration::seconds(-2), last);
-    same(&rt, moved - SignedDuration::seconds(2), last);
-    moved -= SignedDuration::seconds(2);
+    let two = SignedDuration::seconds(2);
+    let found = (moved + SignedDuration::seconds(-2), moved - two);
+    same(&rt, found, (last, last));
+    moved -= two;
     same(&rt, moved, last);
     moved += SignedDuration::hours(25);
     same(&rt, moved, time(&rt, 0, 59, 59, 0));

@@ -43,17 +43,11 @@ fn check_step(
 ) {
     same(rt, item.map(Date::to_julian_day), want);
     let length = left.len();
-    same(
-        rt,
-        (walk.len(), walk.size_hint(), walk.clone().count()),
-        (length, (length, Some(length)), length),
-    );
+    let found = (walk.len(), walk.size_hint(), walk.clone().count());
+    same(rt, found, (length, (length, Some(length)), length));
     let (min, max) = (walk.clone().min(), walk.clone().max());
-    same(
-        rt,
-        (min.map(Date::to_julian_day), max.map(Date::to_julian_day)),
-        (left.first().copied(), left.last().copied()),
-    );
+    let found = (min.map(Date::to_julian_day), max.map(Date::to_julian_day));
+    same(rt, found, (left.first().copied(), left.last().copied()));
 }
 
 /// Stops the test unless one step of each kind, two of them `k` places far, takes what the list has. Gives what is left of it.

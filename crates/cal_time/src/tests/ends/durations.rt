@@ -1,20 +1,15 @@
 //! Durations at both ends of the type and of what they are made of.
+use crate::tests::conditions::scaled_by_u32;
+use crate::tests::ends::{DAY, HOUR, MINUTE, SECOND};
 use crate::tests::{same, same_at};
 use crate::{Counted, SignedDuration, extent, is_rising};
+use std::process::Abort;
 
 /// The nanoseconds of the least duration.
 const LEAST: i128 = -9_223_372_036_854_775_808_999_999_999;
 
 /// The nanoseconds of the greatest duration.
 const GREATEST: i128 = 9_223_372_036_854_775_807_999_999_999;
-
-const SECOND: i128 = 1_000_000_000;
-
-const MINUTE: i128 = 60_000_000_000;
-
-const HOUR: i128 = 3_600_000_000_000;
-
-const DAY: i128 = 86_400_000_000_000;
 
 /// Durations at the ends and around zero, each with its nanoseconds.
 pub(super) fn ends() -> [(SignedDuration, i128); 9] {
@@ -57,50 +52,28 @@ fn numbers(durations: [SignedDuration; 2]) -> [i128; 2] {
 }
 
 /// What `+` and `+=` give, where the sum is a duration.
-fn sums(a: SignedDuration, b: SignedDuration) -> Option<[SignedDuration; 2]> {
+fn sums(a: SignedDuration, b: SignedDuration) -> Option<[i128; 2]> {
     a.checked_add(b)?;
     let mut sum = a;
     sum += b;
-    Some([a + b, sum])
+    Some(numbers([a + b, sum]))
 }
 
 /// What `-` and `-=` give, where the difference is a duration.
-fn differences(a: SignedDuration, b: SignedDuration) -> Option<[SignedDuration; 2]> {
+fn differences(a: SignedDuration, b: SignedDuration) -> Option<[i128; 2]> {
     a.checked_sub(b)?;
     let mut difference = a;
     difference -= b;
-    Some([a - b, difference])
-}
-
-/// The opposite by the operator, where it is a duration.
-fn opposite(a: SignedDuration) -> Option<SignedDuration> {
-    a.checked_neg()?;
-    Some(-a)
-}
-
-/// What `*` and `*=` give.
-macro_rules! multiplied {
-    ($a:expr, $k:expr) => {{
-        let mut product = $a;
-        product *= $k;
-        [$a * $k, product]
-    }};
-}
-
-/// What `/` and `/=` give.
-macro_rules! divided {
-    ($a:expr, $k:expr) => {{
-        let mut quotient = $a;
-        quotient /= $k;
-        [$a / $k, quotient]
-    }};
+    Some(numbers([a - b, difference]))
 }
 
 /// What `*` and `*=` give, where the product is a duration.
 macro_rules! products {
     ($a:expr, $k:expr) => {{
         $a.checked_mul(i32::from($k))?;
-        Some(multiplied!($a, $k))
+        let mut product = $a;
+        product *= $k;
+        Some(numbers([$a * $k, product]))
     }};
 }
 
@@ -108,47 +81,49 @@ macro_rules! products {
 macro_rules! quotients {
     ($a:expr, $k:expr) => {{
         $a.checked_div(i32::from($k))?;
-        Some(divided!($a, $k))
+        let mut quotient = $a;
+        quotient /= $k;
+        Some(numbers([$a / $k, quotient]))
     }};
 }
 
-fn products_by_i8(a: SignedDuration, k: i8) -> Option<[SignedDuration; 2]> {
+fn products_by_i8(a: SignedDuration, k: i8) -> Option<[i128; 2]> {
     products!(a, k)
 }
 
-fn products_by_i16(a: SignedDuration, k: i16) -> Option<[SignedDuration; 2]> {
-    products!(a, k)
-}
-
-fn products_by_i32(a: SignedDuration, k: i32) -> Option<[SignedDuration; 2]> {
-    products!(a, k)
-}
-
-fn products_by_u8(a: SignedDuration, k: u8) -> Option<[SignedDuration; 2]> {
-    products!(a, k)
-}
-
-fn products_by_u16(a: SignedDuration, k: u16) -> Option<[SignedDuration; 2]> {
-    products!(a, k)
-}
-
-fn quotients_by_i8(a: SignedDuration, k: i8) -> Option<[SignedDuration; 2]> {
+fn quotients_by_i8(a: SignedDuration, k: i8) -> Option<[i128; 2]> {
     quotients!(a, k)
 }
 
-fn quotients_by_i16(a: SignedDuration, k: i16) -> Option<[SignedDuration; 2]> {
+fn products_by_i16(a: SignedDuration, k: i16) -> Option<[i128; 2]> {
+    products!(a, k)
+}
+
+fn quotients_by_i16(a: SignedDuration, k: i16) -> Option<[i128; 2]> {
     quotients!(a, k)
 }
 
-fn quotients_by_i32(a: SignedDuration, k: i32) -> Option<[SignedDuration; 2]> {
+fn products_by_i32(a: SignedDuration, k: i32) -> Option<[i128; 2]> {
+    products!(a, k)
+}
+
+fn quotients_by_i32(a: SignedDuration, k: i32) -> Option<[i128; 2]> {
     quotients!(a, k)
 }
 
-fn quotients_by_u8(a: SignedDuration, k: u8) -> Option<[SignedDuration; 2]> {
+fn products_by_u8(a: SignedDuration, k: u8) -> Option<[i128; 2]> {
+    products!(a, k)
+}
+
+fn quotients_by_u8(a: SignedDuration, k: u8) -> Option<[i128; 2]> {
     quotients!(a, k)
 }
 
-fn quotients_by_u16(a: SignedDuration, k: u16) -> Option<[SignedDuration; 2]> {
+fn products_by_u16(a: SignedDuration, k: u16) -> Option<[i128; 2]> {
+    products!(a, k)
+}
+
+fn quotients_by_u16(a: SignedDuration, k: u16) -> Option<[i128; 2]> {
     quotients!(a, k)
 }
 
@@ -163,88 +138,67 @@ fn twice(number: i128) -> [i128; 2] {
 
 #[test]
 fn sums_and_differences(rt: HostRuntime) {
+    let number = SignedDuration::whole_nanoseconds;
     for (a, x) in ends() {
         for (b, y) in ends() {
             let (sum, difference) = (x.saturating_add(y), x.saturating_sub(y));
-            let number = SignedDuration::whole_nanoseconds;
-            same(&rt, a.checked_add(b).map(number), exact(sum));
-            same(&rt, a.checked_sub(b).map(number), exact(difference));
-            same(&rt, a.saturating_add(b).number(), clamped(sum));
-            same(&rt, a.saturating_sub(b).number(), clamped(difference));
-            same(&rt, sums(a, b).map(numbers), exact(sum).map(twice));
-            same(
-                &rt,
-                differences(a, b).map(numbers),
-                exact(difference).map(twice),
-            );
+            let wanted = [exact(sum), exact(difference)];
+            let checked = [a.checked_add(b).map(number), a.checked_sub(b).map(number)];
+            let nearest = [a.saturating_add(b).number(), a.saturating_sub(b).number()];
+            same_at(&rt, (a, b), checked, wanted);
+            same_at(&rt, (a, b), nearest, [clamped(sum), clamped(difference)]);
+            let found = [sums(a, b), differences(a, b)];
+            same_at(&rt, (a, b), found, wanted.map(|number| number.map(twice)));
+            same_at(&rt, (a, b), (a.cmp(&b), a == b), (x.cmp(&y), x == y));
         }
+    }
+}
+
+/// Stops the test unless the operators give this product and this quotient, for operands of each type that has the number.
+fn check_operands(rt: &impl Abort, a: SignedDuration, k: i32, wanted: [Option<[i128; 2]>; 2]) {
+    let found = [products_by_i32(a, k), quotients_by_i32(a, k)];
+    same_at(rt, k, found, wanted);
+    if let Ok(k) = i8::try_from(k) {
+        same_at(rt, k, [products_by_i8(a, k), quotients_by_i8(a, k)], wanted);
+    }
+    if let Ok(k) = i16::try_from(k) {
+        let found = [products_by_i16(a, k), quotients_by_i16(a, k)];
+        same_at(rt, k, found, wanted);
+    }
+    if let Ok(k) = u8::try_from(k) {
+        same_at(rt, k, [products_by_u8(a, k), quotients_by_u8(a, k)], wanted);
+    }
+    if let Ok(k) = u16::try_from(k) {
+        let found = [products_by_u16(a, k), quotients_by_u16(a, k)];
+        same_at(rt, k, found, wanted);
     }
 }
 
 #[test]
 fn products_and_quotients(rt: HostRuntime) {
+    let number = SignedDuration::whole_nanoseconds;
     for (a, x) in ends() {
-        for k in [i32::MIN, -2, -1, 0, 1, 2, i32::MAX] {
+        for k in [
+            i32::MIN,
+            -32_768,
+            -128,
+            -2,
+            -1,
+            0,
+            1,
+            2,
+            127,
+            255,
+            32_767,
+            65_535,
+            i32::MAX,
+        ] {
             let product = x.saturating_mul(i128::from(k));
-            let quotient = exact_quotient(x, i128::from(k));
-            let number = SignedDuration::whole_nanoseconds;
-            same_at(&rt, (a, k), a.checked_mul(k).map(number), exact(product));
+            let wanted = [exact(product), exact_quotient(x, i128::from(k))];
+            let checked = [a.checked_mul(k).map(number), a.checked_div(k).map(number)];
+            same_at(&rt, (a, k), checked, wanted);
             same_at(&rt, (a, k), a.saturating_mul(k).number(), clamped(product));
-            same_at(&rt, (a, k), a.checked_div(k).map(number), quotient);
-            same(
-                &rt,
-                products_by_i32(a, k).map(numbers),
-                exact(product).map(twice),
-            );
-            same(
-                &rt,
-                quotients_by_i32(a, k).map(numbers),
-                quotient.map(twice),
-            );
-        }
-    }
-}
-
-#[test]
-fn products_and_quotients_by_signed_operands(rt: HostRuntime) {
-    for (a, x) in ends() {
-        for k in [i8::MIN, -1, 0, 1, i8::MAX] {
-            let product = exact(x.saturating_mul(i128::from(k)));
-            let quotient = exact_quotient(x, i128::from(k));
-            same(&rt, products_by_i8(a, k).map(numbers), product.map(twice));
-            same(&rt, quotients_by_i8(a, k).map(numbers), quotient.map(twice));
-        }
-        for k in [i16::MIN, -1, 0, 1, i16::MAX] {
-            let product = exact(x.saturating_mul(i128::from(k)));
-            let quotient = exact_quotient(x, i128::from(k));
-            same(&rt, products_by_i16(a, k).map(numbers), product.map(twice));
-            same(
-                &rt,
-                quotients_by_i16(a, k).map(numbers),
-                quotient.map(twice),
-            );
-        }
-    }
-}
-
-#[test]
-fn products_and_quotients_by_unsigned_operands(rt: HostRuntime) {
-    for (a, x) in ends() {
-        for k in [0, 1, u8::MAX] {
-            let product = exact(x.saturating_mul(i128::from(k)));
-            let quotient = exact_quotient(x, i128::from(k));
-            same(&rt, products_by_u8(a, k).map(numbers), product.map(twice));
-            same(&rt, quotients_by_u8(a, k).map(numbers), quotient.map(twice));
-        }
-        for k in [0, 1, u16::MAX] {
-            let product = exact(x.saturating_mul(i128::from(k)));
-            let quotient = exact_quotient(x, i128::from(k));
-            same(&rt, products_by_u16(a, k).map(numbers), product.map(twice));
-            same(
-                &rt,
-                quotients_by_u16(a, k).map(numbers),
-                quotient.map(twice),
-            );
+            check_operands(&rt, a, k, wanted.map(|number| number.map(twice)));
         }
     }
 }
@@ -254,69 +208,43 @@ fn products_and_quotients_by_unsigned_operands(rt: HostRuntime) {
 fn products_and_quotients_by_u32(rt: HostRuntime) {
     let (min, max) = (SignedDuration::MIN, SignedDuration::MAX);
     let (one, less_one) = (SignedDuration::NANOSECOND, SignedDuration::nanoseconds(-1));
-    for (scaled, number) in [
-        (multiplied!(min, 0u32), 0),
-        (multiplied!(max, 0u32), 0),
-        (multiplied!(min, 1u32), LEAST),
-        (multiplied!(max, 1u32), GREATEST),
-        (multiplied!(one, u32::MAX), 4_294_967_295),
-        (multiplied!(less_one, u32::MAX), -4_294_967_295),
-        (divided!(min, 1u32), LEAST),
-        (divided!(max, 1u32), GREATEST),
-        (divided!(min, u32::MAX), LEAST / 4_294_967_295),
-        (divided!(max, u32::MAX), GREATEST / 4_294_967_295),
-    ] {
-        same(&rt, numbers(scaled), twice(number));
-    }
-}
-
-#[test]
-fn written_out(rt: HostRuntime) {
-    let (min, max, zero) = (
-        SignedDuration::MIN,
-        SignedDuration::MAX,
-        SignedDuration::ZERO,
-    );
-    for (answer, want) in [
-        (min.checked_mul(1), Some(min)),
-        (min.checked_mul(-1), None),
-        (min.checked_mul(0), Some(zero)),
-        (min.checked_mul(i32::MIN), None),
+    let greatest = 4_294_967_295;
+    for (scaled, product, quotient) in [
+        (scaled_by_u32(min, min, 1), LEAST, LEAST),
+        (scaled_by_u32(max, max, 1), GREATEST, GREATEST),
         (
-            min.checked_div(i32::MIN),
-            Some(SignedDuration::seconds(4_294_967_296)),
+            scaled_by_u32(one, min, u32::MAX),
+            greatest,
+            LEAST / greatest,
         ),
-        (min.checked_sub(min), Some(zero)),
-        (Some(min.saturating_mul(-1)), Some(max)),
-        (Some(min.saturating_mul(i32::MIN)), Some(max)),
-        (Some(max.saturating_sub(min)), Some(max)),
-        (Some(min.saturating_sub(max)), Some(min)),
+        (
+            scaled_by_u32(less_one, max, u32::MAX),
+            -greatest,
+            GREATEST / greatest,
+        ),
     ] {
-        same(&rt, answer, want);
+        let numbers = scaled.map(SignedDuration::whole_nanoseconds);
+        same(&rt, numbers, [product, quotient, product, quotient]);
     }
-    same(&rt, min.whole_days(), -106_751_991_167_300);
-    same(&rt, min.whole_weeks(), -15_250_284_452_471);
+    let found = [min * 0u32, max * 0u32];
+    same(&rt, found, [SignedDuration::ZERO, SignedDuration::ZERO]);
 }
 
 #[test]
 fn signs_and_magnitudes(rt: HostRuntime) {
     for (a, x) in ends() {
-        let number = SignedDuration::whole_nanoseconds;
-        let size = x.saturating_abs();
-        same(
-            &rt,
-            (a.is_zero(), a.is_negative(), a.is_positive()),
-            (x == 0, x < 0, x > 0),
-        );
-        same(&rt, a.checked_neg().map(number), exact(x.saturating_neg()));
-        same(&rt, opposite(a).map(number), exact(x.saturating_neg()));
-        same(&rt, a.abs().number(), clamped(size));
-        let (seconds, nanoseconds) = a.unsigned_abs();
-        same(
-            &rt,
-            (i128::from(seconds), i128::from(nanoseconds)),
-            (size / SECOND, size % SECOND),
-        );
+        let (size, opposite) = (x.saturating_abs(), exact(x.saturating_neg()));
+        let signs = (a.is_zero(), a.is_negative(), a.is_positive());
+        same_at(&rt, a, signs, (x == 0, x < 0, x > 0));
+        let negated = a.checked_neg();
+        same_at(&rt, a, negated.map(Counted::number), opposite);
+        if negated.is_some() {
+            same_at(&rt, a, Some((-a).number()), opposite);
+        }
+        same_at(&rt, a, a.abs().number(), clamped(size));
+        let (seconds, past) = a.unsigned_abs();
+        let found = (i128::from(seconds), i128::from(past));
+        same(&rt, found, (size / SECOND, size % SECOND));
     }
 }
 
@@ -333,30 +261,17 @@ fn parts(rt: HostRuntime) {
             a.whole_microseconds(),
             a.whole_nanoseconds(),
         ];
-        same(
-            &rt,
-            whole,
-            [
-                x / (7 * DAY),
-                x / DAY,
-                x / HOUR,
-                x / MINUTE,
-                x / SECOND,
-                x / 1_000_000,
-                x / 1_000,
-                x,
-            ],
-        );
+        let [weeks, days, hours] = [x / (7 * DAY), x / DAY, x / HOUR];
+        let [minutes, seconds, millis] = [x / MINUTE, x / SECOND, x / 1_000_000];
+        let wanted = [weeks, days, hours, minutes, seconds, millis, x / 1_000, x];
+        same_at(&rt, a, whole, wanted);
         let past = x % SECOND;
-        same(
-            &rt,
-            [
-                i128::from(a.subsec_milliseconds()),
-                i128::from(a.subsec_microseconds()),
-                i128::from(a.subsec_nanoseconds()),
-            ],
-            [past / 1_000_000, past / 1_000, past],
-        );
+        let parts = [
+            i128::from(a.subsec_milliseconds()),
+            i128::from(a.subsec_microseconds()),
+            i128::from(a.subsec_nanoseconds()),
+        ];
+        same_at(&rt, a, parts, [past / 1_000_000, past / 1_000, past]);
     }
 }
 
@@ -364,18 +279,14 @@ fn parts(rt: HostRuntime) {
 fn durations_of_each_unit(rt: HostRuntime) {
     for n in [i64::MIN, -1, 0, 1, i64::MAX] {
         let number = i128::from(n);
-        same(&rt, SignedDuration::seconds(n).number(), number * SECOND);
-        same(
-            &rt,
-            SignedDuration::milliseconds(n).number(),
-            number * 1_000_000,
-        );
-        same(
-            &rt,
-            SignedDuration::microseconds(n).number(),
-            number * 1_000,
-        );
-        same(&rt, SignedDuration::nanoseconds(n).number(), number);
+        let durations = [
+            SignedDuration::seconds(n),
+            SignedDuration::milliseconds(n),
+            SignedDuration::microseconds(n),
+            SignedDuration::nanoseconds(n),
+        ];
+        let numbers = [number * SECOND, number * 1_000_000, number * 1_000, number];
+        same_at(&rt, n, durations.map(Counted::number), numbers);
     }
 }
 
@@ -383,6 +294,10 @@ fn durations_of_each_unit(rt: HostRuntime) {
 fn durations_of_seconds_and_nanoseconds(rt: HostRuntime) {
     for (duration, number) in [
         (SignedDuration::new(i64::MIN, -999_999_999), LEAST),
+        (
+            SignedDuration::new(i64::MIN, 1),
+            -9_223_372_036_854_775_807_999_999_999,
+        ),
         (
             SignedDuration::new(i64::MIN, i32::MAX),
             -9_223_372_036_854_775_805_852_516_353,
@@ -402,25 +317,23 @@ fn durations_of_seconds_and_nanoseconds(rt: HostRuntime) {
 }
 
 #[test]
-fn order(rt: HostRuntime) {
-    for (a, x) in ends() {
-        for (b, y) in ends() {
-            same(&rt, a.cmp(&b), x.cmp(&y));
-            same(&rt, a == b, x == y);
-        }
+fn slices(rt: HostRuntime) {
+    let (min, max) = (SignedDuration::MIN, SignedDuration::MAX);
+    let (one, less_one) = (SignedDuration::NANOSECOND, SignedDuration::nanoseconds(-1));
+    let (zero, less_second) = (SignedDuration::ZERO, SignedDuration::seconds(-1));
+    let rows: [(&[SignedDuration], Option<SignedDuration>); 8] = [
+        (&[], Some(zero)),
+        (&[min], Some(min)),
+        (&[max], Some(max)),
+        (&[min, max], Some(less_second)),
+        (&[max, min, min], None),
+        (&[min, min, max, max], None),
+        (&[max, one, less_one], None),
+        (&[max, less_one, one], Some(max)),
+    ];
+    for (durations, sum) in rows {
+        same(&rt, SignedDuration::try_sum(durations), sum);
     }
     assert!(rt; is_rising(&ends().map(|(duration, _)| duration)));
-    let (min, max) = (SignedDuration::MIN, SignedDuration::MAX);
     same(&rt, extent(&[max, min]), Some((min, max)));
-}
-
-#[test]
-fn sums_of_slices(rt: HostRuntime) {
-    let (min, max) = (SignedDuration::MIN, SignedDuration::MAX);
-    let less_second = SignedDuration::seconds(-1);
-    same(&rt, SignedDuration::try_sum(&[min]), Some(min));
-    same(&rt, SignedDuration::try_sum(&[max]), Some(max));
-    same(&rt, SignedDuration::try_sum(&[min, max]), Some(less_second));
-    same(&rt, SignedDuration::try_sum(&[max, min, min]), None);
-    same(&rt, SignedDuration::try_sum(&[min, min, max, max]), None);
 }

@@ -1,7 +1,6 @@
 //! The first two and the last two years of the range, day by day and week by week. None of them is a leap year.
-use crate::tests::ends::told;
 use crate::tests::range::{FIRST_JULIAN_DAY, FIRST_YEAR, LAST_JULIAN_DAY, LAST_YEAR};
-use crate::tests::same;
+use crate::tests::{same, told};
 use crate::{Counted, Date, Month, Weekday};
 use std::process::Abort;
 
@@ -86,90 +85,45 @@ impl Running {
 /// Stops the test unless each constructor gives this day.
 fn check_constructors(rt: &impl Abort, running: Running, month: Month, day: u8) {
     let year = running.year;
-    let number = Ok(i128::from(running.julian_day));
-    let weekday = WEEKDAYS.get(usize::from(running.weekday)).copied();
     let (iso_year, week) = running.iso_week();
-    let (Some(weekday), Ok(week)) = (weekday, u8::try_from(week)) else {
-        panic!(rt; "{week} is no week");
-    };
-    same(rt, told(&Date::from_julian_day(running.julian_day)), number);
-    same(
-        rt,
-        told(&Date::from_calendar_date(year, month, day)),
-        number,
-    );
-    same(
-        rt,
-        told(&Date::from_ordinal_date(year, running.ordinal)),
-        number,
-    );
-    same(
-        rt,
-        told(&Date::from_iso_week_date(iso_year, week, weekday)),
-        number,
-    );
+    let week = u8::try_from(week).expect(rt, "no week");
+    let weekday = Weekday::Monday.nth_next(running.weekday);
+    for answer in [
+        Date::from_julian_day(running.julian_day),
+        Date::from_calendar_date(year, month, day),
+        Date::from_ordinal_date(year, running.ordinal),
+        Date::from_iso_week_date(iso_year, week, weekday),
+    ] {
+        same(rt, told(&answer), Ok(i128::from(running.julian_day)));
+    }
 }
 
 /// Stops the test unless the date has what this day has.
 fn check_parts(rt: &impl Abort, date: Date, running: Running, month: Month, day: u8) {
+    let (year, ordinal, weekday) = (running.year, running.ordinal, running.weekday);
     let (iso_year, week) = running.iso_week();
     let (its_year, its_week, its_weekday) = date.to_iso_week_date();
-    same(
-        rt,
-        (
-            date.to_julian_day(),
-            date.to_calendar_date(),
-            date.to_ordinal_date(),
-        ),
-        (
-            running.julian_day,
-            (running.year, month, day),
-            (running.year, running.ordinal),
-        ),
-    );
-    same(
-        rt,
-        (its_year, i32::from(its_week), its_weekday as u8),
-        (iso_year, week, running.weekday),
-    );
-    same(
-        rt,
-        (
-            date.year(),
-            date.month(),
-            date.day(),
-            date.ordinal(),
-            date.weekday() as u8,
-        ),
-        (running.year, month, day, running.ordinal, running.weekday),
-    );
-    same(
-        rt,
-        (
-            i32::from(date.iso_week()),
-            date.sunday_based_week(),
-            date.monday_based_week(),
-        ),
-        (week, running.sundays, running.mondays),
-    );
+    same(rt, date.to_calendar_date(), (year, month, day));
+    same(rt, date.to_ordinal_date(), (year, ordinal));
+    let found = (its_year, i32::from(its_week), its_weekday as u8);
+    same(rt, found, (iso_year, week, weekday));
+    let found = (date.year(), date.month(), date.day());
+    same(rt, found, (year, month, day));
+    let found = (date.to_julian_day(), date.ordinal());
+    same(rt, found, (running.julian_day, ordinal));
+    let found = (i32::from(date.iso_week()), date.weekday() as u8);
+    same(rt, found, (week, weekday));
+    let weeks = (date.sunday_based_week(), date.monday_based_week());
+    same(rt, weeks, (running.sundays, running.mondays));
 }
 
 /// Stops the test unless the days around the date are its neighbours.
 fn check_neighbours(rt: &impl Abort, date: Date, julian_day: i32) {
-    let before = i128::from(julian_day) - 1;
-    let after = i128::from(julian_day) + 1;
-    let has_day_before = julian_day != FIRST_JULIAN_DAY;
-    let has_day_after = julian_day != LAST_JULIAN_DAY;
-    same(
-        rt,
-        date.previous_day().map(Counted::number),
-        has_day_before.then_some(before),
-    );
-    same(
-        rt,
-        date.next_day().map(Counted::number),
-        has_day_after.then_some(after),
-    );
+    let before = (julian_day != FIRST_JULIAN_DAY).then_some(i128::from(julian_day) - 1);
+    let after = (julian_day != LAST_JULIAN_DAY).then_some(i128::from(julian_day) + 1);
+    let found = [date.previous_day(), date.next_day()];
+    let found = found.map(|day| day.map(Counted::number));
+    same(rt, found, [before, after]);
 }
 
 /// Stops the test unless all days of the year are those of the calendar. Gives what runs on to the next year.
@@ -177,9 +131,7 @@ fn check_year(rt: &impl Abort, new_year: Running) -> Running {
     let mut running = new_year;
     for (month, length) in MONTHS {
         for day in 1..=length {
-            let Ok(date) = Date::from_julian_day(running.julian_day) else {
-                panic!(rt; "{} is refused", running.julian_day);
-            };
+            let date = Date::from_julian_day(running.julian_day).expect(rt, "no date");
             check_constructors(rt, running, month, day);
             check_parts(rt, date, running, month, day);
             check_neighbours(rt, date, running.julian_day);

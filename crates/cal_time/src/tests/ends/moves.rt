@@ -1,10 +1,10 @@
 //! Dates at both ends of the range, moved by durations and to weekdays.
+use crate::tests::ends::DAY;
 use crate::tests::ends::durations::ends;
-use crate::tests::range::{DAYS, FIRST_JULIAN_DAY, LAST_JULIAN_DAY, LAST_YEAR};
-use crate::tests::{date, same};
+use crate::tests::range::{DAYS, FIRST_JULIAN_DAY, FIRST_YEAR, LAST_JULIAN_DAY, LAST_YEAR};
+use crate::tests::{date, same, same_at};
 use crate::{Counted, Date, SignedDuration, Weekday};
-
-const DAY: i128 = 86_400_000_000_000;
+use std::process::Abort;
 
 /// Both ends of the range, with their Julian days.
 const DATES: [(Date, i32); 2] = [(Date::MIN, FIRST_JULIAN_DAY), (Date::MAX, LAST_JULIAN_DAY)];
@@ -43,48 +43,45 @@ fn nearest(julian_day: i128) -> i128 {
 }
 
 /// What `+` and `+=` give, where that day is in the range.
-fn sums(date: Date, duration: SignedDuration) -> Option<(i128, i128)> {
+fn sums(date: Date, duration: SignedDuration) -> Option<[i128; 2]> {
     date.checked_add(duration)?;
     let mut moved = date;
     moved += duration;
-    Some(((date + duration).number(), moved.number()))
+    Some([(date + duration).number(), moved.number()])
 }
 
 /// What `-` and `-=` give, where that day is in the range.
-fn differences(date: Date, duration: SignedDuration) -> Option<(i128, i128)> {
+fn differences(date: Date, duration: SignedDuration) -> Option<[i128; 2]> {
     date.checked_sub(duration)?;
     let mut moved = date;
     moved -= duration;
-    Some(((date - duration).number(), moved.number()))
+    Some([(date - duration).number(), moved.number()])
 }
 
-/// Whether all moves of the day by the duration are those of the numbers, whose whole days are cut toward zero.
-fn moves_exactly(date: Date, from: i32, duration: SignedDuration, nanoseconds: i128) -> bool {
-    let (from, days) = (i128::from(from), nanoseconds / DAY);
+/// Stops the test unless all moves of the day by the duration are those of the numbers, whose whole days are cut toward zero.
+fn check_moves(rt: &impl Abort, date: Date, from: i32, duration: SignedDuration, by: i128) {
+    let (from, days) = (i128::from(from), by / DAY);
     let (later, earlier) = (from.saturating_add(days), from.saturating_sub(days));
-    let (sum, difference) = (in_range(later), in_range(earlier));
-    date.checked_add(duration).map(Counted::number) == sum
-        && date.checked_sub(duration).map(Counted::number) == difference
-        && sums(date, duration) == sum.map(|day| (day, day))
-        && differences(date, duration) == difference.map(|day| (day, day))
-        && date.saturating_add(duration).number() == nearest(later)
-        && date.saturating_sub(duration).number() == nearest(earlier)
+    let wanted = [in_range(later), in_range(earlier)];
+    let checked = [date.checked_add(duration), date.checked_sub(duration)];
+    let found = checked.map(|day| day.map(Counted::number));
+    same_at(rt, duration, found, wanted);
+    let wanted = wanted.map(|day| day.map(|day| [day, day]));
+    let found = [sums(date, duration), differences(date, duration)];
+    same_at(rt, duration, found, wanted);
+    let found = [date.saturating_add(duration), date.saturating_sub(duration)];
+    let found = found.map(Counted::number);
+    same_at(rt, duration, found, [nearest(later), nearest(earlier)]);
 }
 
 #[test]
 fn ends_moved_by_durations(rt: HostRuntime) {
     for (date, from) in DATES {
-        for (duration, nanoseconds) in ends() {
-            assert!(rt;
-                moves_exactly(date, from, duration, nanoseconds),
-                "{date} by {duration}"
-            );
+        for (duration, by) in ends() {
+            check_moves(&rt, date, from, duration, by);
         }
-        for (duration, nanoseconds) in durations() {
-            assert!(rt;
-                moves_exactly(date, from, duration, nanoseconds),
-                "{date} by {duration}"
-            );
+        for (duration, by) in durations() {
+            check_moves(&rt, date, from, duration, by);
         }
     }
 }
@@ -136,11 +133,25 @@ fn prev_occurrences(date: Date, weekday: Weekday, n: u8) -> Option<[i128; 3]> {
     Some([checked.number(), nth.number(), nearest.number()])
 }
 
+/// Stops the test unless the days with each weekday, around a date with that Julian day, are those of the numbers.
+fn check_occurrences(rt: &impl Abort, date: Date, from: i32, n: u8) {
+    for weekday in Weekday::iter_from(Weekday::Monday).take(7) {
+        let (after, before) = (
+            nth_after(from, weekday as u8, n),
+            nth_before(from, weekday as u8, n),
+        );
+        let found = [
+            next_occurrences(date, weekday, n),
+            prev_occurrences(date, weekday, n),
+        ];
+        let wanted = [after, before].map(|day| day.map(|day| [day, day, day]));
+        same_at(rt, (date, weekday, n), found, wanted);
+    }
+}
+
 #[test]
 fn occurrences_at_the_ends(rt: HostRuntime) {
-    let Some(second) = Date::MIN.next_day() else {
-        panic!(rt; "no day comes after the first");
-    };
+    let second = date(&rt, FIRST_YEAR, 1, 2);
     let week_before = date(&rt, LAST_YEAR, 12, 24);
     for (date, from) in [
         (Date::MIN, FIRST_JULIAN_DAY),
@@ -148,32 +159,12 @@ fn occurrences_at_the_ends(rt: HostRuntime) {
         (week_before, LAST_JULIAN_DAY - 7),
         (Date::MAX, LAST_JULIAN_DAY),
     ] {
-        for weekday in Weekday::iter_from(Weekday::Monday).take(7) {
-            for n in [0, 1, 2, 255] {
-                let place = weekday as u8;
-                same(
-                    &rt,
-                    next_occurrences(date, weekday, n),
-                    nth_after(from, place, n).map(|day| [day, day, day]),
-                );
-                same(
-                    &rt,
-                    prev_occurrences(date, weekday, n),
-                    nth_before(from, place, n).map(|day| [day, day, day]),
-                );
-            }
+        for n in [0, 1, 2, 255] {
+            check_occurrences(&rt, date, from, n);
         }
     }
-}
-
-#[test]
-fn fridays_of_the_last_week(rt: HostRuntime) {
-    let date = date(&rt, LAST_YEAR, 12, 24);
     for (n, want) in [(0, None), (1, Some(Date::MAX)), (2, None)] {
-        same(
-            &rt,
-            date.checked_nth_next_occurrence(Weekday::Friday, n),
-            want,
-        );
+        let found = week_before.checked_nth_next_occurrence(Weekday::Friday, n);
+        same(&rt, found, want);
     }
 }

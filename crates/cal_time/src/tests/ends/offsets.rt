@@ -1,7 +1,6 @@
 //! Offsets at both ends of their parts.
 use crate::UtcOffset;
-use crate::tests::ends::{Told, told};
-use crate::tests::same;
+use crate::tests::{Told, same, told};
 
 /// The hours at both ends of the range and of the type.
 const HOURS: [i8; 7] = [-128, -26, -25, 0, 25, 26, 127];
@@ -39,25 +38,10 @@ fn offsets_of_parts(rt: HostRuntime) {
     for hours in HOURS {
         for minutes in SIXTIETHS {
             for seconds in SIXTIETHS {
-                same(
-                    &rt,
-                    told(&UtcOffset::from_hms(hours, minutes, seconds)),
-                    of_parts(hours, minutes, seconds),
-                );
+                let told = told(&UtcOffset::from_hms(hours, minutes, seconds));
+                same(&rt, told, of_parts(hours, minutes, seconds));
             }
         }
-    }
-}
-
-#[test]
-fn least_parts(rt: HostRuntime) {
-    for (told, name) in [
-        (told(&UtcOffset::from_hms(-128, -128, -128)), "offset hour"),
-        (told(&UtcOffset::from_hms(0, -128, -128)), "offset minute"),
-        (told(&UtcOffset::from_hms(0, 0, -128)), "offset second"),
-        (told(&UtcOffset::from_whole_seconds(i32::MIN)), "seconds"),
-    ] {
-        same(&rt, told, Err((name, false)));
     }
 }
 
@@ -70,37 +54,5 @@ fn offsets_of_seconds(rt: HostRuntime) {
             Ok(i128::from(seconds))
         };
         same(&rt, told(&UtcOffset::from_whole_seconds(seconds)), want);
-    }
-}
-
-#[test]
-fn parts_of_the_ends(rt: HostRuntime) {
-    for (seconds, (hours, minutes, past_minute), all_minutes) in [
-        (-93_599, (-25, -59, -59), -1_559),
-        (93_599, (25, 59, 59), 1_559),
-    ] {
-        let Ok(offset) = UtcOffset::from_whole_seconds(seconds) else {
-            panic!(rt; "{seconds} is refused");
-        };
-        same(
-            &rt,
-            (
-                offset.as_hms(),
-                offset.whole_hours(),
-                offset.whole_minutes(),
-            ),
-            ((hours, minutes, past_minute), hours, all_minutes),
-        );
-        same(
-            &rt,
-            (offset.minutes_past_hour(), offset.seconds_past_minute()),
-            (minutes, past_minute),
-        );
-        same(&rt, (-offset).whole_seconds(), seconds.wrapping_neg());
-        same(
-            &rt,
-            (offset.is_negative(), offset.is_utc(), offset.is_positive()),
-            (seconds < 0, false, seconds > 0),
-        );
     }
 }

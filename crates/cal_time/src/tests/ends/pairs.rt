@@ -1,9 +1,8 @@
 //! Dates at both ends of the range and times at both ends of the day, moved together.
+use crate::tests::ends::DAY;
 use crate::tests::ends::durations::ends;
 use crate::tests::range::{DAYS, FIRST_JULIAN_DAY, LAST_JULIAN_DAY};
 use crate::{Counted, Date, SignedDuration, Time, add_to_pair, sub_from_pair};
-
-const DAY: i128 = 86_400_000_000_000;
 
 /// The Julian day and the nanoseconds since midnight of a moment, where the day is one of the range.
 fn at_moment(moment: i128) -> Option<(i128, i128)> {

@@ -1,19 +1,13 @@
 //! Times at both ends of their parts, and moved by the least and the greatest duration.
 ghost use Rattle.std.specs.Prelude.{pos, ◌<ℤ◌};
 
+use crate::error::ComponentRange;
 use crate::tests::ends::durations::ends;
-use crate::tests::ends::{Told, told};
-use crate::tests::{same, same_at};
+use crate::tests::ends::{DAY, HOUR, MINUTE, SECOND};
+use crate::tests::{Told, same, same_at, told};
 use crate::util::DateAdjustment;
-use crate::{Counted, SignedDuration, Time};
-
-const SECOND: i128 = 1_000_000_000;
-
-const MINUTE: i128 = 60_000_000_000;
-
-const HOUR: i128 = 3_600_000_000_000;
-
-const DAY: i128 = 86_400_000_000_000;
+use crate::{Counted, Time};
+use std::process::Abort;
 
 /// The hours at both ends of the range and of the type.
 const HOURS: [u8; 4] = [0, 23, 24, 255];
@@ -57,16 +51,28 @@ fn with_part(clock: &Told, part: u32, count: u32, name: &'static str) -> Told {
     }
 }
 
+/// Stops the test unless the answers are that clock with so many milliseconds, microseconds and nanoseconds, or refuse them.
+fn check_parts(
+    rt: &impl Abort,
+    clock: &Told,
+    [milli, micro, nano]: [Result<Time, ComponentRange>; 3],
+    parts: [u32; 3],
+) {
+    let found = told(&milli);
+    same(rt, found, with_part(clock, parts[0], 1_000, "millisecond"));
+    let wanted = with_part(clock, parts[1], 1_000_000, "microsecond");
+    same(rt, told(&micro), wanted);
+    let wanted = with_part(clock, parts[2], 1_000_000_000, "nanosecond");
+    same(rt, told(&nano), wanted);
+}
+
 #[test]
 fn times_of_clocks(rt: HostRuntime) {
     for hour in HOURS {
         for minute in SIXTIETHS {
             for second in SIXTIETHS {
-                same(
-                    &rt,
-                    told(&Time::from_hms(hour, minute, second)),
-                    clock(hour, minute, second),
-                );
+                let told = told(&Time::from_hms(hour, minute, second));
+                same(&rt, told, clock(hour, minute, second));
             }
         }
     }
@@ -77,40 +83,13 @@ fn times_of_clocks_and_parts_of_a_second(rt: HostRuntime) {
     for (hour, minute, second) in [(0, 0, 0), (23, 59, 59), (23, 59, 60), (255, 255, 255)] {
         let clock = clock(hour, minute, second);
         for (milli, micro, nano) in PARTS {
-            same(
-                &rt,
-                told(&Time::from_hms_milli(hour, minute, second, milli)),
-                with_part(&clock, u32::from(milli), 1_000, "millisecond"),
-            );
-            same(
-                &rt,
-                told(&Time::from_hms_micro(hour, minute, second, micro)),
-                with_part(&clock, micro, 1_000_000, "microsecond"),
-            );
-            same(
-                &rt,
-                told(&Time::from_hms_nano(hour, minute, second, nano)),
-                with_part(&clock, nano, 1_000_000_000, "nanosecond"),
-            );
+            let answers = [
+                Time::from_hms_milli(hour, minute, second, milli),
+                Time::from_hms_micro(hour, minute, second, micro),
+                Time::from_hms_nano(hour, minute, second, nano),
+            ];
+            check_parts(&rt, &clock, answers, [u32::from(milli), micro, nano]);
         }
-    }
-}
-
-#[test]
-fn greatest_parts(rt: HostRuntime) {
-    let greatest = 4_294_967_295;
-    for (told, name) in [
-        (told(&Time::from_hms(255, 255, 255)), "hour"),
-        (told(&Time::from_hms(0, 255, 255)), "minute"),
-        (told(&Time::from_hms(0, 0, 255)), "second"),
-        (told(&Time::from_hms_milli(0, 0, 0, 65_535)), "millisecond"),
-        (
-            told(&Time::from_hms_micro(0, 0, 0, greatest)),
-            "microsecond",
-        ),
-        (told(&Time::from_hms_nano(0, 0, 0, greatest)), "nanosecond"),
-    ] {
-        same(&rt, told, Err((name, false)));
     }
 }
 
@@ -148,21 +127,12 @@ fn replaced_parts_of_a_second(rt: HostRuntime) {
         let number = i128::from(number);
         let seconds = Ok(number - number % SECOND);
         for (milli, micro, nano) in PARTS {
-            same(
-                &rt,
-                told(&time.replace_millisecond(milli)),
-                with_part(&seconds, u32::from(milli), 1_000, "millisecond"),
-            );
-            same(
-                &rt,
-                told(&time.replace_microsecond(micro)),
-                with_part(&seconds, micro, 1_000_000, "microsecond"),
-            );
-            same(
-                &rt,
-                told(&time.replace_nanosecond(nano)),
-                with_part(&seconds, nano, 1_000_000_000, "nanosecond"),
-            );
+            let answers = [
+                time.replace_millisecond(milli),
+                time.replace_microsecond(micro),
+                time.replace_nanosecond(nano),
+            ];
+            check_parts(&rt, &seconds, answers, [u32::from(milli), micro, nano]);
         }
     }
 }
@@ -189,9 +159,8 @@ fn ways_between_the_ends(rt: HostRuntime) {
         for (to, end) in TIMES {
             let (start, end) = (i128::from(start), i128::from(end));
             let way = (end - start).rem_euclid(DAY);
-            same(&rt, from.duration_until(to).whole_nanoseconds(), way);
-            same(&rt, to.duration_since(from).whole_nanoseconds(), way);
-            same(&rt, (to - from).whole_nanoseconds(), end - start);
+            let ways = [from.duration_until(to), to.duration_since(from), to - from];
+            same(&rt, ways.map(Counted::number), [way, way, end - start]);
         }
     }
 }
@@ -231,9 +200,9 @@ fn ends_moved_round_the_clock(rt: HostRuntime) {
             let (mut plus, mut minus) = (time, time);
             plus += duration;
             minus -= duration;
-            same(&rt, (plus.number(), minus.number()), (later, earlier));
-            same(&rt, (time + duration).number(), later);
-            same(&rt, (time - duration).number(), earlier);
+            let found = [plus, time + duration, minus, time - duration];
+            let found = found.map(Counted::number);
+            same_at(&rt, duration, found, [later, later, earlier, earlier]);
         }
     }
 }

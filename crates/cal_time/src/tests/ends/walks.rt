@@ -1,7 +1,7 @@
 //! Walks over all days of the range, and steps of the greatest length.
 use crate::Date;
 use crate::iter::DateIter;
-use crate::tests::range::{DAYS, LAST_YEAR};
+use crate::tests::range::{DAYS, FIRST_YEAR, LAST_YEAR};
 use crate::tests::{date, same, same_at};
 
 /// The place of the last day in a walk over the whole range.
@@ -10,16 +10,17 @@ const LAST_PLACE: usize = DAYS as usize - 1;
 /// Whether no days are left, whichever call is asked.
 fn is_empty(walk: &DateIter) -> bool {
     let (mut forwards, mut backwards) = (walk.clone(), walk.clone());
-    walk.len() == 0
-        && walk.size_hint() == (0, Some(0))
-        && forwards.next().is_none()
-        && backwards.next_back().is_none()
-        && forwards.nth(0).is_none()
-        && backwards.nth_back(0).is_none()
-        && walk.clone().last().is_none()
-        && walk.clone().min().is_none()
-        && walk.clone().max().is_none()
-        && walk.clone().count() == 0
+    let items = [
+        forwards.next(),
+        backwards.next_back(),
+        forwards.nth(0),
+        backwards.nth_back(0),
+        walk.clone().last(),
+        walk.clone().min(),
+        walk.clone().max(),
+    ];
+    let counts = (walk.len(), walk.size_hint(), walk.clone().count());
+    items == [None, None, None, None, None, None, None] && counts == (0, (0, Some(0)), 0)
 }
 
 #[test]
@@ -28,49 +29,36 @@ fn the_whole_range(rt: HostRuntime) {
     same(&rt, walk.len() as i64, DAYS);
     same(&rt, walk.size_hint(), (walk.len(), Some(walk.len())));
     same(&rt, walk.clone().count(), walk.len());
-    same(&rt, walk.clone().min(), Some(Date::MIN));
-    same(&rt, walk.clone().max(), Some(Date::MAX));
-    same(&rt, walk.clone().last(), Some(Date::MAX));
+    let ends = [walk.clone().min(), walk.clone().max(), walk.clone().last()];
+    let wanted = [Some(Date::MIN), Some(Date::MAX), Some(Date::MAX)];
+    same(&rt, ends, wanted);
     assert!(rt; walk.is_sorted());
 }
 
+// The columns: n, the days that as many steps from the front and from the back lead to.
 #[test]
-fn steps_from_the_front(rt: HostRuntime) {
-    for (n, want) in [
-        (0, Some(Date::MIN)),
-        (LAST_PLACE - 7, Some(date(&rt, LAST_YEAR, 12, 24))),
-        (LAST_PLACE, Some(Date::MAX)),
-        (LAST_PLACE + 1, None),
-        (usize::MAX, None),
+fn steps_from_both_ends(rt: HostRuntime) {
+    let (eighth, eighth_last) = (date(&rt, FIRST_YEAR, 1, 8), date(&rt, LAST_YEAR, 12, 24));
+    for (n, from_front, from_back) in [
+        (0, Some(Date::MIN), Some(Date::MAX)),
+        (7, Some(eighth), Some(eighth_last)),
+        (LAST_PLACE - 7, Some(eighth_last), Some(eighth)),
+        (LAST_PLACE, Some(Date::MAX), Some(Date::MIN)),
+        (LAST_PLACE + 1, None, None),
+        (usize::MAX, None, None),
     ] {
-        let mut walk = DateIter::new(Date::MIN, Date::MAX);
-        same_at(&rt, n, walk.nth(n), want);
-        same_at(&rt, n, walk.len(), LAST_PLACE.saturating_sub(n));
-        if n >= LAST_PLACE {
-            assert!(rt; is_empty(&walk), "{n}");
-        } else {
-            same_at(&rt, n, walk.next_back(), Some(Date::MAX));
-        }
-    }
-}
-
-#[test]
-fn steps_from_the_back(rt: HostRuntime) {
-    for (n, want) in [
-        (0, Some(Date::MAX)),
-        (7, Some(date(&rt, LAST_YEAR, 12, 24))),
-        (LAST_PLACE, Some(Date::MIN)),
-        (LAST_PLACE + 1, None),
-        (usize::MAX, None),
-    ] {
-        let mut walk = DateIter::new(Date::MIN, Date::MAX);
-        same_at(&rt, n, walk.nth_back(n), want);
-        same_at(&rt, n, walk.len(), LAST_PLACE.saturating_sub(n));
-        if n >= LAST_PLACE {
-            assert!(rt; is_empty(&walk), "{n}");
-        } else {
-            same_at(&rt, n, walk.next(), Some(Date::MIN));
-        }
+        let left = LAST_PLACE.saturating_sub(n);
+        let mut forwards = DateIter::new(Date::MIN, Date::MAX);
+        let mut backwards = forwards.clone();
+        let found = [forwards.nth(n), backwards.nth_back(n)];
+        same_at(&rt, n, found, [from_front, from_back]);
+        same_at(&rt, n, [forwards.len(), backwards.len()], [left, left]);
+        let are_empty = [is_empty(&forwards), is_empty(&backwards)];
+        same_at(&rt, n, are_empty, [left == 0, left == 0]);
+        let last = (left > 0).then_some(Date::MAX);
+        let first = (left > 0).then_some(Date::MIN);
+        let found = [forwards.next_back(), backwards.next()];
+        same_at(&rt, n, found, [last, first]);
     }
 }
 
