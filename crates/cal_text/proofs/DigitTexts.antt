@@ -59,9 +59,6 @@ other-first ds e =
     let none : length ds - length (decimal (digits_value 10 ds)) ≡ 0 = omega (arith, ap length e) in
     ap (λ k. replicate k 48 ++ decimal (digits_value 10 ds)) none ∙ e
 
-one-zero : digits_at_least 1 (digits_value 10 (48 ∷ [])) ≡ 48 ∷ []
-one-zero = ap (λ ds. replicate (1 - length ds) 48 ++ ds) (decimal_digit 0 (lit< tt))
-
 abbrev Printed : List ℕ → Type 0
 Printed ds = digits_at_least (length ds) (digits_value 10 ds) ≡ ds
 

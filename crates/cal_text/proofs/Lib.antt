@@ -1,5 +1,4 @@
 pub mod DigitTexts
-pub mod Options
 pub mod YearTexts
 pub mod Ranges
 pub mod FormTexts
@@ -11,14 +10,15 @@ mod MomentForms
 mod MomentReads
 mod Stripped
 mod PrintedMoments
-mod UnixTexts
-mod UnixForms
 mod UnixReads
 mod Results
 mod Shapes
 pub mod ReadDigits
 pub mod YearDigits
 pub mod DigitParts
+pub mod Decimals
+pub mod NumberShapes
+pub mod UnixShapes
 pub mod YearParts
 pub mod FormReads
 pub mod FormShapes

@@ -25,21 +25,6 @@ fn is_as_wanted(byte: u8, wanted: u8) -> bool {
     }
 }
 
-/// How many bytes at the front of a text are from one to another, and at most so many.
-pub(crate) fn leading(text: &[u8], low: u8, high: u8, most: usize) -> usize
-    ensures within { result ≤ length text.now }
-    ensures most { result ≤ most }
-{
-    let mut count = 0;
-    for byte in text {
-        if count == most || *byte < low || *byte > high {
-            return count;
-        }
-        count += 1;
-    }
-    count
-}
-
 pub(crate) fn begins_with(text: &[u8], byte: u8) -> bool
     ensures { IsTrue result ↔ (0 < length text.now) × (get_or text.now 0 0 ≡ byte) }
 {

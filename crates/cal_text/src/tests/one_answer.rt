@@ -1,5 +1,5 @@
-//! Each reader leaves one answer, but for the place of a wrong byte in all but dates: two calls with the same text are proved to give
-//! the same.
+//! Each reader leaves one answer, but for the place of a wrong byte in a moment of RFC 3339 and in `read_any`: two calls with the same
+//! text are proved to give the same.
 ghost use Rattle.std.specs.Prelude.{◌≡◌};
 ghost use Rattle.cal_text.specs.Reading.{AreAlikeButForPlace};
 
@@ -17,7 +17,7 @@ fn of_date(text: &[u8]) -> Twice<Date>
 }
 
 fn of_julian_day(text: &[u8]) -> Twice<Date>
-    ensures { AreAlikeButForPlace result.0 result.1 }
+    ensures { result.0 ≡ result.1 }
 {
     (julian_day::read(text), julian_day::read(text))
 }
@@ -29,7 +29,7 @@ fn of_rfc3339(text: &[u8]) -> Twice<OffsetDateTime>
 }
 
 fn of_unix(text: &[u8]) -> Twice<OffsetDateTime>
-    ensures { AreAlikeButForPlace result.0 result.1 }
+    ensures { result.0 ≡ result.1 }
 {
     (unix::read(text), unix::read(text))
 }
