@@ -1,12 +1,9 @@
 pub mod DigitTexts
 pub mod YearTexts
 pub mod Ranges
-pub mod FormTexts
 pub mod DayForms
 pub mod NumberTexts
 mod Fractions
-mod MomentTexts
-mod MomentForms
 mod MomentReads
 mod Stripped
 mod PrintedMoments
@@ -19,6 +16,7 @@ pub mod DigitParts
 pub mod Decimals
 pub mod NumberShapes
 pub mod UnixShapes
+pub mod MomentShapes
 pub mod YearParts
 pub mod FormReads
 pub mod FormShapes

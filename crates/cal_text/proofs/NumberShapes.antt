@@ -1,15 +1,14 @@
 -- The shapes of numbers without zeros before them, and of a Julian day.
-use Rattle.std.proofs.Common.{◌≡◌, ◌≢◌, ℕ, zero, suc, ◌+◌, ◌-◌, ◌<◌, ◌≤◌, ◌^◌, ◌⊎◌, inl, inr, ℤ, pos, negsuc, List, [], ◌∷◌, ◌++◌, append-nil, length, get_or, refl, sym, ap, ◌∙◌, arith, lit<, lit≤, ◌*◌}
+use Rattle.std.proofs.Common.{◌≡◌, ℕ, zero, suc, ◌+◌, ◌-◌, ◌<◌, ◌≤◌, ◌^◌, ◌⊎◌, inl, inr, ℤ, pos, negsuc, List, [], ◌∷◌, ◌++◌, append-nil, length, get_or, refl, sym, ap, ◌∙◌, arith, lit<, lit≤, ◌*◌}
 use Rattle.std.specs.Prelude.{decimal}
 use Rattle.std.specs.Char.{digit_value}
 use Rattle.std.specs.Str.Parse.{AllDigits, digits_value, digits_value_after}
 use Rattle.std.proofs.Math.Nat.{pow-le-pow_right, mul-le-mul_left}
-use Rattle.std.proofs.lemmas.Bool.{cases_lt}
 use Rattle.std.proofs.lemmas.Fmt.{decimal-digits_value, decimal_digit, decimal_is_IsNumeral, decimal_nonempty, first_decimal, length-decimal-le}
 use Rattle.std.proofs.lemmas.Int.Digits.{digits_value-lt}
 use Rattle.std.proofs.lemmas.Str.Parse.{IsNumeralModel, numerals_by_value, tells_digits, digit_at}
 use Rattle.cal_text.specs.JulianForm.{IsJulianForm}
-use Rattle.cal_text.specs.Shape.{Shape, Done, left, Number, UpTo, From, natural, julian_day, ReadsMore}
+use Rattle.cal_text.specs.Shape.{Shape, Done, left, Number, From, natural, julian_day, ReadsMore}
 use Rattle.cal_text.proofs.DigitParts.{IsCount, counted, digit_is, is_digit, value-most}
 use Rattle.cal_text.proofs.Parts.{HasAfter, HasEither, from_part, byte_part, after, either, retold, done_then, at_end}
 use Rattle.cal_text.proofs.Positions.{IsShapeOf}

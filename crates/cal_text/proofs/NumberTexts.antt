@@ -2,12 +2,8 @@
 use Rattle.std.proofs.Common.{◌≡◌, ◌≢◌, ℕ, suc, ◌-◌, ◌<◌, ◌≤◌, ◌^◌, ℤ, pos, negsuc, unsigned_abs, List, [], ◌∷◌, ◌+◌, ◌/◌, ◌%◌, ◌++◌, length, get_or, drop, replicate, refl, sym, ap, ◌∙◌, arith, inl, inr, lit<}
 use Rattle.std.proofs.lemmas.List.{append_assoc}
 use Rattle.std.specs.Prelude.{decimal}
-use Rattle.std.specs.Fmt.{signed_decimal}
-use Rattle.std.proofs.lemmas.Bool.{cases_lt}
-use Rattle.std.proofs.lemmas.Fmt.{length-decimal-le, decimal_nonempty, decimal_digit, first_decimal, decimal_is_IsNumeral}
-use Rattle.std.proofs.lemmas.Str.Parse.{digit_at}
+use Rattle.std.proofs.lemmas.Fmt.{length-decimal-le, decimal_nonempty, decimal_digit}
 use Rattle.cal_time.specs.DateText.{digits_at_least}
-use Rattle.cal_text.proofs.DigitTexts.{full-width}
 
 pub decimal-some : (n : ℕ) → n < 10 ^ 9 → 0 < length (decimal n)
 decimal-some n h = decimal_nonempty n (omega arith)

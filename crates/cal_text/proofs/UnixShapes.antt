@@ -1,14 +1,14 @@
 -- The shapes of a fraction and of a Unix time.
-use Rattle.std.proofs.Common.{◌≡◌, ◌≢◌, ℕ, zero, suc, ◌+◌, ◌-◌, ◌*◌, ◌/◌, ◌%◌, ◌<◌, ◌≤◌, ◌^◌, ◌⊎◌, inl, inr, ℤ, pos, negsuc, neg_ℤ, unsigned_abs, List, [], ◌∷◌, ◌++◌, append-nil, length, get_or, refl, sym, ap, subst, ◌∙◌, arith, lit<, lit≤}
+use Rattle.std.proofs.Common.{◌≡◌, ℕ, zero, suc, ◌+◌, ◌*◌, ◌/◌, ◌%◌, ◌<◌, ◌≤◌, ◌^◌, ◌⊎◌, inl, inr, ℤ, pos, negsuc, neg_ℤ, List, [], ◌∷◌, ◌++◌, append-nil, length, get_or, refl, sym, ap, subst, ◌∙◌, arith, lit<, lit≤}
 use Rattle.std.specs.Prelude.{decimal}
 use Rattle.std.specs.Char.{digit_value}
 use Rattle.std.specs.Str.Parse.{AllDigits, digits_value}
 use Rattle.std.proofs.lemmas.Fmt.{decimal_is_IsNumeral, decimal_nonempty, first_decimal}
-use Rattle.std.proofs.lemmas.List.{append_assoc, get_or_append_left}
+use Rattle.std.proofs.lemmas.List.{get_or_append_left}
 use Rattle.std.proofs.lemmas.Str.Parse.{digit_at}
 use Rattle.cal_time.specs.SignedDuration.{second}
 use Rattle.cal_text.specs.Rfc3339Form.{IsFraction, HasFractionBefore, nanoseconds_of}
-use Rattle.cal_text.specs.Shape.{Shape, Done, Byte, left, Fraction, Number, SomeUpTo, UpTo, from_one, seconds, seconds_above_0, unix_time, ReadsSomeDecimals}
+use Rattle.cal_text.specs.Shape.{Shape, Done, Byte, left, Fraction, SomeUpTo, UpTo, from_one, seconds, seconds_above_0, unix_time, ReadsSomeDecimals}
 use Rattle.cal_text.specs.UnixText.{HasUnixForm, HasSeconds}
 use Rattle.cal_text.proofs.Decimals.{nanoseconds, nanoseconds-some, value-some, fraction-below}
 use Rattle.cal_text.proofs.DigitParts.{IsCount, counted, is_digit, digit_is, zero_byte, has_value, value-most}

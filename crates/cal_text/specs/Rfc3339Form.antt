@@ -45,13 +45,6 @@ pub record HasFractionBefore (others : List ℕ) (more : ℕ) (bytes : List ℕ)
   pub short : length fraction ≤ more + 2
   pub bytes_are : bytes ≡ fraction ++ others
 
--- a byte that a fraction has
-abbrev pub IsDigit : ℕ → Type 0
-IsDigit byte = (48 ≤ byte) × (byte ≤ 57)
-
-abbrev pub IsDigitOrPoint : ℕ → Type 0
-IsDigitOrPoint byte = (byte ≡ 46) ⊎ IsDigit byte
-
 -- the offset: Z or z, or a sign and two digits each of the hours and the minutes
 abbrev pub IsZone : List ℕ → Zone → Type 0
 IsZone zone Utc = (zone ≡ codes "Z") ⊎ (zone ≡ codes "z")

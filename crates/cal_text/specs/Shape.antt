@@ -149,3 +149,31 @@ seconds_above_0 = Branch 48 0 (Byte 46 (SomeUpTo 8 Done)) from_one
 
 abbrev pub unix_time : Shape
 unix_time = Byte 64 (Branch 45 0 seconds_above_0 seconds)
+
+-- ---- a moment
+abbrev pub Separator : Shape → Shape
+Separator f = Branch 84 0 f (Branch 116 0 f (Byte 32 f))
+
+-- two numbers of two digits, each after such a byte
+abbrev pub TwoNumbers : ℕ → Shape → Shape
+TwoNumbers b f = Byte b (Digits 2 (Byte b (Digits 2 f)))
+
+abbrev pub offset_digits : Shape
+offset_digits = Digits 2 (Byte 58 (Digits 2 Done))
+
+abbrev pub signed_offset : Shape
+signed_offset = Branch 43 0 offset_digits (Byte 45 offset_digits)
+
+abbrev pub time_offset : Shape
+time_offset = Branch 90 0 Done (Branch 122 0 Done signed_offset)
+
+abbrev pub ToSeconds : Shape → Shape
+ToSeconds f = Digits 4 (TwoNumbers 45 (Separator (Digits 2 (TwoNumbers 58 f))))
+
+-- whose fraction has so many digits more than one at most
+abbrev pub moment : ℕ → Shape
+moment more = ToSeconds (Fraction more time_offset)
+
+-- the fraction may be of any length: so this is of shapes that are large enough for the text
+abbrev pub ScansLarge : {V : Type 0} → (ℕ → Shape) → List ℕ → List ℕ → Option V → Type 0
+ScansLarge f old new r = (more : ℕ) → length old ≤ more → ScansWhole (f more) old new r

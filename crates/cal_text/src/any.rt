@@ -1,12 +1,11 @@
 //! Dates and moments in text, in whichever form they come.
-ghost use Rattle.std.specs.Prelude.{◌≡◌, ◌↔◌, IfOk, IsErr, Ok};
+ghost use Rattle.std.specs.Prelude.{◌≡◌, ◌↔◌, ◌<◌, length, get_or, IsTrue, IfOk, IsErr, Ok};
 ghost use Rattle.cal_time.specs.declared.error.ComponentRange.{ComponentRange};
 ghost use Rattle.cal_text.specs.declared.any.DateOrMoment.{DateOrMoment};
 ghost use Rattle.cal_text.specs.AnyForm.{IsTextOf, IsFault, HasAnyForm};
 ghost use Rattle.cal_text.specs.Reading.{IsRefusedFor, IsRefusedForForm};
 
 use crate::any::by_form::{date_in, julian_day_in, moment_in, unix_time_in};
-use crate::date::place::begins_with;
 use crate::error::Unreadable;
 use crate::rfc3339::is_separator;
 use cal_datetime::OffsetDateTime;
@@ -70,5 +69,14 @@ pub fn read_any(text: &[u8]) -> Result<DateOrMoment, Unreadable>
         moment_in(text)
     } else {
         date_in(text)
+    }
+}
+
+fn begins_with(text: &[u8], byte: u8) -> bool
+    ensures { IsTrue result ↔ (0 < length text.now) × (get_or text.now 0 0 ≡ byte) }
+{
+    match text {
+        [first, ..] => *first == byte,
+        [] => false,
     }
 }

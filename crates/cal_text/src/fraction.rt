@@ -1,12 +1,10 @@
 //! Fractions of a second, as a point and digits.
-ghost use Rattle.std.specs.Prelude.{◌≡◌, ◌+◌, ◌*◌, ℕ, List, IfSome, ◌<◌, ◌≤◌, ◌++◌, length, take, get_or};
-ghost use Rattle.std.specs.Str.Parse.{AllDigits};
+ghost use Rattle.std.specs.Prelude.{◌≡◌, ◌+◌, ◌*◌, IfSome, ◌<◌, ◌≤◌, ◌++◌, length};
 ghost use Rattle.cal_time.specs.ShortText.{HasRoom};
 ghost use Rattle.cal_text.specs.Rfc3339.{fraction_text};
 ghost use Rattle.cal_text.specs.Shape.{Shape, left, Scans, ReadsDecimals, ReadsSomeDecimals, UpTo, SomeUpTo, Fraction};
-ghost use Rattle.cal_text.specs.Rfc3339Form.{IsFraction, HasFractionBefore, IsDigit, IsDigitOrPoint, nanoseconds_of};
+ghost use Rattle.cal_text.specs.Rfc3339Form.{HasFractionBefore};
 
-use crate::digits::number_of;
 use crate::scanner::Scanner;
 use cal_time::ShortText;
 
@@ -78,53 +76,4 @@ fn more_decimals(scanner: &mut Scanner, nanosecond: u32, unit: u32, most: usize)
         }
     }
     nanosecond
-}
-
-/// The nanoseconds of the fraction at the front of the text, and where it ends. Without digits after the point it has none.
-pub(crate) fn fraction_of(text: &[u8]) -> (u32, usize)
-    ensures has { IsFraction (take result.1 text.now) result.0 }
-    ensures below { result.0 < 1_000_000_000 }
-    ensures end { result.1 ≤ length text.now }
-    ensures every { (fraction rest : List ℕ) (n : ℕ) → text.now ≡ fraction ++ rest → IsFraction fraction n
-        → ¬ IsDigitOrPoint (get_or rest 0 0) → result ≡ (n, length fraction) }
-{
-    if text.is_empty() || text[0] != b'.' {
-        return (0, 0);
-    }
-    let count = leading_digits(&text[1..]);
-    if count == 0 {
-        return (0, 0);
-    }
-    (nanoseconds_of(&text[1..1 + count]), 1 + count)
-}
-
-/// How many digits the text begins with.
-#[tactic(auto, using(crate::proofs::DigitTexts::numbers))]
-pub(crate) fn leading_digits(text: &[u8]) -> usize
-    ensures digits { AllDigits 10 (take result text.now) }
-    ensures end { result ≤ length text.now }
-    ensures last { ¬ IsDigit (get_or text.now result 0) }
-{
-    let mut count = 0;
-    for byte in text {
-        if !byte.is_ascii_digit() {
-            return count;
-        }
-        count += 1;
-    }
-    count
-}
-
-/// The nanoseconds of these digits after a point.
-fn nanoseconds_of(digits: &[u8]) -> u32
-    requires some { 0 < length digits.now }
-    requires digits { AllDigits 10 digits.now }
-    ensures value { result ≡ nanoseconds_of digits.now }
-    ensures below { result < 1_000_000_000 }
-{
-    let length = digits.len().min(9);
-    match number_of(&digits[..length]) {
-        Some(number) => number * 10u32.pow(9 - length as u32),
-        None => 0,
-    }
 }

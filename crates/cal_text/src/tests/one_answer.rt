@@ -1,5 +1,5 @@
-//! Each reader leaves one answer, but for the place of a wrong byte in a moment of RFC 3339 and in `read_any`: two calls with the same
-//! text are proved to give the same.
+//! Each reader leaves one answer, but for the place of a wrong byte in `read_any`: two calls with the same text are proved to give the
+//! same.
 ghost use Rattle.std.specs.Prelude.{◌≡◌};
 ghost use Rattle.cal_text.specs.Reading.{AreAlikeButForPlace};
 
@@ -23,7 +23,7 @@ fn of_julian_day(text: &[u8]) -> Twice<Date>
 }
 
 fn of_rfc3339(text: &[u8]) -> Twice<OffsetDateTime>
-    ensures { AreAlikeButForPlace result.0 result.1 }
+    ensures { result.0 ≡ result.1 }
 {
     (rfc3339::read(text), rfc3339::read(text))
 }

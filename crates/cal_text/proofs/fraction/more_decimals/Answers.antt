@@ -1,6 +1,5 @@
-use Rattle.std.proofs.Common.{◌-◌, ap, arith, refl, sym, ◌∙◌}
-use Rattle.cal_text.specs.Shape.{left, UpTo}
-use Rattle.cal_text.proofs.Decimals.{none_read, one_read, all_read, at_most_nine, has_room, scanned, stopped, at_most}
+use Rattle.std.proofs.Common.{arith, refl}
+use Rattle.cal_text.proofs.Decimals.{one_read, all_read, at_most_nine, has_room, scanned, stopped, at_most}
 use Rattle.cal_text.proofs.fraction.more_decimals.Goals as goal
 
 pub overflow_mul-nanosecond : goal.overflow_mul-nanosecond

@@ -1,4 +1,4 @@
-use Rattle.std.proofs.Common.{arith, ap, sym, ◌∙◌, ◌∷◌, lit<}
+use Rattle.std.proofs.Common.{ap, sym, ◌∙◌, ◌∷◌, lit<}
 use Rattle.cal_text.proofs.NumberShapes.{zero_text}
 use Rattle.cal_text.proofs.julian_day.natural.Goals as goal
 

@@ -1,4 +1,4 @@
-use Rattle.std.proofs.Common.{◌*◌, ◌+◌, pos, neg_ℤ, sym, subst, ap, ◌∙◌, ◌∷◌}
+use Rattle.std.proofs.Common.{sym, subst, ap, ◌∙◌, ◌∷◌}
 use Rattle.cal_text.specs.UnixText.{HasUnixForm}
 use Rattle.cal_text.proofs.UnixReads.{wide-form}
 use Rattle.cal_text.proofs.UnixShapes.{put_positive, put_negative}
