@@ -26,5 +26,6 @@ pub mod Parts
 mod Components
 mod OneAnswer
 mod AnyForms
+mod AnyPositions
 mod UnixPrinted
 mod Moments

@@ -45,7 +45,7 @@ position Has f text p r shape e whole =
         omega (arith, e k text_few, whole, more, over, ap (left (f k)) (take-append-drop (p + 1) text), length-drop (p + 1) text)
 
 -- ---- one place
-begins_less : (IsText : List ℕ → Type 0) (text : List ℕ) (p q : ℕ) → p ≤ q → Begins IsText (take q text) → Begins IsText (take p text)
+pub begins_less : (IsText : List ℕ → Type 0) (text : List ℕ) (p q : ℕ) → p ≤ q → Begins IsText (take q text) → Begins IsText (take p text)
 begins_less IsText text p q less h =
     let same : take p (take q text) ++ drop p (take q text) ≡ take q text = take-append-drop p (take q text) in
     record {

@@ -126,21 +126,24 @@ year-first ys ms ds rest = simp append_assoc
 date-long : (ys ms ds : List ℕ) → length ys ≡ 4 → length ms ≡ 2 → length ds ≡ 2 → length (ys ++ 45 ∷ [] ++ ms ++ 45 ∷ [] ++ ds) ≡ 10
 date-long ys ms ds a b c = simp length-append (omega (arith, a, b, c))
 
+pub date_digits-long : (bytes : List ℕ) (m : Numbers) → HasMomentForm bytes m → length (date_digits m.year m.month m.day) ≡ 10
+date_digits-long bytes m h =
+    date-long (digits_at_least 4 m.year) (digits_at_least 2 m.month) (digits_at_least 2 m.day)
+    (digits_at_least-length 4 m.year (lit< tt) h.numbers.year (omega (arith, h.numbers.year)))
+    (digits_at_least-length 2 m.month (lit< tt) h.numbers.month (omega (arith, h.numbers.month)))
+    (digits_at_least-length 2 m.day (lit< tt) h.numbers.day (omega (arith, h.numbers.day)))
+
 pub moment-shape : (bytes : List ℕ) (m : Numbers) → HasMomentForm bytes m → IsMomentShape bytes
 moment-shape bytes m h =
     let ys = digits_at_least 4 m.year in
     let small : m.year < 10 ^ 9 = omega (arith, h.numbers.year) in
     let long : length ys ≡ 4 = digits_at_least-length 4 m.year (lit< tt) h.numbers.year small in
-    let date_long : length (date_digits m.year m.month m.day) ≡ 10 =
-    date-long (digits_at_least 4 m.year) (digits_at_least 2 m.month) (digits_at_least 2 m.day) long
-    (digits_at_least-length 2 m.month (lit< tt) h.numbers.month (omega (arith, h.numbers.month)))
-    (digits_at_least-length 2 m.day (lit< tt) h.numbers.day (omega (arith, h.numbers.day))) in
     let rest = h.separator ∷ (clock_digits m.hour m.minute m.second ++ (h.fraction ++ h.zone)) in
     let first : get_or bytes 0 0 ≡ get_or ys 0 0 =
     ap (λ all. get_or all 0 0) (h.bytes_are ∙ year-first ys (digits_at_least 2 m.month) (digits_at_least 2 m.day) rest) ∙ get_or_append_left ys _ 0 0 (omega (arith, long)) in
     record {
       first = no-other bytes (subst IsDateByte (sym first) (number-date 4 m.year small 0));
-      separator = subst IsSeparator (sym (ap (λ all. get_or all 10 0) h.bytes_are ∙ get_or_at (date_digits m.year m.month m.day) h.separator _ 0 10 date_long)) h.is_separator;
+      separator = subst IsSeparator (sym (ap (λ all. get_or all 10 0) h.bytes_are ∙ get_or_at (date_digits m.year m.month m.day) h.separator _ 0 10 (date_digits-long bytes m h))) h.is_separator;
     }
 
 pub julian-first : (bytes : List ℕ) (j : ℤ) → IsJulianForm bytes j → get_or bytes 0 0 ≡ 74

@@ -1,7 +1,5 @@
-//! Each reader leaves one answer, but for the place of a wrong byte in `read_any`: two calls with the same text are proved to give the
-//! same.
+//! Each reader leaves one answer: two calls with the same text are proved to give the same.
 ghost use Rattle.std.specs.Prelude.{◌≡◌};
-ghost use Rattle.cal_text.specs.Reading.{AreAlikeButForPlace};
 
 use crate::{DateOrMoment, Unreadable, date, julian_day, read_any, rfc3339, unix};
 use cal_datetime::OffsetDateTime;
@@ -35,7 +33,7 @@ fn of_unix(text: &[u8]) -> Twice<OffsetDateTime>
 }
 
 fn of_any(text: &[u8]) -> Twice<DateOrMoment>
-    ensures { AreAlikeButForPlace result.0 result.1 }
+    ensures { result.0 ≡ result.1 }
 {
     (read_any(text), read_any(text))
 }
