@@ -56,11 +56,6 @@ text-of-form bytes (Week y w d) n h e =
     let weekday : weekday_at n + 1 ≡ d = omega (arith, e.2, h.form.2) in
     h.bytes_are ∙ sym (ap (λ x. form_text (Week x (iso_week_at n) (weekday_at n + 1))) e.0 ∙ ap (λ k. form_text (Week y k (weekday_at n + 1))) e.1 ∙ ap (λ k. form_text (Week y w k)) weekday)
 
-pub day-of-form : (bytes : List ℕ) (f : Form) (n : ℕ) → HasForm bytes f → IsOnDay f n → IsDateText bytes n
-day-of-form bytes (Calendar y m d) n h e = inl (text-of-form bytes (Calendar y m d) n h e)
-day-of-form bytes (Ordinal y o) n h e = inr (inl (text-of-form bytes (Ordinal y o) n h e))
-day-of-form bytes (Week y w d) n h e = inr (inr (text-of-form bytes (Week y w d) n h e))
-
 -- one text, one form
 pub same_form : (a b : Form) → Some a ≡ Some b → a ≡ b
 same_form a b e = cc

@@ -4,18 +4,20 @@ use Rattle.std.specs.Char.{digit_value}
 use Rattle.std.specs.Str.Parse.{AllDigits, digits_value, digits_value_after}
 use Rattle.std.proofs.lemmas.Bool.{cases_lt}
 use Rattle.std.proofs.lemmas.Int.Digits.{digits_value-lt}
+use Rattle.std.proofs.lemmas.List.{append_assoc}
 use Rattle.std.proofs.lemmas.Str.{digit_value_digit}
 use Rattle.std.proofs.lemmas.Str.Parse.{digit_from_value}
 use Rattle.cal_time.specs.DateText.{digits_at_least}
 use Rattle.cal_text.specs.Shape.{Shape, left, Byte, Digits, UpTo, SomeDigits, AtLeast}
 use Rattle.cal_text.proofs.DigitTexts.{below-nine, digits-printed, digits_at_least-digits, digits_at_least-value, digits_at_least-length}
-use Rattle.cal_text.proofs.Parts.{IsPart, Splits, renamed, byte_part}
+use Rattle.cal_text.proofs.Parts.{IsPart, Splits, HasAfter, BeginsOutside, left-outside, same_pair, renamed, byte_part}
+use Rattle.cal_text.proofs.Positions.{IsShapeOf}
 use Rattle.cal_text.proofs.Stops.{IsIn, in_or_out, left-in, left-out, left-end, left-branch_in, left-branch_out, left-branch_end}
 
 pub is_digit : (x : ℕ) → digit_value x < 10 → IsIn 48 9 x
 is_digit x h = let range = digit_from_value x h in (range.0, range.1)
 
-has_value : (x : ℕ) → IsIn 48 9 x → digit_value x + 48 ≡ x
+pub has_value : (x : ℕ) → IsIn 48 9 x → digit_value x + 48 ≡ x
 has_value x h = digit_value_digit x (h.0, h.1)
 
 pub digit_is : (x : ℕ) → IsIn 48 9 x → digit_value x < 10
@@ -83,42 +85,33 @@ number_part k some few = renamed _ _ _ (λ n. (n < 10 ^ k) × (n < 10 ^ 9)) (dig
     below : (ds : List ℕ) → IsExact k ds → digits_value 10 ds < 10 ^ 9
     below ds h = below-nine ds (digits_value 10 ds) (omega (arith, h.1)) (digits_value-lt 10 ds h.0)
 
--- ---- so many digits and more, and a hyphen
+-- ---- so many digits and more
 abbrev pub IsCount : ℕ → ℕ → List ℕ → Type 0
 IsCount k more ds = AllDigits 10 ds × (k ≤ length ds) × (length ds ≤ k + more)
 
-abbrev pub hyphened : List ℕ → List ℕ
-hyphened ds = ds ++ 45 ∷ []
-
-no_hyphen : ¬ IsIn 48 9 45
-no_hyphen h = omega (arith, h.0)
-
-count-each : (k more : ℕ) (f : Shape) (ds rest : List ℕ) → IsCount k more ds → left (AtLeast k more f) (hyphened ds ++ rest) ≡ left f rest
-count-each zero zero f [] rest h = left-in 45 0 f 45 rest (lit≤ tt, lit≤ tt)
-count-each zero zero f (x ∷ xs) rest h = absurd (omega (arith, h.2))
-count-each zero (suc m) f [] rest h =
-    left-branch_out 48 9 (UpTo m (Byte 45 f)) (Byte 45 f) 45 rest no_hyphen ∙ left-in 45 0 f 45 rest (lit≤ tt, lit≤ tt)
-count-each zero (suc m) f (x ∷ xs) rest h =
-    left-branch_in 48 9 (UpTo m (Byte 45 f)) (Byte 45 f) x (hyphened xs ++ rest) (is_digit x h.0.0) ∙ count-each zero m f xs rest (h.0.1, omega arith, omega (arith, h.2))
-count-each (suc k) m f [] rest h = absurd (omega (arith, h.1))
-count-each (suc k) m f (x ∷ xs) rest h =
-    left-in 48 9 (AtLeast k m f) x (hyphened xs ++ rest) (is_digit x h.0.0) ∙ count-each k m f xs rest (h.0.1, omega (arith, h.1), omega (arith, h.2))
+counted-each : (k more : ℕ) (f : Shape) (ds rest : List ℕ) → IsCount k more ds → BeginsOutside 48 9 rest → left (Digits k (UpTo more f)) (ds ++ rest) ≡ left f rest
+counted-each zero zero f [] rest h out = refl
+counted-each zero zero f (x ∷ xs) rest h out = absurd (omega (arith, h.2))
+counted-each zero (suc m) f [] rest h out = left-outside 48 9 (UpTo m f) f rest out
+counted-each zero (suc m) f (x ∷ xs) rest h out =
+    left-branch_in 48 9 (UpTo m f) f x (xs ++ rest) (is_digit x h.0.0) ∙ counted-each zero m f xs rest (h.0.1, omega arith, omega (arith, h.2)) out
+counted-each (suc k) m f [] rest h out = absurd (omega (arith, h.1))
+counted-each (suc k) m f (x ∷ xs) rest h out =
+    left-in 48 9 (Digits k (UpTo m f)) x (xs ++ rest) (is_digit x h.0.0) ∙ counted-each k m f xs rest (h.0.1, omega (arith, h.1), omega (arith, h.2)) out
 
 abbrev Counted : ℕ → ℕ → Shape → List ℕ → Type 0
-Counted k more f bytes = Splits (IsCount k more) hyphened f bytes
+Counted k more f bytes = Splits (IsCount k more) (λ ds. ds) f bytes
 
-no_digits : (m : ℕ) (f : Shape) (bytes : List ℕ) → left (Byte 45 f) bytes ≡ 0 → Counted 0 m f bytes
-no_digits m f bytes e =
-    let a = (byte_part 45).only f bytes e in
-    record { value = []; rest = a.rest; valid = (tt, omega arith, omega arith); bytes_are = a.bytes_are; next = a.next }
+no_digits : (m : ℕ) (f : Shape) (bytes : List ℕ) → left f bytes ≡ 0 → Counted 0 m f bytes
+no_digits m f bytes e = record { value = []; rest = bytes; valid = (tt, omega arith, omega arith); bytes_are = refl; next = e }
 
-count-only : (k more : ℕ) (f : Shape) (bytes : List ℕ) → left (AtLeast k more f) bytes ≡ 0 → Counted k more f bytes
-count-only zero zero f bytes e = no_digits 0 f bytes e
-count-only zero (suc m) f [] e = absurd (omega (arith, e, left-branch_end 48 9 (UpTo m (Byte 45 f)) (Byte 45 f), left-end 45 0 f))
-count-only zero (suc m) f (x ∷ xs) e =
+counted-only : (k more : ℕ) (f : Shape) (bytes : List ℕ) → left (Digits k (UpTo more f)) bytes ≡ 0 → Counted k more f bytes
+counted-only zero zero f bytes e = no_digits 0 f bytes e
+counted-only zero (suc m) f [] e = no_digits (suc m) f [] (sym (left-branch_end 48 9 (UpTo m f) f) ∙ e)
+counted-only zero (suc m) f (x ∷ xs) e =
     elim (in_or_out 48 9 x) as (λ _. Counted 0 (suc m) f (x ∷ xs)) [
       | inl here ↦
-          let a = count-only zero m f xs (sym (left-branch_in 48 9 (UpTo m (Byte 45 f)) (Byte 45 f) x xs here) ∙ e) in
+          let a = counted-only zero m f xs (sym (left-branch_in 48 9 (UpTo m f) f x xs here) ∙ e) in
           record {
             value = x ∷ a.value;
             rest = a.rest;
@@ -126,13 +119,13 @@ count-only zero (suc m) f (x ∷ xs) e =
             bytes_are = ap (λ ds. x ∷ ds) a.bytes_are;
             next = a.next;
           }
-      | inr out ↦ no_digits (suc m) f (x ∷ xs) (sym (left-branch_out 48 9 (UpTo m (Byte 45 f)) (Byte 45 f) x xs out) ∙ e)
+      | inr out ↦ no_digits (suc m) f (x ∷ xs) (sym (left-branch_out 48 9 (UpTo m f) f x xs out) ∙ e)
     ]
-count-only (suc k) m f [] e = absurd (omega (arith, e, left-end 48 9 (AtLeast k m f)))
-count-only (suc k) m f (x ∷ xs) e =
+counted-only (suc k) m f [] e = absurd (omega (arith, e, left-end 48 9 (Digits k (UpTo m f))))
+counted-only (suc k) m f (x ∷ xs) e =
     elim (in_or_out 48 9 x) as (λ _. Counted (suc k) m f (x ∷ xs)) [
       | inl here ↦
-          let a = count-only k m f xs (sym (left-in 48 9 (AtLeast k m f) x xs here) ∙ e) in
+          let a = counted-only k m f xs (sym (left-in 48 9 (Digits k (UpTo m f)) x xs here) ∙ e) in
           record {
             value = x ∷ a.value;
             rest = a.rest;
@@ -140,24 +133,70 @@ count-only (suc k) m f (x ∷ xs) e =
             bytes_are = ap (λ ds. x ∷ ds) a.bytes_are;
             next = a.next;
           }
-      | inr out ↦ absurd (omega (arith, e, left-out 48 9 (AtLeast k m f) x xs out))
+      | inr out ↦ absurd (omega (arith, e, left-out 48 9 (Digits k (UpTo m f)) x xs out))
     ]
 
-count-one : (ds es r s : List ℕ) → AllDigits 10 ds → AllDigits 10 es → hyphened ds ++ r ≡ hyphened es ++ s → (ds ≡ es) × (r ≡ s)
-count-one [] [] r s h k e = (refl, cc)
-count-one [] (y ∷ ys) r s h k e = let first : 45 ≡ y = cc in absurd (no_hyphen (subst (IsIn 48 9) (sym first) (is_digit y k.0)))
-count-one (x ∷ xs) [] r s h k e = let first : x ≡ 45 = cc in absurd (no_hyphen (subst (IsIn 48 9) first (is_digit x h.0)))
-count-one (x ∷ xs) (y ∷ ys) r s h k e =
+counted-one : (ds es r s : List ℕ) → AllDigits 10 ds → AllDigits 10 es → BeginsOutside 48 9 r → BeginsOutside 48 9 s → ds ++ r ≡ es ++ s → (ds ≡ es) × (r ≡ s)
+counted-one [] [] r s h k a b e = (refl, e)
+counted-one [] (y ∷ ys) r s h k a b e = absurd (a y (ys ++ s) e (is_digit y k.0))
+counted-one (x ∷ xs) [] r s h k a b e = absurd (b x (xs ++ r) (sym e) (is_digit x h.0))
+counted-one (x ∷ xs) (y ∷ ys) r s h k a b e =
     let first : x ≡ y = cc in
-    let next : hyphened xs ++ r ≡ hyphened ys ++ s = cc in
-    let found = count-one xs ys r s h.1 k.1 next in
+    let next : xs ++ r ≡ ys ++ s = cc in
+    let found = counted-one xs ys r s h.1 k.1 a b next in
     (ap (λ n. n ∷ xs) first ∙ ap (λ ds. y ∷ ds) found.0, found.1)
 
+-- and then the rest of a text that does not begin with one
+pub counted : {W : Type 0} (k more : ℕ) (Has : List ℕ → W → Type 0) (f : Shape) → IsShapeOf Has f
+    → ((x : ℕ) (xs : List ℕ) (w : W) → IsIn 48 9 x → ¬ Has (x ∷ xs) w) → IsShapeOf (HasAfter (IsCount k more) (λ ds. ds) Has) (Digits k (UpTo more f))
+counted {W} k more Has f p apart = record {
+  each = λ bytes (v, h).
+      ap (left (Digits k (UpTo more f))) h.bytes_are ∙ counted-each k more f v.0 h.rest h.valid (outside h.rest v.1 h.has) ∙ p.each h.rest (v.1, h.has);
+  only = λ bytes e.
+      let a = counted-only k more f bytes e in
+      let b = p.only a.rest a.next in
+      ((a.value, b.0), record { rest = a.rest; valid = a.valid; bytes_are = a.bytes_are; has = b.1 });
+  one = λ bytes v w a b.
+      let front = counted-one v.0 w.0 a.rest b.rest a.valid.0 b.valid.0 (outside a.rest v.1 a.has) (outside b.rest w.1 b.has) (sym a.bytes_are ∙ b.bytes_are) in
+      same_pair (List ℕ) W v w front.0 (p.one b.rest v.1 w.1 (subst (λ rest. Has rest v.1) front.1 a.has) b.has);
+}
+  where
+    outside : (rest : List ℕ) (w : W) → Has rest w → BeginsOutside 48 9 rest
+    outside rest w h x xs e here = apart x xs w here (subst (λ all. Has all w) e h)
+
+-- or a hyphen
+abbrev pub hyphened : List ℕ → List ℕ
+hyphened ds = ds ++ 45 ∷ []
+
+hyphen_outside : (rest : List ℕ) → BeginsOutside 48 9 (45 ∷ rest)
+hyphen_outside rest x xs e here = let first : 45 ≡ x = cc in omega (arith, here.0, first)
+
 pub count_part : (k more : ℕ) → IsPart (IsCount k more) hyphened (AtLeast k more)
-count_part k more = record { each = count-each k more; only = count-only k more; one = λ ds es r s a b e. count-one ds es r s a.0 b.0 e }
+count_part k more = record {
+  each = λ f ds rest h.
+      ap (left (AtLeast k more f)) (append_assoc ds (45 ∷ []) rest) ∙ counted-each k more (Byte 45 f) ds (45 ∷ rest) h (hyphen_outside rest)
+      ∙ left-in 45 0 f 45 rest (lit≤ tt, lit≤ tt);
+  only = λ f bytes e.
+      let a = counted-only k more (Byte 45 f) bytes e in
+      let b = (byte_part 45).only f a.rest a.next in
+      record {
+        value = a.value;
+        rest = b.rest;
+        valid = a.valid;
+        bytes_are = a.bytes_are ∙ ap (λ r. a.value ++ r) b.bytes_are ∙ sym (append_assoc a.value (45 ∷ []) b.rest);
+        next = b.next;
+      };
+  one = λ ds es r s a b e. count-one ds es r s a.0 b.0 (sym (append_assoc ds (45 ∷ []) r) ∙ e ∙ append_assoc es (45 ∷ []) s);
+}
+  where
+    count-one : (ds es r s : List ℕ) → AllDigits 10 ds → AllDigits 10 es → ds ++ 45 ∷ r ≡ es ++ 45 ∷ s → (ds ≡ es) × (r ≡ s)
+    count-one ds es r s a b e =
+        let found = counted-one ds es (45 ∷ r) (45 ∷ s) a b (hyphen_outside r) (hyphen_outside s) e in
+        let last = found.1 in
+        (found.0, cc)
 
 -- ---- digits of which one is not 0
-value-most : (n : ℕ) (ds : List ℕ) → n ≤ digits_value_after 10 n ds
+pub value-most : (n : ℕ) (ds : List ℕ) → n ≤ digits_value_after 10 n ds
 value-most n [] = omega arith
 value-most n (x ∷ xs) = omega (arith, value-most (n * 10 + digit_value x) xs)
 

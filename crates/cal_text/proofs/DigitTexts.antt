@@ -1,19 +1,14 @@
 -- Decimal digits, filled up with zeros to a width.
 use Rattle.std.proofs.Math.Nat.{pow-le-pow_right}
-use Rattle.std.proofs.Common.{◌≡◌, ◌≢◌, ℕ, zero, suc, ◌+◌, ◌-◌, ◌*◌, true, false, ◌<◌, ◌≤◌, ◌^◌, List, [], ◌∷◌, ◌++◌, length, get_or, take, replicate, refl, sym, ap, subst, ◌∙◌, arith, inl, inr, lit<}
+use Rattle.std.proofs.Common.{◌≡◌, ◌≢◌, ℕ, zero, suc, ◌+◌, ◌-◌, ◌<◌, ◌≤◌, ◌^◌, List, [], ◌∷◌, ◌++◌, length, get_or, replicate, refl, sym, ap, subst, ◌∙◌, arith, inl, inr, lit<}
 use Rattle.std.specs.Prelude.{decimal}
-use Rattle.std.specs.Char.{is_ascii_digit}
-use Rattle.std.specs.Int.{IsInRange}
-use Rattle.std.proofs.lemmas.Bool.Decides.{nat_tests}
-use Rattle.std.proofs.lemmas.Str.{digit_value_digit}
 use Rattle.std.specs.Str.Parse.{AllDigits, digits_value}
 use Rattle.std.proofs.lemmas.Bool.{cases_eq, cases_lt}
-use Rattle.std.proofs.lemmas.Fmt.{decimal-digits_value, decimal_is_IsNumeral, length-decimal-le, first_decimal, decimal_digit}
-use Rattle.std.proofs.lemmas.Int.Digits.{digits_value-lt, digits_more, digits_value_more}
-use Rattle.std.proofs.lemmas.List.{length-append, length-replicate, length-take, take_all}
-use Rattle.std.proofs.lemmas.Str.Parse.{IsNumeralModel, numerals_by_value, tells_digits, digits_value_short, digit_at}
+use Rattle.std.proofs.lemmas.Fmt.{decimal-digits_value, decimal_is_IsNumeral, length-decimal-le, first_decimal}
+use Rattle.std.proofs.lemmas.Int.Digits.{digits_value-lt}
+use Rattle.std.proofs.lemmas.List.{length-append, length-replicate}
+use Rattle.std.proofs.lemmas.Str.Parse.{IsNumeralModel, numerals_by_value, tells_digits, digits_value_short}
 use Rattle.cal_time.specs.DateText.{digits_at_least}
-use Rattle.std.proofs.lemmas.Int.{ints}
 
 -- zeros at the front
 zeros-digits : (k : ℕ) (ds : List ℕ) → AllDigits 10 ds → AllDigits 10 (replicate k 48 ++ ds)
@@ -59,9 +54,6 @@ other-first ds e =
     let none : length ds - length (decimal (digits_value 10 ds)) ≡ 0 = omega (arith, ap length e) in
     ap (λ k. replicate k 48 ++ decimal (digits_value 10 ds)) none ∙ e
 
-one-zero : digits_at_least 1 (digits_value 10 (48 ∷ [])) ≡ 48 ∷ []
-one-zero = ap (λ ds. replicate (1 - length ds) 48 ++ ds) (decimal_digit 0 (lit< tt))
-
 abbrev Printed : List ℕ → Type 0
 Printed ds = digits_at_least (length ds) (digits_value 10 ds) ≡ ds
 
@@ -77,31 +69,6 @@ digits-printed (c ∷ d ∷ ds) h some few =
       | inl e ↦ subst (λ first. Printed (first ∷ d ∷ ds)) (sym e) (zero-first (d ∷ ds) h.1 (omega arith) (omega arith) rest)
       | inr other ↦ other-first (c ∷ d ∷ ds) (decimal-digits_value own (c ∷ d ∷ ds) h some (λ e. absurd (other e)) (omega arith))
     ]
-
--- one byte more
-pub in_range : (c : ℕ) → is_ascii_digit c ≡ true → IsInRange 48 57 c
-in_range c e = grind (arith, nat_tests)
-
-pub not_in_range : (c : ℕ) → is_ascii_digit c ≡ false → ¬ (IsInRange 48 57 c)
-not_in_range c e h = grind (arith, nat_tests)
-
-pub digits-turn : (ds : List ℕ) (i : ℕ) → i < length ds → is_ascii_digit (get_or ds i 0) ≡ true → AllDigits 10 (take i ds)
-    → AllDigits 10 (take (i + 1) ds)
-digits-turn ds i here e h =
-    let range = in_range (get_or ds i 0) e in
-    digits_more 10 ds i here h (omega (arith, digit_value_digit (get_or ds i 0) range, range.0, range.1))
-
-pub value-turn : (ds : List ℕ) (i n : ℕ) → i < length ds → is_ascii_digit (get_or ds i 0) ≡ true → n ≡ digits_value 10 (take i ds)
-    → n * 10 + (get_or ds i 0 - 48) ≡ digits_value 10 (take (i + 1) ds)
-value-turn ds i n here e h =
-    let range = in_range (get_or ds i 0) e in
-    omega (arith, digits_value_more 10 ds i here, digit_value_digit (get_or ds i 0) range, range.0, range.1)
-
-pub value-small : (ds : List ℕ) (i : ℕ) → i < length ds → length ds ≤ 9 → AllDigits 10 (take i ds) → digits_value 10 (take i ds) < 100000000
-value-small ds i here few h = digits_value_short own (take i ds) 8 h (omega (arith, length-take {A = ℕ} i ds))
-
-pub not_digits : (ds : List ℕ) (i : ℕ) → i < length ds → is_ascii_digit (get_or ds i 0) ≡ false → ¬ AllDigits 10 ds
-not_digits ds i here e h = not_in_range (get_or ds i 0) e (digit_at ds i h here)
 
 -- the digits of a number that are at least four: as many of five to nine digits do not begin with a zero
 length-digits_at_least : (width n : ℕ) → length (digits_at_least width n) ≡ width - length (decimal n) + length (decimal n)
@@ -150,5 +117,3 @@ magnitude-printed ds n h e =
 
 pub below-nine : (ds : List ℕ) (n : ℕ) → length ds ≤ 9 → n < 10 ^ length ds → n < 10 ^ 9
 below-nine ds n few below = let more : 10 ^ length ds ≤ 10 ^ 9 = pow-le-pow_right (lit< tt) few in omega (arith, more, below)
-
-pub ruleset numbers = (digits-turn, value-turn, value-small, not_digits, digits_at_least-digits, digits_at_least-value, digits-printed, digits_value-lt, take_all, not_in_range, ints, nat_tests)

@@ -1,5 +1,5 @@
 -- Zeros taken off the end of digits, where a loop finds one more.
-use Rattle.std.proofs.Common.{◌≡◌, ℕ, zero, suc, ◌-◌, ◌<◌, ◌≤◌, List, [], ◌∷◌, ◌++◌, length, take, reverse, get_or, ap, sym, ◌∙◌, refl, arith}
+use Rattle.std.proofs.Common.{◌≡◌, ℕ, zero, suc, ◌-◌, ◌<◌, ◌≤◌, List, [], ◌∷◌, ◌++◌, length, take, reverse, get_or, ap, sym, ◌∙◌, arith}
 use Rattle.std.proofs.Math.Seq.{take-suc}
 use Rattle.std.proofs.lemmas.List.{reverse-append, reverse-reverse}
 use Rattle.std.proofs.lemmas.Bool.Decides.{nat_tests}
@@ -34,7 +34,3 @@ other_last ds (suc j) some within last =
     let here : suc j - 1 ≡ j = omega arith in
     let cut = take-suc ds j 0 (omega arith) in
     cut ∙ sym (ap without_last_zeros cut ∙ ends_otherwise (take j ds) (get_or ds j 0) (λ e. last (ap (λ i. get_or ds i 0) here ∙ e)))
-
-pub none_left : (ds : List ℕ) → take 0 ds ≡ without_last_zeros (take 0 ds)
-unfolding without_last_zeros
-none_left ds = refl

@@ -1,24 +1,22 @@
 pub mod DigitTexts
-pub mod Options
 pub mod YearTexts
 pub mod Ranges
-pub mod FormTexts
 pub mod DayForms
 pub mod NumberTexts
 mod Fractions
-mod MomentTexts
-mod MomentForms
 mod MomentReads
 mod Stripped
 mod PrintedMoments
-mod UnixTexts
-mod UnixForms
 mod UnixReads
 mod Results
 mod Shapes
 pub mod ReadDigits
 pub mod YearDigits
 pub mod DigitParts
+pub mod Decimals
+pub mod NumberShapes
+pub mod UnixShapes
+pub mod MomentShapes
 pub mod YearParts
 pub mod FormReads
 pub mod FormShapes
@@ -28,5 +26,6 @@ pub mod Parts
 mod Components
 mod OneAnswer
 mod AnyForms
+mod AnyPositions
 mod UnixPrinted
 mod Moments

@@ -118,6 +118,10 @@ text_other low text text' (inr w) = text' w
 abbrev pub BeginsOutside : ℕ → ℕ → List ℕ → Type 0
 BeginsOutside low above bytes = (x : ℕ) (xs : List ℕ) → bytes ≡ x ∷ xs → ¬ IsIn low above x
 
+pub left-outside : (low above : ℕ) (f g : Shape) (bytes : List ℕ) → BeginsOutside low above bytes → left (Branch low above f g) bytes ≡ left g bytes
+left-outside low above f g [] out = left-branch_end low above f g
+left-outside low above f g (x ∷ xs) out = left-branch_out low above f g x xs (out x xs refl)
+
 pub other : {V W : Type 0} (low above : ℕ) (Valid : V → Type 0) (text : V → List ℕ) (part : Shape → Shape)
     (Valid' : W → Type 0) (text' : W → List ℕ) (part' : Shape → Shape) → IsPart Valid text part → IsPart Valid' text' part'
     → ((w : W) (rest : List ℕ) → Valid' w → BeginsOutside low above (text' w ++ rest))
@@ -127,15 +131,11 @@ other {V} {W} low above Valid text part Valid' text' part' p q apart = record { 
     Value : Type 0
     Value = (ℕ × V) ⊎ W
 
-    outside : (f g : Shape) (bytes : List ℕ) → BeginsOutside low above bytes → left (Branch low above f g) bytes ≡ left g bytes
-    outside f g [] out = left-branch_end low above f g
-    outside f g (x ∷ xs) out = left-branch_out low above f g x xs (out x xs refl)
-
     each : (f : Shape) (v : Value) (rest : List ℕ) → IsOther above Valid Valid' v
         → left (Branch low above (part f) (part' f)) (text_other low text text' v ++ rest) ≡ left f rest
     each f (inl v) rest h =
         left-branch_in low above (part f) (part' f) (low + v.0) (text v.1 ++ rest) (omega arith, omega (arith, h.0)) ∙ p.each f v.1 rest h.1
-    each f (inr w) rest h = outside (part f) (part' f) (text' w ++ rest) (apart w rest h) ∙ q.each f w rest h
+    each f (inr w) rest h = left-outside low above (part f) (part' f) (text' w ++ rest) (apart w rest h) ∙ q.each f w rest h
 
     Found : Shape → List ℕ → Type 0
     Found f bytes = Splits (IsOther above Valid Valid') (text_other low text text') f bytes
@@ -178,7 +178,7 @@ other {V} {W} low above Valid text part Valid' text' part' p q apart = record { 
 
 -- ---- a whole text
 -- a part at the end
-done_then : (bytes : List ℕ) → left Done bytes ≡ 0 → bytes ≡ []
+pub done_then : (bytes : List ℕ) → left Done bytes ≡ 0 → bytes ≡ []
 done_then [] e = refl
 done_then (x ∷ xs) e = absurd (omega (arith, e, left-more x xs))
 

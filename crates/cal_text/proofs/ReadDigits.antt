@@ -43,9 +43,6 @@ zero_first n i old mid new e h = record {
 pub kept : (old mid new : List ℕ) (k n : ℕ) → mid ≡ old → ReadsDigits mid new k n → ReadsDigits old new k n
 kept old mid new k n e h = record { digits = h.digits; all = h.all; count_is = h.count_is; value = h.value; bytes_are = sym e ∙ h.bytes_are }
 
-pub no_more : (most n : ℕ) (bytes : List ℕ) → ReadsMore bytes bytes most n n
-no_more most n bytes = record { digits = []; all = tt; few = omega arith; value = refl; bytes_are = refl }
-
 pub more_after : (most d n before : ℕ) (old mid new : List ℕ) → most ≢ 0 → (d < 10) × (old ≡ (48 + d) ∷ mid) → ReadsMore mid new (most - 1) (before * 10 + d) n
     → ReadsMore old new most before n
 more_after most d n before old mid new some first h = record {
@@ -63,17 +60,17 @@ more-scans f (suc k) old mid new some first e =
     let same : suc k - 1 ≡ k = omega arith in
     first (UpTo k f) f ∙ ap (λ n. left (UpTo n f) mid) (sym same) ∙ e
 
-pub room : (n most d : ℕ) → most ≢ 0 → d < 10 → (n + 1) * 10 ^ most ≤ 10 ^ 9 → (n * 10 + d + 1) * 10 ^ (most - 1) ≤ 10 ^ 9
-room n zero d some low h = absurd (some refl)
-room n (suc k) d some low h =
+pub room : (limit n most d : ℕ) → most ≢ 0 → d < 10 → (n + 1) * 10 ^ most ≤ limit → (n * 10 + d + 1) * 10 ^ (most - 1) ≤ limit
+room limit n zero d some low h = absurd (some refl)
+room limit n (suc k) d some low h =
     let same : suc k - 1 ≡ k = omega arith in
     let less : n * 10 + d + 1 ≤ (n + 1) * 10 = omega arith in
     let more : 10 ^ k * (n * 10 + d + 1) ≤ 10 ^ k * ((n + 1) * 10) = mul-le-mul_left (10 ^ k) less in
     let power : (n + 1) * 10 ^ suc k ≡ (n + 1) * (10 ^ k * 10) = ap (λ p. (n + 1) * p) (pow-suc 10 k) in
     rw same (omega (arith, more, power, h))
 
-pub small : (n k : ℕ) → (n + 1) * 10 ^ k ≤ 10 ^ 9 → n < 10 ^ 9
-small n k h =
+pub small : (limit n k : ℕ) → (n + 1) * 10 ^ k ≤ limit → n < limit
+small limit n k h =
     let low : 0 ≤ k = omega arith in
     let one : 10 ^ 0 ≤ 10 ^ k = pow-le-pow_right (lit< tt) low in
     let more : (n + 1) * 1 ≤ (n + 1) * 10 ^ k = mul-le-mul_left (n + 1) one in

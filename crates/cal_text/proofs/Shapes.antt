@@ -2,10 +2,10 @@
 use Rattle.std.proofs.Common.{◌≡◌, ◌≢◌, ◌⊎◌, ℕ, zero, suc, ◌<◌, ◌≤◌, ◌^◌, ℤ, pos, negsuc, List, [], ◌∷◌, ◌++◌, length, get_or, refl, sym, ap, subst, ◌∙◌, arith, lit<, inl, inr}
 use Rattle.std.specs.Str.Parse.{AllDigits}
 use Rattle.std.proofs.lemmas.Bool.{cases_lt}
-use Rattle.std.proofs.lemmas.List.{append_assoc, get_or_append_left}
+use Rattle.std.proofs.lemmas.List.{append_assoc, length-append, get_or_append_left, get_or_at}
 use Rattle.std.proofs.lemmas.Str.Parse.{digit_at}
 use Rattle.cal_time.specs.Date.{IsDate}
-use Rattle.cal_time.specs.DateText.{digits_at_least}
+use Rattle.cal_time.specs.DateText.{digits_at_least, date_digits}
 use Rattle.cal_text.specs.declared.form.Form.{Form}
 use Rattle.cal_text.specs.declared.form.Form.TheVariants.{Calendar, Ordinal, Week}
 use Rattle.cal_text.specs.declared.rfc3339.numbers.Numbers.{Numbers}
@@ -15,7 +15,6 @@ use Rattle.cal_text.specs.Rfc3339Form.{IsSeparator, HasMomentForm, clock_digits}
 use Rattle.cal_text.specs.UnixText.{HasUnixForm}
 use Rattle.cal_text.proofs.DayForms.{form-of-day}
 use Rattle.cal_text.proofs.DigitTexts.{digits_at_least-digits, digits_at_least-length}
-use Rattle.cal_text.proofs.MomentForms.{cut}
 use Rattle.cal_text.proofs.YearTexts.{year-plain, year-plus}
 
 -- ---- the bytes of a date, and 0 past their end
@@ -124,6 +123,16 @@ pub record IsMomentShape (bytes : List ℕ) : Type 0 where
 year-first : (ys ms ds rest : List ℕ) → (ys ++ 45 ∷ [] ++ ms ++ 45 ∷ [] ++ ds) ++ rest ≡ ys ++ (45 ∷ (ms ++ (45 ∷ (ds ++ rest))))
 year-first ys ms ds rest = simp append_assoc
 
+date-long : (ys ms ds : List ℕ) → length ys ≡ 4 → length ms ≡ 2 → length ds ≡ 2 → length (ys ++ 45 ∷ [] ++ ms ++ 45 ∷ [] ++ ds) ≡ 10
+date-long ys ms ds a b c = simp length-append (omega (arith, a, b, c))
+
+pub date_digits-long : (bytes : List ℕ) (m : Numbers) → HasMomentForm bytes m → length (date_digits m.year m.month m.day) ≡ 10
+date_digits-long bytes m h =
+    date-long (digits_at_least 4 m.year) (digits_at_least 2 m.month) (digits_at_least 2 m.day)
+    (digits_at_least-length 4 m.year (lit< tt) h.numbers.year (omega (arith, h.numbers.year)))
+    (digits_at_least-length 2 m.month (lit< tt) h.numbers.month (omega (arith, h.numbers.month)))
+    (digits_at_least-length 2 m.day (lit< tt) h.numbers.day (omega (arith, h.numbers.day)))
+
 pub moment-shape : (bytes : List ℕ) (m : Numbers) → HasMomentForm bytes m → IsMomentShape bytes
 moment-shape bytes m h =
     let ys = digits_at_least 4 m.year in
@@ -134,7 +143,7 @@ moment-shape bytes m h =
     ap (λ all. get_or all 0 0) (h.bytes_are ∙ year-first ys (digits_at_least 2 m.month) (digits_at_least 2 m.day) rest) ∙ get_or_append_left ys _ 0 0 (omega (arith, long)) in
     record {
       first = no-other bytes (subst IsDateByte (sym first) (number-date 4 m.year small 0));
-      separator = subst IsSeparator (sym (cut bytes m h).between) h.is_separator;
+      separator = subst IsSeparator (sym (ap (λ all. get_or all 10 0) h.bytes_are ∙ get_or_at (date_digits m.year m.month m.day) h.separator _ 0 10 (date_digits-long bytes m h))) h.is_separator;
     }
 
 pub julian-first : (bytes : List ℕ) (j : ℤ) → IsJulianForm bytes j → get_or bytes 0 0 ≡ 74

@@ -1,6 +1,6 @@
 -- Digits without the zeros that they end in: they are digits, and with so many tens the same number.
 use Rattle.std.proofs.Math.Nat.{mul_assoc, mul-one, pow-suc}
-use Rattle.std.proofs.Common.{◌≡◌, ℕ, zero, suc, ◌+◌, ◌-◌, ◌*◌, ◌/◌, ◌%◌, ◌<◌, ◌≤◌, ◌^◌, List, [], length, take, get_or, ap, sym, subst, ◌∙◌, refl, arith, inl, inr}
+use Rattle.std.proofs.Common.{◌≡◌, ℕ, zero, suc, ◌+◌, ◌-◌, ◌*◌, ◌/◌, ◌%◌, ◌<◌, ◌≤◌, ◌^◌, List, [], ◌∷◌, length, take, get_or, ap, sym, subst, ◌∙◌, refl, arith, inl, inr}
 use Rattle.std.specs.Char.{digit_value}
 use Rattle.std.specs.Str.Parse.{AllDigits, digits_value}
 use Rattle.std.proofs.lemmas.Bool.{cases_eq}
@@ -9,7 +9,11 @@ use Rattle.std.proofs.lemmas.Int.Digits.{digits_value_more}
 use Rattle.std.proofs.lemmas.List.{length-take-le}
 use Rattle.cal_time.specs.Digits.{nine_digits, without_last_zeros}
 use Rattle.cal_text.proofs.Fractions.{zero_last, other_last}
-use Rattle.cal_text.proofs.MomentTexts.{AllDigits-take}
+
+AllDigits-take : (k : ℕ) (ds : List ℕ) → AllDigits 10 ds → AllDigits 10 (take k ds)
+AllDigits-take zero ds h = tt
+AllDigits-take (suc k) [] h = tt
+AllDigits-take (suc k) (d ∷ ds) h = (h.0, AllDigits-take k ds h.1)
 
 -- of the first n digits
 pub record IsStripped (ds : List ℕ) (n : ℕ) : Type 0 where

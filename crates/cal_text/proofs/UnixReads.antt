@@ -1,7 +1,8 @@
 -- A Unix time in text is that of one moment at UTC, or of none.
-use Rattle.std.proofs.Common.{◌≡◌, ℕ, ℤ, pos, negsuc, ◌+ℤ◌, ◌*ℤ◌, Some, Result, Ok, List, refl, sym, subst, ap, ◌∙◌, arith, inl, inr}
+use Rattle.std.proofs.Common.{◌≡◌, ℕ, ◌<◌, ◌^◌, ℤ, pos, negsuc, ◌+ℤ◌, ◌*ℤ◌, unsigned_abs, FitsSigned, to_z, of_z, Some, Result, Ok, List, refl, sym, subst, ap, ◌∙◌, arith, inl, inr}
 use Rattle.std.proofs.lemmas.Bool.{cases_lt}
-use Rattle.std.proofs.lemmas.Int.{ints}
+use Rattle.std.specs.Int.{w128}
+use Rattle.std.proofs.lemmas.Int.{ints, to_z-of_z}
 use Rattle.cal_time.specs.SignedDuration.{second}
 use Rattle.cal_datetime.specs.DateTime.{IsDateTime, last_date_time}
 use Rattle.cal_datetime.specs.OffsetDateTime.{Shown, instant, unix_epoch, unix_nanoseconds}
@@ -54,3 +55,14 @@ moment_of text v m every is = ap at_utc (one v _ (every _ is.form)) ∙ sym (is-
 -- or there is none
 pub some_at : (text : List ℕ) (v : ℤ) → IsOnly text v → IsDateTime (unix_epoch +ℤ v) → ¬ IsUnixFormOfNone text
 some_at text v every range none = none.2 (subst (λ u. IsDateTime (unix_epoch +ℤ u)) (one v none.0 (every none.0 none.1)) range)
+
+-- what a text says fits into 128 bits
+fits : (v : ℤ) → unsigned_abs v < 10 ^ 28 → FitsSigned w128 v
+fits (pos n) h = record { sfits = grind (arith, ints) }
+fits (negsuc n) h = record { sfits = grind (arith, ints) }
+
+wide : (v : ℤ) → unsigned_abs v < 10 ^ 28 → to_z w128 (of_z w128 v) ≡ v
+wide v h = to_z-of_z w128 v (fits v h)
+
+pub wide-form : (text : List ℕ) (v : ℤ) → HasUnixForm text v → to_z w128 (of_z w128 v) ≡ v
+wide-form text v h = wide v (omega (arith, h.seconds))

@@ -48,7 +48,7 @@ spelled-some ds n h first =
     ]
 
 -- ---- what a scanner read: a digit that is not 0, so many digits, and more
-value-after : (n : ℕ) (ds : List ℕ) → digits_value_after 10 n ds ≡ n * 10 ^ length ds + digits_value 10 ds
+pub value-after : (n : ℕ) (ds : List ℕ) → digits_value_after 10 n ds ≡ n * 10 ^ length ds + digits_value 10 ds
 value-after n [] = omega arith
 value-after n (x ∷ xs) =
     let power = pow-suc 10 (length xs) in

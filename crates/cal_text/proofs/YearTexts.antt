@@ -12,9 +12,6 @@ sign-plain n h = grind (arith, nat_tests)
 sign-plus : (n : ℕ) → 9999 < n → sign_text (pos n) ≡ 43 ∷ []
 sign-plus n h = grind (arith, nat_tests)
 
-sign-minus : (k : ℕ) → sign_text (negsuc k) ≡ 45 ∷ []
-sign-minus k = refl
-
 pub year-plain : (n : ℕ) → n ≤ 9999 → year_text (pos n) ≡ digits_at_least 4 n
 year-plain n h = ap (λ sign. sign ++ digits_at_least 4 n) (sign-plain n h)
 

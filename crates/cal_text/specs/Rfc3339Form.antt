@@ -38,12 +38,12 @@ pub record IsPointAndDigits (fraction digits : List ℕ) (nanosecond : ℕ) : Ty
 abbrev pub IsFraction : List ℕ → ℕ → Type 0
 IsFraction fraction n = ((fraction ≡ []) × (n ≡ 0)) ⊎ ((digits : List ℕ) × IsPointAndDigits fraction digits n)
 
--- a byte that a fraction has
-abbrev pub IsDigit : ℕ → Type 0
-IsDigit byte = (48 ≤ byte) × (byte ≤ 57)
-
-abbrev pub IsDigitOrPoint : ℕ → Type 0
-IsDigitOrPoint byte = (byte ≡ 46) ⊎ IsDigit byte
+-- the bytes are a fraction of at most so many digits more than one, and the others
+pub record HasFractionBefore (others : List ℕ) (more : ℕ) (bytes : List ℕ) (nanosecond : ℕ) : Type 0 where
+  pub fraction : List ℕ
+  pub is_fraction : IsFraction fraction nanosecond
+  pub short : length fraction ≤ more + 2
+  pub bytes_are : bytes ≡ fraction ++ others
 
 -- the offset: Z or z, or a sign and two digits each of the hours and the minutes
 abbrev pub IsZone : List ℕ → Zone → Type 0

@@ -1,5 +1,6 @@
 -- Shapes: which bytes may follow one another. A reader is proved against the shape of its form.
-use Rattle.std.specs.Prelude.{◌≡◌, ℕ, zero, suc, ◌+◌, ◌≤◌, nat_le, ◌&&◌, List, [], ◌∷◌, ◌++◌, length, Option, MatchOption, if◌then◌else◌}
+use Rattle.std.specs.Prelude.{◌≡◌, ℕ, zero, suc, ◌+◌, ◌*◌, ◌/◌, ◌<◌, ◌≤◌, nat_le, ◌&&◌, List, [], ◌∷◌, ◌++◌, length, Option, MatchOption, if◌then◌else◌}
+use Rattle.std.specs.Char.{digit_value}
 use Rattle.std.specs.Str.Parse.{AllDigits, digits_value, digits_value_after}
 
 -- nothing more; or a byte from `low` to `low + above`, and then the next; or a branch: with such a byte the one, and else the other
@@ -47,6 +48,24 @@ pub record ReadsMore (old new : List ℕ) (most before n : ℕ) : Type 0 where
   pub value : digits_value_after 10 before digits ≡ n
   pub bytes_are : old ≡ digits ++ new
 
+-- the sum of digits of which the first counts so many, and each further one a tenth of the one before
+abbrev pub decimals_value : ℕ → List ℕ → ℕ
+decimals_value unit [] = 0
+decimals_value unit (x ∷ xs) = digit_value x * unit + decimals_value (unit / 10) xs
+
+-- of so many digits after a point at most, which make so many of what is before them
+pub record ReadsDecimals (old new : List ℕ) (most unit before n : ℕ) : Type 0 where
+  pub digits : List ℕ
+  pub all : AllDigits 10 digits
+  pub few : length digits ≤ most
+  pub value : before + decimals_value unit digits ≡ n
+  pub bytes_are : old ≡ digits ++ new
+
+-- of one such digit and so many more at most, of which one is not 0
+pub record ReadsSomeDecimals (old new : List ℕ) (more unit n : ℕ) : Type 0 where
+  pub decimals : ReadsDecimals old new (more + 1) unit 0 n
+  pub some : 0 < digits_value 10 decimals.digits
+
 -- ---- parts
 abbrev pub Byte : ℕ → Shape → Shape
 Byte b f = From b 0 f
@@ -64,6 +83,19 @@ UpTo (suc k) f = Branch 48 9 (UpTo k f) f
 abbrev pub SomeDigits : ℕ → Shape → Shape
 SomeDigits zero f = From 49 8 f
 SomeDigits (suc k) f = Branch 49 8 (Digits (suc k) f) (Byte 48 (SomeDigits k f))
+
+-- one digit more than so many at most, of which one is not 0
+abbrev pub SomeUpTo : ℕ → Shape → Shape
+SomeUpTo zero f = From 49 8 f
+SomeUpTo (suc k) f = Branch 49 8 (UpTo (suc k) f) (Byte 48 (SomeUpTo k f))
+
+-- a number above 0, of one digit and so many more at most
+abbrev pub Number : ℕ → Shape → Shape
+Number more f = From 49 8 (UpTo more f)
+
+-- a fraction: none, or a point, a digit and so many more at most
+abbrev pub Fraction : ℕ → Shape → Shape
+Fraction more f = Branch 46 0 (From 48 9 (UpTo more f)) f
 
 -- ---- a year and the hyphen after it
 -- so many digits and more, up to so many more
@@ -98,3 +130,50 @@ after_year = Branch 87 0 week month_or_ordinal
 
 abbrev pub date : Shape
 date = Year after_year
+
+abbrev pub natural : Shape
+natural = Branch 48 0 Done (Number 8 Done)
+
+abbrev pub julian_day : Shape
+julian_day = Byte 74 (Branch 45 0 (Number 8 Done) natural)
+
+-- seconds and a fraction: those from one second on, all, and all but zero
+abbrev pub from_one : Shape
+from_one = Number 17 (Fraction 8 Done)
+
+abbrev pub seconds : Shape
+seconds = Branch 48 0 (Fraction 8 Done) from_one
+
+abbrev pub seconds_above_0 : Shape
+seconds_above_0 = Branch 48 0 (Byte 46 (SomeUpTo 8 Done)) from_one
+
+abbrev pub unix_time : Shape
+unix_time = Byte 64 (Branch 45 0 seconds_above_0 seconds)
+
+-- ---- a moment
+abbrev pub Separator : Shape → Shape
+Separator f = Branch 84 0 f (Branch 116 0 f (Byte 32 f))
+
+-- two numbers of two digits, each after such a byte
+abbrev pub TwoNumbers : ℕ → Shape → Shape
+TwoNumbers b f = Byte b (Digits 2 (Byte b (Digits 2 f)))
+
+abbrev pub offset_digits : Shape
+offset_digits = Digits 2 (Byte 58 (Digits 2 Done))
+
+abbrev pub signed_offset : Shape
+signed_offset = Branch 43 0 offset_digits (Byte 45 offset_digits)
+
+abbrev pub time_offset : Shape
+time_offset = Branch 90 0 Done (Branch 122 0 Done signed_offset)
+
+abbrev pub ToSeconds : Shape → Shape
+ToSeconds f = Digits 4 (TwoNumbers 45 (Separator (Digits 2 (TwoNumbers 58 f))))
+
+-- whose fraction has so many digits more than one at most
+abbrev pub moment : ℕ → Shape
+moment more = ToSeconds (Fraction more time_offset)
+
+-- the fraction may be of any length: so this is of shapes that are large enough for the text
+abbrev pub ScansLarge : {V : Type 0} → (ℕ → Shape) → List ℕ → List ℕ → Option V → Type 0
+ScansLarge f old new r = (more : ℕ) → length old ≤ more → ScansWhole (f more) old new r

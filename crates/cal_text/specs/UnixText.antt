@@ -23,6 +23,14 @@ pub record HasUnixForm (bytes : List ℕ) (v : ℤ) : Type 0 where
   pub short : length fraction ≤ 10
   pub bytes_are : bytes ≡ codes "@" ++ minus_text v ++ decimal (unsigned_abs v / second) ++ fraction
 
+-- the bytes are so many seconds, of at most 18 digits, and nanoseconds, of at most nine
+pub record HasSeconds (bytes : List ℕ) (s n : ℕ) : Type 0 where
+  pub seconds : s < 10 ^ 18
+  pub fraction : List ℕ
+  pub is_fraction : IsFraction fraction n
+  pub short : length fraction ≤ 10
+  pub bytes_are : bytes ≡ decimal s ++ fraction
+
 -- the bytes are the Unix time of this moment, which is one at UTC
 pub record IsUnixText (bytes : List ℕ) (m : Shown) : Type 0 where
   pub in_range : IsDateTime m.local

@@ -1,12 +1,12 @@
 //! Dates and moments in text, in whichever form they come.
-ghost use Rattle.std.specs.Prelude.{◌≡◌, ◌↔◌, IfOk, IsErr, Ok};
+ghost use Rattle.std.specs.Prelude.{◌≡◌, ◌↔◌, ◌<◌, length, get_or, IsTrue, IfOk, IfErr, IsErr, Ok};
 ghost use Rattle.cal_time.specs.declared.error.ComponentRange.{ComponentRange};
 ghost use Rattle.cal_text.specs.declared.any.DateOrMoment.{DateOrMoment};
 ghost use Rattle.cal_text.specs.AnyForm.{IsTextOf, IsFault, HasAnyForm};
+ghost use Rattle.cal_text.specs.Position.{IsAtStop};
 ghost use Rattle.cal_text.specs.Reading.{IsRefusedFor, IsRefusedForForm};
 
 use crate::any::by_form::{date_in, julian_day_in, moment_in, unix_time_in};
-use crate::date::place::begins_with;
 use crate::error::Unreadable;
 use crate::rfc3339::is_separator;
 use cal_datetime::OffsetDateTime;
@@ -53,13 +53,14 @@ pub enum DateOrMoment {
 /// [`rfc3339::read`](crate::rfc3339::read) or [`unix::read`](crate::unix::read) reads. No text is in two forms, so `2024-060` is
 /// the ordinal date and nothing else.
 ///
-/// A text of another form is refused with the place of the first byte that no text of these forms has there. A text that has one
+/// A text of another form is refused with the position of the first byte that no text of these forms has there. A text that has one
 /// of the forms is refused for the component that the reader of this form refuses.
 pub fn read_any(text: &[u8]) -> Result<DateOrMoment, Unreadable>
     ensures every { (found : DateOrMoment) → IsTextOf text.now found → result ≡ Ok found }
     ensures has { IfOk result (IsTextOf text.now) }
     ensures refused { IsErr result ↔ ((found : DateOrMoment) → ¬ IsTextOf text.now found) }
     ensures form { IsRefusedForForm result ↔ ¬ HasAnyForm text.now }
+    ensures position { IfErr result (IsAtStop HasAnyForm text.now) }
     ensures component { (why : ComponentRange) → IsRefusedFor why result ↔ IsFault text.now why }
 {
     if begins_with(text, b'J') {
@@ -70,5 +71,14 @@ pub fn read_any(text: &[u8]) -> Result<DateOrMoment, Unreadable>
         moment_in(text)
     } else {
         date_in(text)
+    }
+}
+
+fn begins_with(text: &[u8], byte: u8) -> bool
+    ensures { IsTrue result ↔ (0 < length text.now) × (get_or text.now 0 0 ≡ byte) }
+{
+    match text {
+        [first, ..] => *first == byte,
+        [] => false,
     }
 }

@@ -16,7 +16,6 @@ use cal_time::Date;
 
 mod display;
 pub(crate) mod of_form;
-pub(crate) mod place;
 
 pub use display::{CalendarText, OrdinalText, WeekText};
 

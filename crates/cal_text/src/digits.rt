@@ -1,22 +1,32 @@
 //! Decimal digits.
-ghost use Rattle.std.specs.Prelude.{◌≡◌, ℕ, ◌<◌, ◌≤◌, ◌^◌, length, IfSome, Some};
-ghost use Rattle.cal_time.specs.DateText.{digits_at_least};
+ghost use Rattle.std.specs.Prelude.{◌≡◌, ◌+◌, ◌*◌, ◌<◌, ◌≤◌, ◌^◌, ◌++◌, decimal, IfSome};
+ghost use Rattle.cal_text.specs.Shape.{Shape, left, Scans, ReadsMore, UpTo, Number};
 
-/// The number that one to nine digits spell, or `None` where a byte is no digit.
-#[tactic(auto, using(crate::proofs::DigitTexts::numbers))]
-pub(crate) fn number_of(digits: &[u8]) -> Option<u32>
-    requires some { 1 ≤ length digits.now }
-    requires few { length digits.now ≤ 9 }
-    ensures every { (width n : ℕ) → n < 10 ^ 9 → digits.now ≡ digits_at_least width n → result ≡ Some n }
-    ensures has { IfSome result (λ n. digits.now ≡ digits_at_least (length digits.now) n) }
-    ensures below { IfSome result (λ n. n < 10 ^ length digits.now) }
+use crate::scanner::Scanner;
+
+/// A number above 0 without zeros before it, of one digit and so many more at most.
+pub(crate) fn number_above_0(scanner: &mut Scanner, more: usize) -> Option<u64>
+    requires { more ≤ 17 }
+    ensures scans { Scans (Number more) scanner.old.rest.now scanner.new.rest.now result }
+    ensures number { IfSome result (λ n. (0 < n) × (n < 10 ^ (more + 1)) × (scanner.old.rest.now ≡ decimal n ++ scanner.new.rest.now)) }
 {
-    let mut number = 0;
-    for byte in digits {
-        if !byte.is_ascii_digit() {
-            return None;
-        }
-        number = number * 10 + u32::from(*byte - b'0');
-    }
+    let first = scanner.digit_from_1()?;
+    let number = more_digits(scanner, u64::from(first), more);
     Some(number)
+}
+
+/// The number that the next digits make of one that is read, of which so many are read at most.
+pub(crate) fn more_digits(scanner: &mut Scanner, number: u64, most: usize) -> u64
+    requires { (number + 1) * 10 ^ most ≤ 10 ^ 18 }
+    ensures scans { (f : Shape) → left (UpTo most f) scanner.old.rest.now ≡ left f scanner.new.rest.now }
+    ensures digits { ReadsMore scanner.old.rest.now scanner.new.rest.now most number result }
+    ensures below { result < (number + 1) * 10 ^ most }
+{
+    if most == 0 {
+        return number;
+    }
+    match scanner.digit() {
+        Some(digit) => more_digits(scanner, number * 10 + u64::from(digit), most - 1),
+        None => number,
+    }
 }

@@ -2,7 +2,7 @@
 
 mod reading;
 
-pub(crate) use reading::{form_of, numbers_around};
+pub(crate) use reading::form_of;
 
 /// The numbers of a date in text, which need not be those of a day.
 #[derive(Clone, Copy)]

@@ -6,19 +6,19 @@ ghost use Rattle.cal_time.specs.Time.{hour_out_of_range, minute_out_of_range, se
 ghost use Rattle.cal_time.specs.UtcOffset.{offset_hour_out_of_range, offset_minute_out_of_range};
 ghost use Rattle.cal_datetime.specs.OffsetDateTime.{Shown};
 ghost use Rattle.cal_text.specs.declared.rfc3339.numbers.Numbers.{Numbers};
+ghost use Rattle.cal_text.specs.Position.{HasSome, IsAtStop};
 ghost use Rattle.cal_text.specs.Reading.{component_of, IsRefusedFor, IsRefusedForForm};
 ghost use Rattle.cal_text.specs.Rfc3339Form.{HasMomentForm, HasMomentThat, IsMomentText, IsMomentReason, LacksMonth, LacksDay, LacksHour, LacksMinute, LacksSecond, LacksOffsetHour, LacksOffsetMinute};
 
 use crate::error::Unreadable;
 use crate::rfc3339::form::numbers_of;
 use crate::rfc3339::of_numbers::moment_of;
-use crate::rfc3339::place::first_wrong_byte;
+use crate::scanner::Scanner;
 use cal_datetime::OffsetDateTime;
 
 mod form;
 mod numbers;
 mod of_numbers;
-mod place;
 mod text;
 
 pub(crate) use form::is_separator;
@@ -30,8 +30,8 @@ pub use text::Text;
 /// fraction of any number of digits, of which the first nine count. The offset is `Z`, `z`, or a sign, hours and minutes;
 /// that of `-00:00` is UTC. Nothing may come before or after.
 ///
-/// A text of another form is refused with the place of the first byte that no such text has there. Otherwise the first component
-/// at fault is the reason: `month`, `day`, `hour`, `minute`, `second` (60 too, as no leap second is counted), `offset hour` above
+/// A text of another form is refused with the position of the first byte that no such text has there, which is the length of a text
+/// that ends too early. Otherwise the first component at fault is the reason: `month`, `day`, `hour`, `minute`, `second` (60 too, as no leap second is counted), `offset hour` above
 /// 23, or `offset minute`.
 pub fn read(text: &[u8]) -> Result<OffsetDateTime, Unreadable>
     ensures every { (m : Shown) → IsMomentText text.now m → result ≡ Ok m }
@@ -41,6 +41,7 @@ pub fn read(text: &[u8]) -> Result<OffsetDateTime, Unreadable>
     ensures refused { IsErr result ↔ ((m : Shown) → ¬ IsMomentText text.now m) }
     ensures reason { IfErr result (λ e. IsMomentReason (component_of e)) }
     ensures form { IsRefusedForForm result ↔ ((m : Numbers) → ¬ HasMomentForm text.now m) }
+    ensures position { IfErr result (IsAtStop (HasSome HasMomentForm) text.now) }
     ensures month { IsRefusedFor month_out_of_range result ↔ HasMomentThat LacksMonth text.now }
     ensures day { IsRefusedFor day_out_of_range result ↔ HasMomentThat LacksDay text.now }
     ensures hour { IsRefusedFor hour_out_of_range result ↔ HasMomentThat LacksHour text.now }
@@ -49,11 +50,12 @@ pub fn read(text: &[u8]) -> Result<OffsetDateTime, Unreadable>
     ensures offset_hour { IsRefusedFor offset_hour_out_of_range result ↔ HasMomentThat LacksOffsetHour text.now }
     ensures offset_minute { IsRefusedFor offset_minute_out_of_range result ↔ HasMomentThat LacksOffsetMinute text.now }
 {
-    match numbers_of(text) {
+    let mut scanner = Scanner { rest: text };
+    match numbers_of(&mut scanner) {
         Some(numbers) => match moment_of(numbers) {
             Ok(moment) => Ok(moment),
             Err(error) => Err(Unreadable::OutOfRange(error)),
         },
-        None => Err(Unreadable::UnexpectedByte(first_wrong_byte(text))),
+        None => Err(Unreadable::UnexpectedByte(text.len() - scanner.rest.len())),
     }
 }

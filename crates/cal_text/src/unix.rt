@@ -1,11 +1,13 @@
 //! Unix times in text.
 ghost use Rattle.std.specs.Prelude.{◌≡◌, ◌⊎◌, ℤ, ◌↔◌, IfOk, IfErr, IsErr, Ok, None, Some};
 ghost use Rattle.cal_datetime.specs.OffsetDateTime.{Shown};
+ghost use Rattle.cal_text.specs.Position.{HasSome, IsAtStop};
 ghost use Rattle.cal_text.specs.Reading.{component_of, IsRefusedFor, IsRefusedForForm};
 ghost use Rattle.cal_text.specs.UnixText.{HasUnixForm, IsUnixText, IsUnixFormOfNone, timestamp_out_of_range};
 
 use crate::error::Unreadable;
-use crate::unix::reading::{first_wrong_byte, unix_of};
+use crate::scanner::Scanner;
+use crate::unix::reading::unix_of;
 use cal_datetime::OffsetDateTime;
 
 mod reading;
@@ -18,21 +20,23 @@ pub use text::Text;
 /// After the `@` come the whole seconds, with a minus sign before a time before 1970, no plus sign and no zeros before their
 /// digits, of which there are at most 18. A fraction of one to nine digits may follow. `@1709164800.5` is 0:00:00.5 on 2024-02-29.
 ///
-/// Another text is refused with the place of the first byte that no such text has there. A number that no moment at UTC has is
-/// refused as `timestamp`.
+/// Another text is refused with the position of the first byte that no such text has there, which is the length of a text that ends
+/// too early. A number that no moment at UTC has is refused as `timestamp`.
 pub fn read(text: &[u8]) -> Result<OffsetDateTime, Unreadable>
     ensures every { (m : Shown) → IsUnixText text.now m → result ≡ Ok m }
     ensures has { IfOk result (IsUnixText text.now) }
     ensures refused { IsErr result ↔ ((m : Shown) → ¬ IsUnixText text.now m) }
     ensures reason { IfErr result (λ e. (component_of e ≡ None) ⊎ (component_of e ≡ Some timestamp_out_of_range)) }
     ensures form { IsRefusedForForm result ↔ ((v : ℤ) → ¬ HasUnixForm text.now v) }
+    ensures position { IfErr result (IsAtStop (HasSome HasUnixForm) text.now) }
     ensures timestamp { IsRefusedFor timestamp_out_of_range result ↔ IsUnixFormOfNone text.now }
 {
-    match unix_of(text) {
+    let mut scanner = Scanner { rest: text };
+    match unix_of(&mut scanner) {
         Some(nanoseconds) => match OffsetDateTime::from_unix_timestamp_nanos(nanoseconds) {
             Ok(moment) => Ok(moment),
             Err(error) => Err(Unreadable::OutOfRange(error)),
         },
-        None => Err(Unreadable::UnexpectedByte(first_wrong_byte(text))),
+        None => Err(Unreadable::UnexpectedByte(text.len() - scanner.rest.len())),
     }
 }

@@ -2,8 +2,9 @@
 ghost use Rattle.std.specs.Prelude.{◌≡◌, ℕ, ◌+◌, ◌*◌, ◌<◌, ◌≤◌, ◌^◌, ◌∷◌, ◌++◌, IfSome};
 ghost use Rattle.cal_time.specs.DateText.{digits_at_least};
 ghost use Rattle.cal_text.specs.DateForms.{year_text, IsWrittenYear};
-ghost use Rattle.cal_text.specs.Shape.{Shape, left, Scans, ReadsDigits, ReadsMore, UpTo, Digits, SomeDigits, ZeroAndThree, Above, Below, Unsigned, Year};
+ghost use Rattle.cal_text.specs.Shape.{Scans, ReadsDigits, Digits, SomeDigits, ZeroAndThree, Above, Below, Unsigned, Year};
 
+use crate::digits::more_digits;
 use crate::scanner::Scanner;
 
 /// A year, and the hyphen after it.
@@ -46,9 +47,9 @@ fn above_9999(scanner: &mut Scanner) -> Option<u32>
 {
     let first = scanner.digit_from_1()?;
     let four = scanner.four_digits()?;
-    let number = more_digits(scanner, first * 10_000 + four, 4);
+    let number = more_digits(scanner, u64::from(first * 10_000 + four), 4);
     scanner.byte(b'-')?;
-    Some(number)
+    Some(number as u32)
 }
 
 /// A number above 0 of four digits, or of five to nine that do not begin with a zero, and the hyphen after it.
@@ -60,9 +61,9 @@ fn above_0(scanner: &mut Scanner) -> Option<u32>
     match scanner.digit_from_1() {
         Some(first) => {
             let three = scanner.three_digits()?;
-            let number = more_digits(scanner, first * 1000 + three, 5);
+            let number = more_digits(scanner, u64::from(first * 1000 + three), 5);
             scanner.byte(b'-')?;
-            Some(number)
+            Some(number as u32)
         }
         None => {
             let number = zero_and_three(scanner)?;
@@ -119,20 +120,5 @@ fn some_of_two(scanner: &mut Scanner) -> Option<u32>
             let last = scanner.digit_from_1()?;
             Some(last)
         }
-    }
-}
-
-/// The number that the next digits make of one that is read, of which so many are read at most.
-fn more_digits(scanner: &mut Scanner, number: u32, most: usize) -> u32
-    requires { (number + 1) * 10 ^ most ≤ 10 ^ 9 }
-    ensures scans { (f : Shape) → left (UpTo most f) scanner.old.rest.now ≡ left f scanner.new.rest.now }
-    ensures digits { ReadsMore scanner.old.rest.now scanner.new.rest.now most number result }
-{
-    if most == 0 {
-        return number;
-    }
-    match scanner.digit() {
-        Some(digit) => more_digits(scanner, number * 10 + digit, most - 1),
-        None => number,
     }
 }

@@ -1,10 +1,11 @@
 //! A text read by the one form that its first byte, or the one at 10, leaves open.
-ghost use Rattle.std.specs.Prelude.{◌≡◌, ◌≢◌, ◌↔◌, IfOk, Ok, get_or};
+ghost use Rattle.std.specs.Prelude.{◌≡◌, ◌≢◌, ◌↔◌, IfOk, IfErr, Ok, get_or};
 ghost use Rattle.cal_time.specs.declared.error.ComponentRange.{ComponentRange};
 ghost use Rattle.cal_text.specs.declared.any.DateOrMoment.{DateOrMoment};
 ghost use Rattle.cal_text.specs.AnyForm.{IsTextOf, IsFault, HasAnyForm, name_of};
 ghost use Rattle.cal_text.specs.Reading.{component_of, IsRefusedFor, IsRefusedForForm};
-ghost use Rattle.cal_text.specs.Rfc3339Form.{IsSeparator};
+ghost use Rattle.cal_text.specs.Position.{HasSome, IsAtStop};
+ghost use Rattle.cal_text.specs.Rfc3339Form.{IsSeparator, HasMomentForm};
 
 use crate::any::{DateForm, DateOrMoment, MomentForm};
 use crate::date::form_and_date;
@@ -19,6 +20,7 @@ pub(super) fn julian_day_in(text: &[u8]) -> Result<DateOrMoment, Unreadable>
     ensures every { (found : DateOrMoment) → IsTextOf text.now found → result ≡ Ok found }
     ensures has { IfOk result (IsTextOf text.now) }
     ensures form { IsRefusedForForm result ↔ ¬ HasAnyForm text.now }
+    ensures position { IfErr result (IsAtStop HasAnyForm text.now) }
     ensures component { (why : ComponentRange) → IsRefusedFor why result ↔ IsFault text.now why }
 {
     match julian_day::read(text) {
@@ -33,6 +35,7 @@ pub(super) fn unix_time_in(text: &[u8]) -> Result<DateOrMoment, Unreadable>
     ensures every { (found : DateOrMoment) → IsTextOf text.now found → result ≡ Ok found }
     ensures has { IfOk result (IsTextOf text.now) }
     ensures form { IsRefusedForForm result ↔ ¬ HasAnyForm text.now }
+    ensures position { IfErr result (IsAtStop HasAnyForm text.now) }
     ensures component { (why : ComponentRange) → IsRefusedFor why result ↔ IsFault text.now why }
 {
     match unix::read(text) {
@@ -48,6 +51,7 @@ pub(super) fn moment_in(text: &[u8]) -> Result<DateOrMoment, Unreadable>
     ensures every { (found : DateOrMoment) → IsTextOf text.now found → result ≡ Ok found }
     ensures has { IfOk result (IsTextOf text.now) }
     ensures form { IsRefusedForForm result ↔ ¬ HasAnyForm text.now }
+    ensures position { IfErr result (IsAtStop HasAnyForm text.now) }
     ensures component { (why : ComponentRange) → IsRefusedFor why result ↔ IsFault text.now why }
 {
     match rfc3339::read(text) {
@@ -58,13 +62,23 @@ pub(super) fn moment_in(text: &[u8]) -> Result<DateOrMoment, Unreadable>
 
 /// The error, at the position where a date goes on to if it goes on further: a date may have a sign.
 fn further(error: Unreadable, text: &[u8]) -> Unreadable
-    ensures { component_of result ≡ component_of error }
+    requires first { (get_or text.now 0 0 ≢ 74) × (get_or text.now 0 0 ≢ 64) }
+    requires separator { IsSeparator (get_or text.now 10 0) }
+    ensures component { component_of result ≡ component_of error }
+    ensures position { IsAtStop (HasSome HasMomentForm) text.now error → IsAtStop HasAnyForm text.now result }
 {
     let mut scanner = Scanner { rest: text };
     match error {
         Unreadable::UnexpectedByte(place) => match form_of(&mut scanner) {
             Some(_) => Unreadable::UnexpectedByte(place),
-            None => Unreadable::UnexpectedByte(place.max(text.len() - scanner.rest.len())),
+            None => {
+                let date = text.len() - scanner.rest.len();
+                if place < date {
+                    Unreadable::UnexpectedByte(date)
+                } else {
+                    Unreadable::UnexpectedByte(place)
+                }
+            }
         },
         Unreadable::OutOfRange(component) => Unreadable::OutOfRange(component),
     }
@@ -77,6 +91,7 @@ pub(super) fn date_in(text: &[u8]) -> Result<DateOrMoment, Unreadable>
     ensures every { (found : DateOrMoment) → IsTextOf text.now found → result ≡ Ok found }
     ensures has { IfOk result (IsTextOf text.now) }
     ensures form { IsRefusedForForm result ↔ ¬ HasAnyForm text.now }
+    ensures position { IfErr result (IsAtStop HasAnyForm text.now) }
     ensures component { (why : ComponentRange) → IsRefusedFor why result ↔ IsFault text.now why }
 {
     match form_and_date(text) {

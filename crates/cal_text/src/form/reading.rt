@@ -1,12 +1,10 @@
 //! The form that a text has.
-ghost use Rattle.std.specs.Prelude.{◌≡◌, ℕ, ◌-◌, ◌<◌, ◌≤◌, ◌^◌, ◌∷◌, ◌++◌, length, IfSome, IfNone, Some};
-ghost use Rattle.cal_time.specs.DateText.{digits_at_least};
+ghost use Rattle.std.specs.Prelude.{◌≡◌, ◌-◌, ◌≤◌, ◌∷◌, length, IfSome, IfNone, Some};
 ghost use Rattle.cal_text.specs.declared.form.Form.{Form};
 ghost use Rattle.cal_text.specs.DateForms.{IsWrittenYear, year_of, rest_of, IsForm, HasForm};
 ghost use Rattle.cal_text.specs.Position.{HasSome, IsPosition};
 ghost use Rattle.cal_text.specs.Shape.{ScansWhole, week, month_or_ordinal, after_year, date};
 
-use crate::digits::number_of;
 use crate::form::Form;
 use crate::scanner::Scanner;
 use crate::year::year;
@@ -73,26 +71,4 @@ fn month_or_ordinal(scanner: &mut Scanner, year: i32) -> Option<Form>
             Some(Form::Ordinal(year, (front * 10 + last) as u16))
         }
     }
-}
-
-/// Two numbers of at most two digits each, with that byte between them.
-pub(crate) fn numbers_around(
-    text: &[u8],
-    first: usize,
-    second: usize,
-    separator: u8,
-) -> Option<(u8, u8)>
-    requires first { (1 ≤ first) × (first ≤ 2) }
-    requires second { (1 ≤ second) × (second ≤ 2) }
-    ensures every { (m n : ℕ) → m < 10 ^ first → n < 10 ^ second
-        → text.now ≡ digits_at_least first m ++ separator ∷ digits_at_least second n → result ≡ Some (m, n) }
-    ensures has { IfSome result (λ found. (found.0 < 10 ^ first) × (found.1 < 10 ^ second)
-        × (text.now ≡ digits_at_least first found.0 ++ separator ∷ digits_at_least second found.1)) }
-{
-    if text.len() != first + 1 + second || text[first] != separator {
-        return None;
-    }
-    let front = number_of(&text[..first])?;
-    let back = number_of(&text[first + 1..])?;
-    Some((front as u8, back as u8))
 }

@@ -1,33 +1,38 @@
 //! The numbers of the form that a text has.
-ghost use Rattle.std.specs.Prelude.{◌≡◌, ◌⊎◌, ℕ, List, ◌+◌, ◌<◌, ◌≤◌, ◌^◌, ◌∷◌, ◌++◌, length, take, get_or, IfSome, IsTrue, ◌↔◌, Some};
-ghost use Rattle.std.specs.Str.Parse.{AllDigits};
+ghost use Rattle.std.specs.Prelude.{◌≡◌, ◌⊎◌, ℕ, List, ◌-◌, ◌<◌, ◌≤◌, ◌∷◌, ◌++◌, length, IfSome, IfNone, IsTrue, ◌↔◌, Some};
 ghost use Rattle.cal_time.specs.DateText.{digits_at_least};
 ghost use Rattle.cal_text.specs.declared.rfc3339.numbers.Numbers.{Numbers};
 ghost use Rattle.cal_text.specs.declared.rfc3339.numbers.Zone.{Zone};
-ghost use Rattle.cal_text.specs.Rfc3339Form.{IsSeparator, IsFraction, IsDigit, IsDigitOrPoint, IsZone, nanoseconds_of, HasMomentForm};
+ghost use Rattle.cal_text.specs.Position.{HasSome, IsPosition};
+ghost use Rattle.cal_text.specs.Rfc3339Form.{IsSeparator, IsZone, HasFractionBefore, HasMomentForm};
+ghost use Rattle.cal_text.specs.Shape.{Scans, ScansWhole, ScansLarge, Separator, TwoNumbers, Fraction, offset_digits, signed_offset, time_offset, moment};
 
-use crate::digits::number_of;
-use crate::form::numbers_around;
-use crate::fraction::fraction_of;
+use crate::fraction::fraction;
 use crate::rfc3339::numbers::{Numbers, Zone};
+use crate::scanner::Scanner;
 
-/// The bytes of `2024-02-29T23:59:59`.
-const LENGTH_TO_SECONDS: usize = 19;
-
-/// The numbers of the moment whose form the text has.
-pub(super) fn numbers_of(text: &[u8]) -> Option<Numbers>
-    ensures every { (m : Numbers) → HasMomentForm text.now m → result ≡ Some m }
-    ensures has { IfSome result (HasMomentForm text.now) }
+/// The numbers of the moment whose form the rest of a text has, or `None` in front of the byte where it stops being of one.
+pub(super) fn numbers_of(scanner: &mut Scanner) -> Option<Numbers>
+    ensures every { (m : Numbers) → HasMomentForm scanner.old.rest.now m → result ≡ Some m }
+    ensures has { IfSome result (HasMomentForm scanner.old.rest.now) }
+    ensures within { IfNone result (length scanner.new.rest.now ≤ length scanner.old.rest.now) }
+    ensures position { IfNone result (IsPosition (HasSome HasMomentForm) scanner.old.rest.now (length scanner.old.rest.now - length scanner.new.rest.now)) }
 {
-    if text.len() < LENGTH_TO_SECONDS || !is_separator(text[10]) {
-        return None;
-    }
-    let (year, month, day) = three_numbers(&text[..10], 4, b'-')?;
-    let (hour, minute, second) = three_numbers(&text[11..LENGTH_TO_SECONDS], 2, b':')?;
-    let (nanosecond, end) = fraction_of(&text[LENGTH_TO_SECONDS..]);
-    let zone = zone_of(&text[LENGTH_TO_SECONDS + end..])?;
+    moment(scanner)
+}
+
+fn moment(scanner: &mut Scanner) -> Option<Numbers>
+    ensures scans { ScansLarge moment scanner.old.rest.now scanner.new.rest.now result }
+    ensures has { IfSome result (HasMomentForm scanner.old.rest.now) }
+{
+    let year = scanner.four_digits()?;
+    let (month, day) = two_numbers(scanner, b'-')?;
+    separator(scanner)?;
+    let hour = scanner.two_digits()?;
+    let (minute, second) = two_numbers(scanner, b':')?;
+    let (nanosecond, zone) = fraction_and_zone(scanner)?;
     Some(Numbers {
-        year,
+        year: year as u16,
         month,
         day,
         hour: hour as u8,
@@ -38,52 +43,99 @@ pub(super) fn numbers_of(text: &[u8]) -> Option<Numbers>
     })
 }
 
+/// Two numbers of two digits, each after that byte.
+fn two_numbers(scanner: &mut Scanner, byte: u8) -> Option<(u8, u8)>
+    ensures scans { Scans (TwoNumbers byte) scanner.old.rest.now scanner.new.rest.now result }
+    ensures numbers { IfSome result (λ found. (found.0 < 100) × (found.1 < 100)
+        × (scanner.old.rest.now ≡ byte ∷ (digits_at_least 2 found.0 ++ byte ∷ (digits_at_least 2 found.1 ++ scanner.new.rest.now)))) }
+{
+    scanner.byte(byte)?;
+    let first = scanner.two_digits()?;
+    scanner.byte(byte)?;
+    let second = scanner.two_digits()?;
+    Some((first as u8, second as u8))
+}
+
+/// The byte between the date and the time.
+fn separator(scanner: &mut Scanner) -> Option<()>
+    ensures scans { Scans Separator scanner.old.rest.now scanner.new.rest.now result }
+    ensures byte { IfSome result (λ _. (b : ℕ) × IsSeparator b × (scanner.old.rest.now ≡ b ∷ scanner.new.rest.now)) }
+{
+    match scanner.byte(b'T') {
+        Some(()) => Some(()),
+        None => match scanner.byte(b't') {
+            Some(()) => Some(()),
+            None => {
+                scanner.byte(b' ')?;
+                Some(())
+            }
+        },
+    }
+}
+
 pub(crate) fn is_separator(byte: u8) -> bool
     ensures { IsTrue result ↔ IsSeparator byte }
 {
     byte == b'T' || byte == b't' || byte == b' '
 }
 
-/// A number of so many digits, two or four, and two numbers of two digits, with that byte between them.
-fn three_numbers(text: &[u8], first: usize, separator: u8) -> Option<(u16, u8, u8)>
-    requires { (first ≡ 2) ⊎ (first ≡ 4) }
-    ensures every { (a b c : ℕ) → a < 10 ^ first → b < 100 → c < 100
-        → text.now ≡ digits_at_least first a ++ separator ∷ (digits_at_least 2 b ++ separator ∷ digits_at_least 2 c)
-        → result ≡ Some (a, b, c) }
-    ensures has { IfSome result (λ found. (found.0 < 10 ^ first) × (found.1 < 100) × (found.2 < 100)
-        × (text.now ≡ digits_at_least first found.0 ++ separator ∷ (digits_at_least 2 found.1 ++ separator ∷ digits_at_least 2 found.2))) }
+/// The fraction of a second, of any length, and the offset.
+fn fraction_and_zone(scanner: &mut Scanner) -> Option<(u32, Zone)>
+    ensures scans { ScansLarge (λ more. Fraction more time_offset) scanner.old.rest.now scanner.new.rest.now result }
+    ensures has { IfSome result (λ found. (zone : List ℕ) × HasFractionBefore zone (length scanner.old.rest.now) scanner.old.rest.now found.0 × IsZone zone found.1) }
 {
-    if text.len() != first + 6 || text[first] != separator {
-        return None;
-    }
-    let front = number_of(&text[..first])?;
-    let (middle, back) = numbers_around(&text[first + 1..], 2, 2, separator)?;
-    Some((front as u16, middle, back))
+    let most = scanner.rest.len();
+    let nanosecond = fraction(scanner, most)?;
+    let zone = zone(scanner)?;
+    Some((nanosecond, zone))
 }
 
-/// The offset that the whole text is.
-fn zone_of(text: &[u8]) -> Option<Zone>
-    ensures every { (zone : Zone) → IsZone text.now zone → result ≡ Some zone }
-    ensures has { IfSome result (IsZone text.now) }
+/// The offset that the rest of a text is.
+fn zone(scanner: &mut Scanner) -> Option<Zone>
+    ensures scans { ScansWhole time_offset scanner.old.rest.now scanner.new.rest.now result }
+    ensures has { IfSome result (IsZone scanner.old.rest.now) }
 {
-    if text.is_empty() {
-        return None;
-    }
-    let first = text[0];
-    if first == b'Z' || first == b'z' {
-        return if text.len() == 1 {
+    match scanner.byte(b'Z') {
+        Some(()) => {
+            scanner.end()?;
             Some(Zone::Utc)
-        } else {
-            None
-        };
+        }
+        None => match scanner.byte(b'z') {
+            Some(()) => {
+                scanner.end()?;
+                Some(Zone::Utc)
+            }
+            None => signed_zone(scanner),
+        },
     }
-    if first != b'+' && first != b'-' {
-        return None;
+}
+
+/// The offset after its sign.
+fn signed_zone(scanner: &mut Scanner) -> Option<Zone>
+    ensures scans { ScansWhole signed_offset scanner.old.rest.now scanner.new.rest.now result }
+    ensures has { IfSome result (IsZone scanner.old.rest.now) }
+{
+    match scanner.byte(b'+') {
+        Some(()) => {
+            let (hours, minutes) = hours_and_minutes(scanner)?;
+            Some(Zone::East(hours, minutes))
+        }
+        None => {
+            scanner.byte(b'-')?;
+            let (hours, minutes) = hours_and_minutes(scanner)?;
+            Some(Zone::West(hours, minutes))
+        }
     }
-    let (hours, minutes) = numbers_around(&text[1..], 2, 2, b':')?;
-    Some(if first == b'+' {
-        Zone::East(hours, minutes)
-    } else {
-        Zone::West(hours, minutes)
-    })
+}
+
+fn hours_and_minutes(scanner: &mut Scanner) -> Option<(u8, u8)>
+    ensures scans { ScansWhole offset_digits scanner.old.rest.now scanner.new.rest.now result }
+    ensures numbers { IfSome result (λ found. (found.0 < 100) × (found.1 < 100)
+        × (scanner.old.rest.now ≡ digits_at_least 2 found.0 ++ 58 ∷ digits_at_least 2 found.1)) }
+{
+    let hours = scanner.two_digits()?;
+    scanner.byte(b':')?;
+    let minutes = scanner.two_digits()?;
+    scanner.end()?;
+    Some((hours as u8, minutes as u8))
 }

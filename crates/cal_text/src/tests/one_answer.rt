@@ -1,7 +1,5 @@
-//! Each reader leaves one answer, but for the place of a wrong byte in all but dates: two calls with the same text are proved to give
-//! the same.
+//! Each reader leaves one answer: two calls with the same text are proved to give the same.
 ghost use Rattle.std.specs.Prelude.{◌≡◌};
-ghost use Rattle.cal_text.specs.Reading.{AreAlikeButForPlace};
 
 use crate::{DateOrMoment, Unreadable, date, julian_day, read_any, rfc3339, unix};
 use cal_datetime::OffsetDateTime;
@@ -17,25 +15,25 @@ fn of_date(text: &[u8]) -> Twice<Date>
 }
 
 fn of_julian_day(text: &[u8]) -> Twice<Date>
-    ensures { AreAlikeButForPlace result.0 result.1 }
+    ensures { result.0 ≡ result.1 }
 {
     (julian_day::read(text), julian_day::read(text))
 }
 
 fn of_rfc3339(text: &[u8]) -> Twice<OffsetDateTime>
-    ensures { AreAlikeButForPlace result.0 result.1 }
+    ensures { result.0 ≡ result.1 }
 {
     (rfc3339::read(text), rfc3339::read(text))
 }
 
 fn of_unix(text: &[u8]) -> Twice<OffsetDateTime>
-    ensures { AreAlikeButForPlace result.0 result.1 }
+    ensures { result.0 ≡ result.1 }
 {
     (unix::read(text), unix::read(text))
 }
 
 fn of_any(text: &[u8]) -> Twice<DateOrMoment>
-    ensures { AreAlikeButForPlace result.0 result.1 }
+    ensures { result.0 ≡ result.1 }
 {
     (read_any(text), read_any(text))
 }

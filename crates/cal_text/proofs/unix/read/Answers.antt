@@ -3,8 +3,7 @@ use Rattle.std.proofs.lemmas.Bool.{false≢true}
 use Rattle.std.proofs.lemmas.Option.{none-some}
 use Rattle.cal_datetime.specs.OffsetDateTime.{unix_epoch}
 use Rattle.cal_text.proofs.Results.{not_ok}
-use Rattle.cal_text.proofs.UnixForms.{wide-form}
-use Rattle.cal_text.proofs.UnixReads.{at_utc, one_value, in_range, text_of, range_of, moment_of, some_at}
+use Rattle.cal_text.proofs.UnixReads.{at_utc, one_value, in_range, text_of, range_of, moment_of, some_at, wide-form}
 use Rattle.cal_text.proofs.unix.read.Goals as goal
 
 pub returns-in-Ok-clause-every : goal.returns-in-Ok-clause-every

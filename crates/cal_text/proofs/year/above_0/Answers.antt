@@ -1,4 +1,4 @@
-use Rattle.std.proofs.Common.{lit≤, refl}
+use Rattle.std.proofs.Common.{lit≤}
 use Rattle.cal_text.proofs.ReadDigits.{kept}
 use Rattle.cal_text.proofs.YearDigits.{put_more, put_above_0, put_zero}
 use Rattle.cal_text.proofs.year.above_0.Goals as goal
@@ -6,7 +6,7 @@ use Rattle.cal_text.proofs.year.above_0.Goals as goal
 pub returns-in_ok-byte-in-Some-clause-number : goal.returns-in_ok-byte-in-Some-clause-number
 returns-in_ok-byte-in-Some-clause-number c =
     put_above_0 _ _ _
-    (put_more _ 3 _ _ 5 _ _ _ _ _ _ c.in-Some.ensures.digit c.in_ok-three-in-Some.ensures.number (lit≤ tt) (lit≤ tt) refl c.more_digits-number.ensures.digits c.in_ok-byte-in-Some.ensures.byte)
+    (put_more _ 3 _ _ 5 _ _ _ _ _ _ c.in-Some.ensures.digit c.in_ok-three-in-Some.ensures.number (lit≤ tt) (lit≤ tt) c.from.ensures c.more_digits-number.ensures.digits c.in_ok-byte-in-Some.ensures.byte)
 
 pub returns-in_ok-byte-in-None-clause-number : goal.returns-in_ok-byte-in-None-clause-number
 returns-in_ok-byte-in-None-clause-number c =

@@ -8,6 +8,7 @@ use Rattle.cal_text.proofs.AnyForms.{date-found, date-any, date-fault}
 use Rattle.cal_text.proofs.Components.{no_date, date_name, date_component}
 use Rattle.cal_text.proofs.DayForms.{text-of-form}
 use Rattle.cal_text.proofs.Results.{not_ok, same_mapped}
+use Rattle.cal_text.proofs.AnyPositions as positions
 use Rattle.cal_text.proofs.any.by_form.date_in.Goals as goal
 
 pub returns-in-Ok-clause-every : goal.returns-in-Ok-clause-every
@@ -44,3 +45,6 @@ returns-in-Err-clause-component c why =
     let found : Option ComponentRange = component_of c.in-Err.error in
     let one = date_component (λ w. found ≡ Some w) c.args.text.now (date_name found c.in-Err.ensures.reason) c.in-Err.ensures.month c.in-Err.ensures.year c.in-Err.ensures.day c.in-Err.ensures.ordinal c.in-Err.ensures.week c.in-Err.ensures.weekday why in
     (λ e. inl (one.0 e), λ is. one.1 (date-fault c.args.text.now why c.requires.first c.requires.separator is))
+
+pub returns-in-Err-clause-position : goal.returns-in-Err-clause-position
+returns-in-Err-clause-position c = positions.date c.args.text.now c.in-Err.error c.requires.first c.requires.separator c.in-Err.ensures.position

@@ -5,6 +5,7 @@ use Rattle.cal_text.specs.declared.any.DateForm.TheVariants.{JulianDay}
 use Rattle.cal_text.specs.AnyForm.{IsFault}
 use Rattle.cal_text.proofs.AnyForms.{julian-found, julian-any, julian-fault, same_reason, reason_of}
 use Rattle.cal_text.proofs.Results.{same_mapped, not_ok}
+use Rattle.cal_text.proofs.AnyPositions as positions
 use Rattle.cal_text.proofs.any.by_form.julian_day_in.Goals as goal
 
 pub returns-in-Ok-clause-every : goal.returns-in-Ok-clause-every
@@ -39,3 +40,6 @@ returns-in-Err-clause-component c why = (
       let fault = julian-fault c.args.text.now why c.requires is in
       reason_of _ _ _ fault.0 (c.in-Err.ensures.julian_day.1 fault.1),
 )
+
+pub returns-in-Err-clause-position : goal.returns-in-Err-clause-position
+returns-in-Err-clause-position c = positions.julian c.args.text.now c.in-Err.error c.requires c.in-Err.ensures.position

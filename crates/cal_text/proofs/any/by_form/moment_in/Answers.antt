@@ -27,14 +27,14 @@ pub returns-in-Err-clause-form : goal.returns-in-Err-clause-form
 returns-in-Err-clause-form c = (
   λ none any.
       let form = moment-any c.args.text.now c.requires.first c.requires.separator any in
-      c.in-Err.ensures.form.0 (sym c.further.ensures ∙ none) form.0 form.1,
-  λ none. c.further.ensures ∙ c.in-Err.ensures.form.1 (λ m h. none (inr (inr (inl (m, h))))),
+      c.in-Err.ensures.form.0 (sym c.further.ensures.component ∙ none) form.0 form.1,
+  λ none. c.further.ensures.component ∙ c.in-Err.ensures.form.1 (λ m h. none (inr (inr (inl (m, h))))),
 )
 
 pub returns-in-Err-clause-component : goal.returns-in-Err-clause-component
 returns-in-Err-clause-component c why =
     let found : Option ComponentRange = component_of c.in-Err.error in
     let one = moment_component (λ w. found ≡ Some w) c.args.text.now (moment_name found c.in-Err.ensures.reason) c.in-Err.ensures.month c.in-Err.ensures.day c.in-Err.ensures.hour c.in-Err.ensures.minute c.in-Err.ensures.second c.in-Err.ensures.offset_hour c.in-Err.ensures.offset_minute why in (
-      λ e. inr (inr (inl (one.0 (sym c.further.ensures ∙ e)))),
-      λ is. c.further.ensures ∙ one.1 (moment-fault c.args.text.now why c.requires.first c.requires.separator is),
+      λ e. inr (inr (inl (one.0 (sym c.further.ensures.component ∙ e)))),
+      λ is. c.further.ensures.component ∙ one.1 (moment-fault c.args.text.now why c.requires.first c.requires.separator is),
     )
