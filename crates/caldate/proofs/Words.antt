@@ -2,11 +2,12 @@
 use Rattle.std.proofs.Common.{◌≡◌, ℕ, true, false, cond, eqb, List, [], ◌∷◌, Option, None, Some, refl, sym, ap, ◌∙◌, arith, length, ◌+◌, ◌<◌, ℤ, pos, ◌*ℤ◌}
 use Rattle.std.specs.Prelude.{FitsSigned, bytes_eq, codes, option_and_then, option_map}
 use Rattle.std.specs.Int.{w64}
-use Rattle.std.specs.Option.{option_zip}
+use Rattle.std.specs.Option.{option_map_or, option_zip}
 use Rattle.std.proofs.lemmas.List.Splits.{length-slice_split}
 use Rattle.cal_text.specs.declared.any.DateOrMoment.{DateOrMoment}
 use Rattle.cal_time.specs.SignedDuration.{second}
-use Rattle.caldate.specs.Requests.{arguments_of, meaning_of, filter_of, request_after, request_of, seconds_in, target_of, unit_of, verb_of}
+use Rattle.caldate.specs.Requests.{arguments_of, cut_options, meaning_of, no_options, request_after, request_of, request_with, seconds_in, takes_strict, target_of, unit_of, verb_of, with_strict, with_value}
+use Rattle.caldate.specs.declared.options.Options.{Options}
 use Rattle.caldate.proofs.Numbers.{fits, guard_yes}
 use Rattle.caldate.specs.Senseless.{senseless_at, senseless_end}
 use Rattle.caldate.specs.declared.senseless.Wanted.TheVariants as wanted
@@ -44,16 +45,38 @@ some_word bytes = first_of (arguments_of bytes) (omega (arith, length-slice_spli
 pub one_too_many : (at : ℕ) (bytes : List ℕ) → senseless_end at (arguments_of bytes) ≡ senseless_at (at + 2) wanted.End
 one_too_many at bytes = let parts = some_word bytes in ap (senseless_end at) parts.2
 
--- ---- the first of two words and more
-pub strict : (reading : List ℕ → Option DateOrMoment) (first second : List ℕ) (words : List (List ℕ)) → bytes_eq first (codes "--strict") ≡ true
-    → meaning_of reading (first ∷ second ∷ words) ≡ filter_of true (request_of reading (second ∷ words))
-strict reading first second words e =
-    ap (λ b. cond b (filter_of true (request_of reading (second ∷ words))) (filter_of false (request_of reading (first ∷ second ∷ words)))) e
+-- ---- the options at the front
+-- `--strict`, whatever comes after it
+pub strict_first : (options : Options) (word : List ℕ) (words : List (List ℕ)) → takes_strict options word ≡ true
+    → cut_options options (word ∷ words) ≡ cut_options (with_strict options) words
+strict_first options word [] e = ap (λ b. cond b (with_strict options, []) (options, word ∷ [])) e
+strict_first options word (value ∷ words) e =
+    ap (λ b. cond b (cut_options (with_strict options) (value ∷ words)) (option_map_or (λ more. cut_options more words) (with_value options word value) (options, word ∷ value ∷ words))) e
 
-pub lenient : (reading : List ℕ → Option DateOrMoment) (first second : List ℕ) (words : List (List ℕ)) → bytes_eq first (codes "--strict") ≡ false
-    → meaning_of reading (first ∷ second ∷ words) ≡ filter_of false (request_of reading (first ∷ second ∷ words))
-lenient reading first second words e =
-    ap (λ b. cond b (filter_of true (request_of reading (second ∷ words))) (filter_of false (request_of reading (first ∷ second ∷ words)))) e
+-- one with its value
+pub value_first : (options more : Options) (word value : List ℕ) (words : List (List ℕ)) → takes_strict options word ≡ false → with_value options word value ≡ Some more
+    → cut_options options (word ∷ value ∷ words) ≡ cut_options more words
+value_first options more word value words e f =
+    ap (λ b. cond b (cut_options (with_strict options) (value ∷ words)) (option_map_or (λ more. cut_options more words) (with_value options word value) (options, word ∷ value ∷ words))) e
+    ∙ ap (λ o. option_map_or (λ more. cut_options more words) o (options, word ∷ value ∷ words)) f
+
+-- no option
+pub none_first : (options : Options) (word value : List ℕ) (words : List (List ℕ)) → takes_strict options word ≡ false → with_value options word value ≡ None
+    → cut_options options (word ∷ value ∷ words) ≡ (options, word ∷ value ∷ words)
+none_first options word value words e f =
+    ap (λ b. cond b (cut_options (with_strict options) (value ∷ words)) (option_map_or (λ more. cut_options more words) (with_value options word value) (options, word ∷ value ∷ words))) e
+    ∙ ap (λ o. option_map_or (λ more. cut_options more words) o (options, word ∷ value ∷ words)) f
+
+pub alone_first : (options : Options) (word : List ℕ) → takes_strict options word ≡ false → cut_options options (word ∷ []) ≡ (options, word ∷ [])
+alone_first options word e = ap (λ b. cond b (with_strict options, []) (options, word ∷ [])) e
+
+-- two words and more
+pub two_words : (reading : List ℕ → Option DateOrMoment) (first : List ℕ) (words : List (List ℕ)) (rest : List ℕ) → words ≡ first ∷ arguments_of rest
+    → meaning_of reading words ≡ request_with reading (cut_options no_options words)
+two_words reading first words rest e =
+    let second = some_word rest in
+    let all = e ∙ ap (λ more. first ∷ more) second.2 in
+    ap (meaning_of reading) all ∙ sym (ap (λ all. request_with reading (cut_options no_options all)) all)
 
 -- ---- a date or a moment, and perhaps a unit
 abbrev alone : DateOrMoment → DateOrMoment × Option TimeUnit

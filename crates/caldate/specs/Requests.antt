@@ -1,7 +1,8 @@
 -- What the arguments ask for, where they make sense.
-use Rattle.std.specs.Prelude.{ℕ, nat_lt, ◌&&◌, ◌||◌, Bool, true, false, ℤ, pos, neg_ℤ, ◌*ℤ◌, int_le, nat_abs, List, [], ◌∷◌, ◌==◌, length, take, Option, Some, None, MatchOption, option_map, option_and_then, bytes_eq, codes, if◌then◌else◌}
+use denote.Ref.{Bor}
+use Rattle.std.specs.Prelude.{ℕ, nat_lt, not, ◌&&◌, ◌||◌, Bool, true, false, is_none, unwrap_or, ℤ, pos, neg_ℤ, ◌*ℤ◌, int_le, nat_abs, List, [], ◌∷◌, ◌==◌, length, take, Option, Some, None, MatchOption, option_map, option_and_then, bytes_eq, codes, if◌then◌else◌}
 use Rattle.std.specs.List.{slice_split}
-use Rattle.std.specs.Option.{option_zip}
+use Rattle.std.specs.Option.{option_map_or, option_zip}
 use Rattle.std.specs.Str.{all_ascii_digits, str_eq_ignore_ascii_case}
 use Rattle.std.specs.Str.Parse.{signed_digits_value, without_leading_sign}
 use Rattle.cal_time.specs.SignedDuration.{second}
@@ -12,6 +13,7 @@ use Rattle.cal_text.specs.declared.any.DateForm.TheVariants.{Calendar, Ordinal, 
 use Rattle.cal_text.specs.declared.any.DateOrMoment.{DateOrMoment}
 use Rattle.cal_text.specs.declared.any.MomentForm.TheVariants.{Rfc3339, Unix}
 use Rattle.caldate.specs.Offsets.{offset_of}
+use Rattle.caldate.specs.declared.options.Options.{Options}
 use Rattle.caldate.specs.declared.request.Form.{Form}
 use Rattle.caldate.specs.declared.request.Form.TheVariants as form
 use Rattle.caldate.specs.declared.request.DayMove.{DayMove}
@@ -31,6 +33,11 @@ use Rattle.caldate.specs.declared.request.Asked.TheVariants.{Help, Version, Line
 -- the arguments, between which stands the byte 0, of which no argument has one
 abbrev pub arguments_of : List ℕ → List (List ℕ)
 arguments_of bytes = slice_split (λ byte. byte == 0) bytes
+
+-- the words that come, if any do
+abbrev pub words_left : Option (Bor (List ℕ)) → List (List ℕ)
+words_left None = []
+words_left (Some words) = arguments_of words.now
 
 -- what reads a text as the date or the moment whose text it is
 abbrev pub IsReading : (List ℕ → Option DateOrMoment) → Type 0
@@ -216,7 +223,45 @@ abbrev pub request_of : (List ℕ → Option DateOrMoment) → List (List ℕ) �
 request_of reading [] = None
 request_of reading (verb ∷ words) = option_and_then (request_after reading words) (verb_of verb)
 
--- ---- the whole: `--help`, `--version`, or a request, perhaps after `--strict`
+-- ---- the options before a request, in any order, each at most once
+abbrev pub no_options : Options
+no_options = record { is_strict = false; skip = None }
+
+-- `--strict`
+abbrev pub takes_strict : Options → List ℕ → Bool
+takes_strict options word = bytes_eq word (codes "--strict") && not options.is_strict
+
+abbrev pub with_strict : Options → Options
+with_strict options = record options { is_strict = true }
+
+-- `--skip K`: a number that is not negative
+abbrev pub skip_in : ℤ → Option ℕ
+skip_in z = if int_le (pos 0) z then Some (nat_abs z) else None
+
+abbrev pub skip_of : List ℕ → Option ℕ
+skip_of word = option_and_then skip_in (number_of word)
+
+-- the options, and one more whose value comes after it, where it may stand there and this is such a value
+abbrev pub with_skip : Options → List ℕ → Option Options
+with_skip options value = option_map (λ k. record options { skip = Some k }) (skip_of value)
+
+abbrev pub takes_skip : Options → List ℕ → Bool
+takes_skip options word = bytes_eq word (codes "--skip") && is_none options.skip
+
+abbrev pub with_value : Options → List ℕ → List ℕ → Option Options
+with_value options word value =
+    if takes_skip options word then with_skip options value else
+    None
+
+-- the options at the front of the words, and the words after them
+abbrev pub cut_options : Options → List (List ℕ) → Options × List (List ℕ)
+cut_options options [] = (options, [])
+cut_options options (word ∷ []) = if takes_strict options word then (with_strict options, []) else (options, word ∷ [])
+cut_options options (word ∷ value ∷ words) =
+    if takes_strict options word then cut_options (with_strict options) (value ∷ words) else
+    option_map_or (λ more. cut_options more words) (with_value options word value) (options, word ∷ value ∷ words)
+
+-- ---- the whole: `--help`, `--version`, or a request, perhaps after options
 abbrev pub asks_for_help : List ℕ → Bool
 asks_for_help word = bytes_eq word (codes "--help") || bytes_eq word (codes "-h") || bytes_eq word (codes "help")
 
@@ -224,8 +269,12 @@ asks_for_help word = bytes_eq word (codes "--help") || bytes_eq word (codes "-h"
 abbrev pub stands_alone : List ℕ → Bool
 stands_alone word = asks_for_help word || bytes_eq word (codes "--version")
 
-abbrev pub filter_of : Bool → Option Request → Option Asked
-filter_of is_strict request = option_map (λ q. Lines (record { request = q; is_strict = is_strict })) request
+abbrev pub filter_of : Options → Option Request → Option Asked
+filter_of options request =
+    option_map (λ q. Lines (record { request = q; is_strict = options.is_strict; skip = unwrap_or options.skip 0 })) request
+
+abbrev pub request_with : (List ℕ → Option DateOrMoment) → Options × List (List ℕ) → Option Asked
+request_with reading front = filter_of front.0 (request_of reading front.1)
 
 abbrev pub meaning_of : (List ℕ → Option DateOrMoment) → List (List ℕ) → Option Asked
 meaning_of reading [] = None
@@ -233,6 +282,4 @@ meaning_of reading (first ∷ []) =
     if asks_for_help first then Some Help else
     if bytes_eq first (codes "--version") then Some Version else
     None
-meaning_of reading (first ∷ second ∷ words) =
-    if bytes_eq first (codes "--strict") then filter_of true (request_of reading (second ∷ words))
-    else filter_of false (request_of reading (first ∷ second ∷ words))
+meaning_of reading (first ∷ second ∷ words) = request_with reading (cut_options no_options (first ∷ second ∷ words))

@@ -1,22 +1,17 @@
 -- What is said of arguments that make no sense: the first word that makes none, and what may stand there.
-use denote.Ref.{Bor}
-use Rattle.std.specs.Prelude.{ℕ, ◌+◌, Bool, true, false, List, [], ◌∷◌, ◌++◌, Option, Some, None, is_some, ok_or, Result, bytes_eq, codes, slice_get, if◌then◌else◌}
+use Rattle.std.specs.Prelude.{ℕ, ◌+◌, ◌==◌, Bool, true, false, List, [], ◌∷◌, ◌++◌, Option, Some, None, is_some, ok_or, Result, bytes_eq, codes, slice_get, if◌then◌else◌}
 use Rattle.std.specs.Option.{option_map_or}
 use Rattle.cal_text.specs.declared.any.DateOrMoment.{DateOrMoment}
 use Rattle.caldate.specs.Offsets.{offset_of}
-use Rattle.caldate.specs.Requests.{arguments_of, count_of, form_of, is_number, meaning_of, period_of, stands_alone, unit_of, verb_of, weekday_of}
+use Rattle.caldate.specs.Requests.{count_of, cut_options, form_of, is_number, meaning_of, no_options, period_of, stands_alone, takes_skip, unit_of, verb_of, weekday_of}
 use Rattle.caldate.specs.Shown.{shown}
+use Rattle.caldate.specs.declared.options.Options.{Options}
 use Rattle.caldate.specs.declared.request.Asked.{Asked}
 use Rattle.caldate.specs.declared.request.Verb.{Verb}
 use Rattle.caldate.specs.declared.request.Verb.TheVariants.{To, Add, Next, Last, Until, Since, Start, End, OnOrAfter, OnOrBefore, At}
 use Rattle.caldate.specs.declared.senseless.Senseless.{Senseless}
 use Rattle.caldate.specs.declared.senseless.Wanted.{Wanted}
 use Rattle.caldate.specs.declared.senseless.Wanted.TheVariants as wanted
-
--- the words that come, if any do
-abbrev pub words_left : Option (Bor (List ℕ)) → List (List ℕ)
-words_left None = []
-words_left (Some words) = arguments_of words.now
 
 abbrev pub senseless_at : ℕ → Wanted → Senseless
 senseless_at at what = record { place = at; wanted = what }
@@ -93,14 +88,35 @@ abbrev pub senseless_request : (List ℕ → Option DateOrMoment) → ℕ → Wa
 senseless_request reading at what [] = senseless_at at what
 senseless_request reading at what (word ∷ words) = option_map_or (senseless_after reading (at + 1) words) (verb_of word) (senseless_at at what)
 
+-- ---- the options
+-- how many words they are
+abbrev pub words_in : Options → ℕ
+words_in options = (if options.is_strict then 1 else 0) + (if is_some options.skip then 2 else 0)
+
+-- what comes after the word, where it is an option that may stand there
+abbrev pub value_of : Options → List ℕ → Option Wanted
+value_of options word =
+    if takes_skip options word then Some wanted.Skip else
+    None
+
+-- a verb, or at the start an option that stands alone too
+abbrev pub verb_after : Options → Wanted
+verb_after options = if words_in options == 0 then wanted.Start else wanted.Verb
+
+-- from the word after the options on
+abbrev pub senseless_front : (List ℕ → Option DateOrMoment) → Options → List (List ℕ) → Senseless
+senseless_front reading options [] = senseless_at (words_in options) (verb_after options)
+senseless_front reading options (word ∷ words) =
+    option_map_or (senseless_at (words_in options + 1)) (value_of options word)
+    (senseless_request reading (words_in options) (verb_after options) (word ∷ words))
+
 -- from the start; an argument alone that is empty is as none, and after an option that stands alone each word is one too many
 abbrev pub senseless_of : (List ℕ → Option DateOrMoment) → List (List ℕ) → Senseless
 senseless_of reading [] = senseless_at 0 wanted.Something
 senseless_of reading ([] ∷ []) = senseless_at 0 wanted.Something
 senseless_of reading (word ∷ words) =
-    if bytes_eq word (codes "--strict") then senseless_request reading 1 wanted.Verb words else
     if stands_alone word then senseless_at 1 wanted.End else
-    senseless_request reading 0 wanted.Start (word ∷ words)
+    let front = cut_options no_options (word ∷ words) in senseless_front reading front.0 front.1
 
 -- what the arguments ask for, or else that word
 abbrev pub asked_of : (List ℕ → Option DateOrMoment) → List (List ℕ) → Result Asked Senseless
@@ -109,8 +125,9 @@ asked_of reading words = ok_or (meaning_of reading words) (senseless_of reading 
 -- ---- the line that says so
 abbrev pub wanted_words : Wanted → List ℕ
 wanted_words wanted.Something = codes "nothing to do; caldate --help shows what can be asked"
-wanted_words wanted.Start = codes "no verb (to, add, next, last, until, since, start, end, on-or-after, on-or-before, at) and no option (--strict, --help, --version)"
-wanted_words wanted.Verb = codes "no verb (to, add, next, last, until, since, start, end, on-or-after, on-or-before, at)"
+wanted_words wanted.Start = codes "no verb (to, add, next, last, until, since, start, end, on-or-after, on-or-before, at) and no option (--strict, --skip, --help, --version)"
+wanted_words wanted.Verb = codes "no verb (to, add, next, last, until, since, start, end, on-or-after, on-or-before, at) and no further option"
+wanted_words wanted.Skip = codes "no number of lines (0 .. 9223372036854775807)"
 wanted_words wanted.Form = codes "no form (calendar, ordinal, week, julian, weekday, short-weekday, month, quarter, basic, rfc3339, unix, unix-ms, unix-us, unix-ns)"
 wanted_words wanted.Number = codes "no number (-9223372036854775808 .. 9223372036854775807)"
 wanted_words wanted.Amount = codes "too much (at most 9223372036854775807 seconds)"

@@ -7,6 +7,7 @@ ghost use Rattle.caldate.specs.declared.request.DayMove.TheVariants.{Next, Last,
 ghost use Rattle.caldate.specs.declared.request.Request.TheVariants.{Until, Since};
 
 use crate::offset::offset_of;
+use crate::options::{Options, options_of};
 use crate::request::{Asked, DayMove, Filter, Request, TimeUnit, Verb};
 use crate::senseless::{Senseless, senseless_of};
 use crate::spelling::{
@@ -32,14 +33,11 @@ pub fn asked_of(arguments: &[u8]) -> Result<Asked, Senseless>
 fn meaning_of(arguments: &[u8]) -> Option<Asked>
     ensures { (reading : List ℕ → Option DateOrMoment) → IsReading reading → result ≡ meaning_of reading (arguments_of arguments.now) }
 {
-    let Some((first, rest)) = first_word(arguments) else {
+    let Some(_) = first_word(arguments) else {
         return only_option(arguments);
     };
-    if first == b"--strict".as_slice() {
-        filter_of(true, request_of(rest))
-    } else {
-        filter_of(false, request_of(arguments))
-    }
+    let (options, words) = options_of(arguments);
+    filter_of(options, request_of(words?))
 }
 
 /// What an option asks for that stands alone.
@@ -56,11 +54,14 @@ fn only_option(word: &[u8]) -> Option<Asked>
 }
 
 /// To answer the lines, if there is a request.
-fn filter_of(is_strict: bool, request: Option<Request>) -> Option<Asked>
-    ensures { result ≡ filter_of is_strict request }
+fn filter_of(options: Options, request: Option<Request>) -> Option<Asked>
+    ensures { result ≡ filter_of options request }
 {
-    let request = request?;
-    Some(Asked::Lines(Filter { request, is_strict }))
+    Some(Asked::Lines(Filter {
+        request: request?,
+        is_strict: options.is_strict,
+        skip: options.skip.unwrap_or(0),
+    }))
 }
 
 /// The request of a verb and what comes after it.

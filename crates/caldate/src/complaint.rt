@@ -60,16 +60,17 @@ fn push_word(line: &mut Gathered, word: Option<&[u8]>)
 /// What may stand at the place.
 fn wanted_words(wanted: Wanted) -> &'static [u8]
     ensures words { result.now ≡ wanted_words wanted }
-    ensures short { length result.now ≤ 160 }
+    ensures short { length result.now ≤ 200 }
 {
     match wanted {
         Wanted::Something => b"nothing to do; caldate --help shows what can be asked".as_slice(),
         Wanted::Start => {
-            b"no verb (to, add, next, last, until, since, start, end, on-or-after, on-or-before, at) and no option (--strict, --help, --version)".as_slice()
+            b"no verb (to, add, next, last, until, since, start, end, on-or-after, on-or-before, at) and no option (--strict, --skip, --help, --version)".as_slice()
         }
         Wanted::Verb => {
-            b"no verb (to, add, next, last, until, since, start, end, on-or-after, on-or-before, at)".as_slice()
+            b"no verb (to, add, next, last, until, since, start, end, on-or-after, on-or-before, at) and no further option".as_slice()
         }
+        Wanted::Skip => b"no number of lines (0 .. 9223372036854775807)".as_slice(),
         Wanted::Form => {
             b"no form (calendar, ordinal, week, julian, weekday, short-weekday, month, quarter, basic, rfc3339, unix, unix-ms, unix-us, unix-ns)".as_slice()
         }

@@ -19,6 +19,7 @@ pub const HELP: &[u8] = b"caldate answers each line of its input, a date or a mo
   caldate since DATE [in UNIT]    the same from there to it
   caldate at OFFSET               the moment as a clock at that offset shows it
   caldate --strict ...            the same, but it ends at the first line without an answer, with status 1
+  caldate --skip K ...            the same, but the first K lines are passed on as they are
   caldate --help, -h, help        this page
   caldate --version               the version
 

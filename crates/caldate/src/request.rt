@@ -122,11 +122,14 @@ pub enum Request {
     At(UtcOffset),
 }
 
-/// A request, and whether the run ends at the first line without an answer.
+/// What is done to the lines of an input.
 #[derive(Clone, Copy)]
 pub struct Filter {
     pub request: Request,
+    /// Whether the run ends at the first line without an answer.
     pub is_strict: bool,
+    /// How many lines are passed on as they are before the first that is answered.
+    pub skip: u64,
 }
 
 /// What the arguments ask for.

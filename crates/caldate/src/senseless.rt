@@ -1,14 +1,14 @@
 //! The first word of the arguments that makes no sense.
 ghost use Rattle.std.specs.Prelude.{◌≡◌, ◌≤◌, ℕ, List, [], ◌∷◌, Option, MatchOption, slice_get};
 ghost use Rattle.cal_text.specs.declared.any.DateOrMoment.{DateOrMoment};
-ghost use Rattle.caldate.specs.Requests.{IsReading, arguments_of, stands_alone};
-ghost use Rattle.caldate.specs.Senseless.{further_to, is_wanted, needed_by, senseless_after, senseless_at, senseless_end, senseless_further, senseless_last, senseless_of, senseless_request, senseless_unit, words_left};
+ghost use Rattle.caldate.specs.Requests.{IsReading, arguments_of, stands_alone, words_left};
+ghost use Rattle.caldate.specs.Senseless.{further_to, is_wanted, needed_by, senseless_after, senseless_at, senseless_end, senseless_front, senseless_further, senseless_last, senseless_of, senseless_request, senseless_unit};
 
 use crate::offset::offset_of;
+use crate::options::{Options, options_of, value_of, verb_after, words_in};
 use crate::request::Verb;
 use crate::spelling::{
-    asks_for_help, count_of, first_word, form_of, number_of, period_of, unit_of, verb_of,
-    weekday_of,
+    asks_for_help, count_of, cut, form_of, number_of, period_of, unit_of, verb_of, weekday_of,
 };
 use cal_text::read_any;
 
@@ -19,8 +19,10 @@ pub enum Wanted {
     Something,
     /// A verb, or an option, as `--strict`.
     Start,
-    /// A verb.
+    /// A verb, or an option that is not given yet and does not stand alone.
     Verb,
+    /// A number of lines, from 0 on.
+    Skip,
     /// A form, as `week`.
     Form,
     /// A number.
@@ -61,13 +63,26 @@ pub fn senseless_of(arguments: &[u8]) -> Senseless
     if arguments.is_empty() {
         return senseless_at(0, Wanted::Something);
     }
-    let (first, rest) = cut(arguments);
-    if first == b"--strict".as_slice() {
-        senseless_request(1, Wanted::Verb, rest)
-    } else if stands_alone(first) {
-        senseless_at(1, Wanted::End)
-    } else {
-        senseless_request(0, Wanted::Start, Some(arguments))
+    let (first, _) = cut(arguments);
+    if stands_alone(first) {
+        return senseless_at(1, Wanted::End);
+    }
+    let (options, words) = options_of(arguments);
+    senseless_front(options, words)
+}
+
+/// From the word after the options on.
+fn senseless_front(options: Options, words: Option<&[u8]>) -> Senseless
+    ensures { (reading : List ℕ → Option DateOrMoment) → IsReading reading → result ≡ senseless_front reading options (words_left words.entry) }
+{
+    let place = words_in(options);
+    let Some(words) = words else {
+        return senseless_at(place, verb_after(options));
+    };
+    let (word, _) = cut(words);
+    match value_of(options, word) {
+        Some(wanted) => senseless_at(place + 1, wanted),
+        None => senseless_request(place, verb_after(options), words),
     }
 }
 
@@ -84,13 +99,10 @@ pub fn word_at(arguments: &[u8], place: usize) -> Option<&[u8]>
 }
 
 /// From the verb on, which has this place, where this is wanted.
-fn senseless_request(place: usize, wanted: Wanted, words: Option<&[u8]>) -> Senseless
-    requires { place ≤ 1 }
-    ensures { (reading : List ℕ → Option DateOrMoment) → IsReading reading → result ≡ senseless_request reading place wanted (words_left words.entry) }
+fn senseless_request(place: usize, wanted: Wanted, words: &[u8]) -> Senseless
+    requires { place ≤ 7 }
+    ensures { (reading : List ℕ → Option DateOrMoment) → IsReading reading → result ≡ senseless_request reading place wanted (arguments_of words.now) }
 {
-    let Some(words) = words else {
-        return senseless_at(place, wanted);
-    };
     let (word, rest) = cut(words);
     match verb_of(word) {
         Some(verb) => senseless_after(place + 1, rest, verb),
@@ -100,7 +112,7 @@ fn senseless_request(place: usize, wanted: Wanted, words: Option<&[u8]>) -> Sens
 
 /// After a verb, from this place on.
 fn senseless_after(place: usize, words: Option<&[u8]>, verb: Verb) -> Senseless
-    requires { place ≤ 2 }
+    requires { place ≤ 8 }
     ensures { (reading : List ℕ → Option DateOrMoment) → IsReading reading → result ≡ senseless_after reading place (words_left words.entry) verb }
 {
     let needed = needed_by(verb);
@@ -117,7 +129,7 @@ fn senseless_after(place: usize, words: Option<&[u8]>, verb: Verb) -> Senseless
 
 /// After the word that the verb needs, which has this place.
 fn senseless_further(place: usize, further: Wanted, words: Option<&[u8]>) -> Senseless
-    requires { place ≤ 2 }
+    requires { place ≤ 8 }
     ensures { (reading : List ℕ → Option DateOrMoment) → IsReading reading → result ≡ senseless_further reading place further (words_left words.entry) }
 {
     let Some(words) = words else {
@@ -133,7 +145,7 @@ fn senseless_further(place: usize, further: Wanted, words: Option<&[u8]>) -> Sen
 
 /// After the word that may come after it.
 fn senseless_last(place: usize, further: Wanted, words: Option<&[u8]>) -> Senseless
-    requires { place ≤ 2 }
+    requires { place ≤ 8 }
     ensures { result ≡ senseless_last place further (words_left words.entry) }
 {
     match further {
@@ -145,7 +157,7 @@ fn senseless_last(place: usize, further: Wanted, words: Option<&[u8]>) -> Sensel
 /// Where no word may come: one is too many, or the number is too large for its unit.
 #[tactic(auto, using(crate::proofs::Words::one_too_many))]
 fn senseless_end(place: usize, words: Option<&[u8]>) -> Senseless
-    requires { place ≤ 2 }
+    requires { place ≤ 8 }
     ensures { result ≡ senseless_end place (words_left words.entry) }
 {
     match words {
@@ -156,7 +168,7 @@ fn senseless_end(place: usize, words: Option<&[u8]>) -> Senseless
 
 /// After `in`, where a unit has this place.
 fn senseless_unit(place: usize, words: Option<&[u8]>) -> Senseless
-    requires { place ≤ 4 }
+    requires { place ≤ 10 }
     ensures { result ≡ senseless_unit place (words_left words.entry) }
 {
     let Some(words) = words else {
@@ -226,15 +238,4 @@ fn stands_alone(word: &[u8]) -> bool
     ensures { result ≡ stands_alone word.now }
 {
     asks_for_help(word) || word == b"--version".as_slice()
-}
-
-/// The first word, and those after it, where there are any.
-fn cut(words: &[u8]) -> (&[u8], Option<&[u8]>)
-    ensures parts { arguments_of words.now ≡ result.0.now ∷ words_left result.1 }
-    ensures whole { result.1 ≡ None → result.0.now ≡ words.now }
-{
-    match first_word(words) {
-        Some((word, rest)) => (word, Some(rest)),
-        None => (words, None),
-    }
 }

@@ -10,6 +10,7 @@ use std::alloc::Global;
 use std::io::{ErrorKind, Read, Write};
 
 mod arguments;
+mod columns;
 mod failing;
 mod long;
 mod one_answer;

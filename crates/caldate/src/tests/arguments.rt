@@ -113,34 +113,58 @@ fn complaint(alloc: Global, arguments: Option<&[u8]>) -> Option<Vec<u8>> {
 
 #[test]
 fn arguments_that_make_no_sense(rt: HostRuntime) {
-    let cases: [(&[u8], &[u8]); 55] = [
+    let cases: [(&[u8], &[u8]); 61] = [
         (
             b"",
             b"nothing to do; caldate --help shows what can be asked",
         ),
         (
             b"\0to\0week",
-            b"'' is no verb (to, add, next, last, until, since, start, end, on-or-after, on-or-before, at) and no option (--strict, --help, --version)",
+            b"'' is no verb (to, add, next, last, until, since, start, end, on-or-after, on-or-before, at) and no option (--strict, --skip, --help, --version)",
         ),
         (
             b"week",
-            b"'week' is no verb (to, add, next, last, until, since, start, end, on-or-after, on-or-before, at) and no option (--strict, --help, --version)",
+            b"'week' is no verb (to, add, next, last, until, since, start, end, on-or-after, on-or-before, at) and no option (--strict, --skip, --help, --version)",
         ),
         (
             b"To\0week",
-            b"'To' is no verb (to, add, next, last, until, since, start, end, on-or-after, on-or-before, at) and no option (--strict, --help, --version)",
+            b"'To' is no verb (to, add, next, last, until, since, start, end, on-or-after, on-or-before, at) and no option (--strict, --skip, --help, --version)",
         ),
         (
             b"--strict",
-            b"there is no verb (to, add, next, last, until, since, start, end, on-or-after, on-or-before, at)",
+            b"there is no verb (to, add, next, last, until, since, start, end, on-or-after, on-or-before, at) and no further option",
         ),
         (
             b"--strict\0--help",
-            b"'--help' is no verb (to, add, next, last, until, since, start, end, on-or-after, on-or-before, at)",
+            b"'--help' is no verb (to, add, next, last, until, since, start, end, on-or-after, on-or-before, at) and no further option",
         ),
         (
             b"--strict\0--strict\0to\0week",
-            b"'--strict' is no verb (to, add, next, last, until, since, start, end, on-or-after, on-or-before, at)",
+            b"'--strict' is no verb (to, add, next, last, until, since, start, end, on-or-after, on-or-before, at) and no further option",
+        ),
+        (
+            b"--skip",
+            b"there is no number of lines (0 .. 9223372036854775807)",
+        ),
+        (
+            b"--skip\0-1\0to\0week",
+            b"'-1' is no number of lines (0 .. 9223372036854775807)",
+        ),
+        (
+            b"--strict\0--skip\0to\0week",
+            b"'to' is no number of lines (0 .. 9223372036854775807)",
+        ),
+        (
+            b"--skip\01",
+            b"there is no verb (to, add, next, last, until, since, start, end, on-or-after, on-or-before, at) and no further option",
+        ),
+        (
+            b"--skip\01\0--skip\02\0to\0week",
+            b"'--skip' is no verb (to, add, next, last, until, since, start, end, on-or-after, on-or-before, at) and no further option",
+        ),
+        (
+            b"--skip\01\0--strict\0to\0days",
+            b"'days' is no form (calendar, ordinal, week, julian, weekday, short-weekday, month, quarter, basic, rfc3339, unix, unix-ms, unix-us, unix-ns)",
         ),
         (b"--help\0to", b"'to' is one word too many"),
         (b"help\0\0", b"'' is one word too many"),

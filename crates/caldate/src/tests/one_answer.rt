@@ -14,7 +14,7 @@ fn runs<R: Read, W: Write>(
     writer: &mut W,
     other: &mut W,
 ) -> (Result<(), Fault>, Result<(), Fault>)
-    ensures { ((text words others : List ℕ) → IsAllowed filter.now text words → IsAllowed filter.now text others → words ≡ others)
+    ensures { ((before : ℕ) (text words others : List ℕ) → IsAllowed filter.now before text words → IsAllowed filter.now before text others → words ≡ others)
         → (input held : List ℕ) → R.remaining reader.old ≡ Some input → R.remaining twin.old ≡ Some input
         → W.contents writer.old ≡ Some held → W.contents other.old ≡ Some held
         → IsOk result.0 → IsOk result.1 → W.contents writer.new ≡ W.contents other.new }
