@@ -1,4 +1,5 @@
 pub mod Parts
+pub mod Cuts
 pub mod Words
 pub mod Ends
 pub mod Known

@@ -41,45 +41,6 @@ is_too_long kept line h =
 pub of_whole : (P : List ℕ → Type 0) (kept line text : List ℕ) → IsHeld false kept line → text ≡ text_of line → P text → P (text_of (kept ++ line))
 of_whole P kept line text h e p = subst P (e ∙ ap (λ k. text_of (k ++ line)) (sym h)) p
 
--- ---- what is allowed
-allowed_has : (b : Bool) (q : Request) (text words : List ℕ) → HasAnswer q text words → Allowed b q text words
-allowed_has true q text words h = h
-allowed_has false q text words h = inl h
-
-allowed_lacks : (b : Bool) (q : Request) (text words : List ℕ) → b ≡ false → LacksAnswer q text words → Allowed b q text words
-allowed_lacks b q text words e h = subst (λ b. Allowed b q text words) (sym e) (inr h)
-
-pub has_allowed : (filter : Filter) (text old new : List ℕ) → AppendsThat (HasAnswer filter.request text) old new
-    → AppendsThat (Allowed filter.is_strict filter.request text) old new
-has_allowed filter text old new h = (h.0, h.1, allowed_has filter.is_strict filter.request text h.0 h.2)
-
-pub lacks_allowed : (filter : Filter) (text old new : List ℕ) → filter.is_strict ≡ false → AppendsThat (LacksAnswer filter.request text) old new
-    → AppendsThat (Allowed filter.is_strict filter.request text) old new
-lacks_allowed filter text old new e h = (h.0, h.1, allowed_lacks filter.is_strict filter.request text h.0 e h.2)
-
--- a line is skipped just where its number says so, which is counted in 64 bits
-chosen : (b : Bool) (P Q : Type 0) → b ≡ true → P → MatchBool b P Q
-chosen true P Q e p = p
-chosen false P Q e p = absurd (false≢true e)
-
-other : (b : Bool) (P Q : Type 0) → b ≡ false → Q → MatchBool b P Q
-other true P Q e q = absurd (false≢true (sym e))
-other false P Q e q = q
-
-below : (number before skip : ℕ) → number ≡ counted before → skip < 2 ^ 64 → number < skip → nat_lt before skip ≡ true
-below number before skip e fits h = grind (arith, nat_tests)
-
-not_below : (number before skip : ℕ) → number ≡ counted before → skip ≤ number → nat_lt before skip ≡ false
-not_below number before skip e h = grind (arith, nat_tests)
-
-pub skipped : (filter : Filter) (number before : ℕ) (text : List ℕ) → number ≡ counted before → filter.skip < 2 ^ 64 → number < filter.skip → length text ≤ 4096
-    → IsAllowed filter before text text
-skipped filter number before text e fits h short = inr (short, chosen _ _ _ (below number before filter.skip e fits h) refl)
-
-pub asked : (filter : Filter) (number before : ℕ) (text words : List ℕ) → number ≡ counted before → filter.skip ≤ number → length text ≤ 4096
-    → Allowed filter.is_strict filter.request text words → IsAllowed filter before text words
-asked filter number before text words e h short is = inr (short, other _ _ _ (not_below number before filter.skip e h) is)
-
 -- ---- the words, and the end of the line
 pub replied : (Says : List ℕ → List ℕ → Type 0) (b : Bool) (kept line old mid new end : List ℕ) → IsHeld b kept line
     → AppendsThat (Says (text_of (kept ++ line))) old mid → end ≡ end_of line → new ≡ mid ++ end
@@ -89,10 +50,6 @@ replied Says b kept line old mid new end h a e f = (
   f ∙ ap (λ l. l ++ end) a.1 ∙ append_assoc old a.0 end ∙ ap (λ l. old ++ (a.0 ++ l)) (e ∙ sym (same_end b kept line h)),
   (a.0, a.2, refl),
 )
-
--- ---- what was gathered after a place
-pub after_is : (old mid words : List ℕ) (n : ℕ) → n ≡ length old → mid ≡ old ++ words → drop n mid ≡ words
-after_is old mid words n e f = ap (λ k. drop k mid) e ∙ ap (drop (length old)) f ∙ drop-append_seam old words
 
 -- ---- what is shown of the text of a line
 shown_cut : (kept line : List ℕ) → 80 ≤ length kept → 0 < length line → shown (take (length (kept ++ line) - 1) (kept ++ line)) ≡ shown kept

@@ -1,6 +1,7 @@
 pub mod Answers
 pub mod Counts
 pub mod Ending
+pub mod Fields
 pub mod Forms
 pub mod Lines
 pub mod Moves

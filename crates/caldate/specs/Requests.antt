@@ -1,6 +1,6 @@
 -- What the arguments ask for, where they make sense.
 use denote.Ref.{Bor}
-use Rattle.std.specs.Prelude.{ℕ, nat_lt, not, ◌&&◌, ◌||◌, Bool, true, false, is_none, unwrap_or, ℤ, pos, neg_ℤ, ◌*ℤ◌, int_le, nat_abs, List, [], ◌∷◌, ◌==◌, length, take, Option, Some, None, MatchOption, option_map, option_and_then, bytes_eq, codes, if◌then◌else◌}
+use Rattle.std.specs.Prelude.{ℕ, nat_lt, not, ◌&&◌, ◌||◌, Bool, true, false, is_none, is_some, unwrap_or, ℤ, pos, neg_ℤ, ◌*ℤ◌, int_le, nat_abs, List, [], ◌∷◌, ◌==◌, length, take, Option, Some, None, MatchOption, option_map, option_and_then, bytes_eq, codes, if◌then◌else◌}
 use Rattle.std.specs.List.{slice_split}
 use Rattle.std.specs.Option.{option_map_or, option_zip}
 use Rattle.std.specs.Str.{all_ascii_digits, str_eq_ignore_ascii_case}
@@ -14,6 +14,7 @@ use Rattle.cal_text.specs.declared.any.DateOrMoment.{DateOrMoment}
 use Rattle.cal_text.specs.declared.any.MomentForm.TheVariants.{Rfc3339, Unix}
 use Rattle.caldate.specs.Offsets.{offset_of}
 use Rattle.caldate.specs.declared.options.Options.{Options}
+use Rattle.caldate.specs.declared.request.Field.{Field}
 use Rattle.caldate.specs.declared.request.Form.{Form}
 use Rattle.caldate.specs.declared.request.Form.TheVariants as form
 use Rattle.caldate.specs.declared.request.DayMove.{DayMove}
@@ -225,7 +226,7 @@ request_of reading (verb ∷ words) = option_and_then (request_after reading wor
 
 -- ---- the options before a request, in any order, each at most once
 abbrev pub no_options : Options
-no_options = record { is_strict = false; skip = None }
+no_options = record { is_strict = false; number = None; separator = None; skip = None }
 
 -- `--strict`
 abbrev pub takes_strict : Options → List ℕ → Bool
@@ -233,6 +234,18 @@ takes_strict options word = bytes_eq word (codes "--strict") && not options.is_s
 
 abbrev pub with_strict : Options → Options
 with_strict options = record options { is_strict = true }
+
+-- `--field N`: a number from 1 to 65535
+abbrev pub field_number_in : ℤ → Option ℕ
+field_number_in z = if int_le (pos 1) z && int_le z (pos 65535) then Some (nat_abs z) else None
+
+abbrev pub field_number_of : List ℕ → Option ℕ
+field_number_of word = option_and_then field_number_in (number_of word)
+
+-- `--separator C`: one byte
+abbrev pub byte_of : List ℕ → Option ℕ
+byte_of (byte ∷ []) = Some byte
+byte_of word = None
 
 -- `--skip K`: a number that is not negative
 abbrev pub skip_in : ℤ → Option ℕ
@@ -242,6 +255,18 @@ abbrev pub skip_of : List ℕ → Option ℕ
 skip_of word = option_and_then skip_in (number_of word)
 
 -- the options, and one more whose value comes after it, where it may stand there and this is such a value
+abbrev pub with_field : Options → List ℕ → Option Options
+with_field options value = option_map (λ n. record options { number = Some n }) (field_number_of value)
+
+abbrev pub takes_field : Options → List ℕ → Bool
+takes_field options word = bytes_eq word (codes "--field") && is_none options.number
+
+abbrev pub with_separator : Options → List ℕ → Option Options
+with_separator options value = option_map (λ c. record options { separator = Some c }) (byte_of value)
+
+abbrev pub takes_separator : Options → List ℕ → Bool
+takes_separator options word = bytes_eq word (codes "--separator") && is_none options.separator
+
 abbrev pub with_skip : Options → List ℕ → Option Options
 with_skip options value = option_map (λ k. record options { skip = Some k }) (skip_of value)
 
@@ -250,6 +275,8 @@ takes_skip options word = bytes_eq word (codes "--skip") && is_none options.skip
 
 abbrev pub with_value : Options → List ℕ → List ℕ → Option Options
 with_value options word value =
+    if takes_field options word then with_field options value else
+    if takes_separator options word then with_separator options value else
     if takes_skip options word then with_skip options value else
     None
 
@@ -269,9 +296,17 @@ asks_for_help word = bytes_eq word (codes "--help") || bytes_eq word (codes "-h"
 abbrev pub stands_alone : List ℕ → Bool
 stands_alone word = asks_for_help word || bytes_eq word (codes "--version")
 
+-- the field that is named, whose separator is a tab where none is said; a separator makes sense with a field alone
+abbrev pub field_of : Options → Option Field
+field_of options = option_map (λ n. record { number = n; separator = unwrap_or options.separator 9 }) options.number
+
+abbrev pub lacks_field : Options → Bool
+lacks_field options = is_some options.separator && is_none options.number
+
 abbrev pub filter_of : Options → Option Request → Option Asked
 filter_of options request =
-    option_map (λ q. Lines (record { request = q; is_strict = options.is_strict; skip = unwrap_or options.skip 0 })) request
+    if lacks_field options then None else
+    option_map (λ q. Lines (record { request = q; is_strict = options.is_strict; field = field_of options; skip = unwrap_or options.skip 0 })) request
 
 abbrev pub request_with : (List ℕ → Option DateOrMoment) → Options × List (List ℕ) → Option Asked
 request_with reading front = filter_of front.0 (request_of reading front.1)

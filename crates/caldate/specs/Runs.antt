@@ -1,7 +1,8 @@
 -- What a run does to the bytes of its reader and its writer, where those are told.
-use Rattle.std.specs.Prelude.{◌≡◌, ◌⊎◌, ℕ, ⊤, ◌<◌, ◌≤◌, nat_lt, Bool, true, false, List, ◌∷◌, ◌++◌, length, MatchBool, Option, Result, Ok, Err}
+use Rattle.std.specs.Prelude.{◌≡◌, ◌⊎◌, ℕ, ⊤, ◌<◌, ◌≤◌, nat_lt, Bool, true, false, List, ◌∷◌, ◌++◌, length, MatchBool, Option, Some, None, Result, Ok, Err}
 use Rattle.std.specs.Io.KnownBytes.{Appends, Consumes, IsAtEnd}
 use Rattle.caldate.specs.Answers.{HasAnswer, IsAnswer, IsTooLong}
+use Rattle.caldate.specs.Fields.{asked_text, text_with}
 use Rattle.caldate.specs.Lines.{ended_lines, lines_of}
 use Rattle.caldate.specs.Room.{longest_text}
 use Rattle.caldate.specs.Standing.{AreReplies, Stands}
@@ -18,13 +19,20 @@ abbrev pub Allowed : Bool → Request → List ℕ → List ℕ → Type 0
 Allowed true q = HasAnswer q
 Allowed false q = IsAnswer q
 
+-- what may be written for a text of which this is asked about: the text with an answer in its place, or in a run that is not strict the
+-- text itself, where it has no such field
+abbrev pub AllowedFor : Filter → List ℕ → Option (List ℕ) → List ℕ → Type 0
+AllowedFor filter text None words = (filter.is_strict ≡ false) × (words ≡ text)
+AllowedFor filter text (Some asked) words =
+    (answer : List ℕ) × Allowed filter.is_strict filter.request asked answer × (words ≡ text_with filter.field text answer)
+
 -- What may be written for the text of a line before which so many came. Of one that is too long it is just this, and in a strict run
 -- nothing. Else one that is skipped is passed on, and another one is asked about.
 abbrev pub IsAllowed : Filter → ℕ → List ℕ → List ℕ → Type 0
 IsAllowed filter before text words =
     (filter.is_strict ≡ false) × IsTooLong text words
     ⊎ (length text ≤ longest_text)
-    × MatchBool (nat_lt before filter.skip) (words ≡ text) (Allowed filter.is_strict filter.request text words)
+    × MatchBool (nat_lt before filter.skip) (words ≡ text) (AllowedFor filter text (asked_text filter.field text) words)
 
 -- new is old and words of this kind
 abbrev pub AppendsThat : (List ℕ → Type 0) → List ℕ → List ℕ → Type 0

@@ -7,7 +7,7 @@ ghost use Rattle.caldate.specs.declared.request.DayMove.TheVariants.{Next, Last,
 ghost use Rattle.caldate.specs.declared.request.Request.TheVariants.{Until, Since};
 
 use crate::offset::offset_of;
-use crate::options::{Options, options_of};
+use crate::options::{Options, field_of, lacks_field, options_of};
 use crate::request::{Asked, DayMove, Filter, Request, TimeUnit, Verb};
 use crate::senseless::{Senseless, senseless_of};
 use crate::spelling::{
@@ -57,9 +57,13 @@ fn only_option(word: &[u8]) -> Option<Asked>
 fn filter_of(options: Options, request: Option<Request>) -> Option<Asked>
     ensures { result ≡ filter_of options request }
 {
+    if lacks_field(options) {
+        return None;
+    }
     Some(Asked::Lines(Filter {
         request: request?,
         is_strict: options.is_strict,
+        field: field_of(options),
         skip: options.skip.unwrap_or(0),
     }))
 }

@@ -65,11 +65,14 @@ fn wanted_words(wanted: Wanted) -> &'static [u8]
     match wanted {
         Wanted::Something => b"nothing to do; caldate --help shows what can be asked".as_slice(),
         Wanted::Start => {
-            b"no verb (to, add, next, last, until, since, start, end, on-or-after, on-or-before, at) and no option (--strict, --skip, --help, --version)".as_slice()
+            b"no verb (to, add, next, last, until, since, start, end, on-or-after, on-or-before, at) and no option (--strict, --field, --separator, --skip, --help, --version)".as_slice()
         }
         Wanted::Verb => {
             b"no verb (to, add, next, last, until, since, start, end, on-or-after, on-or-before, at) and no further option".as_slice()
         }
+        Wanted::Field => b"no --field, which --separator needs".as_slice(),
+        Wanted::FieldNumber => b"no number of a field (1 .. 65535)".as_slice(),
+        Wanted::Separator => b"no separator (one byte)".as_slice(),
         Wanted::Skip => b"no number of lines (0 .. 9223372036854775807)".as_slice(),
         Wanted::Form => {
             b"no form (calendar, ordinal, week, julian, weekday, short-weekday, month, quarter, basic, rfc3339, unix, unix-ms, unix-us, unix-ns)".as_slice()

@@ -8,6 +8,7 @@ mod complaint;
 mod counts;
 mod ending;
 mod fault;
+mod fields;
 mod forms;
 mod gathered;
 mod help;

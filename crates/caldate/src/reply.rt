@@ -1,18 +1,20 @@
 //! The reply to a line.
-ghost use Rattle.std.specs.Prelude.{◌≡◌, ◌+◌, ◌≤◌, ◌++◌, ℕ, List, false, true, codes, length, IfErr, OnOk};
+ghost use Rattle.std.specs.Prelude.{◌≡◌, ◌+◌, ◌≤◌, ◌++◌, ℕ, List, Some, false, true, codes, length, IfErr, OnOk};
 ghost use Rattle.caldate.specs.Answers.{LacksAnswer};
+ghost use Rattle.caldate.specs.Fields.{asked_text};
 ghost use Rattle.caldate.specs.Lines.{text_of, end_of};
 ghost use Rattle.caldate.specs.Room.{HasRoom, longest_answer, longest_reply, longest_text};
-ghost use Rattle.caldate.specs.Runs.{Allowed, AppendsThat, IsAllowed};
+ghost use Rattle.caldate.specs.Runs.{Allowed, AllowedFor, AppendsThat, IsAllowed};
 ghost use Rattle.caldate.specs.Shown.{shown, words_shown};
 ghost use Rattle.caldate.specs.Standing.{IsHeld, IsReply, IsShown, counted};
-ghost use Rattle.caldate.specs.Unanswered.{IsReason, IsUnanswered, Shows};
+ghost use Rattle.caldate.specs.Unanswered.{IsReason, IsUnanswered, IsWhy, Shows};
 
 use crate::answer::{LONGEST_TEXT, push_answer};
+use crate::fields::cut_field;
 use crate::gathered::Gathered;
 use crate::lines::text_and_end;
 use crate::place::Place;
-use crate::request::Filter;
+use crate::request::{Field, Filter};
 use crate::shown::ShownText;
 use crate::unanswered::UnansweredLine;
 
@@ -86,7 +88,62 @@ fn push_text(
         gathered.push(text);
         return Ok(());
     }
-    push_asked(gathered, filter, text)
+    match filter.field {
+        Some(field) => push_field(gathered, filter, field, text),
+        None => push_asked(gathered, filter, text),
+    }
+}
+
+/// Gathers a text with what is written for its field in the field's place. In a strict run it gathers nothing where there is no answer or
+/// no such field, and returns the reason.
+fn push_field(
+    gathered: &mut Gathered,
+    filter: &Filter,
+    field: Field,
+    text: &[u8],
+) -> Result<(), ShownText>
+    requires room { HasRoom longest_reply gathered.old }
+    requires fits { length text.now ≤ longest_text }
+    requires field { filter.now.field ≡ Some field }
+    ensures ok { OnOk result (AppendsThat (AllowedFor filter.now text.now (asked_text (Some field) text.now)) gathered.old gathered.new) }
+    ensures strict { IfErr result (λ reason. (filter.now.is_strict ≡ true) × (gathered.new ≡ gathered.old)) }
+    ensures reason { IfErr result (λ reason. Shows reason (IsWhy filter.now.request (asked_text (Some field) text.now))) }
+    ensures short { length gathered.new ≤ length gathered.old + longest_text + longest_answer }
+{
+    let Some((front, asked, rest)) = cut_field(field, text) else {
+        return push_without_field(gathered, filter, text);
+    };
+    let before = gathered.len();
+    gathered.push(front);
+    match push_asked(gathered, filter, asked) {
+        Ok(()) => {
+            gathered.push(rest);
+            Ok(())
+        }
+        Err(reason) => {
+            gathered.truncate(before);
+            Err(reason)
+        }
+    }
+}
+
+/// Gathers a text that has no such field as it is. In a strict run it gathers nothing, and returns the reason.
+fn push_without_field(
+    gathered: &mut Gathered,
+    filter: &Filter,
+    text: &[u8],
+) -> Result<(), ShownText>
+    requires { HasRoom (length text.now) gathered.old }
+    ensures ok { OnOk result ((filter.now.is_strict ≡ false) × (gathered.new ≡ gathered.old ++ text.now)) }
+    ensures strict { IfErr result (λ reason. (filter.now.is_strict ≡ true) × (gathered.new ≡ gathered.old)) }
+    ensures reason { IfErr result (λ reason. words_shown reason ≡ shown (codes "no such field")) }
+    ensures short { length gathered.new ≤ length gathered.old + length text.now }
+{
+    if filter.is_strict {
+        return Err(ShownText::new(b"no such field"));
+    }
+    gathered.push(text);
+    Ok(())
 }
 
 /// Gathers what is written for a text that is asked about. In a strict run it gathers nothing where there is no answer, and returns the

@@ -122,12 +122,23 @@ pub enum Request {
     At(UtcOffset),
 }
 
+/// Which field of a line is asked about.
+#[derive(Clone, Copy)]
+pub struct Field {
+    /// Its number, counted from 1.
+    pub number: u16,
+    /// The byte between two fields.
+    pub separator: u8,
+}
+
 /// What is done to the lines of an input.
 #[derive(Clone, Copy)]
 pub struct Filter {
     pub request: Request,
     /// Whether the run ends at the first line without an answer.
     pub is_strict: bool,
+    /// The field that is asked about, or all of the line where there is none.
+    pub field: Option<Field>,
     /// How many lines are passed on as they are before the first that is answered.
     pub skip: u64,
 }

@@ -2,10 +2,10 @@
 ghost use Rattle.std.specs.Prelude.{◌≡◌, ◌≤◌, ℕ, List, [], ◌∷◌, Option, MatchOption, slice_get};
 ghost use Rattle.cal_text.specs.declared.any.DateOrMoment.{DateOrMoment};
 ghost use Rattle.caldate.specs.Requests.{IsReading, arguments_of, stands_alone, words_left};
-ghost use Rattle.caldate.specs.Senseless.{further_to, is_wanted, needed_by, senseless_after, senseless_at, senseless_end, senseless_front, senseless_further, senseless_last, senseless_of, senseless_request, senseless_unit};
+ghost use Rattle.caldate.specs.Senseless.{further_to, is_wanted, needed_by, senseless_after, senseless_at, senseless_end, senseless_front, senseless_further, senseless_last, senseless_of, senseless_request, senseless_unit, senseless_verb};
 
 use crate::offset::offset_of;
-use crate::options::{Options, options_of, value_of, verb_after, words_in};
+use crate::options::{Options, lacks_field, options_of, value_of, verb_after, words_in};
 use crate::request::Verb;
 use crate::spelling::{
     asks_for_help, count_of, cut, form_of, number_of, period_of, unit_of, verb_of, weekday_of,
@@ -21,6 +21,12 @@ pub enum Wanted {
     Start,
     /// A verb, or an option that is not given yet and does not stand alone.
     Verb,
+    /// `--field`, since there is a separator.
+    Field,
+    /// A number from 1 to 65535.
+    FieldNumber,
+    /// One byte.
+    Separator,
     /// A number of lines, from 0 on.
     Skip,
     /// A form, as `week`.
@@ -82,7 +88,20 @@ fn senseless_front(options: Options, words: Option<&[u8]>) -> Senseless
     let (word, _) = cut(words);
     match value_of(options, word) {
         Some(wanted) => senseless_at(place + 1, wanted),
-        None => senseless_request(place, verb_after(options), words),
+        None => senseless_verb(options, words),
+    }
+}
+
+/// From the verb on, where the word is no option.
+fn senseless_verb(options: Options, words: &[u8]) -> Senseless
+    ensures { (reading : List ℕ → Option DateOrMoment) → IsReading reading → result ≡ senseless_verb reading options (arguments_of words.now) }
+{
+    let place = words_in(options);
+    let wanted = verb_after(options);
+    if lacks_field(options) {
+        senseless_at(place, wanted)
+    } else {
+        senseless_request(place, wanted, words)
     }
 }
 

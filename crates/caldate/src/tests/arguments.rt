@@ -113,22 +113,22 @@ fn complaint(alloc: Global, arguments: Option<&[u8]>) -> Option<Vec<u8>> {
 
 #[test]
 fn arguments_that_make_no_sense(rt: HostRuntime) {
-    let cases: [(&[u8], &[u8]); 61] = [
+    let cases: [(&[u8], &[u8]); 72] = [
         (
             b"",
             b"nothing to do; caldate --help shows what can be asked",
         ),
         (
             b"\0to\0week",
-            b"'' is no verb (to, add, next, last, until, since, start, end, on-or-after, on-or-before, at) and no option (--strict, --skip, --help, --version)",
+            b"'' is no verb (to, add, next, last, until, since, start, end, on-or-after, on-or-before, at) and no option (--strict, --field, --separator, --skip, --help, --version)",
         ),
         (
             b"week",
-            b"'week' is no verb (to, add, next, last, until, since, start, end, on-or-after, on-or-before, at) and no option (--strict, --skip, --help, --version)",
+            b"'week' is no verb (to, add, next, last, until, since, start, end, on-or-after, on-or-before, at) and no option (--strict, --field, --separator, --skip, --help, --version)",
         ),
         (
             b"To\0week",
-            b"'To' is no verb (to, add, next, last, until, since, start, end, on-or-after, on-or-before, at) and no option (--strict, --skip, --help, --version)",
+            b"'To' is no verb (to, add, next, last, until, since, start, end, on-or-after, on-or-before, at) and no option (--strict, --field, --separator, --skip, --help, --version)",
         ),
         (
             b"--strict",
@@ -165,6 +165,47 @@ fn arguments_that_make_no_sense(rt: HostRuntime) {
         (
             b"--skip\01\0--strict\0to\0days",
             b"'days' is no form (calendar, ordinal, week, julian, weekday, short-weekday, month, quarter, basic, rfc3339, unix, unix-ms, unix-us, unix-ns)",
+        ),
+        (b"--field", b"there is no number of a field (1 .. 65535)"),
+        (
+            b"--field\00\0to\0week",
+            b"'0' is no number of a field (1 .. 65535)",
+        ),
+        (
+            b"--field\065536\0to\0week",
+            b"'65536' is no number of a field (1 .. 65535)",
+        ),
+        (
+            b"--skip\01\0--field\0two\0to\0week",
+            b"'two' is no number of a field (1 .. 65535)",
+        ),
+        (
+            b"--field\02\0--separator\0\0to\0week",
+            b"'' is no separator (one byte)",
+        ),
+        (
+            b"--separator\0;;\0--field\02\0to\0week",
+            b"';;' is no separator (one byte)",
+        ),
+        (
+            b"--field\02\0--separator",
+            b"there is no separator (one byte)",
+        ),
+        (
+            b"--separator\0,\0to\0week",
+            b"'to' is no --field, which --separator needs",
+        ),
+        (
+            b"--strict\0--separator\0,",
+            b"there is no --field, which --separator needs",
+        ),
+        (
+            b"--field\02",
+            b"there is no verb (to, add, next, last, until, since, start, end, on-or-after, on-or-before, at) and no further option",
+        ),
+        (
+            b"--field\02\0--field\03\0to\0week",
+            b"'--field' is no verb (to, add, next, last, until, since, start, end, on-or-after, on-or-before, at) and no further option",
         ),
         (b"--help\0to", b"'to' is one word too many"),
         (b"help\0\0", b"'' is one word too many"),

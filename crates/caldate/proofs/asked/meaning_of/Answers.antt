@@ -1,6 +1,6 @@
 use Rattle.std.proofs.Common.{◌∙◌, ap, sym}
 use Rattle.caldate.specs.Requests.{arguments_of, cut_options, filter_of, meaning_of, no_options, request_of, words_left}
-use Rattle.caldate.proofs.Words.{two_words}
+use Rattle.caldate.proofs.Words.{no_request, two_words}
 use Rattle.caldate.proofs.asked.meaning_of.Goals as goal
 
 pub returns-in_default : goal.returns-in_default
@@ -11,7 +11,8 @@ returns-in_err-words c = λ reading h.
     let front = cut_options no_options (arguments_of c.args.arguments.now) in
     c.from_residual.ensures
     ∙ sym (two_words reading _ (arguments_of c.args.arguments.now) c.in-Some.field-0.1.now c.in-Some.ensures
-    ∙ ap (λ words. filter_of front.0 (request_of reading words)) (sym c.options_of.ensures.words ∙ ap words_left c.in_err-words.was))
+    ∙ ap (λ words. filter_of front.0 (request_of reading words)) (sym c.options_of.ensures.words ∙ ap words_left c.in_err-words.was)
+    ∙ no_request front.0)
 
 pub returns : goal.returns
 returns c = λ reading h.
