@@ -1,17 +1,12 @@
 -- The reply to a line, from the words for its text.
-use Rattle.std.proofs.Common.{◌≡◌, ℕ, ◌+◌, ◌-◌, ◌<◌, ◌≤◌, ◌^◌, Bool, true, false, cond, eqb, List, [], ◌∷◌, ◌++◌, length, take, drop, get_or, codes, refl, sym, ap, ◌∙◌, subst, arith, inl, inr, length-append, length-take, append_assoc}
-use Rattle.std.proofs.Math.Seq.{drop-append_seam, take-append-add}
-use Rattle.std.specs.Prelude.{MatchBool, nat_lt}
-use Rattle.std.proofs.lemmas.Bool.{false≢true}
-use Rattle.std.proofs.lemmas.Bool.Decides.{nat_tests}
+use Rattle.std.proofs.Common.{◌≡◌, ℕ, ◌+◌, ◌-◌, ◌<◌, ◌≤◌, Bool, true, false, cond, eqb, List, [], ◌∷◌, ◌++◌, length, take, get_or, codes, refl, sym, ap, ◌∙◌, subst, arith, length-append, length-take, append_assoc}
+use Rattle.std.proofs.Math.Seq.{take-append-add}
 use Rattle.std.proofs.lemmas.List.{get_or-append-add}
-use Rattle.caldate.specs.Answers.{HasAnswer, IsTooLong, LacksAnswer}
+use Rattle.caldate.specs.Answers.{IsTooLong}
 use Rattle.caldate.specs.Lines.{has_return, text_of, end_of}
-use Rattle.caldate.specs.Runs.{Allowed, AppendsThat, IsAllowed}
-use Rattle.caldate.specs.Standing.{IsHeld, IsReply, IsShown, counted}
+use Rattle.caldate.specs.Runs.{AppendsThat}
+use Rattle.caldate.specs.Standing.{IsHeld, IsReply, IsShown}
 use Rattle.caldate.specs.Shown.{shown, words_shown}
-use Rattle.caldate.specs.declared.request.Filter.{Filter}
-use Rattle.caldate.specs.declared.request.Request.{Request}
 use Rattle.caldate.specs.declared.shown.ShownText.{ShownText}
 use Rattle.caldate.proofs.Steps.{shown_front}
 

@@ -1,4 +1,4 @@
-use Rattle.std.proofs.Common.{◌≡◌, ◌+◌, ◌-◌, suc, arith, ◌++◌, ◌∙◌, ap, sym, length}
+use Rattle.std.proofs.Common.{◌+◌, ◌-◌, arith}
 use Rattle.caldate.proofs.Cuts.{further, is_last, is_not_last, none_left}
 use Rattle.caldate.proofs.fields.cut_field.Goals as goal
 

@@ -1,4 +1,4 @@
-use Rattle.std.proofs.Common.{◌≡◌, ◌∙◌, ◌∷◌, ap, sym}
+use Rattle.std.proofs.Common.{◌∙◌, ◌∷◌, ap, sym}
 use Rattle.caldate.specs.Requests.{cut_options, words_left}
 use Rattle.caldate.proofs.Words.{strict_first, value_first}
 use Rattle.caldate.proofs.options.next_option.Goals as goal
