@@ -60,16 +60,6 @@ value_first options more word value words e f =
     ap (λ b. cond b (cut_options (with_strict options) (value ∷ words)) (option_map_or (λ more. cut_options more words) (with_value options word value) (options, word ∷ value ∷ words))) e
     ∙ ap (λ o. option_map_or (λ more. cut_options more words) o (options, word ∷ value ∷ words)) f
 
--- no option
-pub none_first : (options : Options) (word value : List ℕ) (words : List (List ℕ)) → takes_strict options word ≡ false → with_value options word value ≡ None
-    → cut_options options (word ∷ value ∷ words) ≡ (options, word ∷ value ∷ words)
-none_first options word value words e f =
-    ap (λ b. cond b (cut_options (with_strict options) (value ∷ words)) (option_map_or (λ more. cut_options more words) (with_value options word value) (options, word ∷ value ∷ words))) e
-    ∙ ap (λ o. option_map_or (λ more. cut_options more words) o (options, word ∷ value ∷ words)) f
-
-pub alone_first : (options : Options) (word : List ℕ) → takes_strict options word ≡ false → cut_options options (word ∷ []) ≡ (options, word ∷ [])
-alone_first options word e = ap (λ b. cond b (with_strict options, []) (options, word ∷ [])) e
-
 -- no request, whatever the options
 either : {A : Type 0} (b : Bool) (x : A) → cond b x x ≡ x
 either true x = refl
