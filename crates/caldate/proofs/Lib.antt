@@ -12,3 +12,4 @@ pub mod OneCount
 pub mod OneAnswer
 pub mod Leads
 pub mod Digits
+pub mod Listed

@@ -159,7 +159,7 @@ one_line [] n h = absurd (omega arith)
 one_line (b ∷ bs) n h = ap without_empty_last (slice_split_none is_end (b ∷ bs) n)
 
 -- ---- a write that failed
-front_more : (start now new : Option (List ℕ)) (written gathered out : List ℕ) → out ≡ written ++ gathered → Appends start now written
+pub front_more : (start now new : Option (List ℕ)) (written gathered out : List ℕ) → out ≡ written ++ gathered → Appends start now written
     → AppendsFront now new gathered → AppendsFront start new out
 front_more start now new written gathered out e a f = record {
   front = written ++ f.front;
@@ -190,7 +190,7 @@ numbered : (q : Request) (m n : ℕ) (line : List ℕ) (told : UnansweredLine) �
     → IsUnanswered q (counted (n + 1)) line told
 numbered q m n line told e u = subst (λ k. IsUnanswered q k line told) (counted_more n m e) u
 
-all_more : (start now new : Option (List ℕ)) (written gathered out : List ℕ) → out ≡ written ++ gathered → Appends start now written
+pub all_more : (start now new : Option (List ℕ)) (written gathered out : List ℕ) → out ≡ written ++ gathered → Appends start now written
     → Appends now new gathered → Appends start new out
 all_more start now new written gathered out e a f = subst (Appends start new) (sym e) (Appends-trans start now new _ _ a f)
 

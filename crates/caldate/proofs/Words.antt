@@ -1,15 +1,18 @@
 -- What arguments ask for, by their first word and the others.
-use Rattle.std.proofs.Common.{◌≡◌, ℕ, true, false, cond, eqb, List, [], ◌∷◌, Option, None, Some, refl, sym, ap, ◌∙◌, arith, length, ◌+◌, ◌<◌, ℤ, pos, ◌*ℤ◌}
-use Rattle.std.specs.Prelude.{FitsSigned, bytes_eq, codes, option_and_then, option_map}
+use Rattle.std.proofs.Common.{◌≡◌, ℕ, Bool, true, false, cond, eqb, List, [], ◌∷◌, Option, None, Some, refl, sym, ap, ◌∙◌, arith, length, ◌+◌, ◌<◌, ℤ, pos, ◌*ℤ◌}
+use Rattle.std.specs.Prelude.{◌&&◌, FitsSigned, bytes_eq, codes, option_and_then, option_map}
 use Rattle.std.specs.Int.{w64}
 use Rattle.std.specs.Option.{option_zip}
 use Rattle.std.proofs.lemmas.List.Splits.{length-slice_split}
 use Rattle.cal_text.specs.declared.any.DateOrMoment.{DateOrMoment}
 use Rattle.cal_time.specs.SignedDuration.{second}
-use Rattle.caldate.specs.Requests.{arguments_of, meaning_of, filter_of, request_after, request_of, seconds_in, target_of, unit_of, verb_of}
+use Rattle.caldate.specs.Requests.{arguments_of, date_of, last_of, listing, meaning_of, filter_of, list_of, request_after, request_of, seconds_in, target_of, unit_of, verb_of}
 use Rattle.caldate.proofs.Numbers.{fits, guard_yes}
 use Rattle.caldate.specs.Senseless.{senseless_at, senseless_end}
 use Rattle.caldate.specs.declared.senseless.Wanted.TheVariants as wanted
+use Rattle.caldate.specs.declared.request.Asked.{Asked}
+use Rattle.caldate.specs.declared.request.Asked.TheVariants.{Dates}
+use Rattle.caldate.specs.declared.request.Step.{Step}
 use Rattle.caldate.specs.declared.request.TimeUnit.{TimeUnit}
 use Rattle.caldate.specs.declared.request.Verb.{Verb}
 use Rattle.caldate.specs.declared.request.Verb.TheVariants.{To, Add, Next, Last, Until, Since, Start, End, OnOrAfter, OnOrBefore, At}
@@ -45,15 +48,20 @@ pub one_too_many : (at : ℕ) (bytes : List ℕ) → senseless_end at (arguments
 one_too_many at bytes = let parts = some_word bytes in ap (senseless_end at) parts.2
 
 -- ---- the first of two words and more
+abbrev chosen : Bool → Bool → Option Asked → Option Asked → Option Asked → Option Asked
+chosen strict list x y z = cond strict x (cond list y z)
+
 pub strict : (reading : List ℕ → Option DateOrMoment) (first second : List ℕ) (words : List (List ℕ)) → bytes_eq first (codes "--strict") ≡ true
     → meaning_of reading (first ∷ second ∷ words) ≡ filter_of true (request_of reading (second ∷ words))
-strict reading first second words e =
-    ap (λ b. cond b (filter_of true (request_of reading (second ∷ words))) (filter_of false (request_of reading (first ∷ second ∷ words)))) e
+strict reading first second words e = ap (λ b. chosen b (bytes_eq first (codes "list")) (filter_of true (request_of reading (second ∷ words))) (option_map Dates (list_of reading (second ∷ words))) (filter_of false (request_of reading (first ∷ second ∷ words)))) e
+
+pub listed : (reading : List ℕ → Option DateOrMoment) (first second : List ℕ) (words : List (List ℕ)) → bytes_eq first (codes "--strict") ≡ false
+    → bytes_eq first (codes "list") ≡ true → meaning_of reading (first ∷ second ∷ words) ≡ option_map Dates (list_of reading (second ∷ words))
+listed reading first second words e f = ap (λ b. chosen b (bytes_eq first (codes "list")) (filter_of true (request_of reading (second ∷ words))) (option_map Dates (list_of reading (second ∷ words))) (filter_of false (request_of reading (first ∷ second ∷ words)))) e ∙ ap (λ b. chosen false b (filter_of true (request_of reading (second ∷ words))) (option_map Dates (list_of reading (second ∷ words))) (filter_of false (request_of reading (first ∷ second ∷ words)))) f
 
 pub lenient : (reading : List ℕ → Option DateOrMoment) (first second : List ℕ) (words : List (List ℕ)) → bytes_eq first (codes "--strict") ≡ false
-    → meaning_of reading (first ∷ second ∷ words) ≡ filter_of false (request_of reading (first ∷ second ∷ words))
-lenient reading first second words e =
-    ap (λ b. cond b (filter_of true (request_of reading (second ∷ words))) (filter_of false (request_of reading (first ∷ second ∷ words)))) e
+    → bytes_eq first (codes "list") ≡ false → meaning_of reading (first ∷ second ∷ words) ≡ filter_of false (request_of reading (first ∷ second ∷ words))
+lenient reading first second words e f = ap (λ b. chosen b (bytes_eq first (codes "list")) (filter_of true (request_of reading (second ∷ words))) (option_map Dates (list_of reading (second ∷ words))) (filter_of false (request_of reading (first ∷ second ∷ words)))) e ∙ ap (λ b. chosen false b (filter_of true (request_of reading (second ∷ words))) (option_map Dates (list_of reading (second ∷ words))) (filter_of false (request_of reading (first ∷ second ∷ words)))) f
 
 -- ---- a date or a moment, and perhaps a unit
 abbrev alone : DateOrMoment → DateOrMoment × Option TimeUnit
@@ -69,6 +77,15 @@ pub with_unit : (reading : List ℕ → Option DateOrMoment) (text word name : L
 with_unit reading text word name all found unit e same f g =
     sym (ap (target_of reading) e ∙ ap (λ b. cond b (option_zip (reading text) (option_map Some (unit_of name))) None) same
     ∙ ap (λ r. option_zip r (option_map Some (unit_of name))) (sym f) ∙ ap (λ r. option_zip (Some found) (option_map Some r)) (sym g))
+
+-- ---- two dates, and a step
+pub with_dates : (reading : List ℕ → Option DateOrMoment) (from first to : List ℕ) (words all : List (List ℕ)) (a : ℕ) (end : ℕ × Step)
+    → all ≡ from ∷ first ∷ to ∷ words → bytes_eq from (codes "from") ≡ true → bytes_eq to (codes "to") ≡ true → Some a ≡ date_of reading first
+    → Some end ≡ last_of reading words → Some (listing (a, end)) ≡ list_of reading all
+with_dates reading from first to words all a end e f g h i =
+    let both : (bytes_eq from (codes "from") && bytes_eq to (codes "to")) ≡ true = ap (λ b. b && bytes_eq to (codes "to")) f ∙ ap (λ b. true && b) g in
+    sym (ap (list_of reading) e ∙ ap (λ b. cond b (option_map listing (option_zip (date_of reading first) (last_of reading words))) None) both
+    ∙ ap (λ d. option_map listing (option_zip d (last_of reading words))) (sym h) ∙ ap (λ l. option_map listing (option_zip (Some a) l)) (sym i))
 
 -- ---- an amount of time
 pub seconds_are : (unit : ℕ) (amount seconds : ℤ) → FitsSigned w64 (amount *ℤ pos unit) → seconds ≡ amount *ℤ pos unit → seconds_in unit amount ≡ Some (seconds *ℤ pos second)

@@ -3,6 +3,7 @@ pub mod Counts
 pub mod Ending
 pub mod Forms
 pub mod Lines
+pub mod Lists
 pub mod Moves
 pub mod Offsets
 pub mod Program

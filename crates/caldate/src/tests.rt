@@ -11,6 +11,7 @@ use std::io::{ErrorKind, Read, Write};
 
 mod arguments;
 mod failing;
+mod lists;
 mod long;
 mod one_answer;
 mod requests;
