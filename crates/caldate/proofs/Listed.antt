@@ -1,5 +1,5 @@
 -- The days of a list, one after the other.
-use Rattle.std.proofs.Common.{◌≡◌, ◌⊎◌, ℕ, suc, ◌+◌, ◌-◌, ◌*◌, ◌<◌, ◌≤◌, ◌∙◌, ap, sym, subst, arith, inl, inr, Option, None, Some, Result, Ok, Err, ℤ, pos, min, List, [], ◌∷◌, ◌++◌, length, get_or, append_assoc, length-append}
+use Rattle.std.proofs.Common.{◌≡◌, ℕ, suc, ◌+◌, ◌*◌, ◌<◌, ◌∙◌, ap, sym, subst, arith, inl, inr, Option, None, Some, Result, Ok, Err, ℤ, pos, min, List, [], ◌∷◌, ◌++◌, length, get_or, append_assoc, length-append}
 use Rattle.std.specs.Prelude.{IfErr, IfSome, IsErrAnd, IsOk, MatchOption, OnErr, OnOk}
 use Rattle.std.specs.List.{flat_map}
 use Rattle.std.proofs.lemmas.Bool.{cases_lt, false≢true}

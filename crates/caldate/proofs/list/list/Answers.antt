@@ -1,4 +1,4 @@
-use Rattle.std.proofs.Common.{◌≡◌, ℕ, ◌++◌, ◌∷◌, ◌*◌, ◌∙◌, ap, sym, subst, arith, rules, append_assoc, [], length}
+use Rattle.std.proofs.Common.{ℕ, ◌++◌, ◌∷◌, ◌∙◌, ap, sym, subst, arith, rules, append_assoc, []}
 use Rattle.std.specs.Prelude.{IsErrAnd}
 use Rattle.std.proofs.KnownBytes.{Appends-nil, Appends-trans}
 use Rattle.caldate.specs.Lists.{IsWithin}
