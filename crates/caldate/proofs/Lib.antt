@@ -13,3 +13,4 @@ pub mod OneCount
 pub mod OneAnswer
 pub mod Leads
 pub mod Digits
+pub mod Listed

@@ -141,7 +141,7 @@ all_given : (input bytes : List ℕ) (left : Option (List ℕ)) → Consumes (So
 all_given input bytes None given end = absurd given
 all_given input bytes (Some rest) given end = sym (given ∙ ap (λ more. bytes ++ more) end ∙ append-nil bytes)
 
-took-one : (held a b : List ℕ) (w v : Option (List ℕ)) → Appends (Some held) w a → Appends (Some held) v b → a ≡ b → w ≡ v
+pub took-one : (held a b : List ℕ) (w v : Option (List ℕ)) → Appends (Some held) w a → Appends (Some held) v b → a ≡ b → w ≡ v
 took-one held a b None v first second same = absurd first
 took-one held a b (Some x) None first second same = absurd second
 took-one held a b (Some x) (Some y) first second same = ap Some (first ∙ ap (λ more. held ++ more) same ∙ sym second)

@@ -164,7 +164,7 @@ one_line [] n h = absurd (omega arith)
 one_line (b ∷ bs) n h = ap without_empty_last (slice_split_none is_end (b ∷ bs) n)
 
 -- ---- a write that failed
-front_more : (start now new : Option (List ℕ)) (written gathered out : List ℕ) → out ≡ written ++ gathered → Appends start now written
+pub front_more : (start now new : Option (List ℕ)) (written gathered out : List ℕ) → out ≡ written ++ gathered → Appends start now written
     → AppendsFront now new gathered → AppendsFront start new out
 front_more start now new written gathered out e a f = record {
   front = written ++ f.front;
@@ -191,7 +191,7 @@ abbrev Tells : Filter → Place → List ℕ → UnansweredLine → Type 0
 Tells filter place line told = (kept : List ℕ) (before : ℕ) → IsHeld place.is_long kept line → IsShown place.is_long place.front kept
     → place.number ≡ counted before → IsUnanswered filter before (kept ++ line) told
 
-all_more : (start now new : Option (List ℕ)) (written gathered out : List ℕ) → out ≡ written ++ gathered → Appends start now written
+pub all_more : (start now new : Option (List ℕ)) (written gathered out : List ℕ) → out ≡ written ++ gathered → Appends start now written
     → Appends now new gathered → Appends start new out
 all_more start now new written gathered out e a f = subst (Appends start new) (sym e) (Appends-trans start now new _ _ a f)
 

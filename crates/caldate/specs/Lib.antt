@@ -4,6 +4,7 @@ pub mod Ending
 pub mod Fields
 pub mod Forms
 pub mod Lines
+pub mod Lists
 pub mod Moves
 pub mod Offsets
 pub mod Program

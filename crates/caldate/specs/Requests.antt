@@ -1,6 +1,6 @@
 -- What the arguments ask for, where they make sense.
 use denote.Ref.{Bor}
-use Rattle.std.specs.Prelude.{ℕ, nat_lt, not, ◌&&◌, ◌||◌, Bool, true, false, is_none, is_some, unwrap_or, ℤ, pos, neg_ℤ, ◌*ℤ◌, int_le, nat_abs, List, [], ◌∷◌, ◌==◌, length, take, Option, Some, None, MatchOption, option_map, option_and_then, bytes_eq, codes, if◌then◌else◌}
+use Rattle.std.specs.Prelude.{ℕ, nat_lt, not, ◌&&◌, ◌||◌, Bool, true, false, is_none, is_some, unwrap_or, ℤ, pos, neg_ℤ, ◌*ℤ◌, int_le, nat_abs, List, [], ◌∷◌, ◌==◌, length, take, Option, Some, None, MatchOption, option_map, option_and_then, bytes_eq, codes, if◌then◌else◌, ◌*◌}
 use Rattle.std.specs.List.{slice_split}
 use Rattle.std.specs.Option.{option_map_or, option_zip}
 use Rattle.std.specs.Str.{all_ascii_digits, str_eq_ignore_ascii_case}
@@ -11,6 +11,7 @@ use Rattle.cal_time.specs.declared.Weekday.TheVariants as weekday
 use Rattle.cal_text.specs.AnyForm.{IsTextOf}
 use Rattle.cal_text.specs.declared.any.DateForm.TheVariants.{Calendar, Ordinal, Week, JulianDay}
 use Rattle.cal_text.specs.declared.any.DateOrMoment.{DateOrMoment}
+use Rattle.cal_text.specs.declared.any.DateOrMoment.TheVariants as read
 use Rattle.cal_text.specs.declared.any.MomentForm.TheVariants.{Rfc3339, Unix}
 use Rattle.caldate.specs.Offsets.{offset_of}
 use Rattle.caldate.specs.declared.options.Options.{Options}
@@ -21,6 +22,9 @@ use Rattle.caldate.specs.declared.request.DayMove.{DayMove}
 use Rattle.caldate.specs.declared.request.DayMove.TheVariants as move
 use Rattle.caldate.specs.declared.request.Period.{Period}
 use Rattle.caldate.specs.declared.request.Period.TheVariants as period
+use Rattle.caldate.specs.declared.request.Listing.{Listing}
+use Rattle.caldate.specs.declared.request.Step.{Step}
+use Rattle.caldate.specs.declared.request.StepUnit.TheVariants as steps
 use Rattle.caldate.specs.declared.request.TimeUnit.{TimeUnit}
 use Rattle.caldate.specs.declared.request.TimeUnit.TheVariants as unit
 use Rattle.caldate.specs.declared.request.UnixUnit.TheVariants.{Milliseconds, Microseconds, Nanoseconds}
@@ -29,7 +33,7 @@ use Rattle.caldate.specs.declared.request.Verb.TheVariants as verb
 use Rattle.caldate.specs.declared.request.Request.{Request}
 use Rattle.caldate.specs.declared.request.Request.TheVariants.{To, Add, Move, Until, Since, At}
 use Rattle.caldate.specs.declared.request.Asked.{Asked}
-use Rattle.caldate.specs.declared.request.Asked.TheVariants.{Help, Version, Lines}
+use Rattle.caldate.specs.declared.request.Asked.TheVariants.{Help, Version, Lines, Dates}
 
 -- the arguments, between which stands the byte 0, of which no argument has one
 abbrev pub arguments_of : List ℕ → List (List ℕ)
@@ -60,6 +64,13 @@ count_in z = if int_le (pos 1) z && int_le z (pos 255) then Some (nat_abs z) els
 
 abbrev pub count_of : List ℕ → Option ℕ
 count_of word = option_and_then count_in (number_of word)
+
+-- a number from 1 to 4294967295
+abbrev pub many_in : ℤ → Option ℕ
+many_in z = if int_le (pos 1) z && int_le z (pos 4294967295) then Some (nat_abs z) else None
+
+abbrev pub many_of : List ℕ → Option ℕ
+many_of word = option_and_then many_in (number_of word)
 
 abbrev pub verb_of : List ℕ → Option Verb
 verb_of word =
@@ -288,7 +299,47 @@ cut_options options (word ∷ value ∷ words) =
     if takes_strict options word then cut_options (with_strict options) (value ∷ words) else
     option_map_or (λ more. cut_options more words) (with_value options word value) (options, word ∷ value ∷ words)
 
--- ---- the whole: `--help`, `--version`, or a request, perhaps after options
+-- ---- lists
+-- the day that a text is the date of
+abbrev pub date_in : DateOrMoment → Option ℕ
+date_in (read.Date form n) = Some n
+date_in (read.Moment form m) = None
+
+abbrev pub date_of : (List ℕ → Option DateOrMoment) → List ℕ → Option ℕ
+date_of reading text = option_and_then date_in (reading text)
+
+-- so many days, weeks, months or years
+abbrev pub step_in : ℕ → TimeUnit → Option Step
+step_in n unit.Days = Some (record { every = n; unit = steps.Days })
+step_in n unit.Weeks = Some (record { every = n * 7; unit = steps.Days })
+step_in n unit.Months = Some (record { every = n; unit = steps.Months })
+step_in n unit.Years = Some (record { every = n * 12; unit = steps.Months })
+step_in n other = None
+
+abbrev pub step_unit : List ℕ → Option TimeUnit → Option Step
+step_unit number found = option_and_then (λ n. option_and_then (step_in n) found) (many_of number)
+
+-- `by N UNIT`, or each day
+abbrev pub step_of : List (List ℕ) → Option Step
+step_of [] = Some (record { every = 1; unit = steps.Days })
+step_of (by ∷ number ∷ unit ∷ []) = if bytes_eq by (codes "by") then step_unit number (unit_of unit) else None
+step_of words = None
+
+-- the last date, and the step
+abbrev pub last_of : (List ℕ → Option DateOrMoment) → List (List ℕ) → Option (ℕ × Step)
+last_of reading [] = None
+last_of reading (last ∷ words) = option_zip (date_of reading last) (step_of words)
+
+-- `from A to B`, and the step
+abbrev pub listing : ℕ × (ℕ × Step) → Listing
+listing days = record { first = days.0; last = days.1.0; step = days.1.1 }
+
+abbrev pub list_of : (List ℕ → Option DateOrMoment) → List (List ℕ) → Option Listing
+list_of reading (from ∷ first ∷ to ∷ words) =
+    if bytes_eq from (codes "from") && bytes_eq to (codes "to") then option_map listing (option_zip (date_of reading first) (last_of reading words)) else None
+list_of reading words = None
+
+-- ---- the whole: `--help`, `--version`, a list, or a request, perhaps after options
 abbrev pub asks_for_help : List ℕ → Bool
 asks_for_help word = bytes_eq word (codes "--help") || bytes_eq word (codes "-h") || bytes_eq word (codes "help")
 
@@ -317,4 +368,6 @@ meaning_of reading (first ∷ []) =
     if asks_for_help first then Some Help else
     if bytes_eq first (codes "--version") then Some Version else
     None
-meaning_of reading (first ∷ second ∷ words) = request_with reading (cut_options no_options (first ∷ second ∷ words))
+meaning_of reading (first ∷ second ∷ words) =
+    if bytes_eq first (codes "list") then option_map Dates (list_of reading (second ∷ words))
+    else request_with reading (cut_options no_options (first ∷ second ∷ words))

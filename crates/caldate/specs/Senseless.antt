@@ -1,9 +1,9 @@
 -- What is said of arguments that make no sense: the first word that makes none, and what may stand there.
-use Rattle.std.specs.Prelude.{ℕ, ◌+◌, ◌==◌, Bool, true, false, List, [], ◌∷◌, ◌++◌, Option, Some, None, is_some, ok_or, Result, bytes_eq, codes, slice_get, if◌then◌else◌}
+use Rattle.std.specs.Prelude.{ℕ, ◌+◌, ◌==◌, Bool, true, false, List, [], ◌∷◌, ◌++◌, Option, Some, None, is_some, ok_or, Result, bytes_eq, codes, slice_get, if◌then◌else◌, option_and_then}
 use Rattle.std.specs.Option.{option_map_or}
 use Rattle.cal_text.specs.declared.any.DateOrMoment.{DateOrMoment}
 use Rattle.caldate.specs.Offsets.{offset_of}
-use Rattle.caldate.specs.Requests.{count_of, cut_options, form_of, is_number, lacks_field, meaning_of, no_options, period_of, stands_alone, takes_field, takes_separator, takes_skip, unit_of, verb_of, weekday_of}
+use Rattle.caldate.specs.Requests.{count_of, cut_options, form_of, is_number, lacks_field, meaning_of, no_options, period_of, stands_alone, takes_field, takes_separator, takes_skip, unit_of, verb_of, weekday_of, arguments_of, date_of, many_of, step_in}
 use Rattle.caldate.specs.Shown.{shown}
 use Rattle.caldate.specs.declared.options.Options.{Options}
 use Rattle.caldate.specs.declared.request.Asked.{Asked}
@@ -55,6 +55,12 @@ is_wanted reading word wanted.Target = is_some (reading word)
 is_wanted reading word wanted.Period = is_some (period_of word)
 is_wanted reading word wanted.Offset = is_some (offset_of word)
 is_wanted reading word wanted.In = bytes_eq word (codes "in")
+is_wanted reading word wanted.From = bytes_eq word (codes "from")
+is_wanted reading word wanted.Date = is_some (date_of reading word)
+is_wanted reading word wanted.UpTo = bytes_eq word (codes "to")
+is_wanted reading word wanted.By = bytes_eq word (codes "by")
+is_wanted reading word wanted.Many = is_some (many_of word)
+is_wanted reading word wanted.UnitOfDays = is_some (option_and_then (step_in 1) (unit_of word))
 is_wanted reading word what = false
 
 -- ---- the first word that makes no sense, by its place among the arguments, counted from 0
@@ -120,13 +126,28 @@ senseless_front reading options [] = senseless_at (words_in options) (verb_after
 senseless_front reading options (word ∷ words) =
     option_map_or (senseless_at (words_in options + 1)) (value_of options word) (senseless_verb reading options (word ∷ words))
 
+-- after `list`: the first that is not what is wanted at its place, or is missing, or is one too many
+abbrev pub list_words : List Wanted
+list_words = wanted.From ∷ wanted.Date ∷ wanted.UpTo ∷ wanted.Date ∷ wanted.By ∷ wanted.Many ∷ wanted.UnitOfDays ∷ []
+
+abbrev pub senseless_among : (List ℕ → Option DateOrMoment) → ℕ → List Wanted → List (List ℕ) → Senseless
+senseless_among reading at [] words = senseless_at at wanted.End
+senseless_among reading at (what ∷ more) [] = senseless_at at what
+senseless_among reading at (what ∷ more) (word ∷ words) =
+    if is_wanted reading word what then senseless_among reading (at + 1) more words else senseless_at at what
+
+-- from the options on
+abbrev pub senseless_lines : (List ℕ → Option DateOrMoment) → List (List ℕ) → Senseless
+senseless_lines reading words = let front = cut_options no_options words in senseless_front reading front.0 front.1
+
 -- from the start; an argument alone that is empty is as none, and after an option that stands alone each word is one too many
 abbrev pub senseless_of : (List ℕ → Option DateOrMoment) → List (List ℕ) → Senseless
 senseless_of reading [] = senseless_at 0 wanted.Something
 senseless_of reading ([] ∷ []) = senseless_at 0 wanted.Something
 senseless_of reading (word ∷ words) =
     if stands_alone word then senseless_at 1 wanted.End else
-    let front = cut_options no_options (word ∷ words) in senseless_front reading front.0 front.1
+    if bytes_eq word (codes "list") then senseless_among reading 1 list_words words else
+    senseless_lines reading (word ∷ words)
 
 -- what the arguments ask for, or else that word
 abbrev pub asked_of : (List ℕ → Option DateOrMoment) → List (List ℕ) → Result Asked Senseless
@@ -135,7 +156,7 @@ asked_of reading words = ok_or (meaning_of reading words) (senseless_of reading 
 -- ---- the line that says so
 abbrev pub wanted_words : Wanted → List ℕ
 wanted_words wanted.Something = codes "nothing to do; caldate --help shows what can be asked"
-wanted_words wanted.Start = codes "no verb (to, add, next, last, until, since, start, end, on-or-after, on-or-before, at) and no option (--strict, --field, --separator, --skip, --help, --version)"
+wanted_words wanted.Start = codes "no verb (to, add, next, last, until, since, start, end, on-or-after, on-or-before, at, list) and no option (--strict, --field, --separator, --skip, --help, --version)"
 wanted_words wanted.Verb = codes "no verb (to, add, next, last, until, since, start, end, on-or-after, on-or-before, at) and no further option"
 wanted_words wanted.Field = codes "no --field, which --separator needs"
 wanted_words wanted.FieldNumber = codes "no number of a field (1 .. 65535)"
@@ -151,6 +172,12 @@ wanted_words wanted.Target = codes "no date and no moment (as 2024-02-29, 2024-0
 wanted_words wanted.Period = codes "no period (week, month, quarter, year)"
 wanted_words wanted.Offset = codes "no offset (as +01:00, -05:30, Z)"
 wanted_words wanted.In = codes "one word too many"
+wanted_words wanted.From = codes "no 'from'"
+wanted_words wanted.Date = codes "no date (as 2024-02-29, 2024-060, 2024-W09-4, J2460370)"
+wanted_words wanted.UpTo = codes "no 'to'"
+wanted_words wanted.By = codes "no 'by'"
+wanted_words wanted.Many = codes "no number from 1 to 4294967295"
+wanted_words wanted.UnitOfDays = codes "no unit of dates (days, weeks, months, years)"
 wanted_words wanted.End = codes "one word too many"
 
 abbrev pub is_something : Wanted → Bool

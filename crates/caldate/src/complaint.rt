@@ -65,7 +65,7 @@ fn wanted_words(wanted: Wanted) -> &'static [u8]
     match wanted {
         Wanted::Something => b"nothing to do; caldate --help shows what can be asked".as_slice(),
         Wanted::Start => {
-            b"no verb (to, add, next, last, until, since, start, end, on-or-after, on-or-before, at) and no option (--strict, --field, --separator, --skip, --help, --version)".as_slice()
+            b"no verb (to, add, next, last, until, since, start, end, on-or-after, on-or-before, at, list) and no option (--strict, --field, --separator, --skip, --help, --version)".as_slice()
         }
         Wanted::Verb => {
             b"no verb (to, add, next, last, until, since, start, end, on-or-after, on-or-before, at) and no further option".as_slice()
@@ -89,6 +89,12 @@ fn wanted_words(wanted: Wanted) -> &'static [u8]
         }
         Wanted::Period => b"no period (week, month, quarter, year)".as_slice(),
         Wanted::Offset => b"no offset (as +01:00, -05:30, Z)".as_slice(),
+        Wanted::From => b"no 'from'".as_slice(),
+        Wanted::Date => b"no date (as 2024-02-29, 2024-060, 2024-W09-4, J2460370)".as_slice(),
+        Wanted::UpTo => b"no 'to'".as_slice(),
+        Wanted::By => b"no 'by'".as_slice(),
+        Wanted::Many => b"no number from 1 to 4294967295".as_slice(),
+        Wanted::UnitOfDays => b"no unit of dates (days, weeks, months, years)".as_slice(),
         Wanted::In | Wanted::End => b"one word too many".as_slice(),
     }
 }

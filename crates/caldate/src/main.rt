@@ -15,6 +15,8 @@ mod help;
 mod input;
 mod laws;
 mod lines;
+mod list;
+mod listing;
 mod moves;
 mod offset;
 mod options;

@@ -1,6 +1,6 @@
 //! What is asked of the lines.
 use cal_text::{DateForm, DateOrMoment, MomentForm};
-use cal_time::{SignedDuration, UtcOffset, Weekday};
+use cal_time::{Date, SignedDuration, UtcOffset, Weekday};
 
 /// A form in which a date or a moment is written.
 #[derive(Clone, Copy)]
@@ -143,6 +143,29 @@ pub struct Filter {
     pub skip: u64,
 }
 
+/// What the steps of a list count.
+#[derive(Clone, Copy)]
+pub enum StepUnit {
+    Days,
+    Months,
+}
+
+/// From one date of a list to the next.
+#[derive(Clone, Copy)]
+pub struct Step {
+    /// How many days or months.
+    pub every: u64,
+    pub unit: StepUnit,
+}
+
+/// The dates from one to another. Each is counted from the first.
+#[derive(Clone, Copy)]
+pub struct Listing {
+    pub first: Date,
+    pub last: Date,
+    pub step: Step,
+}
+
 /// What the arguments ask for.
 #[derive(Clone, Copy)]
 pub enum Asked {
@@ -152,4 +175,6 @@ pub enum Asked {
     Version,
     /// To answer the lines of the input.
     Lines(Filter),
+    /// `list from A to B`, `list from A to B by N UNIT`: the dates from the one to the other.
+    Dates(Listing),
 }

@@ -1,14 +1,16 @@
 //! The first word of the arguments that makes no sense.
-ghost use Rattle.std.specs.Prelude.{◌≡◌, ◌≤◌, ℕ, List, [], ◌∷◌, Option, MatchOption, slice_get};
+ghost use Rattle.std.specs.Prelude.{◌≡◌, ◌+◌, ◌≤◌, ℕ, List, [], ◌∷◌, Option, MatchOption, is_some, length, option_and_then, slice_get};
 ghost use Rattle.cal_text.specs.declared.any.DateOrMoment.{DateOrMoment};
-ghost use Rattle.caldate.specs.Requests.{IsReading, arguments_of, stands_alone, words_left};
-ghost use Rattle.caldate.specs.Senseless.{further_to, is_wanted, needed_by, senseless_after, senseless_at, senseless_end, senseless_front, senseless_further, senseless_last, senseless_of, senseless_request, senseless_unit, senseless_verb};
+ghost use Rattle.caldate.specs.Requests.{IsReading, arguments_of, stands_alone, words_left, step_in, unit_of};
+ghost use Rattle.caldate.specs.Senseless.{further_to, is_wanted, needed_by, senseless_after, senseless_at, senseless_end, senseless_front, senseless_further, senseless_last, senseless_lines, senseless_of, senseless_request, senseless_unit, senseless_verb, senseless_among};
 
+use crate::listing::{date_of, step_in};
 use crate::offset::offset_of;
 use crate::options::{Options, lacks_field, options_of, value_of, verb_after, words_in};
 use crate::request::Verb;
 use crate::spelling::{
-    asks_for_help, count_of, cut, form_of, number_of, period_of, unit_of, verb_of, weekday_of,
+    asks_for_help, count_of, cut, first_word, form_of, many_of, number_of, period_of, unit_of,
+    verb_of, weekday_of,
 };
 use cal_text::read_any;
 
@@ -49,6 +51,18 @@ pub enum Wanted {
     Offset,
     /// `in`, or no word.
     In,
+    /// `from`.
+    From,
+    /// A date.
+    Date,
+    /// `to`.
+    UpTo,
+    /// `by`.
+    By,
+    /// A number from 1 to 4294967295.
+    Many,
+    /// A unit of a day or more, as `months`.
+    UnitOfDays,
     /// No word.
     End,
 }
@@ -62,6 +76,17 @@ pub struct Senseless {
     pub wanted: Wanted,
 }
 
+/// What may stand at each place after `list`.
+const LIST_WORDS: [Wanted; 7] = [
+    Wanted::From,
+    Wanted::Date,
+    Wanted::UpTo,
+    Wanted::Date,
+    Wanted::By,
+    Wanted::Many,
+    Wanted::UnitOfDays,
+];
+
 /// The first word that makes no sense, of arguments that make none: of `next frday` that at place 1, where a weekday may stand.
 pub fn senseless_of(arguments: &[u8]) -> Senseless
     ensures { (reading : List ℕ → Option DateOrMoment) → IsReading reading → result ≡ senseless_of reading (arguments_of arguments.now) }
@@ -69,10 +94,20 @@ pub fn senseless_of(arguments: &[u8]) -> Senseless
     if arguments.is_empty() {
         return senseless_at(0, Wanted::Something);
     }
-    let (first, _) = cut(arguments);
+    let (first, rest) = cut(arguments);
     if stands_alone(first) {
-        return senseless_at(1, Wanted::End);
+        senseless_at(1, Wanted::End)
+    } else if first == b"list".as_slice() {
+        senseless_among(1, &LIST_WORDS, rest)
+    } else {
+        senseless_lines(arguments)
     }
+}
+
+/// From the options on.
+fn senseless_lines(arguments: &[u8]) -> Senseless
+    ensures { (reading : List ℕ → Option DateOrMoment) → IsReading reading → result ≡ senseless_lines reading (arguments_of arguments.now) }
+{
     let (options, words) = options_of(arguments);
     senseless_front(options, words)
 }
@@ -115,6 +150,25 @@ pub fn word_at(arguments: &[u8], place: usize) -> Option<&[u8]>
         words = cut(words?).1;
     }
     Some(cut(words?).0)
+}
+
+/// Of words from this place on, each of which is wanted so, the first that is not, or is missing, or is one too many.
+fn senseless_among(place: usize, wanted: &[Wanted], words: Option<&[u8]>) -> Senseless
+    requires { place + length wanted.now ≤ 8 }
+    ensures { (reading : List ℕ → Option DateOrMoment) → IsReading reading → result ≡ senseless_among reading place wanted.now (words_left words.entry) }
+{
+    let Some((first, others)) = wanted.split_first() else {
+        return senseless_at(place, Wanted::End);
+    };
+    let Some(words) = words else {
+        return senseless_at(place, *first);
+    };
+    let (word, rest) = cut(words);
+    if is_wanted(word, *first) {
+        senseless_among(place + 1, others, rest)
+    } else {
+        senseless_at(place, *first)
+    }
 }
 
 /// From the verb on, which has this place, where this is wanted.
@@ -248,7 +302,23 @@ fn is_wanted(word: &[u8], wanted: Wanted) -> bool
         Wanted::Period => period_of(word).is_some(),
         Wanted::Offset => offset_of(word).is_some(),
         Wanted::In => word == b"in".as_slice(),
+        Wanted::From => word == b"from".as_slice(),
+        Wanted::Date => date_of(word).is_some(),
+        Wanted::UpTo => word == b"to".as_slice(),
+        Wanted::By => word == b"by".as_slice(),
+        Wanted::Many => many_of(word).is_some(),
+        Wanted::UnitOfDays => is_unit_of_days(word),
         _ => false,
+    }
+}
+
+/// Whether the word is a unit of which a list can have steps.
+fn is_unit_of_days(word: &[u8]) -> bool
+    ensures { result ≡ is_some (option_and_then (step_in 1) (unit_of word.now)) }
+{
+    match unit_of(word) {
+        Some(unit) => step_in(1, unit).is_some(),
+        None => false,
     }
 }
 

@@ -1,9 +1,12 @@
-//! A run leaves one answer where each text has one: two runs over one input that reach its end leave alike writers.
+//! A run leaves one answer where each text has one: two runs over one input that reach its end leave alike writers, and so do two
+//! that write one list.
 ghost use Rattle.std.specs.Prelude.{◌≡◌, List, ℕ, Some, IsOk};
+ghost use Rattle.caldate.specs.Lists.{IsStep};
 ghost use Rattle.caldate.specs.Runs.{IsAllowed};
 
 use crate::fault::Fault;
-use crate::request::Filter;
+use crate::list::list;
+use crate::request::{Filter, Listing};
 use crate::run::run;
 use std::io::{Read, Write};
 
@@ -20,4 +23,16 @@ fn runs<R: Read, W: Write>(
         → IsOk result.0 → IsOk result.1 → W.contents writer.new ≡ W.contents other.new }
 {
     (run(*filter, reader, writer), run(*filter, twin, other))
+}
+
+fn lists<W: Write>(
+    listing: &Listing,
+    writer: &mut W,
+    other: &mut W,
+) -> (Result<(), Fault>, Result<(), Fault>)
+    requires { IsStep listing.now.step }
+    ensures { (held : List ℕ) → W.contents writer.old ≡ Some held → W.contents other.old ≡ Some held
+        → IsOk result.0 → IsOk result.1 → W.contents writer.new ≡ W.contents other.new }
+{
+    (list(listing, writer), list(listing, other))
 }

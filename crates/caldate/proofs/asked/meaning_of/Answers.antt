@@ -1,23 +1,27 @@
-use Rattle.std.proofs.Common.{◌∙◌, ap, sym}
-use Rattle.caldate.specs.Requests.{arguments_of, cut_options, filter_of, meaning_of, no_options, request_of, words_left}
-use Rattle.caldate.proofs.Words.{no_request, two_words}
+use Rattle.std.proofs.Common.{rules, ◌≡◌, ◌∙◌, None, true, false, ap, sym, codes}
+use Rattle.std.specs.Prelude.{bytes_eq, option_map}
+use Rattle.caldate.specs.Requests.{arguments_of, list_of, meaning_of}
+use Rattle.caldate.specs.declared.request.Asked.TheVariants.{Dates}
+use Rattle.caldate.proofs.Words.{listed, two_words}
 use Rattle.caldate.proofs.asked.meaning_of.Goals as goal
 
-pub returns-in_default : goal.returns-in_default
-returns-in_default c = λ reading h. c.only_option.ensures reading ∙ ap (meaning_of reading) (sym c.in_default.ensures)
+pub returns-in_default-clause-asked : goal.returns-in_default-clause-asked
+returns-in_default-clause-asked c = λ reading h. c.only_option.ensures.asked reading ∙ ap (meaning_of reading) (sym c.in_default.ensures)
 
-pub returns-in_err-words : goal.returns-in_err-words
-returns-in_err-words c = λ reading h.
-    let front = cut_options no_options (arguments_of c.args.arguments.now) in
-    c.from_residual.ensures
-    ∙ sym (two_words reading _ (arguments_of c.args.arguments.now) c.in-Some.field-0.1.now c.in-Some.ensures
-    ∙ ap (λ words. filter_of front.0 (request_of reading words)) (sym c.options_of.ensures.words ∙ ap words_left c.in_err-words.was)
-    ∙ no_request front.0)
+pub returns-in_err-list_of-clause-asked : goal.returns-in_err-list_of-clause-asked
+returns-in_err-list_of-clause-asked c = λ reading h.
+    let list : bytes_eq c.in-Some.first.now (codes "list") ≡ true = search rules in
+    let nothing : c.from_residual.result ≡ None = search rules in
+    nothing ∙ ap (option_map Dates) (c.in_err-list_of.ensures.list reading h)
+    ∙ sym (listed reading _ (arguments_of c.args.arguments.now) c.in-Some.rest.now c.in-Some.ensures list)
 
-pub returns : goal.returns
-returns c = λ reading h.
-    let front = cut_options no_options (arguments_of c.args.arguments.now) in
-    c.filter_of.ensures ∙ ap (filter_of c.options_of.result.0) (c.request_of.ensures reading h)
-    ∙ ap (λ options. filter_of options (request_of reading (arguments_of c.in_ok-words.field-0.now))) c.options_of.ensures.options
-    ∙ ap (λ words. filter_of front.0 (request_of reading words)) (ap words_left (sym c.in_ok-words.was) ∙ c.options_of.ensures.words)
-    ∙ sym (two_words reading _ (arguments_of c.args.arguments.now) c.in-Some.field-0.1.now c.in-Some.ensures)
+pub returns-in_ok-list_of-clause-asked : goal.returns-in_ok-list_of-clause-asked
+returns-in_ok-list_of-clause-asked c = λ reading h.
+    let list : bytes_eq c.in-Some.first.now (codes "list") ≡ true = search rules in
+    ap (option_map Dates) (c.in_ok-list_of.ensures.list reading h)
+    ∙ sym (listed reading _ (arguments_of c.args.arguments.now) c.in-Some.rest.now c.in-Some.ensures list)
+
+pub returns-else-eq-clause-asked : goal.returns-else-eq-clause-asked
+returns-else-eq-clause-asked c = λ reading h.
+    let list : bytes_eq c.in-Some.first.now (codes "list") ≡ false = search rules in
+    c.lines_of.ensures.asked reading h ∙ sym (two_words reading _ (arguments_of c.args.arguments.now) c.in-Some.rest.now c.in-Some.ensures list)
