@@ -1,4 +1,5 @@
 pub mod Parts
+pub mod Cuts
 pub mod Words
 pub mod Ends
 pub mod Known
@@ -12,3 +13,4 @@ pub mod OneCount
 pub mod OneAnswer
 pub mod Leads
 pub mod Digits
+pub mod Listed

@@ -1,5 +1,5 @@
 -- What is answered to a text is one, but for the place in an unreadable one.
-use Rattle.std.proofs.Common.{◌≡◌, ◌⊎◌, ℕ, ◌≤◌, List, length, [], ◌∷◌, ◌++◌, codes, Option, Some, None, Result, Ok, Err, inl, inr, ap, sym, subst, ◌∙◌, arith}
+use Rattle.std.proofs.Common.{◌≡◌, ◌⊎◌, ℕ, ◌+◌, ◌≤◌, List, length, [], ◌∷◌, ◌++◌, codes, Option, Some, None, Result, Ok, Err, inl, inr, ap, sym, subst, ◌∙◌, arith}
 use Rattle.std.specs.Prelude.{◌↔◌, IsOk}
 use Rattle.std.specs.Fmt.{signed_decimal}
 use Rattle.std.specs.Io.KnownBytes.{Appends, Consumes, IsAtEnd}
@@ -17,7 +17,7 @@ use Rattle.caldate.specs.Answers.{IsAnswerTo, IsAnswer, IsBetween, IsTooLong, Is
 use Rattle.caldate.specs.Forms.{IsInForm}
 use Rattle.caldate.specs.Lines.{lines_of, text_of}
 use Rattle.caldate.specs.Runs.{Ended, IsAllowed}
-use Rattle.caldate.specs.Standing.{AreReplies}
+use Rattle.caldate.specs.Standing.{AreReplies, Words}
 use Rattle.caldate.specs.declared.fault.Fault.{Fault}
 use Rattle.caldate.specs.declared.request.Filter.{Filter}
 use Rattle.caldate.specs.declared.request.Form.{Form}
@@ -128,12 +128,12 @@ one_answer q text r a b every form component h k =
     one_of q text r a b (told q text r a every form component h) (told q text r b every form component k)
 
 -- ---- the answers to all lines
-replies-one : (Allowed : List ℕ → List ℕ → Type 0) → ((text a b : List ℕ) → Allowed text a → Allowed text b → a ≡ b)
-    → (lines : List (List ℕ)) (a b : List ℕ) → AreReplies Allowed lines a → AreReplies Allowed lines b → a ≡ b
-replies-one Allowed one [] a b h k = h ∙ sym k
-replies-one Allowed one (line ∷ lines) a b (reply, rest, (words, is, said), whole, more) (other, left, (others, is', said'), whole', more') =
-    let same = one (text_of line) words others is is' in
-    let after = replies-one Allowed one lines rest left more more' in
+replies-one : (Allowed : Words) → ((before : ℕ) (text a b : List ℕ) → Allowed before text a → Allowed before text b → a ≡ b)
+    → (before : ℕ) (lines : List (List ℕ)) (a b : List ℕ) → AreReplies Allowed before lines a → AreReplies Allowed before lines b → a ≡ b
+replies-one Allowed one before [] a b h k = h ∙ sym k
+replies-one Allowed one before (line ∷ lines) a b (reply, rest, (words, is, said), whole, more) (other, left, (others, is', said'), whole', more') =
+    let same = one before (text_of line) words others is is' in
+    let after = replies-one Allowed one (before + 1) lines rest left more more' in
     cc
 
 -- two readers that gave all that they had, and two writers that took the answers
@@ -141,17 +141,17 @@ all_given : (input bytes : List ℕ) (left : Option (List ℕ)) → Consumes (So
 all_given input bytes None given end = absurd given
 all_given input bytes (Some rest) given end = sym (given ∙ ap (λ more. bytes ++ more) end ∙ append-nil bytes)
 
-took-one : (held a b : List ℕ) (w v : Option (List ℕ)) → Appends (Some held) w a → Appends (Some held) v b → a ≡ b → w ≡ v
+pub took-one : (held a b : List ℕ) (w v : Option (List ℕ)) → Appends (Some held) w a → Appends (Some held) v b → a ≡ b → w ≡ v
 took-one held a b None v first second same = absurd first
 took-one held a b (Some x) None first second same = absurd second
 took-one held a b (Some x) (Some y) first second same = ap Some (first ∙ ap (λ more. held ++ more) same ∙ sym second)
 
-pub ended-one : (filter : Filter) → ((text a b : List ℕ) → IsAllowed filter text a → IsAllowed filter text b → a ≡ b)
+pub ended-one : (filter : Filter) → ((before : ℕ) (text a b : List ℕ) → IsAllowed filter before text a → IsAllowed filter before text b → a ≡ b)
     → (input held : List ℕ) (r s : Result Unit Fault) (left rest w v : Option (List ℕ)) → IsOk r → IsOk s
     → Ended filter r (Some input) left (Some held) w → Ended filter s (Some input) rest (Some held) v → w ≡ v
 ended-one filter one input held (Err e) s left rest w v ok too first second = absurd (false≢true ok)
 ended-one filter one input held (Ok done) (Err e) left rest w v ok too first second = absurd (false≢true too)
 ended-one filter one input held (Ok done) (Ok end) left rest w v ok too (end_left, (bytes, given, answers)) (end_rest, (others, taken, replies)) =
     let lines = ap lines_of (all_given input bytes left given end_left ∙ sym (all_given input others rest taken end_rest)) in
-    let there = subst (λ l. AreReplies (IsAllowed filter) l answers.out) lines answers.replies in
-    took-one held answers.out replies.out w v answers.taken replies.taken (replies-one (IsAllowed filter) one _ _ _ there replies.replies)
+    let there = subst (λ l. AreReplies (IsAllowed filter) 0 l answers.out) lines answers.replies in
+    took-one held answers.out replies.out w v answers.taken replies.taken (replies-one (IsAllowed filter) one 0 _ _ _ there replies.replies)

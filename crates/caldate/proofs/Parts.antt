@@ -51,6 +51,22 @@ before : (p : ℕ → Bool) (xs : List ℕ) (j d : ℕ) → j < length (take (po
     → p (get_or (take (position_or_len p xs) xs) j d) ≡ false
 before p xs j d m = let k = fails_before_first p xs j d (grind (arith, common_steps)) in grind (arith, common_steps)
 
+-- the first field ends at a separator, and what comes after it has the others
+pub some_fields : (c : ℕ) (xs : List ℕ) (k : ℕ) → position (λ b. eqb b c) xs ≡ Some k
+    → (k < length xs) × (slice_split (λ b. eqb b c) xs ≡ take k xs ∷ slice_split (λ b. eqb b c) (drop (k + 1) xs))
+    × (xs ≡ take k xs ++ c ∷ drop (k + 1) xs)
+some_fields c xs k e =
+    let p : ℕ → Bool = λ b. eqb b c in
+    let found = cond_some _ _ _ e in
+    let within : position_or_len p xs < length xs = grind (arith, nat_tests) in
+    let byte = eqb-true _ c (passes_at_first p xs 0 within) in
+    let whole = split_at_first p xs 0 within ∙ ap (λ b. take (position_or_len p xs) xs ++ b ∷ drop (position_or_len p xs + 1) xs) byte in
+    let cut = split_at_some p xs k e in
+    (cut.0, cut.1, subst (λ n. xs ≡ take n xs ++ c ∷ drop (n + 1) xs) found.1 whole)
+
+pub no_fields : (c : ℕ) (xs : List ℕ) → position (λ b. eqb b c) xs ≡ None → slice_split (λ b. eqb b c) xs ≡ xs ∷ []
+no_fields c xs e = slice_split_none (λ b. eqb b c) xs (all_fail (λ b. eqb b c) xs e)
+
 -- a line that ends
 pub first_ends : (xs : List ℕ) (k : ℕ) → position (λ b. eqb b 10) xs ≡ Some k
     → (k < length xs) × NoEnd (take k xs) × (xs ≡ take k xs ++ 10 ∷ drop (k + 1) xs)

@@ -11,21 +11,26 @@ use Rattle.std.proofs.lemmas.List.Splits.{slice_split_at, slice_split_none, leng
 use Rattle.std.proofs.lemmas.Bool.{false≢true}
 use Rattle.caldate.specs.Lines.{ended_lines, is_end, lines_of, without_empty_last, without_last}
 use Rattle.caldate.specs.Runs.{AnswersAll, AnswersFront, AppendsFront, AppendsThat, IsAllowed, StopsAt}
-use Rattle.caldate.specs.Standing.{AreReplies, IsReply, IsHeld, IsShown, NoEnd, Stands, counted}
+use Rattle.caldate.specs.Standing.{AreReplies, IsReply, IsHeld, IsShown, NoEnd, Stands, Words, counted}
 use Rattle.caldate.specs.Shown.{printed, shown, words_shown}
 use Rattle.caldate.specs.Unanswered.{IsUnanswered}
 use Rattle.caldate.specs.declared.place.Place.{Place}
 use Rattle.caldate.specs.declared.request.Filter.{Filter}
-use Rattle.caldate.specs.declared.request.Request.{Request}
 use Rattle.caldate.specs.declared.shown.ShownText.{ShownText}
 use Rattle.caldate.specs.declared.unanswered.UnansweredLine.{UnansweredLine}
 
 -- ---- replies
-pub one_reply : (Allowed : List ℕ → List ℕ → Type 0) (lines : List (List ℕ)) (line out reply : List ℕ)
-    → AreReplies Allowed lines out → IsReply Allowed line reply → AreReplies Allowed (lines ++ line ∷ []) (out ++ reply)
-one_reply Allowed [] line out reply h r = (reply, [], r, ap (λ l. l ++ reply) h ∙ sym (append-nil reply), refl)
-one_reply Allowed (l ∷ lines) line out reply h r =
-    (h.0, h.1 ++ reply, h.2, ap (λ o. o ++ reply) h.3 ∙ append_assoc h.0 h.1 reply, one_reply Allowed lines line h.1 reply h.4 r)
+pub one_reply : (Allowed : Words) (before n : ℕ) (lines : List (List ℕ)) (line out reply : List ℕ) → n ≡ before + length lines
+    → AreReplies Allowed before lines out → IsReply (Allowed n) line reply → AreReplies Allowed before (lines ++ line ∷ []) (out ++ reply)
+one_reply Allowed before n [] line out reply e h r =
+    (reply, [], subst (λ k. IsReply (Allowed k) line reply) (omega (arith, e)) r, ap (λ l. l ++ reply) h ∙ sym (append-nil reply), refl)
+one_reply Allowed before n (l ∷ lines) line out reply e h r =
+    (h.0, h.1 ++ reply, h.2, ap (λ o. o ++ reply) h.3 ∙ append_assoc h.0 h.1 reply, one_reply Allowed (before + 1) n lines line h.1 reply (omega (arith, e)) h.4 r)
+
+-- what is gathered for a line is its reply, whatever was let go of it
+abbrev pub Replies : Words → Place → List ℕ → List ℕ → List ℕ → Type 0
+Replies Allowed place line old new =
+    (kept : List ℕ) (before : ℕ) → IsHeld place.is_long kept line → place.number ≡ counted before → AppendsThat (IsReply (Allowed before) (kept ++ line)) old new
 
 -- ---- the line that was held
 kept_no_end : (b : Bool) (kept pending : List ℕ) → IsHeld b kept pending → NoEnd kept
@@ -66,13 +71,13 @@ cut_line kept line after more pending h n e =
 counted_more : (n m : ℕ) → m ≡ counted n → counted (m + 1) ≡ counted (n + 1)
 counted_more n m e = omega (arith, e)
 
-pub answered : (Allowed : List ℕ → List ℕ → Type 0) (input : List ℕ) (start now : Option (List ℕ)) (gathered gathered_now pending line after : List ℕ) (place place_now : Place)
+pub answered : (Allowed : Words) (input : List ℕ) (start now : Option (List ℕ)) (gathered gathered_now pending line after : List ℕ) (place place_now : Place)
     → NoEnd line → pending ≡ line ++ 10 ∷ after
-    → ((kept : List ℕ) → IsHeld place.is_long kept line → AppendsThat (IsReply Allowed (kept ++ line)) gathered gathered_now)
+    → Replies Allowed place line gathered gathered_now
     → place_now.is_long ≡ false → place_now.number ≡ counted (place.number + 1)
     → Stands Allowed input start now gathered pending place → Stands Allowed input start now gathered_now after place_now
 answered Allowed input start now gathered gathered_now pending line after place place_now n e reply short number s =
-    let r = reply s.kept (held_line place.is_long s.kept pending line after s.held e) in
+    let r = reply s.kept (length s.lines) (held_line place.is_long s.kept pending line after s.held e) s.number in
     record {
       lines = s.lines ++ (s.kept ++ line) ∷ [];
       kept = [];
@@ -80,7 +85,7 @@ answered Allowed input start now gathered gathered_now pending line after place 
       written = s.written;
       cut = λ more. s.cut more ∙ ap (λ parts. s.lines ++ parts) (cut_line s.kept line after more pending (kept_no_end place.is_long s.kept pending s.held) n e)
           ∙ sym (append_assoc s.lines ((s.kept ++ line) ∷ []) (slice_split is_end (after ++ more)));
-      replies = one_reply Allowed s.lines (s.kept ++ line) s.out r.0 s.replies r.2;
+      replies = one_reply Allowed 0 _ s.lines (s.kept ++ line) s.out r.0 (omega arith) s.replies r.2;
       whole = ap (λ o. o ++ r.0) s.whole ∙ append_assoc s.written gathered r.0 ∙ ap (λ l. s.written ++ l) (sym r.1);
       taken = s.taken;
       held = subst (λ b. IsHeld b [] after) (sym short) refl;
@@ -89,7 +94,7 @@ answered Allowed input start now gathered gathered_now pending line after place 
     }
 
 -- ---- what was gathered goes out, all of it or a front of it
-pub gone : (Allowed : List ℕ → List ℕ → Type 0) (input : List ℕ) (start now new : Option (List ℕ)) (gathered left written pending : List ℕ) (place : Place)
+pub gone : (Allowed : Words) (input : List ℕ) (start now new : Option (List ℕ)) (gathered left written pending : List ℕ) (place : Place)
     → gathered ≡ written ++ left → Appends now new written
     → Stands Allowed input start now gathered pending place → Stands Allowed input start new left pending place
 gone Allowed input start now new gathered left written pending place e a s = record {
@@ -159,7 +164,7 @@ one_line [] n h = absurd (omega arith)
 one_line (b ∷ bs) n h = ap without_empty_last (slice_split_none is_end (b ∷ bs) n)
 
 -- ---- a write that failed
-front_more : (start now new : Option (List ℕ)) (written gathered out : List ℕ) → out ≡ written ++ gathered → Appends start now written
+pub front_more : (start now new : Option (List ℕ)) (written gathered out : List ℕ) → out ≡ written ++ gathered → Appends start now written
     → AppendsFront now new gathered → AppendsFront start new out
 front_more start now new written gathered out e a f = record {
   front = written ++ f.front;
@@ -183,14 +188,10 @@ failed filter input start now new gathered pending place f s = record {
 
 -- ---- a line without an answer
 abbrev Tells : Filter → Place → List ℕ → UnansweredLine → Type 0
-Tells filter place line told = (kept : List ℕ) → IsHeld place.is_long kept line → IsShown place.is_long place.front kept
-    → IsUnanswered filter.request (counted (place.number + 1)) (kept ++ line) told
+Tells filter place line told = (kept : List ℕ) (before : ℕ) → IsHeld place.is_long kept line → IsShown place.is_long place.front kept
+    → place.number ≡ counted before → IsUnanswered filter before (kept ++ line) told
 
-numbered : (q : Request) (m n : ℕ) (line : List ℕ) (told : UnansweredLine) → m ≡ counted n → IsUnanswered q (counted (m + 1)) line told
-    → IsUnanswered q (counted (n + 1)) line told
-numbered q m n line told e u = subst (λ k. IsUnanswered q k line told) (counted_more n m e) u
-
-all_more : (start now new : Option (List ℕ)) (written gathered out : List ℕ) → out ≡ written ++ gathered → Appends start now written
+pub all_more : (start now new : Option (List ℕ)) (written gathered out : List ℕ) → out ≡ written ++ gathered → Appends start now written
     → Appends now new gathered → Appends start new out
 all_more start now new written gathered out e a f = subst (Appends start new) (sym e) (Appends-trans start now new _ _ a f)
 
@@ -209,7 +210,7 @@ stopped filter input start now new gathered pending line after place told n e st
       strict = strict;
       cut = ended_are input s.kept pending s.lines s.cut
           ∙ ap (λ p. s.lines ++ without_last p) parts ∙ ap (λ l. s.lines ++ l) (part_ended (s.kept ++ line) (slice_split is_end after) (split_some after));
-      unanswered = numbered filter.request place.number (length s.lines) (s.kept ++ line) told s.number (tells s.kept (held_line place.is_long s.kept pending line after s.held e) s.front);
+      unanswered = tells s.kept (length s.lines) (held_line place.is_long s.kept pending line after s.held e) s.front s.number;
       replies = s.replies;
       taken = all_more start now new s.written gathered s.out s.whole s.taken f;
     }
@@ -230,7 +231,7 @@ all_answered filter input start now place s =
     lines_of_are input s.kept [] s.lines s.cut ∙ ap (λ k. s.lines ++ lines_of (k ++ [])) none ∙ append-nil s.lines in
     record {
       out = s.out;
-      replies = subst (λ ls. AreReplies (IsAllowed filter) ls s.out) (sym lines) s.replies;
+      replies = subst (λ ls. AreReplies (IsAllowed filter) 0 ls s.out) (sym lines) s.replies;
       taken = subst (Appends start now) (sym (s.whole ∙ append-nil s.written)) s.taken;
     }
 
@@ -244,31 +245,31 @@ with_last filter input start now gathered line place n l s =
 
 pub last_answered : (filter : Filter) (input : List ℕ) (start now new : Option (List ℕ)) (gathered line : List ℕ) (place : Place)
     → NoEnd line → 0 < length line
-    → ((kept : List ℕ) → IsHeld place.is_long kept line → AppendsThat (IsReply (IsAllowed filter) (kept ++ line)) [] gathered)
+    → Replies (IsAllowed filter) place line [] gathered
     → Appends now new gathered
     → Stands (IsAllowed filter) input start now [] line place → AnswersAll filter (lines_of input) start new
 last_answered filter input start now new gathered line place n l reply f s =
-    let r = reply s.kept s.held in
+    let r = reply s.kept (length s.lines) s.held s.number in
     record {
       out = s.out ++ r.0;
-      replies = subst (λ ls. AreReplies (IsAllowed filter) ls (s.out ++ r.0)) (sym (with_last filter input start now [] line place n l s))
-          (one_reply (IsAllowed filter) s.lines (s.kept ++ line) s.out r.0 s.replies r.2);
+      replies = subst (λ ls. AreReplies (IsAllowed filter) 0 ls (s.out ++ r.0)) (sym (with_last filter input start now [] line place n l s))
+          (one_reply (IsAllowed filter) 0 _ s.lines (s.kept ++ line) s.out r.0 (omega arith) s.replies r.2);
       taken = all_more start now new s.written gathered (s.out ++ r.0) (ap (λ o. o ++ r.0) (s.whole ∙ append-nil s.written) ∙ ap (λ g. s.written ++ g) (sym r.1)) s.taken f;
     }
 
 pub last_failed : (filter : Filter) (input : List ℕ) (start now new : Option (List ℕ)) (gathered line : List ℕ) (place : Place)
     → NoEnd line → 0 < length line
-    → ((kept : List ℕ) → IsHeld place.is_long kept line → AppendsThat (IsReply (IsAllowed filter) (kept ++ line)) [] gathered)
+    → Replies (IsAllowed filter) place line [] gathered
     → AppendsFront now new gathered
     → Stands (IsAllowed filter) input start now [] line place → AnswersFront filter (lines_of input) start new
 last_failed filter input start now new gathered line place n l reply f s =
-    let r = reply s.kept s.held in
+    let r = reply s.kept (length s.lines) s.held s.number in
     record {
       lines = s.lines ++ (s.kept ++ line) ∷ [];
       more = [];
       out = s.out ++ r.0;
       cut = with_last filter input start now [] line place n l s ∙ sym (append-nil (s.lines ++ (s.kept ++ line) ∷ []));
-      replies = one_reply (IsAllowed filter) s.lines (s.kept ++ line) s.out r.0 s.replies r.2;
+      replies = one_reply (IsAllowed filter) 0 _ s.lines (s.kept ++ line) s.out r.0 (omega arith) s.replies r.2;
       taken = front_more start now new s.written gathered (s.out ++ r.0) (ap (λ o. o ++ r.0) (s.whole ∙ append-nil s.written) ∙ ap (λ g. s.written ++ g) (sym r.1)) s.taken f;
     }
 
@@ -283,13 +284,13 @@ last_stopped filter input start now line place told n l strict tells s =
       out = s.out;
       strict = strict;
       cut = with_last filter input start now [] line place n l s;
-      unanswered = numbered filter.request place.number (length s.lines) (s.kept ++ line) told s.number (tells s.kept s.held s.front);
+      unanswered = tells s.kept (length s.lines) s.held s.front s.number;
       replies = s.replies;
       taken = subst (Appends start now) (sym (s.whole ∙ append-nil s.written)) s.taken;
     }
 
 -- ---- reads
-pub begun : (Allowed : List ℕ → List ℕ → Type 0) (start : Option (List ℕ)) (place : Place) → place.is_long ≡ false → place.number ≡ 0
+pub begun : (Allowed : Words) (start : Option (List ℕ)) (place : Place) → place.is_long ≡ false → place.number ≡ 0
     → Stands Allowed [] start start [] [] place
 begun Allowed start place short zero = record {
   lines = [];
@@ -309,7 +310,7 @@ held_more : (b : Bool) (kept pending given : List ℕ) → IsHeld b kept pending
 held_more false kept pending given h = h
 held_more true kept pending given h = (h.0, h.1, (h.2.0, h.2.1 ++ given, ap (λ p. p ++ given) h.2.2, h.2.3))
 
-pub read : (Allowed : List ℕ → List ℕ → Type 0) (input given : List ℕ) (start now : Option (List ℕ)) (gathered pending : List ℕ) (place : Place)
+pub read : (Allowed : Words) (input given : List ℕ) (start now : Option (List ℕ)) (gathered pending : List ℕ) (place : Place)
     → Stands Allowed input start now gathered pending place → Stands Allowed (input ++ given) start now gathered (pending ++ given) place
 read Allowed input given start now gathered pending place s = record {
   lines = s.lines;
@@ -334,7 +335,7 @@ ended_answered filter input start now pending place n s =
     ended_are input s.kept pending s.lines s.cut ∙ ap (λ parts. s.lines ++ without_last parts) none ∙ append-nil s.lines in
     record {
       out = s.out;
-      replies = subst (λ ls. AreReplies (IsAllowed filter) ls s.out) (sym lines) s.replies;
+      replies = subst (λ ls. AreReplies (IsAllowed filter) 0 ls s.out) (sym lines) s.replies;
       taken = subst (Appends start now) (sym (s.whole ∙ append-nil s.written)) s.taken;
     }
 
@@ -355,7 +356,7 @@ front_shown false front front_now kept pending k h held is whole same =
 front_shown true front front_now kept pending k h held is whole same =
     ap words_shown (same refl) ∙ is ∙ sym (shown_front kept (take k pending) (omega (arith, held.0)))
 
-pub let_go : (Allowed : List ℕ → List ℕ → Type 0) (input : List ℕ) (start now : Option (List ℕ)) (gathered pending pending_now : List ℕ) (place place_now : Place)
+pub let_go : (Allowed : Words) (input : List ℕ) (start now : Option (List ℕ)) (gathered pending pending_now : List ℕ) (place place_now : Place)
     → NoEnd pending → 4097 < length pending → pending_now ≡ drop (length pending - 1) pending → (place.is_long ≡ false → words_shown place_now.front ≡ shown pending)
     → (place.is_long ≡ true → place_now.front ≡ place.front) → place_now.is_long ≡ true → place_now.number ≡ place.number
     → Stands Allowed input start now gathered pending place → Stands Allowed input start now gathered pending_now place_now

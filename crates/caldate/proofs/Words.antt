@@ -1,15 +1,19 @@
 -- What arguments ask for, by their first word and the others.
-use Rattle.std.proofs.Common.{◌≡◌, ℕ, true, false, cond, eqb, List, [], ◌∷◌, Option, None, Some, refl, sym, ap, ◌∙◌, arith, length, ◌+◌, ◌<◌, ℤ, pos, ◌*ℤ◌}
-use Rattle.std.specs.Prelude.{FitsSigned, bytes_eq, codes, option_and_then, option_map}
+use Rattle.std.proofs.Common.{◌≡◌, ℕ, Bool, true, false, cond, eqb, List, [], ◌∷◌, Option, None, Some, refl, sym, ap, ◌∙◌, arith, length, ◌+◌, ◌<◌, ℤ, pos, ◌*ℤ◌}
+use Rattle.std.specs.Prelude.{FitsSigned, bytes_eq, codes, option_and_then, option_map, ◌&&◌}
 use Rattle.std.specs.Int.{w64}
-use Rattle.std.specs.Option.{option_zip}
+use Rattle.std.specs.Option.{option_map_or, option_zip}
 use Rattle.std.proofs.lemmas.List.Splits.{length-slice_split}
 use Rattle.cal_text.specs.declared.any.DateOrMoment.{DateOrMoment}
 use Rattle.cal_time.specs.SignedDuration.{second}
-use Rattle.caldate.specs.Requests.{arguments_of, meaning_of, filter_of, request_after, request_of, seconds_in, target_of, unit_of, verb_of}
+use Rattle.caldate.specs.Requests.{arguments_of, cut_options, date_of, filter_of, lacks_field, last_of, list_of, listing, meaning_of, no_options, request_after, request_of, request_with, seconds_in, takes_strict, target_of, unit_of, verb_of, with_strict, with_value}
+use Rattle.caldate.specs.declared.options.Options.{Options}
 use Rattle.caldate.proofs.Numbers.{fits, guard_yes}
 use Rattle.caldate.specs.Senseless.{senseless_at, senseless_end}
 use Rattle.caldate.specs.declared.senseless.Wanted.TheVariants as wanted
+use Rattle.caldate.specs.declared.request.Asked.{Asked}
+use Rattle.caldate.specs.declared.request.Asked.TheVariants.{Dates}
+use Rattle.caldate.specs.declared.request.Step.{Step}
 use Rattle.caldate.specs.declared.request.TimeUnit.{TimeUnit}
 use Rattle.caldate.specs.declared.request.Verb.{Verb}
 use Rattle.caldate.specs.declared.request.Verb.TheVariants.{To, Add, Next, Last, Until, Since, Start, End, OnOrAfter, OnOrBefore, At}
@@ -44,16 +48,47 @@ some_word bytes = first_of (arguments_of bytes) (omega (arith, length-slice_spli
 pub one_too_many : (at : ℕ) (bytes : List ℕ) → senseless_end at (arguments_of bytes) ≡ senseless_at (at + 2) wanted.End
 one_too_many at bytes = let parts = some_word bytes in ap (senseless_end at) parts.2
 
--- ---- the first of two words and more
-pub strict : (reading : List ℕ → Option DateOrMoment) (first second : List ℕ) (words : List (List ℕ)) → bytes_eq first (codes "--strict") ≡ true
-    → meaning_of reading (first ∷ second ∷ words) ≡ filter_of true (request_of reading (second ∷ words))
-strict reading first second words e =
-    ap (λ b. cond b (filter_of true (request_of reading (second ∷ words))) (filter_of false (request_of reading (first ∷ second ∷ words)))) e
+-- ---- the options at the front
+-- `--strict`, whatever comes after it
+pub strict_first : (options : Options) (word : List ℕ) (words : List (List ℕ)) → takes_strict options word ≡ true
+    → cut_options options (word ∷ words) ≡ cut_options (with_strict options) words
+strict_first options word [] e = ap (λ b. cond b (with_strict options, []) (options, word ∷ [])) e
+strict_first options word (value ∷ words) e =
+    ap (λ b. cond b (cut_options (with_strict options) (value ∷ words)) (option_map_or (λ more. cut_options more words) (with_value options word value) (options, word ∷ value ∷ words))) e
 
-pub lenient : (reading : List ℕ → Option DateOrMoment) (first second : List ℕ) (words : List (List ℕ)) → bytes_eq first (codes "--strict") ≡ false
-    → meaning_of reading (first ∷ second ∷ words) ≡ filter_of false (request_of reading (first ∷ second ∷ words))
-lenient reading first second words e =
-    ap (λ b. cond b (filter_of true (request_of reading (second ∷ words))) (filter_of false (request_of reading (first ∷ second ∷ words)))) e
+-- one with its value
+pub value_first : (options more : Options) (word value : List ℕ) (words : List (List ℕ)) → takes_strict options word ≡ false → with_value options word value ≡ Some more
+    → cut_options options (word ∷ value ∷ words) ≡ cut_options more words
+value_first options more word value words e f =
+    ap (λ b. cond b (cut_options (with_strict options) (value ∷ words)) (option_map_or (λ more. cut_options more words) (with_value options word value) (options, word ∷ value ∷ words))) e
+    ∙ ap (λ o. option_map_or (λ more. cut_options more words) o (options, word ∷ value ∷ words)) f
+
+-- no request, whatever the options
+either : {A : Type 0} (b : Bool) (x : A) → cond b x x ≡ x
+either true x = refl
+either false x = refl
+
+pub no_request : (options : Options) → filter_of options None ≡ None
+no_request options = either (lacks_field options) None
+
+-- ---- two words and more
+abbrev chosen : (List ℕ → Option DateOrMoment) → List ℕ → List ℕ → List (List ℕ) → Bool → Option Asked
+chosen reading first second words list =
+    cond list (option_map Dates (list_of reading (second ∷ words))) (request_with reading (cut_options no_options (first ∷ second ∷ words)))
+
+pub listed : (reading : List ℕ → Option DateOrMoment) (first : List ℕ) (words : List (List ℕ)) (rest : List ℕ) → words ≡ first ∷ arguments_of rest
+    → bytes_eq first (codes "list") ≡ true → meaning_of reading words ≡ option_map Dates (list_of reading (arguments_of rest))
+listed reading first words rest e f =
+    let second = some_word rest in
+    ap (meaning_of reading) (e ∙ ap (λ more. first ∷ more) second.2) ∙ ap (chosen reading first second.0 second.1) f
+    ∙ sym (ap (λ more. option_map Dates (list_of reading more)) second.2)
+
+pub two_words : (reading : List ℕ → Option DateOrMoment) (first : List ℕ) (words : List (List ℕ)) (rest : List ℕ) → words ≡ first ∷ arguments_of rest
+    → bytes_eq first (codes "list") ≡ false → meaning_of reading words ≡ request_with reading (cut_options no_options words)
+two_words reading first words rest e f =
+    let second = some_word rest in
+    let all = e ∙ ap (λ more. first ∷ more) second.2 in
+    ap (meaning_of reading) all ∙ ap (chosen reading first second.0 second.1) f ∙ sym (ap (λ all. request_with reading (cut_options no_options all)) all)
 
 -- ---- a date or a moment, and perhaps a unit
 abbrev alone : DateOrMoment → DateOrMoment × Option TimeUnit
@@ -69,6 +104,15 @@ pub with_unit : (reading : List ℕ → Option DateOrMoment) (text word name : L
 with_unit reading text word name all found unit e same f g =
     sym (ap (target_of reading) e ∙ ap (λ b. cond b (option_zip (reading text) (option_map Some (unit_of name))) None) same
     ∙ ap (λ r. option_zip r (option_map Some (unit_of name))) (sym f) ∙ ap (λ r. option_zip (Some found) (option_map Some r)) (sym g))
+
+-- ---- two dates, and a step
+pub with_dates : (reading : List ℕ → Option DateOrMoment) (from first to : List ℕ) (words all : List (List ℕ)) (a : ℕ) (end : ℕ × Step)
+    → all ≡ from ∷ first ∷ to ∷ words → bytes_eq from (codes "from") ≡ true → bytes_eq to (codes "to") ≡ true → Some a ≡ date_of reading first
+    → Some end ≡ last_of reading words → Some (listing (a, end)) ≡ list_of reading all
+with_dates reading from first to words all a end e f g h i =
+    let both : (bytes_eq from (codes "from") && bytes_eq to (codes "to")) ≡ true = ap (λ b. b && bytes_eq to (codes "to")) f ∙ ap (λ b. true && b) g in
+    sym (ap (list_of reading) e ∙ ap (λ b. cond b (option_map listing (option_zip (date_of reading first) (last_of reading words))) None) both
+    ∙ ap (λ d. option_map listing (option_zip d (last_of reading words))) (sym h) ∙ ap (λ l. option_map listing (option_zip (Some a) l)) (sym i))
 
 -- ---- an amount of time
 pub seconds_are : (unit : ℕ) (amount seconds : ℤ) → FitsSigned w64 (amount *ℤ pos unit) → seconds ≡ amount *ℤ pos unit → seconds_in unit amount ≡ Some (seconds *ℤ pos second)

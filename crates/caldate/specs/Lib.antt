@@ -1,8 +1,10 @@
 pub mod Answers
 pub mod Counts
 pub mod Ending
+pub mod Fields
 pub mod Forms
 pub mod Lines
+pub mod Lists
 pub mod Moves
 pub mod Offsets
 pub mod Program

@@ -1,7 +1,8 @@
 -- What the arguments ask for, where they make sense.
-use Rattle.std.specs.Prelude.{ℕ, nat_lt, ◌&&◌, ◌||◌, Bool, true, false, ℤ, pos, neg_ℤ, ◌*ℤ◌, int_le, nat_abs, List, [], ◌∷◌, ◌==◌, length, take, Option, Some, None, MatchOption, option_map, option_and_then, bytes_eq, codes, if◌then◌else◌}
+use denote.Ref.{Bor}
+use Rattle.std.specs.Prelude.{ℕ, nat_lt, not, ◌&&◌, ◌||◌, Bool, true, false, is_none, is_some, unwrap_or, ℤ, pos, neg_ℤ, ◌*ℤ◌, int_le, nat_abs, List, [], ◌∷◌, ◌==◌, length, take, Option, Some, None, MatchOption, option_map, option_and_then, bytes_eq, codes, if◌then◌else◌, ◌*◌}
 use Rattle.std.specs.List.{slice_split}
-use Rattle.std.specs.Option.{option_zip}
+use Rattle.std.specs.Option.{option_map_or, option_zip}
 use Rattle.std.specs.Str.{all_ascii_digits, str_eq_ignore_ascii_case}
 use Rattle.std.specs.Str.Parse.{signed_digits_value, without_leading_sign}
 use Rattle.cal_time.specs.SignedDuration.{second}
@@ -10,14 +11,20 @@ use Rattle.cal_time.specs.declared.Weekday.TheVariants as weekday
 use Rattle.cal_text.specs.AnyForm.{IsTextOf}
 use Rattle.cal_text.specs.declared.any.DateForm.TheVariants.{Calendar, Ordinal, Week, JulianDay}
 use Rattle.cal_text.specs.declared.any.DateOrMoment.{DateOrMoment}
+use Rattle.cal_text.specs.declared.any.DateOrMoment.TheVariants as read
 use Rattle.cal_text.specs.declared.any.MomentForm.TheVariants.{Rfc3339, Unix}
 use Rattle.caldate.specs.Offsets.{offset_of}
+use Rattle.caldate.specs.declared.options.Options.{Options}
+use Rattle.caldate.specs.declared.request.Field.{Field}
 use Rattle.caldate.specs.declared.request.Form.{Form}
 use Rattle.caldate.specs.declared.request.Form.TheVariants as form
 use Rattle.caldate.specs.declared.request.DayMove.{DayMove}
 use Rattle.caldate.specs.declared.request.DayMove.TheVariants as move
 use Rattle.caldate.specs.declared.request.Period.{Period}
 use Rattle.caldate.specs.declared.request.Period.TheVariants as period
+use Rattle.caldate.specs.declared.request.Listing.{Listing}
+use Rattle.caldate.specs.declared.request.Step.{Step}
+use Rattle.caldate.specs.declared.request.StepUnit.TheVariants as steps
 use Rattle.caldate.specs.declared.request.TimeUnit.{TimeUnit}
 use Rattle.caldate.specs.declared.request.TimeUnit.TheVariants as unit
 use Rattle.caldate.specs.declared.request.UnixUnit.TheVariants.{Milliseconds, Microseconds, Nanoseconds}
@@ -26,11 +33,16 @@ use Rattle.caldate.specs.declared.request.Verb.TheVariants as verb
 use Rattle.caldate.specs.declared.request.Request.{Request}
 use Rattle.caldate.specs.declared.request.Request.TheVariants.{To, Add, Move, Until, Since, At}
 use Rattle.caldate.specs.declared.request.Asked.{Asked}
-use Rattle.caldate.specs.declared.request.Asked.TheVariants.{Help, Version, Lines}
+use Rattle.caldate.specs.declared.request.Asked.TheVariants.{Help, Version, Lines, Dates}
 
 -- the arguments, between which stands the byte 0, of which no argument has one
 abbrev pub arguments_of : List ℕ → List (List ℕ)
 arguments_of bytes = slice_split (λ byte. byte == 0) bytes
+
+-- the words that come, if any do
+abbrev pub words_left : Option (Bor (List ℕ)) → List (List ℕ)
+words_left None = []
+words_left (Some words) = arguments_of words.now
 
 -- what reads a text as the date or the moment whose text it is
 abbrev pub IsReading : (List ℕ → Option DateOrMoment) → Type 0
@@ -52,6 +64,13 @@ count_in z = if int_le (pos 1) z && int_le z (pos 255) then Some (nat_abs z) els
 
 abbrev pub count_of : List ℕ → Option ℕ
 count_of word = option_and_then count_in (number_of word)
+
+-- a number from 1 to 4294967295
+abbrev pub many_in : ℤ → Option ℕ
+many_in z = if int_le (pos 1) z && int_le z (pos 4294967295) then Some (nat_abs z) else None
+
+abbrev pub many_of : List ℕ → Option ℕ
+many_of word = option_and_then many_in (number_of word)
 
 abbrev pub verb_of : List ℕ → Option Verb
 verb_of word =
@@ -216,7 +235,111 @@ abbrev pub request_of : (List ℕ → Option DateOrMoment) → List (List ℕ) �
 request_of reading [] = None
 request_of reading (verb ∷ words) = option_and_then (request_after reading words) (verb_of verb)
 
--- ---- the whole: `--help`, `--version`, or a request, perhaps after `--strict`
+-- ---- the options before a request, in any order, each at most once
+abbrev pub no_options : Options
+no_options = record { is_strict = false; number = None; separator = None; skip = None }
+
+-- `--strict`
+abbrev pub takes_strict : Options → List ℕ → Bool
+takes_strict options word = bytes_eq word (codes "--strict") && not options.is_strict
+
+abbrev pub with_strict : Options → Options
+with_strict options = record options { is_strict = true }
+
+-- `--field N`: a number from 1 to 65535
+abbrev pub field_number_in : ℤ → Option ℕ
+field_number_in z = if int_le (pos 1) z && int_le z (pos 65535) then Some (nat_abs z) else None
+
+abbrev pub field_number_of : List ℕ → Option ℕ
+field_number_of word = option_and_then field_number_in (number_of word)
+
+-- `--separator C`: one byte
+abbrev pub byte_of : List ℕ → Option ℕ
+byte_of (byte ∷ []) = Some byte
+byte_of word = None
+
+-- `--skip K`: a number that is not negative
+abbrev pub skip_in : ℤ → Option ℕ
+skip_in z = if int_le (pos 0) z then Some (nat_abs z) else None
+
+abbrev pub skip_of : List ℕ → Option ℕ
+skip_of word = option_and_then skip_in (number_of word)
+
+-- the options, and one more whose value comes after it, where it may stand there and this is such a value
+abbrev pub with_field : Options → List ℕ → Option Options
+with_field options value = option_map (λ n. record options { number = Some n }) (field_number_of value)
+
+abbrev pub takes_field : Options → List ℕ → Bool
+takes_field options word = bytes_eq word (codes "--field") && is_none options.number
+
+abbrev pub with_separator : Options → List ℕ → Option Options
+with_separator options value = option_map (λ c. record options { separator = Some c }) (byte_of value)
+
+abbrev pub takes_separator : Options → List ℕ → Bool
+takes_separator options word = bytes_eq word (codes "--separator") && is_none options.separator
+
+abbrev pub with_skip : Options → List ℕ → Option Options
+with_skip options value = option_map (λ k. record options { skip = Some k }) (skip_of value)
+
+abbrev pub takes_skip : Options → List ℕ → Bool
+takes_skip options word = bytes_eq word (codes "--skip") && is_none options.skip
+
+abbrev pub with_value : Options → List ℕ → List ℕ → Option Options
+with_value options word value =
+    if takes_field options word then with_field options value else
+    if takes_separator options word then with_separator options value else
+    if takes_skip options word then with_skip options value else
+    None
+
+-- the options at the front of the words, and the words after them
+abbrev pub cut_options : Options → List (List ℕ) → Options × List (List ℕ)
+cut_options options [] = (options, [])
+cut_options options (word ∷ []) = if takes_strict options word then (with_strict options, []) else (options, word ∷ [])
+cut_options options (word ∷ value ∷ words) =
+    if takes_strict options word then cut_options (with_strict options) (value ∷ words) else
+    option_map_or (λ more. cut_options more words) (with_value options word value) (options, word ∷ value ∷ words)
+
+-- ---- lists
+-- the day that a text is the date of
+abbrev pub date_in : DateOrMoment → Option ℕ
+date_in (read.Date form n) = Some n
+date_in (read.Moment form m) = None
+
+abbrev pub date_of : (List ℕ → Option DateOrMoment) → List ℕ → Option ℕ
+date_of reading text = option_and_then date_in (reading text)
+
+-- so many days, weeks, months or years
+abbrev pub step_in : ℕ → TimeUnit → Option Step
+step_in n unit.Days = Some (record { every = n; unit = steps.Days })
+step_in n unit.Weeks = Some (record { every = n * 7; unit = steps.Days })
+step_in n unit.Months = Some (record { every = n; unit = steps.Months })
+step_in n unit.Years = Some (record { every = n * 12; unit = steps.Months })
+step_in n other = None
+
+abbrev pub step_unit : List ℕ → Option TimeUnit → Option Step
+step_unit number found = option_and_then (λ n. option_and_then (step_in n) found) (many_of number)
+
+-- `by N UNIT`, or each day
+abbrev pub step_of : List (List ℕ) → Option Step
+step_of [] = Some (record { every = 1; unit = steps.Days })
+step_of (by ∷ number ∷ unit ∷ []) = if bytes_eq by (codes "by") then step_unit number (unit_of unit) else None
+step_of words = None
+
+-- the last date, and the step
+abbrev pub last_of : (List ℕ → Option DateOrMoment) → List (List ℕ) → Option (ℕ × Step)
+last_of reading [] = None
+last_of reading (last ∷ words) = option_zip (date_of reading last) (step_of words)
+
+-- `from A to B`, and the step
+abbrev pub listing : ℕ × (ℕ × Step) → Listing
+listing days = record { first = days.0; last = days.1.0; step = days.1.1 }
+
+abbrev pub list_of : (List ℕ → Option DateOrMoment) → List (List ℕ) → Option Listing
+list_of reading (from ∷ first ∷ to ∷ words) =
+    if bytes_eq from (codes "from") && bytes_eq to (codes "to") then option_map listing (option_zip (date_of reading first) (last_of reading words)) else None
+list_of reading words = None
+
+-- ---- the whole: `--help`, `--version`, a list, or a request, perhaps after options
 abbrev pub asks_for_help : List ℕ → Bool
 asks_for_help word = bytes_eq word (codes "--help") || bytes_eq word (codes "-h") || bytes_eq word (codes "help")
 
@@ -224,8 +347,20 @@ asks_for_help word = bytes_eq word (codes "--help") || bytes_eq word (codes "-h"
 abbrev pub stands_alone : List ℕ → Bool
 stands_alone word = asks_for_help word || bytes_eq word (codes "--version")
 
-abbrev pub filter_of : Bool → Option Request → Option Asked
-filter_of is_strict request = option_map (λ q. Lines (record { request = q; is_strict = is_strict })) request
+-- the field that is named, whose separator is a tab where none is said; a separator makes sense with a field alone
+abbrev pub field_of : Options → Option Field
+field_of options = option_map (λ n. record { number = n; separator = unwrap_or options.separator 9 }) options.number
+
+abbrev pub lacks_field : Options → Bool
+lacks_field options = is_some options.separator && is_none options.number
+
+abbrev pub filter_of : Options → Option Request → Option Asked
+filter_of options request =
+    if lacks_field options then None else
+    option_map (λ q. Lines (record { request = q; is_strict = options.is_strict; field = field_of options; skip = unwrap_or options.skip 0 })) request
+
+abbrev pub request_with : (List ℕ → Option DateOrMoment) → Options × List (List ℕ) → Option Asked
+request_with reading front = filter_of front.0 (request_of reading front.1)
 
 abbrev pub meaning_of : (List ℕ → Option DateOrMoment) → List (List ℕ) → Option Asked
 meaning_of reading [] = None
@@ -234,5 +369,5 @@ meaning_of reading (first ∷ []) =
     if bytes_eq first (codes "--version") then Some Version else
     None
 meaning_of reading (first ∷ second ∷ words) =
-    if bytes_eq first (codes "--strict") then filter_of true (request_of reading (second ∷ words))
-    else filter_of false (request_of reading (first ∷ second ∷ words))
+    if bytes_eq first (codes "list") then option_map Dates (list_of reading (second ∷ words))
+    else request_with reading (cut_options no_options (first ∷ second ∷ words))

@@ -14,7 +14,7 @@ abbrev pub longest_answer : ℕ
 longest_answer = 250
 
 abbrev pub longest_reply : ℕ
-longest_reply = 256
+longest_reply = 4352
 
 -- there is room for so many bytes more
 abbrev pub HasRoom : ℕ → List ℕ → Type 0

@@ -1,9 +1,11 @@
 -- What a run does to the bytes of its reader and its writer, where those are told.
-use Rattle.std.specs.Prelude.{◌≡◌, ◌⊎◌, ℕ, ⊤, ◌+◌, ◌<◌, Bool, true, false, List, ◌∷◌, ◌++◌, length, Option, Result, Ok, Err}
+use Rattle.std.specs.Prelude.{◌≡◌, ◌⊎◌, ℕ, ⊤, ◌<◌, ◌≤◌, nat_lt, Bool, true, false, List, ◌∷◌, ◌++◌, length, MatchBool, Option, Some, None, Result, Ok, Err}
 use Rattle.std.specs.Io.KnownBytes.{Appends, Consumes, IsAtEnd}
-use Rattle.caldate.specs.Answers.{HasAnswer, IsAnswer}
+use Rattle.caldate.specs.Answers.{HasAnswer, IsAnswer, IsTooLong}
+use Rattle.caldate.specs.Fields.{asked_text, text_with}
 use Rattle.caldate.specs.Lines.{ended_lines, lines_of}
-use Rattle.caldate.specs.Standing.{AreReplies, Stands, counted}
+use Rattle.caldate.specs.Room.{longest_text}
+use Rattle.caldate.specs.Standing.{AreReplies, Stands}
 use Rattle.caldate.specs.Unanswered.{IsUnanswered}
 use Rattle.caldate.specs.declared.fault.Fault.{Fault}
 use Rattle.caldate.specs.declared.fault.Fault.TheVariants.{Read, Write, Unanswered}
@@ -12,13 +14,25 @@ use Rattle.caldate.specs.declared.request.Filter.{Filter}
 use Rattle.caldate.specs.declared.request.Request.{Request}
 use Rattle.caldate.specs.declared.unanswered.UnansweredLine.{UnansweredLine}
 
--- what may be written for a text: any answer, or in a strict run one that the text has
+-- what may be written for a text that is asked about: any answer, or in a strict run one that the text has
 abbrev pub Allowed : Bool → Request → List ℕ → List ℕ → Type 0
 Allowed true q = HasAnswer q
 Allowed false q = IsAnswer q
 
-abbrev pub IsAllowed : Filter → List ℕ → List ℕ → Type 0
-IsAllowed filter = Allowed filter.is_strict filter.request
+-- what may be written for a text of which this is asked about: the text with an answer in its place, or in a run that is not strict the
+-- text itself, where it has no such field
+abbrev pub AllowedFor : Filter → List ℕ → Option (List ℕ) → List ℕ → Type 0
+AllowedFor filter text None words = (filter.is_strict ≡ false) × (words ≡ text)
+AllowedFor filter text (Some asked) words =
+    (answer : List ℕ) × Allowed filter.is_strict filter.request asked answer × (words ≡ text_with filter.field text answer)
+
+-- What may be written for the text of a line before which so many came. Of one that is too long it is just this, and in a strict run
+-- nothing. Else one that is skipped is passed on, and another one is asked about.
+abbrev pub IsAllowed : Filter → ℕ → List ℕ → List ℕ → Type 0
+IsAllowed filter before text words =
+    (filter.is_strict ≡ false) × IsTooLong text words
+    ⊎ (length text ≤ longest_text)
+    × MatchBool (nat_lt before filter.skip) (words ≡ text) (AllowedFor filter text (asked_text filter.field text) words)
 
 -- new is old and words of this kind
 abbrev pub AppendsThat : (List ℕ → Type 0) → List ℕ → List ℕ → Type 0
@@ -45,7 +59,7 @@ pub record AppendsFront (old new : Option (List ℕ)) (bytes : List ℕ) : Type 
 -- the writer took just the replies to these lines
 pub record AnswersAll (filter : Filter) (all : List (List ℕ)) (old new : Option (List ℕ)) : Type 0 where
   pub out : List ℕ
-  pub replies : AreReplies (IsAllowed filter) all out
+  pub replies : AreReplies (IsAllowed filter) 0 all out
   pub taken : Appends old new out
 
 -- it took a beginning of the replies to the first of these lines, and never all of them
@@ -54,7 +68,7 @@ pub record AnswersFront (filter : Filter) (all : List (List ℕ)) (old new : Opt
   pub more : List (List ℕ)
   pub out : List ℕ
   pub cut : all ≡ lines ++ more
-  pub replies : AreReplies (IsAllowed filter) lines out
+  pub replies : AreReplies (IsAllowed filter) 0 lines out
   pub taken : AppendsFront old new out
 
 -- it took just the replies to those of these lines before the first that has no answer, which is the one that is told, counted from 1
@@ -65,8 +79,8 @@ pub record StopsAt (filter : Filter) (told : UnansweredLine) (all : List (List �
   pub out : List ℕ
   pub strict : filter.is_strict ≡ true
   pub cut : all ≡ lines ++ line ∷ more
-  pub unanswered : IsUnanswered filter.request (counted (length lines + 1)) line told
-  pub replies : AreReplies (IsAllowed filter) lines out
+  pub unanswered : IsUnanswered filter (length lines) line told
+  pub replies : AreReplies (IsAllowed filter) 0 lines out
   pub taken : Appends old new out
 
 -- the reader gave this input

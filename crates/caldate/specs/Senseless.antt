@@ -1,22 +1,17 @@
 -- What is said of arguments that make no sense: the first word that makes none, and what may stand there.
-use denote.Ref.{Bor}
-use Rattle.std.specs.Prelude.{ℕ, ◌+◌, Bool, true, false, List, [], ◌∷◌, ◌++◌, Option, Some, None, is_some, ok_or, Result, bytes_eq, codes, slice_get, if◌then◌else◌}
+use Rattle.std.specs.Prelude.{ℕ, ◌+◌, ◌==◌, Bool, true, false, List, [], ◌∷◌, ◌++◌, Option, Some, None, is_some, ok_or, Result, bytes_eq, codes, slice_get, if◌then◌else◌, option_and_then}
 use Rattle.std.specs.Option.{option_map_or}
 use Rattle.cal_text.specs.declared.any.DateOrMoment.{DateOrMoment}
 use Rattle.caldate.specs.Offsets.{offset_of}
-use Rattle.caldate.specs.Requests.{arguments_of, count_of, form_of, is_number, meaning_of, period_of, stands_alone, unit_of, verb_of, weekday_of}
+use Rattle.caldate.specs.Requests.{count_of, cut_options, form_of, is_number, lacks_field, meaning_of, no_options, period_of, stands_alone, takes_field, takes_separator, takes_skip, unit_of, verb_of, weekday_of, arguments_of, date_of, many_of, step_in}
 use Rattle.caldate.specs.Shown.{shown}
+use Rattle.caldate.specs.declared.options.Options.{Options}
 use Rattle.caldate.specs.declared.request.Asked.{Asked}
 use Rattle.caldate.specs.declared.request.Verb.{Verb}
 use Rattle.caldate.specs.declared.request.Verb.TheVariants.{To, Add, Next, Last, Until, Since, Start, End, OnOrAfter, OnOrBefore, At}
 use Rattle.caldate.specs.declared.senseless.Senseless.{Senseless}
 use Rattle.caldate.specs.declared.senseless.Wanted.{Wanted}
 use Rattle.caldate.specs.declared.senseless.Wanted.TheVariants as wanted
-
--- the words that come, if any do
-abbrev pub words_left : Option (Bor (List ℕ)) → List (List ℕ)
-words_left None = []
-words_left (Some words) = arguments_of words.now
 
 abbrev pub senseless_at : ℕ → Wanted → Senseless
 senseless_at at what = record { place = at; wanted = what }
@@ -60,6 +55,12 @@ is_wanted reading word wanted.Target = is_some (reading word)
 is_wanted reading word wanted.Period = is_some (period_of word)
 is_wanted reading word wanted.Offset = is_some (offset_of word)
 is_wanted reading word wanted.In = bytes_eq word (codes "in")
+is_wanted reading word wanted.From = bytes_eq word (codes "from")
+is_wanted reading word wanted.Date = is_some (date_of reading word)
+is_wanted reading word wanted.UpTo = bytes_eq word (codes "to")
+is_wanted reading word wanted.By = bytes_eq word (codes "by")
+is_wanted reading word wanted.Many = is_some (many_of word)
+is_wanted reading word wanted.UnitOfDays = is_some (option_and_then (step_in 1) (unit_of word))
 is_wanted reading word what = false
 
 -- ---- the first word that makes no sense, by its place among the arguments, counted from 0
@@ -93,14 +94,60 @@ abbrev pub senseless_request : (List ℕ → Option DateOrMoment) → ℕ → Wa
 senseless_request reading at what [] = senseless_at at what
 senseless_request reading at what (word ∷ words) = option_map_or (senseless_after reading (at + 1) words) (verb_of word) (senseless_at at what)
 
+-- ---- the options
+-- how many words they are
+abbrev pub words_in : Options → ℕ
+words_in options =
+    (if options.is_strict then 1 else 0) + (if is_some options.number then 2 else 0) + (if is_some options.separator then 2 else 0)
+    + (if is_some options.skip then 2 else 0)
+
+-- what comes after the word, where it is an option that may stand there
+abbrev pub value_of : Options → List ℕ → Option Wanted
+value_of options word =
+    if takes_field options word then Some wanted.FieldNumber else
+    if takes_separator options word then Some wanted.Separator else
+    if takes_skip options word then Some wanted.Skip else
+    None
+
+-- a verb, or at the start an option that stands alone too; or the field that a separator needs
+abbrev pub verb_after : Options → Wanted
+verb_after options =
+    if lacks_field options then wanted.Field else
+    if words_in options == 0 then wanted.Start else wanted.Verb
+
+abbrev pub senseless_verb : (List ℕ → Option DateOrMoment) → Options → List (List ℕ) → Senseless
+senseless_verb reading options words =
+    if lacks_field options then senseless_at (words_in options) (verb_after options) else
+    senseless_request reading (words_in options) (verb_after options) words
+
+-- from the word after the options on
+abbrev pub senseless_front : (List ℕ → Option DateOrMoment) → Options → List (List ℕ) → Senseless
+senseless_front reading options [] = senseless_at (words_in options) (verb_after options)
+senseless_front reading options (word ∷ words) =
+    option_map_or (senseless_at (words_in options + 1)) (value_of options word) (senseless_verb reading options (word ∷ words))
+
+-- after `list`: the first that is not what is wanted at its place, or is missing, or is one too many
+abbrev pub list_words : List Wanted
+list_words = wanted.From ∷ wanted.Date ∷ wanted.UpTo ∷ wanted.Date ∷ wanted.By ∷ wanted.Many ∷ wanted.UnitOfDays ∷ []
+
+abbrev pub senseless_among : (List ℕ → Option DateOrMoment) → ℕ → List Wanted → List (List ℕ) → Senseless
+senseless_among reading at [] words = senseless_at at wanted.End
+senseless_among reading at (what ∷ more) [] = senseless_at at what
+senseless_among reading at (what ∷ more) (word ∷ words) =
+    if is_wanted reading word what then senseless_among reading (at + 1) more words else senseless_at at what
+
+-- from the options on
+abbrev pub senseless_lines : (List ℕ → Option DateOrMoment) → List (List ℕ) → Senseless
+senseless_lines reading words = let front = cut_options no_options words in senseless_front reading front.0 front.1
+
 -- from the start; an argument alone that is empty is as none, and after an option that stands alone each word is one too many
 abbrev pub senseless_of : (List ℕ → Option DateOrMoment) → List (List ℕ) → Senseless
 senseless_of reading [] = senseless_at 0 wanted.Something
 senseless_of reading ([] ∷ []) = senseless_at 0 wanted.Something
 senseless_of reading (word ∷ words) =
-    if bytes_eq word (codes "--strict") then senseless_request reading 1 wanted.Verb words else
     if stands_alone word then senseless_at 1 wanted.End else
-    senseless_request reading 0 wanted.Start (word ∷ words)
+    if bytes_eq word (codes "list") then senseless_among reading 1 list_words words else
+    senseless_lines reading (word ∷ words)
 
 -- what the arguments ask for, or else that word
 abbrev pub asked_of : (List ℕ → Option DateOrMoment) → List (List ℕ) → Result Asked Senseless
@@ -109,8 +156,12 @@ asked_of reading words = ok_or (meaning_of reading words) (senseless_of reading 
 -- ---- the line that says so
 abbrev pub wanted_words : Wanted → List ℕ
 wanted_words wanted.Something = codes "nothing to do; caldate --help shows what can be asked"
-wanted_words wanted.Start = codes "no verb (to, add, next, last, until, since, start, end, on-or-after, on-or-before, at) and no option (--strict, --help, --version)"
-wanted_words wanted.Verb = codes "no verb (to, add, next, last, until, since, start, end, on-or-after, on-or-before, at)"
+wanted_words wanted.Start = codes "no verb (to, add, next, last, until, since, start, end, on-or-after, on-or-before, at, list) and no option (--strict, --field, --separator, --skip, --help, --version)"
+wanted_words wanted.Verb = codes "no verb (to, add, next, last, until, since, start, end, on-or-after, on-or-before, at) and no further option"
+wanted_words wanted.Field = codes "no --field, which --separator needs"
+wanted_words wanted.FieldNumber = codes "no number of a field (1 .. 65535)"
+wanted_words wanted.Separator = codes "no separator (one byte)"
+wanted_words wanted.Skip = codes "no number of lines (0 .. 9223372036854775807)"
 wanted_words wanted.Form = codes "no form (calendar, ordinal, week, julian, weekday, short-weekday, month, quarter, basic, rfc3339, unix, unix-ms, unix-us, unix-ns)"
 wanted_words wanted.Number = codes "no number (-9223372036854775808 .. 9223372036854775807)"
 wanted_words wanted.Amount = codes "too much (at most 9223372036854775807 seconds)"
@@ -121,6 +172,12 @@ wanted_words wanted.Target = codes "no date and no moment (as 2024-02-29, 2024-0
 wanted_words wanted.Period = codes "no period (week, month, quarter, year)"
 wanted_words wanted.Offset = codes "no offset (as +01:00, -05:30, Z)"
 wanted_words wanted.In = codes "one word too many"
+wanted_words wanted.From = codes "no 'from'"
+wanted_words wanted.Date = codes "no date (as 2024-02-29, 2024-060, 2024-W09-4, J2460370)"
+wanted_words wanted.UpTo = codes "no 'to'"
+wanted_words wanted.By = codes "no 'by'"
+wanted_words wanted.Many = codes "no number from 1 to 4294967295"
+wanted_words wanted.UnitOfDays = codes "no unit of dates (days, weeks, months, years)"
 wanted_words wanted.End = codes "one word too many"
 
 abbrev pub is_something : Wanted → Bool

@@ -1,5 +1,5 @@
 -- How far a run is.
-use Rattle.std.specs.Prelude.{◌≡◌, ℕ, ⊤, ◌-◌, ◌^◌, ◌<◌, min, Bool, true, false, List, [], ◌∷◌, ◌++◌, length, All, Option}
+use Rattle.std.specs.Prelude.{◌≡◌, ℕ, ⊤, ◌+◌, ◌-◌, ◌^◌, ◌<◌, min, Bool, true, false, List, [], ◌∷◌, ◌++◌, length, All, Option}
 use Rattle.std.specs.List.{slice_split}
 use Rattle.std.specs.Io.KnownBytes.{Appends}
 use Rattle.caldate.specs.Lines.{is_end, text_of, end_of}
@@ -12,11 +12,15 @@ use Rattle.caldate.specs.declared.shown.ShownText.{ShownText}
 abbrev pub IsReply : (List ℕ → List ℕ → Type 0) → List ℕ → List ℕ → Type 0
 IsReply Allowed line reply = (words : List ℕ) × Allowed (text_of line) words × (reply ≡ words ++ end_of line)
 
--- the bytes are the replies to the lines, in order
-abbrev pub AreReplies : (List ℕ → List ℕ → Type 0) → List (List ℕ) → List ℕ → Type 0
-AreReplies Allowed [] out = out ≡ []
-AreReplies Allowed (line ∷ lines) out =
-    (reply rest : List ℕ) × IsReply Allowed line reply × (out ≡ reply ++ rest) × AreReplies Allowed lines rest
+-- what may be written for the text of a line, by how many lines came before it
+abbrev pub Words : Type 1
+Words = ℕ → List ℕ → List ℕ → Type 0
+
+-- the bytes are the replies to the lines, in order, before which so many came
+abbrev pub AreReplies : Words → ℕ → List (List ℕ) → List ℕ → Type 0
+AreReplies Allowed before [] out = out ≡ []
+AreReplies Allowed before (line ∷ lines) out =
+    (reply rest : List ℕ) × IsReply (Allowed before) line reply × (out ≡ reply ++ rest) × AreReplies Allowed (before + 1) lines rest
 
 -- no line ends within the bytes
 abbrev pub NoEnd : List ℕ → Type 0
@@ -39,13 +43,13 @@ counted n = min n (2 ^ 64 - 1)
 
 -- Of this input some lines are answered. Their replies went out but for what is gathered. What comes after the lines is pending,
 -- but for what was let go of a long line.
-pub record Stands (Allowed : List ℕ → List ℕ → Type 0) (input : List ℕ) (start now : Option (List ℕ)) (gathered pending : List ℕ) (place : Place) : Type 0 where
+pub record Stands (Allowed : Words) (input : List ℕ) (start now : Option (List ℕ)) (gathered pending : List ℕ) (place : Place) : Type 0 where
   pub lines : List (List ℕ)
   pub kept : List ℕ
   pub out : List ℕ
   pub written : List ℕ
   pub cut : (more : List ℕ) → slice_split is_end (input ++ more) ≡ lines ++ slice_split is_end (kept ++ (pending ++ more))
-  pub replies : AreReplies Allowed lines out
+  pub replies : AreReplies Allowed 0 lines out
   pub whole : out ≡ written ++ gathered
   pub taken : Appends start now written
   pub held : IsHeld place.is_long kept pending
@@ -53,7 +57,7 @@ pub record Stands (Allowed : List ℕ → List ℕ → Type 0) (input : List ℕ
   pub number : place.number ≡ counted (length lines)
 
 -- whatever the input was, and what the writer held at the start
-abbrev pub Advances : (List ℕ → List ℕ → Type 0) → Option (List ℕ) → Option (List ℕ) → List ℕ → List ℕ → List ℕ → List ℕ → Place → Place → Type 0
+abbrev pub Advances : Words → Option (List ℕ) → Option (List ℕ) → List ℕ → List ℕ → List ℕ → List ℕ → Place → Place → Type 0
 Advances Allowed old new gathered gathered_now pending pending_now place place_now =
     (input : List ℕ) (start : Option (List ℕ)) → Stands Allowed input start old gathered pending place
     → Stands Allowed input start new gathered_now pending_now place_now

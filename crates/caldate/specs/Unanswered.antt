@@ -1,15 +1,32 @@
 -- What is told of the line at which a strict run ends.
-use Rattle.std.specs.Prelude.{◌≡◌, ℕ, List}
-use Rattle.caldate.specs.Answers.{LacksAnswer}
+use Rattle.std.specs.Prelude.{◌≡◌, ◌⊎◌, ℕ, ◌+◌, ◌≤◌, List, codes, length, Option, Some, None}
+use Rattle.caldate.specs.Answers.{IsTooLong, LacksAnswer}
+use Rattle.caldate.specs.Fields.{asked_text}
 use Rattle.caldate.specs.Lines.{text_of}
+use Rattle.caldate.specs.Room.{longest_text}
 use Rattle.caldate.specs.Shown.{shown, words_shown}
+use Rattle.caldate.specs.Standing.{counted}
+use Rattle.caldate.specs.declared.request.Filter.{Filter}
 use Rattle.caldate.specs.declared.request.Request.{Request}
+use Rattle.caldate.specs.declared.shown.ShownText.{ShownText}
 use Rattle.caldate.specs.declared.unanswered.UnansweredLine.{UnansweredLine}
 
--- it tells the line of this number, which has no answer, by the words of the reason and by its text
-pub record IsUnanswered (q : Request) (number : ℕ) (line : List ℕ) (told : UnansweredLine) : Type 0 where
-  pub words : List ℕ
-  pub lacks : LacksAnswer q (text_of line) words
-  pub number_is : told.number ≡ number
-  pub reason_is : words_shown told.reason ≡ shown words
+-- the words say why there is no answer, where this is asked about
+abbrev pub IsWhy : Request → Option (List ℕ) → List ℕ → Type 0
+IsWhy q None words = words ≡ codes "no such field"
+IsWhy q (Some asked) words = LacksAnswer q asked words
+
+-- the words say why the text of a line before which so many came has no answer: it is too long, or it is asked about and has none
+abbrev pub IsReason : Filter → ℕ → List ℕ → List ℕ → Type 0
+IsReason filter before text words =
+    IsTooLong text words ⊎ (length text ≤ longest_text) × (filter.skip ≤ before) × IsWhy filter.request (asked_text filter.field text) words
+
+-- what is shown is words of this kind
+abbrev pub Shows : ShownText → (List ℕ → Type 0) → Type 0
+Shows told IsOne = (words : List ℕ) × IsOne words × (words_shown told ≡ shown words)
+
+-- it tells the line before which so many came, counted from 1, by the reason and by its text
+pub record IsUnanswered (filter : Filter) (before : ℕ) (line : List ℕ) (told : UnansweredLine) : Type 0 where
+  pub reason : Shows told.reason (IsReason filter before (text_of line))
+  pub number_is : told.number ≡ counted (before + 1)
   pub text_is : words_shown told.text ≡ shown (text_of line)

@@ -22,7 +22,7 @@ use cal_time::error::ComponentRange;
 use cal_time::{Date, ShortText, SignedDuration, Time, UtcOffset};
 
 /// The most bytes that the text of a line may have.
-const LONGEST_TEXT: usize = 4096;
+pub const LONGEST_TEXT: usize = 4096;
 
 /// Gathers the answer to a text, or the words that say why it has none, and returns whether it has one.
 pub fn push_answer(gathered: &mut Gathered, request: &Request, text: &[u8]) -> bool

@@ -1,12 +1,15 @@
 //! What the arguments ask for.
-ghost use Rattle.std.specs.Prelude.{◌≡◌, ℕ, List, [], ◌∷◌, Option};
+ghost use Rattle.std.specs.Prelude.{◌≡◌, ℕ, List, [], ◌∷◌, Option, IfOk, IfSome};
 ghost use Rattle.cal_text.specs.declared.any.DateOrMoment.{DateOrMoment};
-ghost use Rattle.caldate.specs.Requests.{IsReading, arguments_of, meaning_of, filter_of, request_of, to_request, add_request, amount_in, duration_in, occurrence_of, occurrence_request, nearest_request, edge_request, target_of, target_request, at_request};
+ghost use Rattle.caldate.specs.Lists.{IsAsked};
+ghost use Rattle.caldate.specs.Requests.{IsReading, arguments_of, meaning_of, filter_of, request_of, to_request, add_request, amount_in, duration_in, occurrence_of, occurrence_request, nearest_request, edge_request, target_of, target_request, at_request, request_with, cut_options, no_options};
 ghost use Rattle.caldate.specs.Senseless.{asked_of};
 ghost use Rattle.caldate.specs.declared.request.DayMove.TheVariants.{Next, Last, OnOrAfter, OnOrBefore, Start, End};
 ghost use Rattle.caldate.specs.declared.request.Request.TheVariants.{Until, Since};
 
+use crate::listing::list_of;
 use crate::offset::offset_of;
+use crate::options::{Options, field_of, lacks_field, options_of};
 use crate::request::{Asked, DayMove, Filter, Request, TimeUnit, Verb};
 use crate::senseless::{Senseless, senseless_of};
 use crate::spelling::{
@@ -20,7 +23,8 @@ use cal_time::{SignedDuration, Weekday};
 ///
 /// `to week` asks for the lines in the form of week dates; of `add 1 fortnight` the word at place 2 is no unit.
 pub fn asked_of(arguments: &[u8]) -> Result<Asked, Senseless>
-    ensures { (reading : List ℕ → Option DateOrMoment) → IsReading reading → result ≡ asked_of reading (arguments_of arguments.now) }
+    ensures steps { IfOk result IsAsked }
+    ensures asked { (reading : List ℕ → Option DateOrMoment) → IsReading reading → result ≡ asked_of reading (arguments_of arguments.now) }
 {
     match meaning_of(arguments) {
         Some(asked) => Ok(asked),
@@ -30,21 +34,33 @@ pub fn asked_of(arguments: &[u8]) -> Result<Asked, Senseless>
 
 /// What the arguments ask for, or `None` where they make no sense.
 fn meaning_of(arguments: &[u8]) -> Option<Asked>
-    ensures { (reading : List ℕ → Option DateOrMoment) → IsReading reading → result ≡ meaning_of reading (arguments_of arguments.now) }
+    ensures steps { IfSome result IsAsked }
+    ensures asked { (reading : List ℕ → Option DateOrMoment) → IsReading reading → result ≡ meaning_of reading (arguments_of arguments.now) }
 {
     let Some((first, rest)) = first_word(arguments) else {
         return only_option(arguments);
     };
-    if first == b"--strict".as_slice() {
-        filter_of(true, request_of(rest))
+    if first == b"list".as_slice() {
+        Some(Asked::Dates(list_of(rest)?))
     } else {
-        filter_of(false, request_of(arguments))
+        lines_of(arguments)
     }
+}
+
+/// What a request asks for, perhaps after options.
+fn lines_of(arguments: &[u8]) -> Option<Asked>
+    ensures steps { IfSome result IsAsked }
+    ensures asked { (reading : List ℕ → Option DateOrMoment) → IsReading reading
+        → result ≡ request_with reading (cut_options no_options (arguments_of arguments.now)) }
+{
+    let (options, words) = options_of(arguments);
+    filter_of(options, request_of(words?))
 }
 
 /// What an option asks for that stands alone.
 fn only_option(word: &[u8]) -> Option<Asked>
-    ensures { (reading : List ℕ → Option DateOrMoment) → result ≡ meaning_of reading (word.now ∷ []) }
+    ensures steps { IfSome result IsAsked }
+    ensures asked { (reading : List ℕ → Option DateOrMoment) → result ≡ meaning_of reading (word.now ∷ []) }
 {
     if asks_for_help(word) {
         Some(Asked::Help)
@@ -56,11 +72,19 @@ fn only_option(word: &[u8]) -> Option<Asked>
 }
 
 /// To answer the lines, if there is a request.
-fn filter_of(is_strict: bool, request: Option<Request>) -> Option<Asked>
-    ensures { result ≡ filter_of is_strict request }
+fn filter_of(options: Options, request: Option<Request>) -> Option<Asked>
+    ensures steps { IfSome result IsAsked }
+    ensures asked { result ≡ filter_of options request }
 {
-    let request = request?;
-    Some(Asked::Lines(Filter { request, is_strict }))
+    if lacks_field(options) {
+        return None;
+    }
+    Some(Asked::Lines(Filter {
+        request: request?,
+        is_strict: options.is_strict,
+        field: field_of(options),
+        skip: options.skip.unwrap_or(0),
+    }))
 }
 
 /// The request of a verb and what comes after it.
@@ -200,7 +224,7 @@ fn target_of(words: &[u8]) -> Option<(DateOrMoment, Option<TimeUnit>)>
 }
 
 /// The date or the moment of a text, if it is one.
-fn found_in(text: &[u8]) -> Option<DateOrMoment>
+pub fn found_in(text: &[u8]) -> Option<DateOrMoment>
     ensures { (reading : List ℕ → Option DateOrMoment) → IsReading reading → result ≡ reading text.now }
 {
     match read_any(text) {

@@ -60,16 +60,20 @@ fn push_word(line: &mut Gathered, word: Option<&[u8]>)
 /// What may stand at the place.
 fn wanted_words(wanted: Wanted) -> &'static [u8]
     ensures words { result.now ≡ wanted_words wanted }
-    ensures short { length result.now ≤ 160 }
+    ensures short { length result.now ≤ 200 }
 {
     match wanted {
         Wanted::Something => b"nothing to do; caldate --help shows what can be asked".as_slice(),
         Wanted::Start => {
-            b"no verb (to, add, next, last, until, since, start, end, on-or-after, on-or-before, at) and no option (--strict, --help, --version)".as_slice()
+            b"no verb (to, add, next, last, until, since, start, end, on-or-after, on-or-before, at, list) and no option (--strict, --field, --separator, --skip, --help, --version)".as_slice()
         }
         Wanted::Verb => {
-            b"no verb (to, add, next, last, until, since, start, end, on-or-after, on-or-before, at)".as_slice()
+            b"no verb (to, add, next, last, until, since, start, end, on-or-after, on-or-before, at) and no further option".as_slice()
         }
+        Wanted::Field => b"no --field, which --separator needs".as_slice(),
+        Wanted::FieldNumber => b"no number of a field (1 .. 65535)".as_slice(),
+        Wanted::Separator => b"no separator (one byte)".as_slice(),
+        Wanted::Skip => b"no number of lines (0 .. 9223372036854775807)".as_slice(),
         Wanted::Form => {
             b"no form (calendar, ordinal, week, julian, weekday, short-weekday, month, quarter, basic, rfc3339, unix, unix-ms, unix-us, unix-ns)".as_slice()
         }
@@ -85,6 +89,12 @@ fn wanted_words(wanted: Wanted) -> &'static [u8]
         }
         Wanted::Period => b"no period (week, month, quarter, year)".as_slice(),
         Wanted::Offset => b"no offset (as +01:00, -05:30, Z)".as_slice(),
+        Wanted::From => b"no 'from'".as_slice(),
+        Wanted::Date => b"no date (as 2024-02-29, 2024-060, 2024-W09-4, J2460370)".as_slice(),
+        Wanted::UpTo => b"no 'to'".as_slice(),
+        Wanted::By => b"no 'by'".as_slice(),
+        Wanted::Many => b"no number from 1 to 4294967295".as_slice(),
+        Wanted::UnitOfDays => b"no unit of dates (days, weeks, months, years)".as_slice(),
         Wanted::In | Wanted::End => b"one word too many".as_slice(),
     }
 }

@@ -9,7 +9,7 @@ use std::marker::Model;
 const CAPACITY: usize = 65_536;
 
 /// The most bytes that a reply may have. The longest has fewer.
-const LONGEST_REPLY: usize = 256;
+const LONGEST_REPLY: usize = 4352;
 
 /// Replies gathered for one write.
 #[derive(Drop)]

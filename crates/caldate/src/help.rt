@@ -18,7 +18,11 @@ pub const HELP: &[u8] = b"caldate answers each line of its input, a date or a mo
   caldate until DATE [in UNIT]    the days to that date, the duration to that moment, or the whole units
   caldate since DATE [in UNIT]    the same from there to it
   caldate at OFFSET               the moment as a clock at that offset shows it
+  caldate list from A to B        no input: all dates from A to B; with by N UNIT each so many days, weeks, months or years
   caldate --strict ...            the same, but it ends at the first line without an answer, with status 1
+  caldate --field N ...           the same for the N-th field of each line, in its place; fields end at a tab
+  caldate --separator C ...       with --field: they end at the byte C
+  caldate --skip K ...            the same, but the first K lines are passed on as they are
   caldate --help, -h, help        this page
   caldate --version               the version
 
@@ -39,4 +43,6 @@ A line is a date, as 2024-02-29, 2024-060, 2024-W09-4 or J2460370, or a moment, 
   echo 2024-02-29T23:30:00+01:00 | caldate at Z            2024-02-29T22:30:00Z
   echo 2024-02-29 | caldate to unix-ms                     1709164800000
   echo 2023-02-29 | caldate to ordinal                     refused day conditional
+  echo a,2024-02-29 | caldate --field 2 --separator , to week   a,2024-W09-4
+  caldate list from 2024-01-31 to 2024-12-31 by 1 month | tail -n 1   2024-12-31
 ";

@@ -2,17 +2,20 @@
 ghost use Rattle.std.specs.Prelude.{◌≡◌, ℕ, List, Option, Some, None, Result, Ok, Err};
 ghost use Rattle.cal_text.specs.declared.any.DateOrMoment.{DateOrMoment};
 ghost use Rattle.caldate.specs.Ending.{Tells};
+ghost use Rattle.caldate.specs.Lists.{Lists};
 ghost use Rattle.caldate.specs.Program.{Asks, HasComplaint};
 ghost use Rattle.caldate.specs.Requests.{IsReading};
 ghost use Rattle.caldate.specs.Runs.{Ended, Shown};
 ghost use Rattle.caldate.specs.declared.fault.Fault.{Fault};
 ghost use Rattle.caldate.specs.declared.request.Filter.{Filter};
+ghost use Rattle.caldate.specs.declared.request.Listing.{Listing};
 ghost use Rattle.caldate.specs.declared.senseless.Senseless.{Senseless};
 
 use crate::asked::asked_of;
 use crate::complaint::{TOO_LONG, complain};
 use crate::ending::{Ending, end};
 use crate::help::{HELP, VERSION};
+use crate::list::list;
 use crate::output::write_all;
 use crate::request::Asked;
 use crate::run::run;
@@ -34,6 +37,9 @@ pub fn perform<R: Read, W: Write, E: Write>(
         → (outcome : Result Unit Fault)
         × Ended filter outcome (R.remaining reader.old) (R.remaining reader.new) (W.contents writer.old) (W.contents writer.new)
         × Tells outcome result (E.contents errors.old) (E.contents errors.new) }
+    ensures list { (reading : List ℕ → Option DateOrMoment) (listing : Listing) → IsReading reading → Asks reading arguments.entry (Asked.Dates listing)
+        → (reader.new ≡ reader.old) × ((outcome : Result Unit Fault)
+        × Lists listing outcome (W.contents writer.old) (W.contents writer.new) × Tells outcome result (E.contents errors.old) (E.contents errors.new)) }
     ensures help { (reading : List ℕ → Option DateOrMoment) → IsReading reading → Asks reading arguments.entry Asked.Help
         → (reader.new ≡ reader.old) × ((outcome : Result Unit Fault)
         × Shown HELP.now outcome (W.contents writer.old) (W.contents writer.new) × Tells outcome result (E.contents errors.old) (E.contents errors.new)) }
@@ -53,6 +59,10 @@ pub fn perform<R: Read, W: Write, E: Write>(
     match asked_of(arguments) {
         Ok(Asked::Lines(filter)) => {
             let outcome = run(filter, reader, writer);
+            end(outcome, errors)
+        }
+        Ok(Asked::Dates(listing)) => {
+            let outcome = list(&listing, writer);
             end(outcome, errors)
         }
         Ok(Asked::Help) => {

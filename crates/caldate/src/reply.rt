@@ -1,16 +1,20 @@
 //! The reply to a line.
-ghost use Rattle.std.specs.Prelude.{◌≡◌, ◌+◌, ◌≤◌, ◌++◌, ℕ, List, false, true, length, IfErr, OnOk};
+ghost use Rattle.std.specs.Prelude.{◌≡◌, ◌+◌, ◌≤◌, ◌++◌, ℕ, List, Some, false, true, codes, length, IfErr, OnOk};
+ghost use Rattle.caldate.specs.Answers.{LacksAnswer};
+ghost use Rattle.caldate.specs.Fields.{asked_text};
 ghost use Rattle.caldate.specs.Lines.{text_of, end_of};
-ghost use Rattle.caldate.specs.Room.{HasRoom, longest_reply};
-ghost use Rattle.caldate.specs.Runs.{AppendsThat, IsAllowed};
+ghost use Rattle.caldate.specs.Room.{HasRoom, longest_answer, longest_reply, longest_text};
+ghost use Rattle.caldate.specs.Runs.{Allowed, AllowedFor, AppendsThat, IsAllowed};
+ghost use Rattle.caldate.specs.Shown.{shown, words_shown};
 ghost use Rattle.caldate.specs.Standing.{IsHeld, IsReply, IsShown, counted};
-ghost use Rattle.caldate.specs.Unanswered.{IsUnanswered};
+ghost use Rattle.caldate.specs.Unanswered.{IsReason, IsUnanswered, IsWhy, Shows};
 
-use crate::answer::push_answer;
+use crate::answer::{LONGEST_TEXT, push_answer};
+use crate::fields::cut_field;
 use crate::gathered::Gathered;
 use crate::lines::text_and_end;
 use crate::place::Place;
-use crate::request::Filter;
+use crate::request::{Field, Filter};
 use crate::shown::ShownText;
 use crate::unanswered::UnansweredLine;
 
@@ -23,30 +27,140 @@ pub fn push_reply(
     line: &[u8],
 ) -> Result<(), UnansweredLine>
     requires { HasRoom longest_reply gathered.old }
-    ensures replied { OnOk result ((kept : List ℕ) → IsHeld place.now.is_long kept line.now
-        → AppendsThat (IsReply (IsAllowed filter.now) (kept ++ line.now)) gathered.old gathered.new) }
+    ensures replied { OnOk result ((kept : List ℕ) (before : ℕ) → IsHeld place.now.is_long kept line.now → place.now.number ≡ counted before
+        → AppendsThat (IsReply (IsAllowed filter.now before) (kept ++ line.now)) gathered.old gathered.new) }
     ensures strict { IfErr result (λ told. (filter.now.is_strict ≡ true) × (gathered.new ≡ gathered.old)) }
-    ensures told { IfErr result (λ told. (kept : List ℕ) → IsHeld place.now.is_long kept line.now → IsShown place.now.is_long place.now.front kept
-        → IsUnanswered filter.now.request (counted (place.now.number + 1)) (kept ++ line.now) told) }
+    ensures told { IfErr result (λ told. (kept : List ℕ) (before : ℕ) → IsHeld place.now.is_long kept line.now
+        → IsShown place.now.is_long place.now.front kept → place.now.number ≡ counted before → IsUnanswered filter.now before (kept ++ line.now) told) }
+{
+    let (text, end) = text_and_end(line);
+    let said = if place.is_long {
+        push_too_long(gathered, filter)
+    } else {
+        push_text(gathered, filter, place.number, text)
+    };
+    match said {
+        Ok(()) => {
+            gathered.push(end);
+            Ok(())
+        }
+        Err(reason) => Err(UnansweredLine {
+            number: place.number.saturating_add(1),
+            reason,
+            text: place.shown(text),
+        }),
+    }
+}
+
+/// Gathers that a line is too long. In a strict run it gathers nothing, and returns this as the reason.
+fn push_too_long(gathered: &mut Gathered, filter: &Filter) -> Result<(), ShownText>
+    requires { HasRoom longest_answer gathered.old }
+    ensures ok { OnOk result ((filter.now.is_strict ≡ false) × (gathered.new ≡ gathered.old ++ codes "line too long")) }
+    ensures strict { IfErr result (λ reason. (filter.now.is_strict ≡ true) × (gathered.new ≡ gathered.old)) }
+    ensures reason { IfErr result (λ reason. words_shown reason ≡ shown (codes "line too long")) }
+    ensures short { length gathered.new ≤ length gathered.old + longest_answer }
+{
+    if filter.is_strict {
+        return Err(ShownText::new(b"line too long"));
+    }
+    gathered.push(b"line too long");
+    Ok(())
+}
+
+/// Gathers what is written for the text of a line, after so many lines. In a strict run it gathers nothing for one without an answer, and
+/// returns the reason.
+fn push_text(
+    gathered: &mut Gathered,
+    filter: &Filter,
+    number: u64,
+    text: &[u8],
+) -> Result<(), ShownText>
+    requires { HasRoom longest_reply gathered.old }
+    ensures ok { OnOk result ((before : ℕ) → number ≡ counted before → AppendsThat (IsAllowed filter.now before text.now) gathered.old gathered.new) }
+    ensures strict { IfErr result (λ reason. (filter.now.is_strict ≡ true) × (gathered.new ≡ gathered.old)) }
+    ensures reason { IfErr result (λ reason. (before : ℕ) → number ≡ counted before → Shows reason (IsReason filter.now before text.now)) }
+    ensures short { length gathered.new ≤ length gathered.old + longest_text + longest_answer }
+{
+    if text.len() > LONGEST_TEXT {
+        return push_too_long(gathered, filter);
+    }
+    if number < filter.skip {
+        gathered.push(text);
+        return Ok(());
+    }
+    match filter.field {
+        Some(field) => push_field(gathered, filter, field, text),
+        None => push_asked(gathered, filter, text),
+    }
+}
+
+/// Gathers a text with what is written for its field in the field's place. In a strict run it gathers nothing where there is no answer or
+/// no such field, and returns the reason.
+fn push_field(
+    gathered: &mut Gathered,
+    filter: &Filter,
+    field: Field,
+    text: &[u8],
+) -> Result<(), ShownText>
+    requires room { HasRoom longest_reply gathered.old }
+    requires fits { length text.now ≤ longest_text }
+    requires field { filter.now.field ≡ Some field }
+    ensures ok { OnOk result (AppendsThat (AllowedFor filter.now text.now (asked_text (Some field) text.now)) gathered.old gathered.new) }
+    ensures strict { IfErr result (λ reason. (filter.now.is_strict ≡ true) × (gathered.new ≡ gathered.old)) }
+    ensures reason { IfErr result (λ reason. Shows reason (IsWhy filter.now.request (asked_text (Some field) text.now))) }
+    ensures short { length gathered.new ≤ length gathered.old + longest_text + longest_answer }
+{
+    let Some((front, asked, rest)) = cut_field(field, text) else {
+        return push_without_field(gathered, filter, text);
+    };
+    let before = gathered.len();
+    gathered.push(front);
+    match push_asked(gathered, filter, asked) {
+        Ok(()) => {
+            gathered.push(rest);
+            Ok(())
+        }
+        Err(reason) => {
+            gathered.truncate(before);
+            Err(reason)
+        }
+    }
+}
+
+/// Gathers a text that has no such field as it is. In a strict run it gathers nothing, and returns the reason.
+fn push_without_field(
+    gathered: &mut Gathered,
+    filter: &Filter,
+    text: &[u8],
+) -> Result<(), ShownText>
+    requires { HasRoom (length text.now) gathered.old }
+    ensures ok { OnOk result ((filter.now.is_strict ≡ false) × (gathered.new ≡ gathered.old ++ text.now)) }
+    ensures strict { IfErr result (λ reason. (filter.now.is_strict ≡ true) × (gathered.new ≡ gathered.old)) }
+    ensures reason { IfErr result (λ reason. words_shown reason ≡ shown (codes "no such field")) }
+    ensures short { length gathered.new ≤ length gathered.old + length text.now }
+{
+    if filter.is_strict {
+        return Err(ShownText::new(b"no such field"));
+    }
+    gathered.push(text);
+    Ok(())
+}
+
+/// Gathers what is written for a text that is asked about. In a strict run it gathers nothing where there is no answer, and returns the
+/// reason.
+fn push_asked(gathered: &mut Gathered, filter: &Filter, text: &[u8]) -> Result<(), ShownText>
+    requires { HasRoom longest_answer gathered.old }
+    ensures ok { OnOk result (AppendsThat (Allowed filter.now.is_strict filter.now.request text.now) gathered.old gathered.new) }
+    ensures strict { IfErr result (λ reason. (filter.now.is_strict ≡ true) × (gathered.new ≡ gathered.old)) }
+    ensures reason { IfErr result (λ reason. Shows reason (LacksAnswer filter.now.request text.now)) }
+    ensures short { length gathered.new ≤ length gathered.old + longest_answer }
 {
     let before = gathered.len();
-    let is_long = place.is_long;
-    let (text, end) = text_and_end(line);
-    let has_answer = if is_long {
-        gathered.push(b"line too long");
-        false
-    } else {
-        push_answer(gathered, &filter.request, text)
-    };
+    let has_answer = push_answer(gathered, &filter.request, text);
     if filter.is_strict && !has_answer {
-        let told = UnansweredLine {
-            number: place.number.saturating_add(1),
-            reason: ShownText::new(gathered.after(before)),
-            text: place.shown(text),
-        };
+        let reason = ShownText::new(gathered.after(before));
         gathered.truncate(before);
-        return Err(told);
+        return Err(reason);
     }
-    gathered.push(end);
     Ok(())
 }

@@ -1,6 +1,6 @@
 //! What is asked of the lines.
 use cal_text::{DateForm, DateOrMoment, MomentForm};
-use cal_time::{SignedDuration, UtcOffset, Weekday};
+use cal_time::{Date, SignedDuration, UtcOffset, Weekday};
 
 /// A form in which a date or a moment is written.
 #[derive(Clone, Copy)]
@@ -122,11 +122,48 @@ pub enum Request {
     At(UtcOffset),
 }
 
-/// A request, and whether the run ends at the first line without an answer.
+/// Which field of a line is asked about.
+#[derive(Clone, Copy)]
+pub struct Field {
+    /// Its number, counted from 1.
+    pub number: u16,
+    /// The byte between two fields.
+    pub separator: u8,
+}
+
+/// What is done to the lines of an input.
 #[derive(Clone, Copy)]
 pub struct Filter {
     pub request: Request,
+    /// Whether the run ends at the first line without an answer.
     pub is_strict: bool,
+    /// The field that is asked about, or all of the line where there is none.
+    pub field: Option<Field>,
+    /// How many lines are passed on as they are before the first that is answered.
+    pub skip: u64,
+}
+
+/// What the steps of a list count.
+#[derive(Clone, Copy)]
+pub enum StepUnit {
+    Days,
+    Months,
+}
+
+/// From one date of a list to the next.
+#[derive(Clone, Copy)]
+pub struct Step {
+    /// How many days or months.
+    pub every: u64,
+    pub unit: StepUnit,
+}
+
+/// The dates from one to another. Each is counted from the first.
+#[derive(Clone, Copy)]
+pub struct Listing {
+    pub first: Date,
+    pub last: Date,
+    pub step: Step,
 }
 
 /// What the arguments ask for.
@@ -138,4 +175,6 @@ pub enum Asked {
     Version,
     /// To answer the lines of the input.
     Lines(Filter),
+    /// `list from A to B`, `list from A to B by N UNIT`: the dates from the one to the other.
+    Dates(Listing),
 }

@@ -147,7 +147,7 @@ fn let_go(input: &mut Input, place: &mut Place)
 }
 
 /// Makes room for a reply: where there is none, what was gathered is written.
-fn make_room<W: Write>(gathered: &mut Gathered, writer: &mut W) -> Result<(), Fault>
+pub fn make_room<W: Write>(gathered: &mut Gathered, writer: &mut W) -> Result<(), Fault>
     ensures room { OnOk result (HasRoom longest_reply gathered.new) }
     ensures ok { OnOk result ((written : List ℕ) × (gathered.old ≡ written ++ gathered.new)
         × Appends (W.contents writer.old) (W.contents writer.new) written) }

@@ -1,14 +1,16 @@
 //! The first word of the arguments that makes no sense.
-ghost use Rattle.std.specs.Prelude.{◌≡◌, ◌≤◌, ℕ, List, [], ◌∷◌, Option, MatchOption, slice_get};
+ghost use Rattle.std.specs.Prelude.{◌≡◌, ◌+◌, ◌≤◌, ℕ, List, [], ◌∷◌, Option, MatchOption, is_some, length, option_and_then, slice_get};
 ghost use Rattle.cal_text.specs.declared.any.DateOrMoment.{DateOrMoment};
-ghost use Rattle.caldate.specs.Requests.{IsReading, arguments_of, stands_alone};
-ghost use Rattle.caldate.specs.Senseless.{further_to, is_wanted, needed_by, senseless_after, senseless_at, senseless_end, senseless_further, senseless_last, senseless_of, senseless_request, senseless_unit, words_left};
+ghost use Rattle.caldate.specs.Requests.{IsReading, arguments_of, stands_alone, words_left, step_in, unit_of};
+ghost use Rattle.caldate.specs.Senseless.{further_to, is_wanted, needed_by, senseless_after, senseless_at, senseless_end, senseless_front, senseless_further, senseless_last, senseless_lines, senseless_of, senseless_request, senseless_unit, senseless_verb, senseless_among};
 
+use crate::listing::{date_of, step_in};
 use crate::offset::offset_of;
+use crate::options::{Options, lacks_field, options_of, value_of, verb_after, words_in};
 use crate::request::Verb;
 use crate::spelling::{
-    asks_for_help, count_of, first_word, form_of, number_of, period_of, unit_of, verb_of,
-    weekday_of,
+    asks_for_help, count_of, cut, first_word, form_of, many_of, number_of, period_of, unit_of,
+    verb_of, weekday_of,
 };
 use cal_text::read_any;
 
@@ -19,8 +21,16 @@ pub enum Wanted {
     Something,
     /// A verb, or an option, as `--strict`.
     Start,
-    /// A verb.
+    /// A verb, or an option that is not given yet and does not stand alone.
     Verb,
+    /// `--field`, since there is a separator.
+    Field,
+    /// A number from 1 to 65535.
+    FieldNumber,
+    /// One byte.
+    Separator,
+    /// A number of lines, from 0 on.
+    Skip,
     /// A form, as `week`.
     Form,
     /// A number.
@@ -41,6 +51,18 @@ pub enum Wanted {
     Offset,
     /// `in`, or no word.
     In,
+    /// `from`.
+    From,
+    /// A date.
+    Date,
+    /// `to`.
+    UpTo,
+    /// `by`.
+    By,
+    /// A number from 1 to 4294967295.
+    Many,
+    /// A unit of a day or more, as `months`.
+    UnitOfDays,
     /// No word.
     End,
 }
@@ -54,6 +76,17 @@ pub struct Senseless {
     pub wanted: Wanted,
 }
 
+/// What may stand at each place after `list`.
+const LIST_WORDS: [Wanted; 7] = [
+    Wanted::From,
+    Wanted::Date,
+    Wanted::UpTo,
+    Wanted::Date,
+    Wanted::By,
+    Wanted::Many,
+    Wanted::UnitOfDays,
+];
+
 /// The first word that makes no sense, of arguments that make none: of `next frday` that at place 1, where a weekday may stand.
 pub fn senseless_of(arguments: &[u8]) -> Senseless
     ensures { (reading : List ℕ → Option DateOrMoment) → IsReading reading → result ≡ senseless_of reading (arguments_of arguments.now) }
@@ -62,12 +95,48 @@ pub fn senseless_of(arguments: &[u8]) -> Senseless
         return senseless_at(0, Wanted::Something);
     }
     let (first, rest) = cut(arguments);
-    if first == b"--strict".as_slice() {
-        senseless_request(1, Wanted::Verb, rest)
-    } else if stands_alone(first) {
+    if stands_alone(first) {
         senseless_at(1, Wanted::End)
+    } else if first == b"list".as_slice() {
+        senseless_among(1, &LIST_WORDS, rest)
     } else {
-        senseless_request(0, Wanted::Start, Some(arguments))
+        senseless_lines(arguments)
+    }
+}
+
+/// From the options on.
+fn senseless_lines(arguments: &[u8]) -> Senseless
+    ensures { (reading : List ℕ → Option DateOrMoment) → IsReading reading → result ≡ senseless_lines reading (arguments_of arguments.now) }
+{
+    let (options, words) = options_of(arguments);
+    senseless_front(options, words)
+}
+
+/// From the word after the options on.
+fn senseless_front(options: Options, words: Option<&[u8]>) -> Senseless
+    ensures { (reading : List ℕ → Option DateOrMoment) → IsReading reading → result ≡ senseless_front reading options (words_left words.entry) }
+{
+    let place = words_in(options);
+    let Some(words) = words else {
+        return senseless_at(place, verb_after(options));
+    };
+    let (word, _) = cut(words);
+    match value_of(options, word) {
+        Some(wanted) => senseless_at(place + 1, wanted),
+        None => senseless_verb(options, words),
+    }
+}
+
+/// From the verb on, where the word is no option.
+fn senseless_verb(options: Options, words: &[u8]) -> Senseless
+    ensures { (reading : List ℕ → Option DateOrMoment) → IsReading reading → result ≡ senseless_verb reading options (arguments_of words.now) }
+{
+    let place = words_in(options);
+    let wanted = verb_after(options);
+    if lacks_field(options) {
+        senseless_at(place, wanted)
+    } else {
+        senseless_request(place, wanted, words)
     }
 }
 
@@ -83,14 +152,30 @@ pub fn word_at(arguments: &[u8], place: usize) -> Option<&[u8]>
     Some(cut(words?).0)
 }
 
-/// From the verb on, which has this place, where this is wanted.
-fn senseless_request(place: usize, wanted: Wanted, words: Option<&[u8]>) -> Senseless
-    requires { place ≤ 1 }
-    ensures { (reading : List ℕ → Option DateOrMoment) → IsReading reading → result ≡ senseless_request reading place wanted (words_left words.entry) }
+/// Of words from this place on, each of which is wanted so, the first that is not, or is missing, or is one too many.
+fn senseless_among(place: usize, wanted: &[Wanted], words: Option<&[u8]>) -> Senseless
+    requires { place + length wanted.now ≤ 8 }
+    ensures { (reading : List ℕ → Option DateOrMoment) → IsReading reading → result ≡ senseless_among reading place wanted.now (words_left words.entry) }
 {
-    let Some(words) = words else {
-        return senseless_at(place, wanted);
+    let Some((first, others)) = wanted.split_first() else {
+        return senseless_at(place, Wanted::End);
     };
+    let Some(words) = words else {
+        return senseless_at(place, *first);
+    };
+    let (word, rest) = cut(words);
+    if is_wanted(word, *first) {
+        senseless_among(place + 1, others, rest)
+    } else {
+        senseless_at(place, *first)
+    }
+}
+
+/// From the verb on, which has this place, where this is wanted.
+fn senseless_request(place: usize, wanted: Wanted, words: &[u8]) -> Senseless
+    requires { place ≤ 7 }
+    ensures { (reading : List ℕ → Option DateOrMoment) → IsReading reading → result ≡ senseless_request reading place wanted (arguments_of words.now) }
+{
     let (word, rest) = cut(words);
     match verb_of(word) {
         Some(verb) => senseless_after(place + 1, rest, verb),
@@ -100,7 +185,7 @@ fn senseless_request(place: usize, wanted: Wanted, words: Option<&[u8]>) -> Sens
 
 /// After a verb, from this place on.
 fn senseless_after(place: usize, words: Option<&[u8]>, verb: Verb) -> Senseless
-    requires { place ≤ 2 }
+    requires { place ≤ 8 }
     ensures { (reading : List ℕ → Option DateOrMoment) → IsReading reading → result ≡ senseless_after reading place (words_left words.entry) verb }
 {
     let needed = needed_by(verb);
@@ -117,7 +202,7 @@ fn senseless_after(place: usize, words: Option<&[u8]>, verb: Verb) -> Senseless
 
 /// After the word that the verb needs, which has this place.
 fn senseless_further(place: usize, further: Wanted, words: Option<&[u8]>) -> Senseless
-    requires { place ≤ 2 }
+    requires { place ≤ 8 }
     ensures { (reading : List ℕ → Option DateOrMoment) → IsReading reading → result ≡ senseless_further reading place further (words_left words.entry) }
 {
     let Some(words) = words else {
@@ -133,7 +218,7 @@ fn senseless_further(place: usize, further: Wanted, words: Option<&[u8]>) -> Sen
 
 /// After the word that may come after it.
 fn senseless_last(place: usize, further: Wanted, words: Option<&[u8]>) -> Senseless
-    requires { place ≤ 2 }
+    requires { place ≤ 8 }
     ensures { result ≡ senseless_last place further (words_left words.entry) }
 {
     match further {
@@ -145,7 +230,7 @@ fn senseless_last(place: usize, further: Wanted, words: Option<&[u8]>) -> Sensel
 /// Where no word may come: one is too many, or the number is too large for its unit.
 #[tactic(auto, using(crate::proofs::Words::one_too_many))]
 fn senseless_end(place: usize, words: Option<&[u8]>) -> Senseless
-    requires { place ≤ 2 }
+    requires { place ≤ 8 }
     ensures { result ≡ senseless_end place (words_left words.entry) }
 {
     match words {
@@ -156,7 +241,7 @@ fn senseless_end(place: usize, words: Option<&[u8]>) -> Senseless
 
 /// After `in`, where a unit has this place.
 fn senseless_unit(place: usize, words: Option<&[u8]>) -> Senseless
-    requires { place ≤ 4 }
+    requires { place ≤ 10 }
     ensures { result ≡ senseless_unit place (words_left words.entry) }
 {
     let Some(words) = words else {
@@ -217,7 +302,23 @@ fn is_wanted(word: &[u8], wanted: Wanted) -> bool
         Wanted::Period => period_of(word).is_some(),
         Wanted::Offset => offset_of(word).is_some(),
         Wanted::In => word == b"in".as_slice(),
+        Wanted::From => word == b"from".as_slice(),
+        Wanted::Date => date_of(word).is_some(),
+        Wanted::UpTo => word == b"to".as_slice(),
+        Wanted::By => word == b"by".as_slice(),
+        Wanted::Many => many_of(word).is_some(),
+        Wanted::UnitOfDays => is_unit_of_days(word),
         _ => false,
+    }
+}
+
+/// Whether the word is a unit of which a list can have steps.
+fn is_unit_of_days(word: &[u8]) -> bool
+    ensures { result ≡ is_some (option_and_then (step_in 1) (unit_of word.now)) }
+{
+    match unit_of(word) {
+        Some(unit) => step_in(1, unit).is_some(),
+        None => false,
     }
 }
 
@@ -226,15 +327,4 @@ fn stands_alone(word: &[u8]) -> bool
     ensures { result ≡ stands_alone word.now }
 {
     asks_for_help(word) || word == b"--version".as_slice()
-}
-
-/// The first word, and those after it, where there are any.
-fn cut(words: &[u8]) -> (&[u8], Option<&[u8]>)
-    ensures parts { arguments_of words.now ≡ result.0.now ∷ words_left result.1 }
-    ensures whole { result.1 ≡ None → result.0.now ≡ words.now }
-{
-    match first_word(words) {
-        Some((word, rest)) => (word, Some(rest)),
-        None => (words, None),
-    }
 }

@@ -1,7 +1,7 @@
 //! What single words of the arguments spell, and how the arguments are cut into words.
 ghost use Rattle.std.specs.Prelude.{◌≡◌, ◌≤◌, ℕ, List, [], ◌∷◌, length, MatchOption};
 ghost use Rattle.std.specs.Str.{str_eq_ignore_ascii_case};
-ghost use Rattle.caldate.specs.Requests.{arguments_of, asks_for_help, verb_of, number_of, count_of, form_of, further_form_of, weekday_of, period_of, unit_of, spells, spells_unit};
+ghost use Rattle.caldate.specs.Requests.{arguments_of, asks_for_help, verb_of, number_of, count_of, form_of, further_form_of, weekday_of, period_of, unit_of, spells, spells_unit, words_left, many_of};
 
 use crate::lines::place_of;
 use crate::request::{Form, Period, TimeUnit, UnixUnit, Verb};
@@ -66,6 +66,17 @@ pub fn count_of(word: &[u8]) -> Option<u8>
         return None;
     }
     Some(number as u8)
+}
+
+/// The number from 1 to 4294967295 that a word spells.
+pub fn many_of(word: &[u8]) -> Option<u32>
+    ensures { result ≡ many_of word.now }
+{
+    let number = number_of(word)?;
+    if number < 1 || number > 4_294_967_295 {
+        return None;
+    }
+    Some(number as u32)
 }
 
 /// The form that a word names.
@@ -212,6 +223,17 @@ pub fn first_word(bytes: &[u8]) -> Option<(&[u8], &[u8])>
 {
     let at = place_of(0, bytes)?;
     Some((&bytes[..at], &bytes[at + 1..]))
+}
+
+/// The first word, and those after it, where there are any.
+pub fn cut(words: &[u8]) -> (&[u8], Option<&[u8]>)
+    ensures parts { arguments_of words.now ≡ result.0.now ∷ words_left result.1 }
+    ensures whole { result.1 ≡ None → result.0.now ≡ words.now }
+{
+    match first_word(words) {
+        Some((word, rest)) => (word, Some(rest)),
+        None => (words, None),
+    }
 }
 
 /// The bytes, if they are one word.

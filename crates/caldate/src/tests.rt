@@ -10,7 +10,9 @@ use std::alloc::Global;
 use std::io::{ErrorKind, Read, Write};
 
 mod arguments;
+mod columns;
 mod failing;
+mod lists;
 mod long;
 mod one_answer;
 mod requests;

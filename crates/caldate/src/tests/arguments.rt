@@ -113,34 +113,166 @@ fn complaint(alloc: Global, arguments: Option<&[u8]>) -> Option<Vec<u8>> {
 
 #[test]
 fn arguments_that_make_no_sense(rt: HostRuntime) {
-    let cases: [(&[u8], &[u8]); 55] = [
+    let cases: [(&[u8], &[u8]); 91] = [
+        (b"list", b"there is no 'from'"),
+        (b"list\02024-02-29", b"'2024-02-29' is no 'from'"),
+        (
+            b"list\0from",
+            b"there is no date (as 2024-02-29, 2024-060, 2024-W09-4, J2460370)",
+        ),
+        (
+            b"list\0from\02023-02-29\0to\02024-02-29",
+            b"'2023-02-29' is no date (as 2024-02-29, 2024-060, 2024-W09-4, J2460370)",
+        ),
+        (
+            b"list\0from\02024-02-29T00:00:00Z\0to\02024-03-01",
+            b"'2024-02-29T00:00:00Z' is no date (as 2024-02-29, 2024-060, 2024-W09-4, J2460370)",
+        ),
+        (b"list\0from\02024-02-29", b"there is no 'to'"),
+        (
+            b"list\0from\02024-02-29\0To\02024-03-01",
+            b"'To' is no 'to'",
+        ),
+        (
+            b"list\0from\02024-02-29\0to",
+            b"there is no date (as 2024-02-29, 2024-060, 2024-W09-4, J2460370)",
+        ),
+        (
+            b"list\0from\02024-02-29\0to\0@0",
+            b"'@0' is no date (as 2024-02-29, 2024-060, 2024-W09-4, J2460370)",
+        ),
+        (
+            b"list\0from\02024-02-29\0to\02024-03-01\0every",
+            b"'every' is no 'by'",
+        ),
+        (
+            b"list\0from\02024-02-29\0to\02024-03-01\0by",
+            b"there is no number from 1 to 4294967295",
+        ),
+        (
+            b"list\0from\02024-02-29\0to\02024-03-01\0by\00\0days",
+            b"'0' is no number from 1 to 4294967295",
+        ),
+        (
+            b"list\0from\02024-02-29\0to\02024-03-01\0by\0-1\0days",
+            b"'-1' is no number from 1 to 4294967295",
+        ),
+        (
+            b"list\0from\02024-02-29\0to\02024-03-01\0by\04294967296\0days",
+            b"'4294967296' is no number from 1 to 4294967295",
+        ),
+        (
+            b"list\0from\02024-02-29\0to\02024-03-01\0by\01",
+            b"there is no unit of dates (days, weeks, months, years)",
+        ),
+        (
+            b"list\0from\02024-02-29\0to\02024-03-01\0by\01\0hour",
+            b"'hour' is no unit of dates (days, weeks, months, years)",
+        ),
+        (
+            b"list\0from\02024-02-29\0to\02024-03-01\0by\01\0workday",
+            b"'workday' is no unit of dates (days, weeks, months, years)",
+        ),
+        (
+            b"list\0from\02024-02-29\0to\02024-03-01\0by\01\0day\0",
+            b"'' is one word too many",
+        ),
+        (
+            b"--strict\0list\0from\02024-02-29\0to\02024-03-01",
+            b"'list' is no verb (to, add, next, last, until, since, start, end, on-or-after, on-or-before, at) and no further option",
+        ),
         (
             b"",
             b"nothing to do; caldate --help shows what can be asked",
         ),
         (
             b"\0to\0week",
-            b"'' is no verb (to, add, next, last, until, since, start, end, on-or-after, on-or-before, at) and no option (--strict, --help, --version)",
+            b"'' is no verb (to, add, next, last, until, since, start, end, on-or-after, on-or-before, at, list) and no option (--strict, --field, --separator, --skip, --help, --version)",
         ),
         (
             b"week",
-            b"'week' is no verb (to, add, next, last, until, since, start, end, on-or-after, on-or-before, at) and no option (--strict, --help, --version)",
+            b"'week' is no verb (to, add, next, last, until, since, start, end, on-or-after, on-or-before, at, list) and no option (--strict, --field, --separator, --skip, --help, --version)",
         ),
         (
             b"To\0week",
-            b"'To' is no verb (to, add, next, last, until, since, start, end, on-or-after, on-or-before, at) and no option (--strict, --help, --version)",
+            b"'To' is no verb (to, add, next, last, until, since, start, end, on-or-after, on-or-before, at, list) and no option (--strict, --field, --separator, --skip, --help, --version)",
         ),
         (
             b"--strict",
-            b"there is no verb (to, add, next, last, until, since, start, end, on-or-after, on-or-before, at)",
+            b"there is no verb (to, add, next, last, until, since, start, end, on-or-after, on-or-before, at) and no further option",
         ),
         (
             b"--strict\0--help",
-            b"'--help' is no verb (to, add, next, last, until, since, start, end, on-or-after, on-or-before, at)",
+            b"'--help' is no verb (to, add, next, last, until, since, start, end, on-or-after, on-or-before, at) and no further option",
         ),
         (
             b"--strict\0--strict\0to\0week",
-            b"'--strict' is no verb (to, add, next, last, until, since, start, end, on-or-after, on-or-before, at)",
+            b"'--strict' is no verb (to, add, next, last, until, since, start, end, on-or-after, on-or-before, at) and no further option",
+        ),
+        (
+            b"--skip",
+            b"there is no number of lines (0 .. 9223372036854775807)",
+        ),
+        (
+            b"--skip\0-1\0to\0week",
+            b"'-1' is no number of lines (0 .. 9223372036854775807)",
+        ),
+        (
+            b"--strict\0--skip\0to\0week",
+            b"'to' is no number of lines (0 .. 9223372036854775807)",
+        ),
+        (
+            b"--skip\01",
+            b"there is no verb (to, add, next, last, until, since, start, end, on-or-after, on-or-before, at) and no further option",
+        ),
+        (
+            b"--skip\01\0--skip\02\0to\0week",
+            b"'--skip' is no verb (to, add, next, last, until, since, start, end, on-or-after, on-or-before, at) and no further option",
+        ),
+        (
+            b"--skip\01\0--strict\0to\0days",
+            b"'days' is no form (calendar, ordinal, week, julian, weekday, short-weekday, month, quarter, basic, rfc3339, unix, unix-ms, unix-us, unix-ns)",
+        ),
+        (b"--field", b"there is no number of a field (1 .. 65535)"),
+        (
+            b"--field\00\0to\0week",
+            b"'0' is no number of a field (1 .. 65535)",
+        ),
+        (
+            b"--field\065536\0to\0week",
+            b"'65536' is no number of a field (1 .. 65535)",
+        ),
+        (
+            b"--skip\01\0--field\0two\0to\0week",
+            b"'two' is no number of a field (1 .. 65535)",
+        ),
+        (
+            b"--field\02\0--separator\0\0to\0week",
+            b"'' is no separator (one byte)",
+        ),
+        (
+            b"--separator\0;;\0--field\02\0to\0week",
+            b"';;' is no separator (one byte)",
+        ),
+        (
+            b"--field\02\0--separator",
+            b"there is no separator (one byte)",
+        ),
+        (
+            b"--separator\0,\0to\0week",
+            b"'to' is no --field, which --separator needs",
+        ),
+        (
+            b"--strict\0--separator\0,",
+            b"there is no --field, which --separator needs",
+        ),
+        (
+            b"--field\02",
+            b"there is no verb (to, add, next, last, until, since, start, end, on-or-after, on-or-before, at) and no further option",
+        ),
+        (
+            b"--field\02\0--field\03\0to\0week",
+            b"'--field' is no verb (to, add, next, last, until, since, start, end, on-or-after, on-or-before, at) and no further option",
         ),
         (b"--help\0to", b"'to' is one word too many"),
         (b"help\0\0", b"'' is one word too many"),

@@ -32,12 +32,12 @@ impl Read for Dripping<'_> {
 
 /// Takes one byte a call, and at this call and at so many in all fails, or takes none where no kind of failure is named.
 #[derive(Drop)]
-struct Sipping {
-    taken: Vec<u8>,
-    calls: usize,
-    failing: usize,
-    failures: usize,
-    kind: Option<ErrorKind>,
+pub struct Sipping {
+    pub taken: Vec<u8>,
+    pub calls: usize,
+    pub failing: usize,
+    pub failures: usize,
+    pub kind: Option<ErrorKind>,
 }
 
 impl Write for Sipping {
@@ -66,8 +66,8 @@ impl Write for Sipping {
 
 /// Fails at each call.
 #[derive(Drop)]
-struct Failing {
-    kind: ErrorKind,
+pub struct Failing {
+    pub kind: ErrorKind,
 }
 
 impl Write for Failing {

@@ -1,9 +1,12 @@
-//! A run leaves one answer where each text has one: two runs over one input that reach its end leave alike writers.
+//! A run leaves one answer where each text has one: two runs over one input that reach its end leave alike writers, and so do two
+//! that write one list.
 ghost use Rattle.std.specs.Prelude.{◌≡◌, List, ℕ, Some, IsOk};
+ghost use Rattle.caldate.specs.Lists.{IsStep};
 ghost use Rattle.caldate.specs.Runs.{IsAllowed};
 
 use crate::fault::Fault;
-use crate::request::Filter;
+use crate::list::list;
+use crate::request::{Filter, Listing};
 use crate::run::run;
 use std::io::{Read, Write};
 
@@ -14,10 +17,22 @@ fn runs<R: Read, W: Write>(
     writer: &mut W,
     other: &mut W,
 ) -> (Result<(), Fault>, Result<(), Fault>)
-    ensures { ((text words others : List ℕ) → IsAllowed filter.now text words → IsAllowed filter.now text others → words ≡ others)
+    ensures { ((before : ℕ) (text words others : List ℕ) → IsAllowed filter.now before text words → IsAllowed filter.now before text others → words ≡ others)
         → (input held : List ℕ) → R.remaining reader.old ≡ Some input → R.remaining twin.old ≡ Some input
         → W.contents writer.old ≡ Some held → W.contents other.old ≡ Some held
         → IsOk result.0 → IsOk result.1 → W.contents writer.new ≡ W.contents other.new }
 {
     (run(*filter, reader, writer), run(*filter, twin, other))
+}
+
+fn lists<W: Write>(
+    listing: &Listing,
+    writer: &mut W,
+    other: &mut W,
+) -> (Result<(), Fault>, Result<(), Fault>)
+    requires { IsStep listing.now.step }
+    ensures { (held : List ℕ) → W.contents writer.old ≡ Some held → W.contents other.old ≡ Some held
+        → IsOk result.0 → IsOk result.1 → W.contents writer.new ≡ W.contents other.new }
+{
+    (list(listing, writer), list(listing, other))
 }

@@ -1,11 +1,11 @@
-use Rattle.std.proofs.Common.{◌≡◌, ◌+◌, ◌<◌, ◌++◌, [], length, rules, subst}
+use Rattle.std.proofs.Common.{◌≡◌, ◌<◌, ◌++◌, [], length, rules, subst}
 use Rattle.std.specs.Io.KnownBytes.{Appends}
 use Rattle.std.proofs.lemmas.Result.{on_ok_weaker}
-use Rattle.caldate.specs.Runs.{AppendsFront, AppendsThat, EndsFrom, IsAllowed}
-use Rattle.caldate.specs.Standing.{IsReply, Stands, counted}
+use Rattle.caldate.specs.Runs.{AppendsFront, EndsFrom, IsAllowed}
+use Rattle.caldate.specs.Standing.{Stands}
 use Rattle.caldate.specs.Unanswered.{IsUnanswered}
 use Rattle.caldate.proofs.Ends.{empty, same_line, write_failed}
-use Rattle.caldate.proofs.Steps.{all_answered, last_answered, last_failed, last_stopped}
+use Rattle.caldate.proofs.Steps.{Replies, all_answered, last_answered, last_failed, last_stopped}
 use Rattle.caldate.proofs.run.answer_last.Goals as goal
 
 pub returns-then-is_empty-clause-ok : goal.returns-then-is_empty-clause-ok
@@ -18,7 +18,7 @@ pub returns-in-Err-clause-unanswered : goal.returns-in-Err-clause-unanswered
 returns-in-Err-clause-unanswered g c = λ told e input start s.
     let some : 0 < length c.args.line.now = search rules in
     last_stopped c.args.filter.now input start _ c.args.line.now c.args.place.now told c.requires.no_end some c.in-Err.ensures.strict.0
-    (λ kept held shown. subst (λ t. IsUnanswered c.args.filter.now.request (counted (c.args.place.now.number + 1)) (kept ++ c.args.line.now) t) (same_line c.in-Err.told told e) (c.in-Err.ensures.told kept held shown)) s
+    (λ kept before held shown number. subst (λ t. IsUnanswered c.args.filter.now before (kept ++ c.args.line.now) t) (same_line c.in-Err.told told e) (c.in-Err.ensures.told kept before held shown number)) s
 
 pub returns-in-Ok-clause-ok : goal.returns-in-Ok-clause-ok
 returns-in-Ok-clause-ok g c =
@@ -27,7 +27,7 @@ returns-in-Ok-clause-ok g c =
     let ends : Appends (g.W.Write.contents c.args.writer.now) (g.W.Write.contents c.write_all.new.writer) c.as_bytes.result.now
     → EndsFrom c.args.filter.now (g.W.Write.contents c.args.writer.now) (g.W.Write.contents c.write_all.new.writer) [] c.args.line.now c.args.place.now = λ gone input start s.
     last_answered c.args.filter.now input start _ _ c.push_reply.new.gathered c.args.line.now c.args.place.now c.requires.no_end some
-    (λ kept held. subst (λ old. AppendsThat (IsReply (IsAllowed c.args.filter.now) (kept ++ c.args.line.now)) old c.push_reply.new.gathered) c.requires.none (reply kept held))
+    (subst (λ old. Replies (IsAllowed c.args.filter.now) c.args.place.now c.args.line.now old c.push_reply.new.gathered) c.requires.none reply)
     (subst (Appends (g.W.Write.contents c.args.writer.now) (g.W.Write.contents c.write_all.new.writer)) c.as_bytes.ensures gone) s in
     on_ok_weaker _ ends c.write_all.ensures.ok
 
@@ -37,5 +37,5 @@ returns-in-Ok-clause-write g c = λ h input start s.
     let reply = c.in-Ok.ensures.replied in
     let front = write_failed _ c.write_all.result h c.write_all.ensures.front in
     last_failed c.args.filter.now input start _ _ c.push_reply.new.gathered c.args.line.now c.args.place.now c.requires.no_end some
-    (λ kept held. subst (λ old. AppendsThat (IsReply (IsAllowed c.args.filter.now) (kept ++ c.args.line.now)) old c.push_reply.new.gathered) c.requires.none (reply kept held))
+    (subst (λ old. Replies (IsAllowed c.args.filter.now) c.args.place.now c.args.line.now old c.push_reply.new.gathered) c.requires.none reply)
     (subst (AppendsFront (g.W.Write.contents c.args.writer.now) (g.W.Write.contents c.write_all.new.writer)) c.as_bytes.ensures front) s

@@ -1,7 +1,6 @@
-use Rattle.std.proofs.Common.{◌+◌, ◌++◌, ◌∷◌, [], ◌∙◌, ap, sym, subst, arith, refl, append_assoc}
+use Rattle.std.proofs.Common.{◌++◌, ◌∷◌, [], ◌∙◌, ap, sym, subst, arith, refl, append_assoc}
 use Rattle.std.specs.Io.KnownBytes.{Appends}
 use Rattle.caldate.specs.Runs.{AppendsFront, IsAllowed}
-use Rattle.caldate.specs.Standing.{counted}
 use Rattle.caldate.specs.Unanswered.{IsUnanswered}
 use Rattle.caldate.specs.declared.fault.Fault.TheVariants.{Unanswered}
 use Rattle.caldate.proofs.Ends.{same_fault}
@@ -28,7 +27,7 @@ returns-in-Err-clause-unanswered g c = λ told h input start s.
     let s = gone (IsAllowed c.args.filter.now) input start _ _ c.loop-line.gathered c.make_room.new.gathered room.0 c.loop-line.rest.now c.loop-line.place room.1 room.2 (c.loop-line.invariant.1 input start s) in
     stopped c.args.filter.now input start _ _ c.make_room.new.gathered c.loop-line.rest.now c.in-Some.line.now c.in-Some.after.now c.loop-line.place told
     c.in-Some.ensures.parts.0 c.in-Some.ensures.parts.1 no.0
-    (λ kept held shown. subst (λ t. IsUnanswered c.args.filter.now.request (counted (c.loop-line.place.number + 1)) (kept ++ c.in-Some.line.now) t) (sym went.0) (c.in-Err.ensures.told kept held shown))
+    (λ kept before held shown number. subst (λ t. IsUnanswered c.args.filter.now before (kept ++ c.in-Some.line.now) t) (sym went.0) (c.in-Err.ensures.told kept before held shown number))
     (subst (Appends (g.W.Write.contents c.make_room.new.writer) (g.W.Write.contents c.stop.new.writer)) no.1 went.1) s
 
 pub loop-line-preserved : goal.loop-line-preserved

@@ -1,6 +1,5 @@
 use Rattle.std.proofs.Common.{◌≡◌, ◌-◌, slice_get}
-use Rattle.caldate.specs.Requests.{arguments_of}
-use Rattle.caldate.specs.Senseless.{words_left}
+use Rattle.caldate.specs.Requests.{arguments_of, words_left}
 use Rattle.caldate.proofs.senseless.word_at.Given as goal
 
 -- the word is as far on among those that are left
