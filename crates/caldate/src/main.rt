@@ -20,6 +20,7 @@ mod output;
 mod patience;
 mod place;
 mod program;
+mod reading;
 mod reply;
 mod request;
 mod run;

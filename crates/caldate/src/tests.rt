@@ -13,6 +13,7 @@ mod arguments;
 mod failing;
 mod long;
 mod one_answer;
+mod readings;
 mod requests;
 mod shown;
 mod strict;
