@@ -8,7 +8,6 @@ use Rattle.caldate.specs.Runs.{Allowed, AppendsThat, IsAllowed}
 use Rattle.caldate.specs.Standing.{IsHeld, IsReply, IsShown}
 use Rattle.caldate.specs.Shown.{shown, words_shown}
 use Rattle.caldate.specs.declared.request.Filter.{Filter}
-use Rattle.caldate.specs.declared.request.Request.{Request}
 use Rattle.caldate.specs.declared.shown.ShownText.{ShownText}
 use Rattle.caldate.proofs.Steps.{shown_front}
 
@@ -30,9 +29,9 @@ text_long : (b : Bool) (line : List ℕ) (n : ℕ) → n + 1 < length line → n
 text_long true line n h = omega (arith, h, length-take (length line - 1) line)
 text_long false line n h = omega (arith, h)
 
-pub lacks_long : (q : Request) (kept line old new : List ℕ) → IsHeld true kept line → new ≡ old ++ codes "line too long"
-    → AppendsThat (LacksAnswer q (text_of (kept ++ line))) old new
-lacks_long q kept line old new h e =
+pub lacks_long : (filter : Filter) (kept line old new : List ℕ) → IsHeld true kept line → new ≡ old ++ codes "line too long"
+    → AppendsThat (LacksAnswer filter (text_of (kept ++ line))) old new
+lacks_long filter kept line old new h e =
     (codes "line too long", e, inl (text_long (has_return (kept ++ line)) (kept ++ line) 4096 (omega (arith, h.0, length-append kept line, ap length h.2.2)), refl))
 
 -- ---- a line that is whole
@@ -42,20 +41,20 @@ of_whole P kept line text old new h e a =
     subst (λ t. AppendsThat (P t) old new) (e ∙ ap (λ k. text_of (k ++ line)) (sym h)) a
 
 -- ---- what is allowed
-allowed_has : (b : Bool) (q : Request) (text words : List ℕ) → HasAnswer q text words → Allowed b q text words
-allowed_has true q text words h = h
-allowed_has false q text words h = inl h
+allowed_has : (b : Bool) (filter : Filter) (text words : List ℕ) → HasAnswer filter text words → Allowed b filter text words
+allowed_has true filter text words h = h
+allowed_has false filter text words h = inl h
 
-allowed_lacks : (b : Bool) (q : Request) (text words : List ℕ) → b ≡ false → LacksAnswer q text words → Allowed b q text words
-allowed_lacks b q text words e h = subst (λ b. Allowed b q text words) (sym e) (inr h)
+allowed_lacks : (b : Bool) (filter : Filter) (text words : List ℕ) → b ≡ false → LacksAnswer filter text words → Allowed b filter text words
+allowed_lacks b filter text words e h = subst (λ b. Allowed b filter text words) (sym e) (inr h)
 
-pub has_allowed : (filter : Filter) (text old new : List ℕ) → AppendsThat (HasAnswer filter.request text) old new
+pub has_allowed : (filter : Filter) (text old new : List ℕ) → AppendsThat (HasAnswer filter text) old new
     → AppendsThat (IsAllowed filter text) old new
-has_allowed filter text old new h = (h.0, h.1, allowed_has filter.is_strict filter.request text h.0 h.2)
+has_allowed filter text old new h = (h.0, h.1, allowed_has filter.is_strict filter text h.0 h.2)
 
-pub lacks_allowed : (filter : Filter) (text old new : List ℕ) → filter.is_strict ≡ false → AppendsThat (LacksAnswer filter.request text) old new
+pub lacks_allowed : (filter : Filter) (text old new : List ℕ) → filter.is_strict ≡ false → AppendsThat (LacksAnswer filter text) old new
     → AppendsThat (IsAllowed filter text) old new
-lacks_allowed filter text old new e h = (h.0, h.1, allowed_lacks filter.is_strict filter.request text h.0 e h.2)
+lacks_allowed filter text old new e h = (h.0, h.1, allowed_lacks filter.is_strict filter text h.0 e h.2)
 
 -- ---- the words, and the end of the line
 pub replied : (filter : Filter) (b : Bool) (kept line old mid new end : List ℕ) → IsHeld b kept line

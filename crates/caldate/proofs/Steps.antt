@@ -16,7 +16,6 @@ use Rattle.caldate.specs.Shown.{printed, shown, words_shown}
 use Rattle.caldate.specs.Unanswered.{IsUnanswered}
 use Rattle.caldate.specs.declared.place.Place.{Place}
 use Rattle.caldate.specs.declared.request.Filter.{Filter}
-use Rattle.caldate.specs.declared.request.Request.{Request}
 use Rattle.caldate.specs.declared.shown.ShownText.{ShownText}
 use Rattle.caldate.specs.declared.unanswered.UnansweredLine.{UnansweredLine}
 
@@ -184,11 +183,11 @@ failed filter input start now new gathered pending place f s = record {
 -- ---- a line without an answer
 abbrev Tells : Filter → Place → List ℕ → UnansweredLine → Type 0
 Tells filter place line told = (kept : List ℕ) → IsHeld place.is_long kept line → IsShown place.is_long place.front kept
-    → IsUnanswered filter.request (counted (place.number + 1)) (kept ++ line) told
+    → IsUnanswered filter (counted (place.number + 1)) (kept ++ line) told
 
-numbered : (q : Request) (m n : ℕ) (line : List ℕ) (told : UnansweredLine) → m ≡ counted n → IsUnanswered q (counted (m + 1)) line told
-    → IsUnanswered q (counted (n + 1)) line told
-numbered q m n line told e u = subst (λ k. IsUnanswered q k line told) (counted_more n m e) u
+numbered : (filter : Filter) (m n : ℕ) (line : List ℕ) (told : UnansweredLine) → m ≡ counted n → IsUnanswered filter (counted (m + 1)) line told
+    → IsUnanswered filter (counted (n + 1)) line told
+numbered filter m n line told e u = subst (λ k. IsUnanswered filter k line told) (counted_more n m e) u
 
 all_more : (start now new : Option (List ℕ)) (written gathered out : List ℕ) → out ≡ written ++ gathered → Appends start now written
     → Appends now new gathered → Appends start new out
@@ -209,7 +208,7 @@ stopped filter input start now new gathered pending line after place told n e st
       strict = strict;
       cut = ended_are input s.kept pending s.lines s.cut
           ∙ ap (λ p. s.lines ++ without_last p) parts ∙ ap (λ l. s.lines ++ l) (part_ended (s.kept ++ line) (slice_split is_end after) (split_some after));
-      unanswered = numbered filter.request place.number (length s.lines) (s.kept ++ line) told s.number (tells s.kept (held_line place.is_long s.kept pending line after s.held e) s.front);
+      unanswered = numbered filter place.number (length s.lines) (s.kept ++ line) told s.number (tells s.kept (held_line place.is_long s.kept pending line after s.held e) s.front);
       replies = s.replies;
       taken = all_more start now new s.written gathered s.out s.whole s.taken f;
     }
@@ -283,7 +282,7 @@ last_stopped filter input start now line place told n l strict tells s =
       out = s.out;
       strict = strict;
       cut = with_last filter input start now [] line place n l s;
-      unanswered = numbered filter.request place.number (length s.lines) (s.kept ++ line) told s.number (tells s.kept s.held s.front);
+      unanswered = numbered filter place.number (length s.lines) (s.kept ++ line) told s.number (tells s.kept s.held s.front);
       replies = s.replies;
       taken = subst (Appends start now) (sym (s.whole ∙ append-nil s.written)) s.taken;
     }

@@ -12,6 +12,7 @@ use Rattle.cal_text.specs.declared.any.DateForm.TheVariants.{Calendar, Ordinal, 
 use Rattle.cal_text.specs.declared.any.DateOrMoment.{DateOrMoment}
 use Rattle.cal_text.specs.declared.any.MomentForm.TheVariants.{Rfc3339, Unix}
 use Rattle.caldate.specs.Offsets.{offset_of}
+use Rattle.caldate.specs.declared.reading.Reading.TheVariants as read
 use Rattle.caldate.specs.declared.request.Form.{Form}
 use Rattle.caldate.specs.declared.request.Form.TheVariants as form
 use Rattle.caldate.specs.declared.request.DayMove.{DayMove}
@@ -225,7 +226,7 @@ abbrev pub stands_alone : List ℕ → Bool
 stands_alone word = asks_for_help word || bytes_eq word (codes "--version")
 
 abbrev pub filter_of : Bool → Option Request → Option Asked
-filter_of is_strict request = option_map (λ q. Lines (record { request = q; is_strict = is_strict })) request
+filter_of is_strict request = option_map (λ q. Lines (record { request = q; reading = read.Any; is_strict = is_strict })) request
 
 abbrev pub meaning_of : (List ℕ → Option DateOrMoment) → List (List ℕ) → Option Asked
 meaning_of reading [] = None

@@ -9,16 +9,15 @@ use Rattle.caldate.specs.declared.fault.Fault.{Fault}
 use Rattle.caldate.specs.declared.fault.Fault.TheVariants.{Read, Write, Unanswered}
 use Rattle.caldate.specs.declared.place.Place.{Place}
 use Rattle.caldate.specs.declared.request.Filter.{Filter}
-use Rattle.caldate.specs.declared.request.Request.{Request}
 use Rattle.caldate.specs.declared.unanswered.UnansweredLine.{UnansweredLine}
 
 -- what may be written for a text: any answer, or in a strict run one that the text has
-abbrev pub Allowed : Bool → Request → List ℕ → List ℕ → Type 0
-Allowed true q = HasAnswer q
-Allowed false q = IsAnswer q
+abbrev pub Allowed : Bool → Filter → List ℕ → List ℕ → Type 0
+Allowed true filter = HasAnswer filter
+Allowed false filter = IsAnswer filter
 
 abbrev pub IsAllowed : Filter → List ℕ → List ℕ → Type 0
-IsAllowed filter = Allowed filter.is_strict filter.request
+IsAllowed filter = Allowed filter.is_strict filter
 
 -- new is old and words of this kind
 abbrev pub AppendsThat : (List ℕ → Type 0) → List ℕ → List ℕ → Type 0
@@ -65,7 +64,7 @@ pub record StopsAt (filter : Filter) (told : UnansweredLine) (all : List (List �
   pub out : List ℕ
   pub strict : filter.is_strict ≡ true
   pub cut : all ≡ lines ++ line ∷ more
-  pub unanswered : IsUnanswered filter.request (counted (length lines + 1)) line told
+  pub unanswered : IsUnanswered filter (counted (length lines + 1)) line told
   pub replies : AreReplies (IsAllowed filter) lines out
   pub taken : Appends old new out
 

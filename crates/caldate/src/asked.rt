@@ -7,6 +7,7 @@ ghost use Rattle.caldate.specs.declared.request.DayMove.TheVariants.{Next, Last,
 ghost use Rattle.caldate.specs.declared.request.Request.TheVariants.{Until, Since};
 
 use crate::offset::offset_of;
+use crate::reading::Reading;
 use crate::request::{Asked, DayMove, Filter, Request, TimeUnit, Verb};
 use crate::senseless::{Senseless, senseless_of};
 use crate::spelling::{
@@ -60,7 +61,11 @@ fn filter_of(is_strict: bool, request: Option<Request>) -> Option<Asked>
     ensures { result ≡ filter_of is_strict request }
 {
     let request = request?;
-    Some(Asked::Lines(Filter { request, is_strict }))
+    Some(Asked::Lines(Filter {
+        request,
+        reading: Reading::Any,
+        is_strict,
+    }))
 }
 
 /// The request of a verb and what comes after it.

@@ -27,7 +27,7 @@ pub fn push_reply(
         → AppendsThat (IsReply (IsAllowed filter.now) (kept ++ line.now)) gathered.old gathered.new) }
     ensures strict { IfErr result (λ told. (filter.now.is_strict ≡ true) × (gathered.new ≡ gathered.old)) }
     ensures told { IfErr result (λ told. (kept : List ℕ) → IsHeld place.now.is_long kept line.now → IsShown place.now.is_long place.now.front kept
-        → IsUnanswered filter.now.request (counted (place.now.number + 1)) (kept ++ line.now) told) }
+        → IsUnanswered filter.now (counted (place.now.number + 1)) (kept ++ line.now) told) }
 {
     let before = gathered.len();
     let is_long = place.is_long;
@@ -36,7 +36,7 @@ pub fn push_reply(
         gathered.push(b"line too long");
         false
     } else {
-        push_answer(gathered, &filter.request, text)
+        push_answer(gathered, filter, text)
     };
     if filter.is_strict && !has_answer {
         let told = UnansweredLine {

@@ -1,4 +1,5 @@
 //! What is asked of the lines.
+use crate::reading::Reading;
 use cal_text::{DateForm, DateOrMoment, MomentForm};
 use cal_time::{SignedDuration, UtcOffset, Weekday};
 
@@ -122,10 +123,11 @@ pub enum Request {
     At(UtcOffset),
 }
 
-/// A request, and whether the run ends at the first line without an answer.
+/// A request, what the lines are read as, and whether the run ends at the first line without an answer.
 #[derive(Clone, Copy)]
 pub struct Filter {
     pub request: Request,
+    pub reading: Reading,
     pub is_strict: bool,
 }
 

@@ -11,17 +11,17 @@ use Rattle.caldate.proofs.reply.push_reply.Goals.{then-is_long, else-is_long, el
 
 pub returns-then-not-has_answer-clause-told : goal.returns-then-not-has_answer-clause-told
 returns-then-not-has_answer-clause-told c = λ kept held front.
-    let q = c.args.filter.now.request in
+    let filter = c.args.filter.now in
     let line = c.args.line.now in
     let old = c.args.gathered.now in
     let mid = c.if-is_long.gathered in
-    let lacks : AppendsThat (LacksAnswer q (text_of (kept ++ line))) old mid =
-    elim c.if-is_long.branch as (λ _. AppendsThat (LacksAnswer q (text_of (kept ++ line))) old mid) [
+    let lacks : AppendsThat (LacksAnswer filter (text_of (kept ++ line))) old mid =
+    elim c.if-is_long.branch as (λ _. AppendsThat (LacksAnswer filter (text_of (kept ++ line))) old mid) [
       | then-is_long w ↦
-          lacks_long q kept line old mid (subst (λ b. IsHeld b kept line) w.if-is_long.true held) (w.gathered-is ∙ w.push.ensures.appended)
+          lacks_long filter kept line old mid (subst (λ b. IsHeld b kept line) w.if-is_long.true held) (w.gathered-is ∙ w.push.ensures.appended)
       | else-is_long w ↦
-          of_whole (LacksAnswer q) kept line _ old mid (subst (λ b. IsHeld b kept line) w.if-is_long.false held) c.text_and_end.ensures.text
-          (subst (AppendsThat (LacksAnswer q c.text_and_end.result.0.now) old) (sym w.gathered-is)
+          of_whole (LacksAnswer filter) kept line _ old mid (subst (λ b. IsHeld b kept line) w.if-is_long.false held) c.text_and_end.ensures.text
+          (subst (AppendsThat (LacksAnswer filter c.text_and_end.result.0.now) old) (sym w.gathered-is)
           (w.push_answer-has_answer.ensures.lacks (sym w.has_answer-is ∙ c.if-not-has_answer.true)))
     ] in
     record {
@@ -35,14 +35,13 @@ returns-then-not-has_answer-clause-told c = λ kept held front.
 pub returns-clause-replied : goal.returns-clause-replied
 returns-clause-replied c = λ kept held.
     let filter = c.args.filter.now in
-    let q = filter.request in
     let line = c.args.line.now in
     let old = c.args.gathered.now in
     let mid = c.if-is_long.gathered in
     let said : AppendsThat (IsAllowed filter (text_of (kept ++ line))) old mid =
     elim c.if-is_long.branch as (λ _. AppendsThat (IsAllowed filter (text_of (kept ++ line))) old mid) [
       | then-is_long w ↦
-          let lacks = lacks_long q kept line old mid (subst (λ b. IsHeld b kept line) w.if-is_long.true held) (w.gathered-is ∙ w.push.ensures.appended) in
+          let lacks = lacks_long filter kept line old mid (subst (λ b. IsHeld b kept line) w.if-is_long.true held) (w.gathered-is ∙ w.push.ensures.appended) in
           elim c.else-filter.branch as (λ _. AppendsThat (IsAllowed filter (text_of (kept ++ line))) old mid) [
             | else-filter-via-then-filter+else-not-has_answer v ↦ absurd (false≢true (sym w.has_answer-is ∙ v.if-not-has_answer.false))
             | else-filter-via-else-filter v ↦ lacks_allowed filter (text_of (kept ++ line)) old mid v.if-filter.false lacks

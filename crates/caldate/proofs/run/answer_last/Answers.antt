@@ -18,7 +18,7 @@ pub returns-in-Err-clause-unanswered : goal.returns-in-Err-clause-unanswered
 returns-in-Err-clause-unanswered g c = λ told e input start s.
     let some : 0 < length c.args.line.now = search rules in
     last_stopped c.args.filter.now input start _ c.args.line.now c.args.place.now told c.requires.no_end some c.in-Err.ensures.strict.0
-    (λ kept held shown. subst (λ t. IsUnanswered c.args.filter.now.request (counted (c.args.place.now.number + 1)) (kept ++ c.args.line.now) t) (same_line c.in-Err.told told e) (c.in-Err.ensures.told kept held shown)) s
+    (λ kept held shown. subst (λ t. IsUnanswered c.args.filter.now (counted (c.args.place.now.number + 1)) (kept ++ c.args.line.now) t) (same_line c.in-Err.told told e) (c.in-Err.ensures.told kept held shown)) s
 
 pub returns-in-Ok-clause-ok : goal.returns-in-Ok-clause-ok
 returns-in-Ok-clause-ok g c =

@@ -28,7 +28,7 @@ returns-in-Err-clause-unanswered g c = λ told h input start s.
     let s = gone (IsAllowed c.args.filter.now) input start _ _ c.loop-line.gathered c.make_room.new.gathered room.0 c.loop-line.rest.now c.loop-line.place room.1 room.2 (c.loop-line.invariant.1 input start s) in
     stopped c.args.filter.now input start _ _ c.make_room.new.gathered c.loop-line.rest.now c.in-Some.line.now c.in-Some.after.now c.loop-line.place told
     c.in-Some.ensures.parts.0 c.in-Some.ensures.parts.1 no.0
-    (λ kept held shown. subst (λ t. IsUnanswered c.args.filter.now.request (counted (c.loop-line.place.number + 1)) (kept ++ c.in-Some.line.now) t) (sym went.0) (c.in-Err.ensures.told kept held shown))
+    (λ kept held shown. subst (λ t. IsUnanswered c.args.filter.now (counted (c.loop-line.place.number + 1)) (kept ++ c.in-Some.line.now) t) (sym went.0) (c.in-Err.ensures.told kept held shown))
     (subst (Appends (g.W.Write.contents c.make_room.new.writer) (g.W.Write.contents c.stop.new.writer)) no.1 went.1) s
 
 pub loop-line-preserved : goal.loop-line-preserved
