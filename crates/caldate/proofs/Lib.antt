@@ -13,3 +13,6 @@ pub mod OneCount
 pub mod OneAnswer
 pub mod Leads
 pub mod Digits
+pub mod ReadNumbers
+pub mod PartTexts
+pub mod LastBytes

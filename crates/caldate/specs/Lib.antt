@@ -7,6 +7,7 @@ pub mod Lines
 pub mod Moves
 pub mod Offsets
 pub mod Program
+pub mod Readings
 pub mod Requests
 pub mod Room
 pub mod Runs

@@ -14,6 +14,7 @@ use Rattle.cal_text.specs.declared.any.DateOrMoment.{DateOrMoment}
 use Rattle.cal_text.specs.declared.any.MomentForm.TheVariants.{Rfc3339, Unix}
 use Rattle.caldate.specs.Offsets.{offset_of}
 use Rattle.caldate.specs.declared.options.Options.{Options}
+use Rattle.caldate.specs.declared.reading.Reading.TheVariants as read
 use Rattle.caldate.specs.declared.request.Field.{Field}
 use Rattle.caldate.specs.declared.request.Form.{Form}
 use Rattle.caldate.specs.declared.request.Form.TheVariants as form
@@ -306,7 +307,7 @@ lacks_field options = is_some options.separator && is_none options.number
 abbrev pub filter_of : Options → Option Request → Option Asked
 filter_of options request =
     if lacks_field options then None else
-    option_map (λ q. Lines (record { request = q; is_strict = options.is_strict; field = field_of options; skip = unwrap_or options.skip 0 })) request
+    option_map (λ q. Lines (record { request = q; reading = read.Any; is_strict = options.is_strict; field = field_of options; skip = unwrap_or options.skip 0 })) request
 
 abbrev pub request_with : (List ℕ → Option DateOrMoment) → Options × List (List ℕ) → Option Asked
 request_with reading front = filter_of front.0 (request_of reading front.1)

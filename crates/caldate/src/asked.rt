@@ -8,6 +8,7 @@ ghost use Rattle.caldate.specs.declared.request.Request.TheVariants.{Until, Sinc
 
 use crate::offset::offset_of;
 use crate::options::{Options, field_of, lacks_field, options_of};
+use crate::reading::Reading;
 use crate::request::{Asked, DayMove, Filter, Request, TimeUnit, Verb};
 use crate::senseless::{Senseless, senseless_of};
 use crate::spelling::{
@@ -62,6 +63,7 @@ fn filter_of(options: Options, request: Option<Request>) -> Option<Asked>
     }
     Some(Asked::Lines(Filter {
         request: request?,
+        reading: Reading::Any,
         is_strict: options.is_strict,
         field: field_of(options),
         skip: options.skip.unwrap_or(0),

@@ -14,6 +14,7 @@ mod columns;
 mod failing;
 mod long;
 mod one_answer;
+mod readings;
 mod requests;
 mod shown;
 mod strict;
