@@ -15,3 +15,4 @@ pub mod Digits
 pub mod ReadNumbers
 pub mod PartTexts
 pub mod LastBytes
+pub mod OptionWords

@@ -1,12 +1,12 @@
 -- What arguments ask for, by their first word and the others.
-use Rattle.std.proofs.Common.{◌≡◌, ℕ, true, false, cond, eqb, List, [], ◌∷◌, Option, None, Some, refl, sym, ap, ◌∙◌, arith, length, ◌+◌, ◌<◌, ℤ, pos, ◌*ℤ◌}
+use Rattle.std.proofs.Common.{◌≡◌, ℕ, true, cond, eqb, List, [], ◌∷◌, Option, None, Some, refl, sym, ap, ◌∙◌, arith, length, ◌+◌, ◌<◌, ℤ, pos, ◌*ℤ◌}
 use Rattle.std.specs.Prelude.{FitsSigned, bytes_eq, codes, option_and_then, option_map}
 use Rattle.std.specs.Int.{w64}
 use Rattle.std.specs.Option.{option_zip}
 use Rattle.std.proofs.lemmas.List.Splits.{length-slice_split}
 use Rattle.cal_text.specs.declared.any.DateOrMoment.{DateOrMoment}
 use Rattle.cal_time.specs.SignedDuration.{second}
-use Rattle.caldate.specs.Requests.{arguments_of, meaning_of, filter_of, request_after, request_of, seconds_in, target_of, unit_of, verb_of}
+use Rattle.caldate.specs.Requests.{arguments_of, request_after, request_of, seconds_in, target_of, unit_of, verb_of}
 use Rattle.caldate.proofs.Numbers.{fits, guard_yes}
 use Rattle.caldate.specs.Senseless.{senseless_at, senseless_end}
 use Rattle.caldate.specs.declared.senseless.Wanted.TheVariants as wanted
@@ -43,17 +43,6 @@ some_word bytes = first_of (arguments_of bytes) (omega (arith, length-slice_spli
 -- so after the words that make sense one is too many
 pub one_too_many : (at : ℕ) (bytes : List ℕ) → senseless_end at (arguments_of bytes) ≡ senseless_at (at + 2) wanted.End
 one_too_many at bytes = let parts = some_word bytes in ap (senseless_end at) parts.2
-
--- ---- the first of two words and more
-pub strict : (reading : List ℕ → Option DateOrMoment) (first second : List ℕ) (words : List (List ℕ)) → bytes_eq first (codes "--strict") ≡ true
-    → meaning_of reading (first ∷ second ∷ words) ≡ filter_of true (request_of reading (second ∷ words))
-strict reading first second words e =
-    ap (λ b. cond b (filter_of true (request_of reading (second ∷ words))) (filter_of false (request_of reading (first ∷ second ∷ words)))) e
-
-pub lenient : (reading : List ℕ → Option DateOrMoment) (first second : List ℕ) (words : List (List ℕ)) → bytes_eq first (codes "--strict") ≡ false
-    → meaning_of reading (first ∷ second ∷ words) ≡ filter_of false (request_of reading (first ∷ second ∷ words))
-lenient reading first second words e =
-    ap (λ b. cond b (filter_of true (request_of reading (second ∷ words))) (filter_of false (request_of reading (first ∷ second ∷ words)))) e
 
 -- ---- a date or a moment, and perhaps a unit
 abbrev alone : DateOrMoment → DateOrMoment × Option TimeUnit

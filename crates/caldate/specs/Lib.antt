@@ -5,6 +5,7 @@ pub mod Forms
 pub mod Lines
 pub mod Moves
 pub mod Offsets
+pub mod Options
 pub mod Program
 pub mod Readings
 pub mod Requests

@@ -1,5 +1,5 @@
 -- What the arguments ask for, where they make sense.
-use Rattle.std.specs.Prelude.{ℕ, nat_lt, ◌&&◌, ◌||◌, Bool, true, false, ℤ, pos, neg_ℤ, ◌*ℤ◌, int_le, nat_abs, List, [], ◌∷◌, ◌==◌, length, take, Option, Some, None, MatchOption, option_map, option_and_then, bytes_eq, codes, if◌then◌else◌}
+use Rattle.std.specs.Prelude.{ℕ, nat_lt, ◌&&◌, ◌||◌, Bool, ℤ, pos, neg_ℤ, ◌*ℤ◌, int_le, nat_abs, List, [], ◌∷◌, ◌==◌, length, take, Option, Some, None, Result, Ok, Err, MatchOption, option_map, option_and_then, bytes_eq, codes, if◌then◌else◌}
 use Rattle.std.specs.List.{slice_split}
 use Rattle.std.specs.Option.{option_zip}
 use Rattle.std.specs.Str.{all_ascii_digits, str_eq_ignore_ascii_case}
@@ -12,7 +12,9 @@ use Rattle.cal_text.specs.declared.any.DateForm.TheVariants.{Calendar, Ordinal, 
 use Rattle.cal_text.specs.declared.any.DateOrMoment.{DateOrMoment}
 use Rattle.cal_text.specs.declared.any.MomentForm.TheVariants.{Rfc3339, Unix}
 use Rattle.caldate.specs.Offsets.{offset_of}
-use Rattle.caldate.specs.declared.reading.Reading.TheVariants as read
+use Rattle.caldate.specs.Options.{at_offset, no_options, options_from}
+use Rattle.caldate.specs.declared.options.Options.{Options}
+use Rattle.caldate.specs.declared.senseless.Senseless.{Senseless}
 use Rattle.caldate.specs.declared.request.Form.{Form}
 use Rattle.caldate.specs.declared.request.Form.TheVariants as form
 use Rattle.caldate.specs.declared.request.DayMove.{DayMove}
@@ -217,7 +219,7 @@ abbrev pub request_of : (List ℕ → Option DateOrMoment) → List (List ℕ) �
 request_of reading [] = None
 request_of reading (verb ∷ words) = option_and_then (request_after reading words) (verb_of verb)
 
--- ---- the whole: `--help`, `--version`, or a request, perhaps after `--strict`
+-- ---- the whole: `--help`, `--version`, or a request, perhaps after options
 abbrev pub asks_for_help : List ℕ → Bool
 asks_for_help word = bytes_eq word (codes "--help") || bytes_eq word (codes "-h") || bytes_eq word (codes "help")
 
@@ -225,8 +227,14 @@ asks_for_help word = bytes_eq word (codes "--help") || bytes_eq word (codes "-h"
 abbrev pub stands_alone : List ℕ → Bool
 stands_alone word = asks_for_help word || bytes_eq word (codes "--version")
 
-abbrev pub filter_of : Bool → Option Request → Option Asked
-filter_of is_strict request = option_map (λ q. Lines (record { request = q; reading = read.Any; is_strict = is_strict })) request
+-- the request, of lines that are read as the options say
+abbrev pub filter_of : Options → Option Request → Option Asked
+filter_of said request = option_map (λ parts. Lines (record { request = parts.1; reading = parts.0; is_strict = said.is_strict }))
+    (option_zip (at_offset said.reading said.offset) request)
+
+abbrev pub meaning_from : (List ℕ → Option DateOrMoment) → Result (Options × List (List ℕ)) Senseless → Option Asked
+meaning_from reading (Err senseless) = None
+meaning_from reading (Ok found) = filter_of found.0 (request_of reading found.1)
 
 abbrev pub meaning_of : (List ℕ → Option DateOrMoment) → List (List ℕ) → Option Asked
 meaning_of reading [] = None
@@ -234,6 +242,4 @@ meaning_of reading (first ∷ []) =
     if asks_for_help first then Some Help else
     if bytes_eq first (codes "--version") then Some Version else
     None
-meaning_of reading (first ∷ second ∷ words) =
-    if bytes_eq first (codes "--strict") then filter_of true (request_of reading (second ∷ words))
-    else filter_of false (request_of reading (first ∷ second ∷ words))
+meaning_of reading (first ∷ second ∷ words) = meaning_from reading (options_from no_options (first ∷ second ∷ words))

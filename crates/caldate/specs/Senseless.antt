@@ -1,11 +1,13 @@
 -- What is said of arguments that make no sense: the first word that makes none, and what may stand there.
 use denote.Ref.{Bor}
-use Rattle.std.specs.Prelude.{ℕ, ◌+◌, Bool, true, false, List, [], ◌∷◌, ◌++◌, Option, Some, None, is_some, ok_or, Result, bytes_eq, codes, slice_get, if◌then◌else◌}
+use Rattle.std.specs.Prelude.{ℕ, ◌+◌, ◌==◌, ◌&&◌, not, Bool, true, false, List, [], ◌∷◌, ◌++◌, Option, Some, None, is_some, ok_or, Result, Ok, Err, bytes_eq, codes, slice_get, if◌then◌else◌}
 use Rattle.std.specs.Option.{option_map_or}
 use Rattle.cal_text.specs.declared.any.DateOrMoment.{DateOrMoment}
 use Rattle.caldate.specs.Offsets.{offset_of}
+use Rattle.caldate.specs.Options.{is_local, no_options, options_from, words_of}
 use Rattle.caldate.specs.Requests.{arguments_of, count_of, form_of, is_number, meaning_of, period_of, stands_alone, unit_of, verb_of, weekday_of}
 use Rattle.caldate.specs.Shown.{shown}
+use Rattle.caldate.specs.declared.options.Options.{Options}
 use Rattle.caldate.specs.declared.request.Asked.{Asked}
 use Rattle.caldate.specs.declared.request.Verb.{Verb}
 use Rattle.caldate.specs.declared.request.Verb.TheVariants.{To, Add, Next, Last, Until, Since, Start, End, OnOrAfter, OnOrBefore, At}
@@ -17,6 +19,11 @@ use Rattle.caldate.specs.declared.senseless.Wanted.TheVariants as wanted
 abbrev pub words_left : Option (Bor (List ℕ)) → List (List ℕ)
 words_left None = []
 words_left (Some words) = arguments_of words.now
+
+-- the options, and the words that come after them
+abbrev pub told : Options → Result (Option (Bor (List ℕ))) Senseless → Result (Options × List (List ℕ)) Senseless
+told said (Ok words) = Ok (said, words_left words)
+told said (Err senseless) = Err senseless
 
 abbrev pub senseless_at : ℕ → Wanted → Senseless
 senseless_at at what = record { place = at; wanted = what }
@@ -93,14 +100,26 @@ abbrev pub senseless_request : (List ℕ → Option DateOrMoment) → ℕ → Wa
 senseless_request reading at what [] = senseless_at at what
 senseless_request reading at what (word ∷ words) = option_map_or (senseless_after reading (at + 1) words) (verb_of word) (senseless_at at what)
 
+-- from the words after the options on; `local` and an offset come together
+abbrev pub wanted_after : Options → Wanted
+wanted_after said = if words_of said == 0 then wanted.Start else wanted.Verb
+
+abbrev pub senseless_after_options : (List ℕ → Option DateOrMoment) → Options → List (List ℕ) → Senseless
+senseless_after_options reading said words =
+    if is_local said.reading && not (is_some said.offset) then senseless_at (words_of said) wanted.Assume else
+    if is_some said.offset && not (is_local said.reading) then senseless_at (words_of said) wanted.Local else
+    senseless_request reading (words_of said) (wanted_after said) words
+
+abbrev pub senseless_from : (List ℕ → Option DateOrMoment) → Result (Options × List (List ℕ)) Senseless → Senseless
+senseless_from reading (Err senseless) = senseless
+senseless_from reading (Ok found) = senseless_after_options reading found.0 found.1
+
 -- from the start; an argument alone that is empty is as none, and after an option that stands alone each word is one too many
 abbrev pub senseless_of : (List ℕ → Option DateOrMoment) → List (List ℕ) → Senseless
 senseless_of reading [] = senseless_at 0 wanted.Something
 senseless_of reading ([] ∷ []) = senseless_at 0 wanted.Something
 senseless_of reading (word ∷ words) =
-    if bytes_eq word (codes "--strict") then senseless_request reading 1 wanted.Verb words else
-    if stands_alone word then senseless_at 1 wanted.End else
-    senseless_request reading 0 wanted.Start (word ∷ words)
+    if stands_alone word then senseless_at 1 wanted.End else senseless_from reading (options_from no_options (word ∷ words))
 
 -- what the arguments ask for, or else that word
 abbrev pub asked_of : (List ℕ → Option DateOrMoment) → List (List ℕ) → Result Asked Senseless
@@ -109,8 +128,11 @@ asked_of reading words = ok_or (meaning_of reading words) (senseless_of reading 
 -- ---- the line that says so
 abbrev pub wanted_words : Wanted → List ℕ
 wanted_words wanted.Something = codes "nothing to do; caldate --help shows what can be asked"
-wanted_words wanted.Start = codes "no verb (to, add, next, last, until, since, start, end, on-or-after, on-or-before, at) and no option (--strict, --help, --version)"
+wanted_words wanted.Start = codes "no verb (to, add, next, last, until, since, start, end, on-or-after, on-or-before, at) and no option (--strict, --read, --assume, --help, --version)"
 wanted_words wanted.Verb = codes "no verb (to, add, next, last, until, since, start, end, on-or-after, on-or-before, at)"
+wanted_words wanted.Reading = codes "no form to read (basic, dmy, mdy, unix-ms, unix-us, unix-ns, local)"
+wanted_words wanted.Assume = codes "no --assume OFFSET, which --read local needs"
+wanted_words wanted.Local = codes "no --read local, which --assume needs"
 wanted_words wanted.Form = codes "no form (calendar, ordinal, week, julian, weekday, short-weekday, month, quarter, basic, rfc3339, unix, unix-ms, unix-us, unix-ns)"
 wanted_words wanted.Number = codes "no number (-9223372036854775808 .. 9223372036854775807)"
 wanted_words wanted.Amount = codes "too much (at most 9223372036854775807 seconds)"

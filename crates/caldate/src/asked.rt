@@ -7,7 +7,7 @@ ghost use Rattle.caldate.specs.declared.request.DayMove.TheVariants.{Next, Last,
 ghost use Rattle.caldate.specs.declared.request.Request.TheVariants.{Until, Since};
 
 use crate::offset::offset_of;
-use crate::reading::Reading;
+use crate::options::{Options, options_from};
 use crate::request::{Asked, DayMove, Filter, Request, TimeUnit, Verb};
 use crate::senseless::{Senseless, senseless_of};
 use crate::spelling::{
@@ -33,13 +33,13 @@ pub fn asked_of(arguments: &[u8]) -> Result<Asked, Senseless>
 fn meaning_of(arguments: &[u8]) -> Option<Asked>
     ensures { (reading : List ℕ → Option DateOrMoment) → IsReading reading → result ≡ meaning_of reading (arguments_of arguments.now) }
 {
-    let Some((first, rest)) = first_word(arguments) else {
+    let Some(_) = first_word(arguments) else {
         return only_option(arguments);
     };
-    if first == b"--strict".as_slice() {
-        filter_of(true, request_of(rest))
-    } else {
-        filter_of(false, request_of(arguments))
+    let mut said = Options::none();
+    match options_from(&mut said, Some(arguments)) {
+        Ok(words) => filter_of(&said, request_of(words?)),
+        Err(_) => None,
     }
 }
 
@@ -56,14 +56,16 @@ fn only_option(word: &[u8]) -> Option<Asked>
     }
 }
 
-/// To answer the lines, if there is a request.
-fn filter_of(is_strict: bool, request: Option<Request>) -> Option<Asked>
-    ensures { result ≡ filter_of is_strict request }
+/// To answer the lines, if there is a request and they can be read so.
+fn filter_of(said: &Options, request: Option<Request>) -> Option<Asked>
+    ensures { result ≡ filter_of said.now request }
 {
+    let is_strict = said.is_strict;
+    let reading = said.reading_at_offset()?;
     let request = request?;
     Some(Asked::Lines(Filter {
         request,
-        reading: Reading::Any,
+        reading,
         is_strict,
     }))
 }

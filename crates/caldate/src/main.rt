@@ -16,6 +16,7 @@ mod laws;
 mod lines;
 mod moves;
 mod offset;
+mod options;
 mod output;
 mod patience;
 mod place;

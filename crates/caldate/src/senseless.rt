@@ -2,13 +2,13 @@
 ghost use Rattle.std.specs.Prelude.{◌≡◌, ◌≤◌, ℕ, List, [], ◌∷◌, Option, MatchOption, slice_get};
 ghost use Rattle.cal_text.specs.declared.any.DateOrMoment.{DateOrMoment};
 ghost use Rattle.caldate.specs.Requests.{IsReading, arguments_of, stands_alone};
-ghost use Rattle.caldate.specs.Senseless.{further_to, is_wanted, needed_by, senseless_after, senseless_at, senseless_end, senseless_further, senseless_last, senseless_of, senseless_request, senseless_unit, words_left};
+ghost use Rattle.caldate.specs.Senseless.{further_to, is_wanted, needed_by, senseless_after, senseless_after_options, senseless_at, senseless_end, senseless_further, senseless_last, senseless_of, senseless_request, senseless_unit, words_left};
 
 use crate::offset::offset_of;
+use crate::options::{Options, options_from};
 use crate::request::Verb;
 use crate::spelling::{
-    asks_for_help, count_of, first_word, form_of, number_of, period_of, unit_of, verb_of,
-    weekday_of,
+    asks_for_help, count_of, cut, form_of, number_of, period_of, unit_of, verb_of, weekday_of,
 };
 use cal_text::read_any;
 
@@ -21,6 +21,12 @@ pub enum Wanted {
     Start,
     /// A verb.
     Verb,
+    /// A form that lines are read in, as `dmy`.
+    Reading,
+    /// `--assume`, since lines are read as `local`.
+    Assume,
+    /// `--read local`, since an offset is assumed.
+    Local,
     /// A form, as `week`.
     Form,
     /// A number.
@@ -61,14 +67,36 @@ pub fn senseless_of(arguments: &[u8]) -> Senseless
     if arguments.is_empty() {
         return senseless_at(0, Wanted::Something);
     }
-    let (first, rest) = cut(arguments);
-    if first == b"--strict".as_slice() {
-        senseless_request(1, Wanted::Verb, rest)
-    } else if stands_alone(first) {
+    let (first, _) = cut(arguments);
+    if stands_alone(first) {
         senseless_at(1, Wanted::End)
     } else {
-        senseless_request(0, Wanted::Start, Some(arguments))
+        let mut said = Options::none();
+        match options_from(&mut said, Some(arguments)) {
+            Ok(words) => senseless_after_options(&said, words),
+            Err(senseless) => senseless,
+        }
     }
+}
+
+/// From the words after these options on: `local` and an offset come together.
+fn senseless_after_options(said: &Options, words: Option<&[u8]>) -> Senseless
+    ensures { (reading : List ℕ → Option DateOrMoment) → IsReading reading
+        → result ≡ senseless_after_options reading said.now (words_left words.entry) }
+{
+    let place = said.words();
+    if said.is_local() && said.offset.is_none() {
+        return senseless_at(place, Wanted::Assume);
+    }
+    if said.offset.is_some() && !said.is_local() {
+        return senseless_at(place, Wanted::Local);
+    }
+    let wanted = if place == 0 {
+        Wanted::Start
+    } else {
+        Wanted::Verb
+    };
+    senseless_request(place, wanted, words)
 }
 
 /// The word at a place, if there is one.
@@ -85,7 +113,7 @@ pub fn word_at(arguments: &[u8], place: usize) -> Option<&[u8]>
 
 /// From the verb on, which has this place, where this is wanted.
 fn senseless_request(place: usize, wanted: Wanted, words: Option<&[u8]>) -> Senseless
-    requires { place ≤ 1 }
+    requires { place ≤ 5 }
     ensures { (reading : List ℕ → Option DateOrMoment) → IsReading reading → result ≡ senseless_request reading place wanted (words_left words.entry) }
 {
     let Some(words) = words else {
@@ -100,7 +128,7 @@ fn senseless_request(place: usize, wanted: Wanted, words: Option<&[u8]>) -> Sens
 
 /// After a verb, from this place on.
 fn senseless_after(place: usize, words: Option<&[u8]>, verb: Verb) -> Senseless
-    requires { place ≤ 2 }
+    requires { place ≤ 6 }
     ensures { (reading : List ℕ → Option DateOrMoment) → IsReading reading → result ≡ senseless_after reading place (words_left words.entry) verb }
 {
     let needed = needed_by(verb);
@@ -117,7 +145,7 @@ fn senseless_after(place: usize, words: Option<&[u8]>, verb: Verb) -> Senseless
 
 /// After the word that the verb needs, which has this place.
 fn senseless_further(place: usize, further: Wanted, words: Option<&[u8]>) -> Senseless
-    requires { place ≤ 2 }
+    requires { place ≤ 6 }
     ensures { (reading : List ℕ → Option DateOrMoment) → IsReading reading → result ≡ senseless_further reading place further (words_left words.entry) }
 {
     let Some(words) = words else {
@@ -133,7 +161,7 @@ fn senseless_further(place: usize, further: Wanted, words: Option<&[u8]>) -> Sen
 
 /// After the word that may come after it.
 fn senseless_last(place: usize, further: Wanted, words: Option<&[u8]>) -> Senseless
-    requires { place ≤ 2 }
+    requires { place ≤ 6 }
     ensures { result ≡ senseless_last place further (words_left words.entry) }
 {
     match further {
@@ -145,7 +173,7 @@ fn senseless_last(place: usize, further: Wanted, words: Option<&[u8]>) -> Sensel
 /// Where no word may come: one is too many, or the number is too large for its unit.
 #[tactic(auto, using(crate::proofs::Words::one_too_many))]
 fn senseless_end(place: usize, words: Option<&[u8]>) -> Senseless
-    requires { place ≤ 2 }
+    requires { place ≤ 6 }
     ensures { result ≡ senseless_end place (words_left words.entry) }
 {
     match words {
@@ -156,7 +184,7 @@ fn senseless_end(place: usize, words: Option<&[u8]>) -> Senseless
 
 /// After `in`, where a unit has this place.
 fn senseless_unit(place: usize, words: Option<&[u8]>) -> Senseless
-    requires { place ≤ 4 }
+    requires { place ≤ 8 }
     ensures { result ≡ senseless_unit place (words_left words.entry) }
 {
     let Some(words) = words else {
@@ -226,15 +254,4 @@ fn stands_alone(word: &[u8]) -> bool
     ensures { result ≡ stands_alone word.now }
 {
     asks_for_help(word) || word == b"--version".as_slice()
-}
-
-/// The first word, and those after it, where there are any.
-fn cut(words: &[u8]) -> (&[u8], Option<&[u8]>)
-    ensures parts { arguments_of words.now ≡ result.0.now ∷ words_left result.1 }
-    ensures whole { result.1 ≡ None → result.0.now ≡ words.now }
-{
-    match first_word(words) {
-        Some((word, rest)) => (word, Some(rest)),
-        None => (words, None),
-    }
 }

@@ -1,6 +1,7 @@
 //! What single words of the arguments spell, and how the arguments are cut into words.
-ghost use Rattle.std.specs.Prelude.{◌≡◌, ◌≤◌, ℕ, List, [], ◌∷◌, length, MatchOption};
+ghost use Rattle.std.specs.Prelude.{◌≡◌, ◌≤◌, ℕ, List, [], ◌∷◌, length, MatchOption, None};
 ghost use Rattle.std.specs.Str.{str_eq_ignore_ascii_case};
+ghost use Rattle.caldate.specs.Senseless.{words_left};
 ghost use Rattle.caldate.specs.Requests.{arguments_of, asks_for_help, verb_of, number_of, count_of, form_of, further_form_of, weekday_of, period_of, unit_of, spells, spells_unit};
 
 use crate::lines::place_of;
@@ -224,5 +225,16 @@ pub fn only_word(bytes: &[u8]) -> Option<&[u8]>
     match place_of(0, bytes) {
         Some(_) => None,
         None => Some(bytes),
+    }
+}
+
+/// The first word, and those after it, where there are any.
+pub fn cut(words: &[u8]) -> (&[u8], Option<&[u8]>)
+    ensures parts { arguments_of words.now ≡ result.0.now ∷ words_left result.1 }
+    ensures whole { result.1 ≡ None → result.0.now ≡ words.now }
+{
+    match first_word(words) {
+        Some((word, rest)) => (word, Some(rest)),
+        None => (words, None),
     }
 }

@@ -1,25 +1,34 @@
-use Rattle.std.proofs.Common.{rules, ◌≡◌, ◌∙◌, ◌∷◌, true, false, ap, sym, codes}
-use Rattle.std.specs.Prelude.{bytes_eq}
-use Rattle.caldate.specs.Requests.{meaning_of, filter_of, request_of}
-use Rattle.caldate.proofs.Words.{some_word, strict, lenient}
+use Rattle.std.proofs.Common.{rules, ◌≡◌, ◌∙◌, None, ap, sym}
+use Rattle.caldate.specs.Options.{options_from}
+use Rattle.caldate.specs.Requests.{arguments_of, filter_of, meaning_from, meaning_of, request_of}
+use Rattle.caldate.specs.Senseless.{told, words_left}
+use Rattle.caldate.proofs.OptionWords.{asked_after, no_request}
 use Rattle.caldate.proofs.asked.meaning_of.Goals as goal
 
 pub returns-in_default : goal.returns-in_default
 returns-in_default c = λ reading h. c.only_option.ensures reading ∙ ap (meaning_of reading) (sym c.in_default.ensures)
 
-pub returns-then-eq : goal.returns-then-eq
-returns-then-eq c = λ reading h.
-    let first = c.in-Some.first.now in
-    let second = some_word c.in-Some.rest.now in
-    let is : bytes_eq first (codes "--strict") ≡ true = search rules in
-    c.filter_of.ensures ∙ ap (filter_of true) (c.request_of.ensures reading h ∙ ap (request_of reading) second.2)
-    ∙ sym (ap (meaning_of reading) (c.in-Some.ensures ∙ ap (λ words. first ∷ words) second.2) ∙ strict reading first second.0 second.1 is)
+pub returns-in_err-words-in-Ok : goal.returns-in_err-words-in-Ok
+returns-in_err-words-in-Ok c = λ reading h.
+    let words = arguments_of c.args.arguments.now in
+    let said = c.options_from.new.said in
+    let found = ap (told said) (sym c.in-Ok.is) ∙ c.options_from.ensures ∙ ap (λ o. options_from o words) c.none-said.ensures in
+    let none : c.from_residual.result ≡ None = search rules in
+    none ∙ sym (no_request said) ∙ ap (λ w. filter_of said (request_of reading w)) (sym (ap words_left c.in_err-words-in-Ok.was))
+    ∙ ap (meaning_from reading) found ∙ sym (asked_after reading c.args.arguments.now _ c.in-Some.field-0.1.now c.in-Some.ensures)
 
-pub returns-else-eq : goal.returns-else-eq
-returns-else-eq c = λ reading h.
-    let first = c.in-Some.first.now in
-    let second = some_word c.in-Some.rest.now in
-    let whole = c.in-Some.ensures ∙ ap (λ words. first ∷ words) second.2 in
-    let is : bytes_eq first (codes "--strict") ≡ false = search rules in
-    c.filter_of-else-eq.ensures ∙ ap (filter_of false) (c.request_of-else-eq.ensures reading h ∙ ap (request_of reading) whole)
-    ∙ sym (ap (meaning_of reading) whole ∙ lenient reading first second.0 second.1 is)
+pub returns-in_ok-words-in-Ok : goal.returns-in_ok-words-in-Ok
+returns-in_ok-words-in-Ok c = λ reading h.
+    let words = arguments_of c.args.arguments.now in
+    let said = c.options_from.new.said in
+    let found = ap (told said) (sym c.in-Ok.is) ∙ c.options_from.ensures ∙ ap (λ o. options_from o words) c.none-said.ensures in
+    c.filter_of.ensures ∙ ap (filter_of said) (c.request_of.ensures reading h)
+    ∙ ap (λ w. filter_of said (request_of reading w)) (sym (ap words_left c.in_ok-words-in-Ok.was))
+    ∙ ap (meaning_from reading) found ∙ sym (asked_after reading c.args.arguments.now _ c.in-Some.field-0.1.now c.in-Some.ensures)
+
+pub returns-in-Err : goal.returns-in-Err
+returns-in-Err c = λ reading h.
+    let words = arguments_of c.args.arguments.now in
+    let said = c.options_from.new.said in
+    let found = ap (told said) (sym c.in-Err.is) ∙ c.options_from.ensures ∙ ap (λ o. options_from o words) c.none-said.ensures in
+    ap (meaning_from reading) found ∙ sym (asked_after reading c.args.arguments.now _ c.in-Some.field-0.1.now c.in-Some.ensures)
