@@ -7,8 +7,7 @@ ghost use Rattle.caldate.specs.declared.request.DayMove.TheVariants.{Next, Last,
 ghost use Rattle.caldate.specs.declared.request.Request.TheVariants.{Until, Since};
 
 use crate::offset::offset_of;
-use crate::options::{Options, field_of, lacks_field, options_of};
-use crate::reading::Reading;
+use crate::options::{Options, field_of, lacking, options_of, reading_in};
 use crate::request::{Asked, DayMove, Filter, Request, TimeUnit, Verb};
 use crate::senseless::{Senseless, senseless_of};
 use crate::spelling::{
@@ -38,7 +37,7 @@ fn meaning_of(arguments: &[u8]) -> Option<Asked>
         return only_option(arguments);
     };
     let (options, words) = options_of(arguments);
-    filter_of(options, request_of(words?))
+    filter_of(&options, request_of(words?))
 }
 
 /// What an option asks for that stands alone.
@@ -55,15 +54,15 @@ fn only_option(word: &[u8]) -> Option<Asked>
 }
 
 /// To answer the lines, if there is a request.
-fn filter_of(options: Options, request: Option<Request>) -> Option<Asked>
-    ensures { result ≡ filter_of options request }
+fn filter_of(options: &Options, request: Option<Request>) -> Option<Asked>
+    ensures { result ≡ filter_of options.now request }
 {
-    if lacks_field(options) {
+    if lacking(options).is_some() {
         return None;
     }
     Some(Asked::Lines(Filter {
         request: request?,
-        reading: Reading::Any,
+        reading: reading_in(options),
         is_strict: options.is_strict,
         field: field_of(options),
         skip: options.skip.unwrap_or(0),

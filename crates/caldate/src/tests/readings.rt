@@ -1,6 +1,7 @@
 //! Texts in each reading. The values of the moments are those of Python's `datetime`.
 use crate::reading::{Reading, read_in};
 use crate::request::UnixUnit;
+use crate::tests::gives;
 use cal_text::{Unreadable, read_any};
 use cal_time::UtcOffset;
 
@@ -177,5 +178,88 @@ fn texts_of_no_value(rt: HostRuntime) {
             Err(Unreadable::OutOfRange(component)) => assert_eq!(rt; component.name(), name),
             _ => assert!(rt; false),
         }
+    }
+}
+
+// The options come before the request in any order, and what they name alone is read.
+#[test]
+fn options_in_any_order(rt: HostRuntime) {
+    let cases: [(&[u8], &[u8], &[u8]); 17] = [
+        (
+            b"--read\0basic\0to\0calendar",
+            b"20240229\n",
+            b"2024-02-29\n",
+        ),
+        (b"--read\0basic\0add\01", b"20240228\n", b"2024-02-29\n"),
+        (
+            b"--read\0dmy\0to\0calendar",
+            b"29.02.2024\r\n01/03/2024\n",
+            b"2024-02-29\r\n2024-03-01\n",
+        ),
+        (
+            b"--read\0mdy\0to\0calendar",
+            b"02/29/2024\n03-01-2024\n",
+            b"2024-02-29\n2024-03-01\n",
+        ),
+        (
+            b"--read\0dmy\0to\0calendar",
+            b"2024-02-29\n",
+            b"unreadable at 2\n",
+        ),
+        (
+            b"--read\0dmy\0to\0calendar",
+            b"29.02.2023\n",
+            b"refused day conditional\n",
+        ),
+        (
+            b"--read\0unix-ms\0to\0rfc3339",
+            b"1709164800500\n",
+            b"2024-02-29T00:00:00.5Z\n",
+        ),
+        (
+            b"--read\0unix-us\0to\0rfc3339",
+            b"1709164800500250\n",
+            b"2024-02-29T00:00:00.50025Z\n",
+        ),
+        (
+            b"--read\0unix-ns\0to\0rfc3339",
+            b"-1\n",
+            b"1969-12-31T23:59:59.999999999Z\n",
+        ),
+        (
+            b"--read\0local\0--assume\0+01:00\0to\0rfc3339",
+            b"2024-02-29 10:00:00\n",
+            b"2024-02-29T10:00:00+01:00\n",
+        ),
+        (
+            b"--assume\0-05:30\0--read\0local\0at\0Z",
+            b"2024-02-29T10:00:00\n",
+            b"2024-02-29T15:30:00Z\n",
+        ),
+        (
+            b"--assume\0Z\0--strict\0--read\0local\0to\0unix",
+            b"2024-02-29T00:00:00\n",
+            b"@1709164800\n",
+        ),
+        (
+            b"--read\0dmy\0--strict\0to\0week",
+            b"29.02.2024\n",
+            b"2024-W09-4\n",
+        ),
+        (
+            b"--strict\0--read\0mdy\0to\0week",
+            b"02/29/2024\n",
+            b"2024-W09-4\n",
+        ),
+        (b"--read\0dmy\0until\02024-03-01", b"29.02.2024\n", b"1\n"),
+        (b"--read\0basic\0until\0@1709251200", b"20240229\n", b"1d\n"),
+        (
+            b"--skip\01\0--read\0dmy\0--separator\0,\0--field\02\0to\0week",
+            b"name,day\nA,29.02.2024,1\n",
+            b"name,day\nA,2024-W09-4,1\n",
+        ),
+    ];
+    for (arguments, input, wanted) in cases {
+        assert!(rt; gives(rt.alloc(), arguments, input, wanted));
     }
 }

@@ -31,6 +31,6 @@ returns c = λ reading h.
     let front = cut_options no_options (arguments_of c.args.arguments.now) in
     let alone : stands_alone first ≡ false = search rules in
     let full : c.args.arguments.now ≢ [] = λ e. grind (arith, common_steps, ap length e) in
-    c.senseless_front.ensures reading h ∙ ap (λ options. senseless_front reading options (words_left c.options_of.result.1)) c.options_of.ensures.options
-    ∙ ap (senseless_front reading front.0) c.options_of.ensures.words ∙ ap (from_front reading) parts
+    c.senseless_front.ensures reading h ∙ ap (λ options. senseless_front reading options (words_left c.options_of-options.result.1)) c.options_of-options.ensures.options
+    ∙ ap (senseless_front reading front.0) c.options_of-options.ensures.words ∙ ap (from_front reading) parts
     ∙ sym (ap (senseless_of reading) parts ∙ from_options reading first (words_left rest) (λ e q. full (sym (c.cut.ensures.whole (none_left rest e)) ∙ q)) alone)
