@@ -14,3 +14,6 @@ pub mod OneAnswer
 pub mod Leads
 pub mod Digits
 pub mod Listed
+pub mod ReadNumbers
+pub mod PartTexts
+pub mod LastBytes

@@ -7,7 +7,6 @@ use Rattle.std.proofs.lemmas.Bool.{false≢true}
 use Rattle.std.proofs.lemmas.List.{append-nil}
 use Rattle.cal_time.specs.declared.error.ComponentRange.{ComponentRange}
 use Rattle.cal_datetime.specs.OffsetDateTime.{Shown}
-use Rattle.cal_text.specs.AnyForm.{IsTextOf, IsFault, HasAnyForm}
 use Rattle.cal_text.specs.Reading.{IsRefusedFor, IsRefusedForForm}
 use Rattle.cal_text.specs.declared.any.DateOrMoment.{DateOrMoment}
 use Rattle.cal_text.specs.declared.any.MomentForm.TheVariants.{Rfc3339, Unix}
@@ -16,6 +15,7 @@ use Rattle.cal_text.specs.declared.error.Unreadable.TheVariants.{UnexpectedByte,
 use Rattle.caldate.specs.Answers.{IsAnswerTo, IsAnswer, IsBetween, IsTooLong, IsUnreadable, refused_text, moment_of, day_of, form_read, on_day}
 use Rattle.caldate.specs.Forms.{IsInForm}
 use Rattle.caldate.specs.Lines.{lines_of, text_of}
+use Rattle.caldate.specs.Readings.{HasFormIn, IsFaultIn, IsTextIn}
 use Rattle.caldate.specs.Runs.{Ended, IsAllowed}
 use Rattle.caldate.specs.Standing.{AreReplies, Words}
 use Rattle.caldate.specs.declared.fault.Fault.{Fault}
@@ -62,70 +62,70 @@ one_answer_to (Since target unit) found a b h k = between unit target found a b 
 one_answer_to (At offset) found a b h k = in_form_at (Moment Rfc3339) _ _ a b (h.1.shown ∙ sym k.1.shown) h.2 k.2
 
 -- ---- the words for what a reader says of the text
-abbrev Told : Request → List ℕ → Result DateOrMoment Unreadable → List ℕ → Type 0
-Told q text (Ok found) words = IsAnswerTo q found words ⊎ (words ≡ codes "none") × ((others : List ℕ) → ¬ IsAnswerTo q found others)
-Told q text (Err (OutOfRange e)) words = words ≡ refused_text e
-Told q text (Err (UnexpectedByte at)) words = IsUnreadable text words
+abbrev Told : Filter → List ℕ → Result DateOrMoment Unreadable → List ℕ → Type 0
+Told filter text (Ok found) words = IsAnswerTo filter.request found words ⊎ (words ≡ codes "none") × ((others : List ℕ) → ¬ IsAnswerTo filter.request found others)
+Told filter text (Err (OutOfRange e)) words = words ≡ refused_text e
+Told filter text (Err (UnexpectedByte at)) words = IsUnreadable filter text words
 
-one_told : (q : Request) (text : List ℕ) (r : Result DateOrMoment Unreadable) (a b : List ℕ) → Told q text r a → Told q text r b
-    → (a ≡ b) ⊎ IsUnreadable text a × IsUnreadable text b
-one_told q text (Ok found) a b (inl h) (inl k) = inl (one_answer_to q found a b h k)
-one_told q text (Ok found) a b (inl h) (inr k) = absurd (k.1 a h)
-one_told q text (Ok found) a b (inr h) (inl k) = absurd (h.1 b k)
-one_told q text (Ok found) a b (inr h) (inr k) = inl (h.0 ∙ sym k.0)
-one_told q text (Err (OutOfRange e)) a b h k = inl (h ∙ sym k)
-one_told q text (Err (UnexpectedByte at)) a b h k = inr (h, k)
+one_told : (filter : Filter) (text : List ℕ) (r : Result DateOrMoment Unreadable) (a b : List ℕ) → Told filter text r a → Told filter text r b
+    → (a ≡ b) ⊎ IsUnreadable filter text a × IsUnreadable filter text b
+one_told filter text (Ok found) a b (inl h) (inl k) = inl (one_answer_to filter.request found a b h k)
+one_told filter text (Ok found) a b (inl h) (inr k) = absurd (k.1 a h)
+one_told filter text (Ok found) a b (inr h) (inl k) = absurd (h.1 b k)
+one_told filter text (Ok found) a b (inr h) (inr k) = inl (h.0 ∙ sym k.0)
+one_told filter text (Err (OutOfRange e)) a b h k = inl (h ∙ sym k)
+one_told filter text (Err (UnexpectedByte at)) a b h k = inr (h, k)
 
 none_some : {A : Type 0} (a : A) → None ≡ Some a → ⊥
 none_some a e = cc
 
-refused_told : (q : Request) (text : List ℕ) (r : Result DateOrMoment Unreadable) (why : ComponentRange) (words : List ℕ)
-    → IsRefusedFor why r → words ≡ refused_text why → Told q text r words
-refused_told q text (Ok found) why words h e = absurd h
-refused_told q text (Err (OutOfRange o)) why words h e = e ∙ ap refused_text (sym (some_one o why h))
-refused_told q text (Err (UnexpectedByte at)) why words h e = absurd (none_some why h)
+refused_told : (filter : Filter) (text : List ℕ) (r : Result DateOrMoment Unreadable) (why : ComponentRange) (words : List ℕ)
+    → IsRefusedFor why r → words ≡ refused_text why → Told filter text r words
+refused_told filter text (Ok found) why words h e = absurd h
+refused_told filter text (Err (OutOfRange o)) why words h e = e ∙ ap refused_text (sym (some_one o why h))
+refused_told filter text (Err (UnexpectedByte at)) why words h e = absurd (none_some why h)
 
-unreadable_told : (q : Request) (text : List ℕ) (r : Result DateOrMoment Unreadable) (words : List ℕ)
-    → IsRefusedForForm r → IsUnreadable text words → Told q text r words
-unreadable_told q text (Ok found) words h u = absurd h
-unreadable_told q text (Err (OutOfRange o)) words h u = absurd (none_some o (sym h))
-unreadable_told q text (Err (UnexpectedByte at)) words h u = u
+unreadable_told : (filter : Filter) (text : List ℕ) (r : Result DateOrMoment Unreadable) (words : List ℕ)
+    → IsRefusedForForm r → IsUnreadable filter text words → Told filter text r words
+unreadable_told filter text (Ok found) words h u = absurd h
+unreadable_told filter text (Err (OutOfRange o)) words h u = absurd (none_some o (sym h))
+unreadable_told filter text (Err (UnexpectedByte at)) words h u = u
 
-found_told : (q : Request) (text : List ℕ) (r : Result DateOrMoment Unreadable) (found : DateOrMoment) (words : List ℕ)
-    → r ≡ Ok found → Told q text (Ok found) words → Told q text r words
-found_told q text r found words e h = subst (λ r. Told q text r words) (sym e) h
+found_told : (filter : Filter) (text : List ℕ) (r : Result DateOrMoment Unreadable) (found : DateOrMoment) (words : List ℕ)
+    → r ≡ Ok found → Told filter text (Ok found) words → Told filter text r words
+found_told filter text r found words e h = subst (λ r. Told filter text r words) (sym e) h
 
-told : (q : Request) (text : List ℕ) (r : Result DateOrMoment Unreadable) (words : List ℕ)
-    → ((found : DateOrMoment) → IsTextOf text found → r ≡ Ok found)
-    → (IsRefusedForForm r ↔ ¬ HasAnyForm text) → ((why : ComponentRange) → IsRefusedFor why r ↔ IsFault text why)
-    → IsAnswer q text words → IsTooLong text words ⊎ (length text ≤ 4096) × Told q text r words
-told q text r words every form component (inl h) = inr (h.0, found_told q text r h.1.0 words (every h.1.0 h.1.1) (inl h.1.2))
-told q text r words every form component (inr (inl h)) = inl h
-told q text r words every form component (inr (inr h)) = inr (
+told : (filter : Filter) (text : List ℕ) (r : Result DateOrMoment Unreadable) (words : List ℕ)
+    → ((found : DateOrMoment) → IsTextIn filter.reading text found → r ≡ Ok found)
+    → (IsRefusedForForm r ↔ ¬ HasFormIn filter.reading text) → ((why : ComponentRange) → IsRefusedFor why r ↔ IsFaultIn filter.reading text why)
+    → IsAnswer filter text words → IsTooLong text words ⊎ (length text ≤ 4096) × Told filter text r words
+told filter text r words every form component (inl h) = inr (h.0, found_told filter text r h.1.0 words (every h.1.0 h.1.1) (inl h.1.2))
+told filter text r words every form component (inr (inl h)) = inl h
+told filter text r words every form component (inr (inr h)) = inr (
   h.0,
   elim h.1 [
-    | inl n ↦ found_told q text r n.1.0 words (every n.1.0 n.1.1) (inr (n.0, n.1.2))
+    | inl n ↦ found_told filter text r n.1.0 words (every n.1.0 n.1.1) (inr (n.0, n.1.2))
     | inr n ↦ elim n [
-      | inl f ↦ refused_told q text r f.0 words ((component f.0).1 f.1) f.2
-      | inr u ↦ unreadable_told q text r words (form.1 u.0) u
+      | inl f ↦ refused_told filter text r f.0 words ((component f.0).1 f.1) f.2
+      | inr u ↦ unreadable_told filter text r words (form.1 u.0) u
     ]
   ],
 )
 
-one_of : (q : Request) (text : List ℕ) (r : Result DateOrMoment Unreadable) (a b : List ℕ)
-    → IsTooLong text a ⊎ (length text ≤ 4096) × Told q text r a → IsTooLong text b ⊎ (length text ≤ 4096) × Told q text r b
-    → (a ≡ b) ⊎ IsUnreadable text a × IsUnreadable text b
-one_of q text r a b (inl h) (inl k) = inl (h.1 ∙ sym k.1)
-one_of q text r a b (inl h) (inr k) = absurd (omega (arith, h.0, k.0))
-one_of q text r a b (inr h) (inl k) = absurd (omega (arith, h.0, k.0))
-one_of q text r a b (inr h) (inr k) = one_told q text r a b h.1 k.1
+one_of : (filter : Filter) (text : List ℕ) (r : Result DateOrMoment Unreadable) (a b : List ℕ)
+    → IsTooLong text a ⊎ (length text ≤ 4096) × Told filter text r a → IsTooLong text b ⊎ (length text ≤ 4096) × Told filter text r b
+    → (a ≡ b) ⊎ IsUnreadable filter text a × IsUnreadable filter text b
+one_of filter text r a b (inl h) (inl k) = inl (h.1 ∙ sym k.1)
+one_of filter text r a b (inl h) (inr k) = absurd (omega (arith, h.0, k.0))
+one_of filter text r a b (inr h) (inl k) = absurd (omega (arith, h.0, k.0))
+one_of filter text r a b (inr h) (inr k) = one_told filter text r a b h.1 k.1
 
-pub one_answer : (q : Request) (text : List ℕ) (r : Result DateOrMoment Unreadable) (a b : List ℕ)
-    → ((found : DateOrMoment) → IsTextOf text found → r ≡ Ok found)
-    → (IsRefusedForForm r ↔ ¬ HasAnyForm text) → ((why : ComponentRange) → IsRefusedFor why r ↔ IsFault text why)
-    → IsAnswer q text a → IsAnswer q text b → (a ≡ b) ⊎ IsUnreadable text a × IsUnreadable text b
-one_answer q text r a b every form component h k =
-    one_of q text r a b (told q text r a every form component h) (told q text r b every form component k)
+pub one_answer : (filter : Filter) (text : List ℕ) (r : Result DateOrMoment Unreadable) (a b : List ℕ)
+    → ((found : DateOrMoment) → IsTextIn filter.reading text found → r ≡ Ok found)
+    → (IsRefusedForForm r ↔ ¬ HasFormIn filter.reading text) → ((why : ComponentRange) → IsRefusedFor why r ↔ IsFaultIn filter.reading text why)
+    → IsAnswer filter text a → IsAnswer filter text b → (a ≡ b) ⊎ IsUnreadable filter text a × IsUnreadable filter text b
+one_answer filter text r a b every form component h k =
+    one_of filter text r a b (told filter text r a every form component h) (told filter text r b every form component k)
 
 -- ---- the answers to all lines
 replies-one : (Allowed : Words) → ((before : ℕ) (text a b : List ℕ) → Allowed before text a → Allowed before text b → a ≡ b)

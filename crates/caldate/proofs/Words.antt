@@ -1,12 +1,12 @@
 -- What arguments ask for, by their first word and the others.
 use Rattle.std.proofs.Common.{◌≡◌, ℕ, Bool, true, false, cond, eqb, List, [], ◌∷◌, Option, None, Some, refl, sym, ap, ◌∙◌, arith, length, ◌+◌, ◌<◌, ℤ, pos, ◌*ℤ◌}
-use Rattle.std.specs.Prelude.{FitsSigned, bytes_eq, codes, option_and_then, option_map, ◌&&◌}
+use Rattle.std.specs.Prelude.{FitsSigned, bytes_eq, codes, option_and_then, option_map, ◌&&◌, is_some}
 use Rattle.std.specs.Int.{w64}
 use Rattle.std.specs.Option.{option_map_or, option_zip}
 use Rattle.std.proofs.lemmas.List.Splits.{length-slice_split}
 use Rattle.cal_text.specs.declared.any.DateOrMoment.{DateOrMoment}
 use Rattle.cal_time.specs.SignedDuration.{second}
-use Rattle.caldate.specs.Requests.{arguments_of, cut_options, date_of, filter_of, lacks_field, last_of, list_of, listing, meaning_of, no_options, request_after, request_of, request_with, seconds_in, takes_strict, target_of, unit_of, verb_of, with_strict, with_value}
+use Rattle.caldate.specs.Requests.{arguments_of, cut_options, date_of, filter_of, last_of, list_of, listing, meaning_of, no_options, request_after, request_of, request_with, seconds_in, takes_strict, target_of, unit_of, verb_of, with_strict, with_value, lacking}
 use Rattle.caldate.specs.declared.options.Options.{Options}
 use Rattle.caldate.proofs.Numbers.{fits, guard_yes}
 use Rattle.caldate.specs.Senseless.{senseless_at, senseless_end}
@@ -69,7 +69,7 @@ either true x = refl
 either false x = refl
 
 pub no_request : (options : Options) → filter_of options None ≡ None
-no_request options = either (lacks_field options) None
+no_request options = either (is_some (lacking options)) None
 
 -- ---- two words and more
 abbrev chosen : (List ℕ → Option DateOrMoment) → List ℕ → List ℕ → List (List ℕ) → Bool → Option Asked

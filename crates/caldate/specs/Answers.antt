@@ -8,7 +8,6 @@ use Rattle.cal_time.specs.SignedDuration.{whole_days}
 use Rattle.cal_time.specs.SignedDuration as duration
 use Rattle.cal_datetime.specs.DateTime.{IsDateTime, date_time, date_at, time_at}
 use Rattle.cal_datetime.specs.OffsetDateTime.{Shown, instant, local_at}
-use Rattle.cal_text.specs.AnyForm.{IsTextOf, IsFault, HasAnyForm}
 use Rattle.cal_text.specs.declared.error.Unreadable.{Unreadable}
 use Rattle.cal_text.specs.declared.error.Unreadable.TheVariants.{UnexpectedByte, OutOfRange}
 use Rattle.cal_text.specs.declared.any.DateOrMoment.{DateOrMoment}
@@ -17,8 +16,10 @@ use Rattle.cal_text.specs.declared.any.MomentForm.TheVariants.{Rfc3339}
 use Rattle.caldate.specs.Counts.{IsCount}
 use Rattle.caldate.specs.Forms.{IsInForm}
 use Rattle.caldate.specs.Moves.{LeadsTo}
+use Rattle.caldate.specs.Readings.{HasFormIn, IsFaultIn, IsTextIn}
 use Rattle.caldate.specs.Room.{longest_text}
 use Rattle.caldate.specs.declared.request.DayMove.{DayMove}
+use Rattle.caldate.specs.declared.request.Filter.{Filter}
 use Rattle.caldate.specs.declared.request.Form.{Form}
 use Rattle.caldate.specs.declared.request.Form.TheVariants.{Date, Moment}
 use Rattle.caldate.specs.declared.request.Request.{Request}
@@ -94,19 +95,20 @@ IsAnswerTo (Since target unit) found words = IsBetween unit target found words
 IsAnswerTo (At offset) found words = IsAt offset (moment_of found) words
 
 -- ---- texts that have an answer, and texts that have none
-abbrev pub HasAnswer : Request → List ℕ → List ℕ → Type 0
-HasAnswer q text words = (length text ≤ longest_text) × ((found : DateOrMoment) × IsTextOf text found × IsAnswerTo q found words)
+abbrev pub HasAnswer : Filter → List ℕ → List ℕ → Type 0
+HasAnswer filter text words =
+    (length text ≤ longest_text) × ((found : DateOrMoment) × IsTextIn filter.reading text found × IsAnswerTo filter.request found words)
 
 -- the text is longer than a line may be
 abbrev pub IsTooLong : List ℕ → List ℕ → Type 0
 IsTooLong text words = (longest_text < length text) × (words ≡ codes "line too long")
 
 -- it is a date or a moment, and there is none to answer
-abbrev pub HasNone : Request → List ℕ → List ℕ → Type 0
-HasNone q text words =
-    (words ≡ codes "none") × ((found : DateOrMoment) × IsTextOf text found × ((others : List ℕ) → ¬ IsAnswerTo q found others))
+abbrev pub HasNone : Filter → List ℕ → List ℕ → Type 0
+HasNone filter text words = (words ≡ codes "none")
+    × ((found : DateOrMoment) × IsTextIn filter.reading text found × ((others : List ℕ) → ¬ IsAnswerTo filter.request found others))
 
--- it has one of the forms, with this component at fault
+-- it has the form, with this component at fault
 abbrev pub refused_text : ComponentRange → List ℕ
 refused_text why = codes "refused " ++ component_name why.component ++ (if why.is_conditional then codes " conditional" else [])
 
@@ -115,17 +117,17 @@ abbrev pub why_text : Unreadable → List ℕ
 why_text (UnexpectedByte at) = codes "unreadable at " ++ decimal at
 why_text (OutOfRange e) = refused_text e
 
-abbrev pub IsRefused : List ℕ → List ℕ → Type 0
-IsRefused text words = (why : ComponentRange) × IsFault text why × (words ≡ refused_text why)
+abbrev pub IsRefused : Filter → List ℕ → List ℕ → Type 0
+IsRefused filter text words = (why : ComponentRange) × IsFaultIn filter.reading text why × (words ≡ refused_text why)
 
--- it has none of the forms; the place is that of the first wrong byte, as the reader of texts tells it
-abbrev pub IsUnreadable : List ℕ → List ℕ → Type 0
-IsUnreadable text words = (¬ HasAnyForm text) × ((at : ℕ) × (words ≡ codes "unreadable at " ++ decimal at))
+-- it has not the form; the place is that of the first wrong byte, as the reader of texts tells it
+abbrev pub IsUnreadable : Filter → List ℕ → List ℕ → Type 0
+IsUnreadable filter text words = (¬ HasFormIn filter.reading text) × ((at : ℕ) × (words ≡ codes "unreadable at " ++ decimal at))
 
-abbrev pub LacksAnswer : Request → List ℕ → List ℕ → Type 0
-LacksAnswer q text words =
-    IsTooLong text words ⊎ (length text ≤ longest_text) × (HasNone q text words ⊎ IsRefused text words ⊎ IsUnreadable text words)
+abbrev pub LacksAnswer : Filter → List ℕ → List ℕ → Type 0
+LacksAnswer filter text words = IsTooLong text words
+    ⊎ (length text ≤ longest_text) × (HasNone filter text words ⊎ IsRefused filter text words ⊎ IsUnreadable filter text words)
 
 -- the words are what is written for the text
-abbrev pub IsAnswer : Request → List ℕ → List ℕ → Type 0
-IsAnswer q text words = HasAnswer q text words ⊎ LacksAnswer q text words
+abbrev pub IsAnswer : Filter → List ℕ → List ℕ → Type 0
+IsAnswer filter text words = HasAnswer filter text words ⊎ LacksAnswer filter text words

@@ -8,6 +8,7 @@ pub mod Lists
 pub mod Moves
 pub mod Offsets
 pub mod Program
+pub mod Readings
 pub mod Requests
 pub mod Room
 pub mod Runs

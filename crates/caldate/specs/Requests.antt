@@ -11,10 +11,12 @@ use Rattle.cal_time.specs.declared.Weekday.TheVariants as weekday
 use Rattle.cal_text.specs.AnyForm.{IsTextOf}
 use Rattle.cal_text.specs.declared.any.DateForm.TheVariants.{Calendar, Ordinal, Week, JulianDay}
 use Rattle.cal_text.specs.declared.any.DateOrMoment.{DateOrMoment}
-use Rattle.cal_text.specs.declared.any.DateOrMoment.TheVariants as read
+use Rattle.cal_text.specs.declared.any.DateOrMoment.TheVariants as dated
 use Rattle.cal_text.specs.declared.any.MomentForm.TheVariants.{Rfc3339, Unix}
 use Rattle.caldate.specs.Offsets.{offset_of}
 use Rattle.caldate.specs.declared.options.Options.{Options}
+use Rattle.caldate.specs.declared.reading.Reading.{Reading}
+use Rattle.caldate.specs.declared.reading.Reading.TheVariants as read
 use Rattle.caldate.specs.declared.request.Field.{Field}
 use Rattle.caldate.specs.declared.request.Form.{Form}
 use Rattle.caldate.specs.declared.request.Form.TheVariants as form
@@ -34,6 +36,8 @@ use Rattle.caldate.specs.declared.request.Request.{Request}
 use Rattle.caldate.specs.declared.request.Request.TheVariants.{To, Add, Move, Until, Since, At}
 use Rattle.caldate.specs.declared.request.Asked.{Asked}
 use Rattle.caldate.specs.declared.request.Asked.TheVariants.{Help, Version, Lines, Dates}
+use Rattle.caldate.specs.declared.senseless.Wanted.{Wanted}
+use Rattle.caldate.specs.declared.senseless.Wanted.TheVariants as wanted
 
 -- the arguments, between which stands the byte 0, of which no argument has one
 abbrev pub arguments_of : List ℕ → List (List ℕ)
@@ -237,7 +241,7 @@ request_of reading (verb ∷ words) = option_and_then (request_after reading wor
 
 -- ---- the options before a request, in any order, each at most once
 abbrev pub no_options : Options
-no_options = record { is_strict = false; number = None; separator = None; skip = None }
+no_options = record { is_strict = false; number = None; separator = None; skip = None; reading = None; offset = None }
 
 -- `--strict`
 abbrev pub takes_strict : Options → List ℕ → Bool
@@ -265,6 +269,18 @@ skip_in z = if int_le (pos 0) z then Some (nat_abs z) else None
 abbrev pub skip_of : List ℕ → Option ℕ
 skip_of word = option_and_then skip_in (number_of word)
 
+-- `--read FORM`: the reading that the word names; that of `local` waits for its offset
+abbrev pub reading_of : List ℕ → Option Reading
+reading_of word =
+    if bytes_eq word (codes "basic") then Some read.Basic else
+    if bytes_eq word (codes "dmy") then Some read.DayFirst else
+    if bytes_eq word (codes "mdy") then Some read.MonthFirst else
+    if bytes_eq word (codes "unix-ms") then Some (read.Unix Milliseconds) else
+    if bytes_eq word (codes "unix-us") then Some (read.Unix Microseconds) else
+    if bytes_eq word (codes "unix-ns") then Some (read.Unix Nanoseconds) else
+    if bytes_eq word (codes "local") then Some (read.Local (pos 0)) else
+    None
+
 -- the options, and one more whose value comes after it, where it may stand there and this is such a value
 abbrev pub with_field : Options → List ℕ → Option Options
 with_field options value = option_map (λ n. record options { number = Some n }) (field_number_of value)
@@ -284,11 +300,26 @@ with_skip options value = option_map (λ k. record options { skip = Some k }) (s
 abbrev pub takes_skip : Options → List ℕ → Bool
 takes_skip options word = bytes_eq word (codes "--skip") && is_none options.skip
 
+abbrev pub with_reading : Options → List ℕ → Option Options
+with_reading options value = option_map (λ form. record options { reading = Some form }) (reading_of value)
+
+abbrev pub takes_reading : Options → List ℕ → Bool
+takes_reading options word = bytes_eq word (codes "--read") && is_none options.reading
+
+-- `--assume OFFSET`
+abbrev pub with_offset : Options → List ℕ → Option Options
+with_offset options value = option_map (λ o. record options { offset = Some o }) (offset_of value)
+
+abbrev pub takes_offset : Options → List ℕ → Bool
+takes_offset options word = bytes_eq word (codes "--assume") && is_none options.offset
+
 abbrev pub with_value : Options → List ℕ → List ℕ → Option Options
 with_value options word value =
     if takes_field options word then with_field options value else
     if takes_separator options word then with_separator options value else
     if takes_skip options word then with_skip options value else
+    if takes_reading options word then with_reading options value else
+    if takes_offset options word then with_offset options value else
     None
 
 -- the options at the front of the words, and the words after them
@@ -302,8 +333,8 @@ cut_options options (word ∷ value ∷ words) =
 -- ---- lists
 -- the day that a text is the date of
 abbrev pub date_in : DateOrMoment → Option ℕ
-date_in (read.Date form n) = Some n
-date_in (read.Moment form m) = None
+date_in (dated.Date form n) = Some n
+date_in (dated.Moment form m) = None
 
 abbrev pub date_of : (List ℕ → Option DateOrMoment) → List ℕ → Option ℕ
 date_of reading text = option_and_then date_in (reading text)
@@ -347,17 +378,38 @@ asks_for_help word = bytes_eq word (codes "--help") || bytes_eq word (codes "-h"
 abbrev pub stands_alone : List ℕ → Bool
 stands_alone word = asks_for_help word || bytes_eq word (codes "--version")
 
--- the field that is named, whose separator is a tab where none is said; a separator makes sense with a field alone
+-- the field that is named, whose separator is a tab where none is said
 abbrev pub field_of : Options → Option Field
 field_of options = option_map (λ n. record { number = n; separator = unwrap_or options.separator 9 }) options.number
 
-abbrev pub lacks_field : Options → Bool
-lacks_field options = is_some options.separator && is_none options.number
+-- what the lines are read as: in any form where none is named, and as `local` at the offset that is assumed
+abbrev pub reading_at : Option Reading → Option ℤ → Reading
+reading_at None offset = read.Any
+reading_at (Some (read.Local waiting)) (Some offset) = read.Local offset
+reading_at (Some form) offset = form
+
+abbrev pub is_local : Option Reading → Bool
+is_local (Some (read.Local waiting)) = true
+is_local form = false
+
+-- what the options lack, where they make no sense without it: a separator needs a field, and `local` and an offset need one another
+abbrev pub lacking : Options → Option Wanted
+lacking options =
+    if is_some options.separator && is_none options.number then Some wanted.Field else
+    if is_local options.reading && is_none options.offset then Some wanted.Assume else
+    if is_some options.offset && not (is_local options.reading) then Some wanted.Local else
+    None
 
 abbrev pub filter_of : Options → Option Request → Option Asked
 filter_of options request =
-    if lacks_field options then None else
-    option_map (λ q. Lines (record { request = q; is_strict = options.is_strict; field = field_of options; skip = unwrap_or options.skip 0 })) request
+    if is_some (lacking options) then None else
+    option_map (λ q. Lines (record {
+      request = q;
+      reading = reading_at options.reading options.offset;
+      is_strict = options.is_strict;
+      field = field_of options;
+      skip = unwrap_or options.skip 0;
+    })) request
 
 abbrev pub request_with : (List ℕ → Option DateOrMoment) → Options × List (List ℕ) → Option Asked
 request_with reading front = filter_of front.0 (request_of reading front.1)

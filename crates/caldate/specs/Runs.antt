@@ -11,20 +11,19 @@ use Rattle.caldate.specs.declared.fault.Fault.{Fault}
 use Rattle.caldate.specs.declared.fault.Fault.TheVariants.{Read, Write, Unanswered}
 use Rattle.caldate.specs.declared.place.Place.{Place}
 use Rattle.caldate.specs.declared.request.Filter.{Filter}
-use Rattle.caldate.specs.declared.request.Request.{Request}
 use Rattle.caldate.specs.declared.unanswered.UnansweredLine.{UnansweredLine}
 
 -- what may be written for a text that is asked about: any answer, or in a strict run one that the text has
-abbrev pub Allowed : Bool → Request → List ℕ → List ℕ → Type 0
-Allowed true q = HasAnswer q
-Allowed false q = IsAnswer q
+abbrev pub Allowed : Bool → Filter → List ℕ → List ℕ → Type 0
+Allowed true filter = HasAnswer filter
+Allowed false filter = IsAnswer filter
 
 -- what may be written for a text of which this is asked about: the text with an answer in its place, or in a run that is not strict the
 -- text itself, where it has no such field
 abbrev pub AllowedFor : Filter → List ℕ → Option (List ℕ) → List ℕ → Type 0
 AllowedFor filter text None words = (filter.is_strict ≡ false) × (words ≡ text)
 AllowedFor filter text (Some asked) words =
-    (answer : List ℕ) × Allowed filter.is_strict filter.request asked answer × (words ≡ text_with filter.field text answer)
+    (answer : List ℕ) × Allowed filter.is_strict filter asked answer × (words ≡ text_with filter.field text answer)
 
 -- What may be written for the text of a line before which so many came. Of one that is too long it is just this, and in a strict run
 -- nothing. Else one that is skipped is passed on, and another one is asked about.

@@ -1,9 +1,9 @@
 -- What is said of arguments that make no sense: the first word that makes none, and what may stand there.
-use Rattle.std.specs.Prelude.{ℕ, ◌+◌, ◌==◌, Bool, true, false, List, [], ◌∷◌, ◌++◌, Option, Some, None, is_some, ok_or, Result, bytes_eq, codes, slice_get, if◌then◌else◌, option_and_then}
+use Rattle.std.specs.Prelude.{ℕ, ◌+◌, ◌==◌, Bool, true, false, List, [], ◌∷◌, ◌++◌, Option, Some, None, is_some, ok_or, Result, bytes_eq, codes, slice_get, if◌then◌else◌, option_and_then, unwrap_or}
 use Rattle.std.specs.Option.{option_map_or}
 use Rattle.cal_text.specs.declared.any.DateOrMoment.{DateOrMoment}
 use Rattle.caldate.specs.Offsets.{offset_of}
-use Rattle.caldate.specs.Requests.{count_of, cut_options, form_of, is_number, lacks_field, meaning_of, no_options, period_of, stands_alone, takes_field, takes_separator, takes_skip, unit_of, verb_of, weekday_of, arguments_of, date_of, many_of, step_in}
+use Rattle.caldate.specs.Requests.{count_of, cut_options, form_of, is_number, meaning_of, no_options, period_of, stands_alone, takes_field, takes_separator, takes_skip, unit_of, verb_of, weekday_of, arguments_of, date_of, many_of, step_in, lacking, takes_offset, takes_reading}
 use Rattle.caldate.specs.Shown.{shown}
 use Rattle.caldate.specs.declared.options.Options.{Options}
 use Rattle.caldate.specs.declared.request.Asked.{Asked}
@@ -99,7 +99,7 @@ senseless_request reading at what (word ∷ words) = option_map_or (senseless_af
 abbrev pub words_in : Options → ℕ
 words_in options =
     (if options.is_strict then 1 else 0) + (if is_some options.number then 2 else 0) + (if is_some options.separator then 2 else 0)
-    + (if is_some options.skip then 2 else 0)
+    + (if is_some options.skip then 2 else 0) + (if is_some options.reading then 2 else 0) + (if is_some options.offset then 2 else 0)
 
 -- what comes after the word, where it is an option that may stand there
 abbrev pub value_of : Options → List ℕ → Option Wanted
@@ -107,17 +107,17 @@ value_of options word =
     if takes_field options word then Some wanted.FieldNumber else
     if takes_separator options word then Some wanted.Separator else
     if takes_skip options word then Some wanted.Skip else
+    if takes_reading options word then Some wanted.Reading else
+    if takes_offset options word then Some wanted.Offset else
     None
 
--- a verb, or at the start an option that stands alone too; or the field that a separator needs
+-- what the options lack, or else a verb, or at the start an option that stands alone too
 abbrev pub verb_after : Options → Wanted
-verb_after options =
-    if lacks_field options then wanted.Field else
-    if words_in options == 0 then wanted.Start else wanted.Verb
+verb_after options = unwrap_or (lacking options) (if words_in options == 0 then wanted.Start else wanted.Verb)
 
 abbrev pub senseless_verb : (List ℕ → Option DateOrMoment) → Options → List (List ℕ) → Senseless
 senseless_verb reading options words =
-    if lacks_field options then senseless_at (words_in options) (verb_after options) else
+    if is_some (lacking options) then senseless_at (words_in options) (verb_after options) else
     senseless_request reading (words_in options) (verb_after options) words
 
 -- from the word after the options on
@@ -156,12 +156,15 @@ asked_of reading words = ok_or (meaning_of reading words) (senseless_of reading 
 -- ---- the line that says so
 abbrev pub wanted_words : Wanted → List ℕ
 wanted_words wanted.Something = codes "nothing to do; caldate --help shows what can be asked"
-wanted_words wanted.Start = codes "no verb (to, add, next, last, until, since, start, end, on-or-after, on-or-before, at, list) and no option (--strict, --field, --separator, --skip, --help, --version)"
+wanted_words wanted.Start = codes "no verb (to, add, next, last, until, since, start, end, on-or-after, on-or-before, at, list) and no option (--strict, --field, --separator, --skip, --read, --assume, --help, --version)"
 wanted_words wanted.Verb = codes "no verb (to, add, next, last, until, since, start, end, on-or-after, on-or-before, at) and no further option"
 wanted_words wanted.Field = codes "no --field, which --separator needs"
 wanted_words wanted.FieldNumber = codes "no number of a field (1 .. 65535)"
 wanted_words wanted.Separator = codes "no separator (one byte)"
 wanted_words wanted.Skip = codes "no number of lines (0 .. 9223372036854775807)"
+wanted_words wanted.Reading = codes "no form to read (basic, dmy, mdy, unix-ms, unix-us, unix-ns, local)"
+wanted_words wanted.Assume = codes "no --assume, which --read local needs"
+wanted_words wanted.Local = codes "no --read local, which --assume needs"
 wanted_words wanted.Form = codes "no form (calendar, ordinal, week, julian, weekday, short-weekday, month, quarter, basic, rfc3339, unix, unix-ms, unix-us, unix-ns)"
 wanted_words wanted.Number = codes "no number (-9223372036854775808 .. 9223372036854775807)"
 wanted_words wanted.Amount = codes "too much (at most 9223372036854775807 seconds)"

@@ -7,19 +7,18 @@ use Rattle.caldate.specs.Room.{longest_text}
 use Rattle.caldate.specs.Shown.{shown, words_shown}
 use Rattle.caldate.specs.Standing.{counted}
 use Rattle.caldate.specs.declared.request.Filter.{Filter}
-use Rattle.caldate.specs.declared.request.Request.{Request}
 use Rattle.caldate.specs.declared.shown.ShownText.{ShownText}
 use Rattle.caldate.specs.declared.unanswered.UnansweredLine.{UnansweredLine}
 
 -- the words say why there is no answer, where this is asked about
-abbrev pub IsWhy : Request → Option (List ℕ) → List ℕ → Type 0
-IsWhy q None words = words ≡ codes "no such field"
-IsWhy q (Some asked) words = LacksAnswer q asked words
+abbrev pub IsWhy : Filter → Option (List ℕ) → List ℕ → Type 0
+IsWhy filter None words = words ≡ codes "no such field"
+IsWhy filter (Some asked) words = LacksAnswer filter asked words
 
 -- the words say why the text of a line before which so many came has no answer: it is too long, or it is asked about and has none
 abbrev pub IsReason : Filter → ℕ → List ℕ → List ℕ → Type 0
 IsReason filter before text words =
-    IsTooLong text words ⊎ (length text ≤ longest_text) × (filter.skip ≤ before) × IsWhy filter.request (asked_text filter.field text) words
+    IsTooLong text words ⊎ (length text ≤ longest_text) × (filter.skip ≤ before) × IsWhy filter (asked_text filter.field text) words
 
 -- what is shown is words of this kind
 abbrev pub Shows : ShownText → (List ℕ → Type 0) → Type 0

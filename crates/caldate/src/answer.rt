@@ -12,12 +12,13 @@ use crate::counts::count_between;
 use crate::forms::{basic_text, month_text, quarter_text, unix_text};
 use crate::gathered::Gathered;
 use crate::moves::led_to;
-use crate::request::{DayMove, Form, Request, TimeUnit};
+use crate::reading::read_in;
+use crate::request::{DayMove, Filter, Form, Request, TimeUnit};
 use crate::signed::signed_text;
 use cal_datetime::OffsetDateTime;
 use cal_text::date::{CalendarText, OrdinalText, WeekText};
 use cal_text::julian_day::JulianText;
-use cal_text::{DateForm, DateOrMoment, MomentForm, Unreadable, read_any, rfc3339, unix};
+use cal_text::{DateForm, DateOrMoment, MomentForm, Unreadable, rfc3339, unix};
 use cal_time::error::ComponentRange;
 use cal_time::{Date, ShortText, SignedDuration, Time, UtcOffset};
 
@@ -25,18 +26,18 @@ use cal_time::{Date, ShortText, SignedDuration, Time, UtcOffset};
 pub const LONGEST_TEXT: usize = 4096;
 
 /// Gathers the answer to a text, or the words that say why it has none, and returns whether it has one.
-pub fn push_answer(gathered: &mut Gathered, request: &Request, text: &[u8]) -> bool
+pub fn push_answer(gathered: &mut Gathered, filter: &Filter, text: &[u8]) -> bool
     requires { HasRoom longest_answer gathered.old }
-    ensures has { result ≡ true → AppendsThat (HasAnswer request.now text.now) gathered.old gathered.new }
-    ensures lacks { result ≡ false → AppendsThat (LacksAnswer request.now text.now) gathered.old gathered.new }
+    ensures has { result ≡ true → AppendsThat (HasAnswer filter.now text.now) gathered.old gathered.new }
+    ensures lacks { result ≡ false → AppendsThat (LacksAnswer filter.now text.now) gathered.old gathered.new }
     ensures short { length gathered.new ≤ length gathered.old + longest_answer }
 {
     if text.len() > LONGEST_TEXT {
         gathered.push(b"line too long");
         return false;
     }
-    match read_any(text) {
-        Ok(found) => push_answer_to(gathered, request, &found),
+    match read_in(filter.reading, text) {
+        Ok(found) => push_answer_to(gathered, &filter.request, &found),
         Err(error) => {
             push_why(gathered, error);
             false

@@ -9,7 +9,7 @@ ghost use Rattle.caldate.specs.declared.request.Request.TheVariants.{Until, Sinc
 
 use crate::listing::list_of;
 use crate::offset::offset_of;
-use crate::options::{Options, field_of, lacks_field, options_of};
+use crate::options::{Options, field_of, lacking, options_of, reading_in};
 use crate::request::{Asked, DayMove, Filter, Request, TimeUnit, Verb};
 use crate::senseless::{Senseless, senseless_of};
 use crate::spelling::{
@@ -54,7 +54,7 @@ fn lines_of(arguments: &[u8]) -> Option<Asked>
         → result ≡ request_with reading (cut_options no_options (arguments_of arguments.now)) }
 {
     let (options, words) = options_of(arguments);
-    filter_of(options, request_of(words?))
+    filter_of(&options, request_of(words?))
 }
 
 /// What an option asks for that stands alone.
@@ -72,15 +72,16 @@ fn only_option(word: &[u8]) -> Option<Asked>
 }
 
 /// To answer the lines, if there is a request.
-fn filter_of(options: Options, request: Option<Request>) -> Option<Asked>
+fn filter_of(options: &Options, request: Option<Request>) -> Option<Asked>
     ensures steps { IfSome result IsAsked }
-    ensures asked { result ≡ filter_of options request }
+    ensures asked { result ≡ filter_of options.now request }
 {
-    if lacks_field(options) {
+    if lacking(options).is_some() {
         return None;
     }
     Some(Asked::Lines(Filter {
         request: request?,
+        reading: reading_in(options),
         is_strict: options.is_strict,
         field: field_of(options),
         skip: options.skip.unwrap_or(0),

@@ -65,7 +65,7 @@ fn wanted_words(wanted: Wanted) -> &'static [u8]
     match wanted {
         Wanted::Something => b"nothing to do; caldate --help shows what can be asked".as_slice(),
         Wanted::Start => {
-            b"no verb (to, add, next, last, until, since, start, end, on-or-after, on-or-before, at, list) and no option (--strict, --field, --separator, --skip, --help, --version)".as_slice()
+            b"no verb (to, add, next, last, until, since, start, end, on-or-after, on-or-before, at, list) and no option (--strict, --field, --separator, --skip, --read, --assume, --help, --version)".as_slice()
         }
         Wanted::Verb => {
             b"no verb (to, add, next, last, until, since, start, end, on-or-after, on-or-before, at) and no further option".as_slice()
@@ -74,6 +74,11 @@ fn wanted_words(wanted: Wanted) -> &'static [u8]
         Wanted::FieldNumber => b"no number of a field (1 .. 65535)".as_slice(),
         Wanted::Separator => b"no separator (one byte)".as_slice(),
         Wanted::Skip => b"no number of lines (0 .. 9223372036854775807)".as_slice(),
+        Wanted::Reading => {
+            b"no form to read (basic, dmy, mdy, unix-ms, unix-us, unix-ns, local)".as_slice()
+        }
+        Wanted::Assume => b"no --assume, which --read local needs".as_slice(),
+        Wanted::Local => b"no --read local, which --assume needs".as_slice(),
         Wanted::Form => {
             b"no form (calendar, ordinal, week, julian, weekday, short-weekday, month, quarter, basic, rfc3339, unix, unix-ms, unix-us, unix-ns)".as_slice()
         }

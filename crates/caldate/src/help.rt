@@ -23,6 +23,8 @@ pub const HELP: &[u8] = b"caldate answers each line of its input, a date or a mo
   caldate --field N ...           the same for the N-th field of each line, in its place; fields end at a tab
   caldate --separator C ...       with --field: they end at the byte C
   caldate --skip K ...            the same, but the first K lines are passed on as they are
+  caldate --read FORM ...         the same for lines in this form: basic, dmy, mdy, unix-ms, unix-us, unix-ns or local
+  caldate --assume OFFSET ...     with --read local: the offset of the lines
   caldate --help, -h, help        this page
   caldate --version               the version
 

@@ -1,14 +1,15 @@
 //! What follows from the answers: a text has one.
 ghost use Rattle.std.specs.Prelude.{◌≡◌, ◌⊎◌, ℕ, List};
 ghost use Rattle.caldate.specs.Answers.{IsAnswer, IsUnreadable};
-ghost use Rattle.caldate.specs.declared.request.Request.{Request};
 
-use cal_text::{DateOrMoment, Unreadable, read_any};
+use crate::reading::read_in;
+use crate::request::Filter;
+use cal_text::{DateOrMoment, Unreadable};
 
-/// No text has two answers to one request, but for the place that the words for an unreadable text name.
-pub(crate) fn one_answer(text: &[u8]) -> Result<DateOrMoment, Unreadable>
-    ensures { (request : Request) (words others : List ℕ) → IsAnswer request text.now words → IsAnswer request text.now others
-        → (words ≡ others) ⊎ IsUnreadable text.now words × IsUnreadable text.now others }
+/// No text has two answers to one request in one reading, but for the place that the words for an unreadable text name.
+pub(crate) fn one_answer(filter: &Filter, text: &[u8]) -> Result<DateOrMoment, Unreadable>
+    ensures { (words others : List ℕ) → IsAnswer filter.now text.now words → IsAnswer filter.now text.now others
+        → (words ≡ others) ⊎ IsUnreadable filter.now text.now words × IsUnreadable filter.now text.now others }
 {
-    read_any(text)
+    read_in(filter.reading, text)
 }

@@ -24,6 +24,7 @@ mod output;
 mod patience;
 mod place;
 mod program;
+mod reading;
 mod reply;
 mod request;
 mod run;

@@ -1,11 +1,14 @@
 //! The options before a request.
 ghost use Rattle.std.specs.Prelude.{◌≡◌, ◌<◌, ◌≤◌, ℕ, List, Option, MatchOption, length};
-ghost use Rattle.caldate.specs.Requests.{arguments_of, byte_of, cut_options, field_number_of, field_of, lacks_field, no_options, skip_of, takes_field, takes_separator, takes_skip, takes_strict, with_field, with_separator, with_skip, with_value, words_left};
+ghost use Rattle.caldate.specs.Requests.{arguments_of, byte_of, cut_options, field_number_of, field_of, is_local, lacking, no_options, reading_at, reading_of, skip_of, takes_field, takes_offset, takes_reading, takes_separator, takes_skip, takes_strict, with_field, with_offset, with_reading, with_separator, with_skip, with_value, words_left};
 ghost use Rattle.caldate.specs.Senseless.{value_of, verb_after, words_in};
 
-use crate::request::Field;
+use crate::offset::offset_of;
+use crate::reading::Reading;
+use crate::request::{Field, UnixUnit};
 use crate::senseless::Wanted;
 use crate::spelling::{cut, number_of};
+use cal_time::UtcOffset;
 
 /// The options before a request.
 #[derive(Clone, Copy)]
@@ -18,6 +21,10 @@ pub struct Options {
     pub separator: Option<u8>,
     /// The number K of `--skip K`.
     pub skip: Option<u64>,
+    /// The form of `--read FORM`. That of `local` waits for its offset, and is at UTC till then.
+    pub reading: Option<Reading>,
+    /// The offset of `--assume OFFSET`.
+    pub offset: Option<UtcOffset>,
 }
 
 /// The options at the front of the arguments, and the words after them, where there are any.
@@ -30,9 +37,11 @@ pub fn options_of(arguments: &[u8]) -> (Options, Option<&[u8]>)
         number: None,
         separator: None,
         skip: None,
+        reading: None,
+        offset: None,
     };
     let mut words = Some(arguments);
-    while let Some((more, rest)) = next_option(options, words) {
+    while let Some((more, rest)) = next_option(&options, words) {
         options = more;
         words = rest;
     }
@@ -40,15 +49,18 @@ pub fn options_of(arguments: &[u8]) -> (Options, Option<&[u8]>)
 }
 
 /// The options with the next one, and the words after it, where the next word is one that may stand there.
-fn next_option(options: Options, words: Option<&[u8]>) -> Option<(Options, Option<&[u8]>)>
-    ensures cut { MatchOption result (cut_options options (words_left words.entry) ≡ (options, words_left words.entry))
-        (λ next. cut_options options (words_left words.entry) ≡ cut_options next.0 (words_left next.1)) }
+fn next_option<'a>(
+    options: &Options,
+    words: Option<&'a [u8]>,
+) -> Option<(Options, Option<&'a [u8]>)>
+    ensures cut { MatchOption result (cut_options options.now (words_left words.entry) ≡ (options.now, words_left words.entry))
+        (λ next. cut_options options.now (words_left words.entry) ≡ cut_options next.0 (words_left next.1)) }
     ensures fewer { MatchOption result (length (words_left words.entry) ≡ length (words_left words.entry))
         (λ next. length (words_left next.1) < length (words_left words.entry)) }
 {
     let (word, rest) = cut(words?);
     if takes_strict(options, word) {
-        let mut more = options;
+        let mut more = *options;
         more.is_strict = true;
         return Some((more, rest));
     }
@@ -57,33 +69,45 @@ fn next_option(options: Options, words: Option<&[u8]>) -> Option<(Options, Optio
 }
 
 /// Whether the word is `--strict`, and the first one.
-fn takes_strict(options: Options, word: &[u8]) -> bool
-    ensures { result ≡ takes_strict options word.now }
+fn takes_strict(options: &Options, word: &[u8]) -> bool
+    ensures { result ≡ takes_strict options.now word.now }
 {
     word == b"--strict".as_slice() && !options.is_strict
 }
 
-fn takes_field(options: Options, word: &[u8]) -> bool
-    ensures { result ≡ takes_field options word.now }
+fn takes_field(options: &Options, word: &[u8]) -> bool
+    ensures { result ≡ takes_field options.now word.now }
 {
     word == b"--field".as_slice() && options.number.is_none()
 }
 
-fn takes_separator(options: Options, word: &[u8]) -> bool
-    ensures { result ≡ takes_separator options word.now }
+fn takes_separator(options: &Options, word: &[u8]) -> bool
+    ensures { result ≡ takes_separator options.now word.now }
 {
     word == b"--separator".as_slice() && options.separator.is_none()
 }
 
-fn takes_skip(options: Options, word: &[u8]) -> bool
-    ensures { result ≡ takes_skip options word.now }
+fn takes_skip(options: &Options, word: &[u8]) -> bool
+    ensures { result ≡ takes_skip options.now word.now }
 {
     word == b"--skip".as_slice() && options.skip.is_none()
 }
 
+fn takes_reading(options: &Options, word: &[u8]) -> bool
+    ensures { result ≡ takes_reading options.now word.now }
+{
+    word == b"--read".as_slice() && options.reading.is_none()
+}
+
+fn takes_offset(options: &Options, word: &[u8]) -> bool
+    ensures { result ≡ takes_offset options.now word.now }
+{
+    word == b"--assume".as_slice() && options.offset.is_none()
+}
+
 /// The options with this one, which has this value.
-fn with_value(options: Options, word: &[u8], value: &[u8]) -> Option<Options>
-    ensures { result ≡ with_value options word.now value.now }
+fn with_value(options: &Options, word: &[u8], value: &[u8]) -> Option<Options>
+    ensures { result ≡ with_value options.now word.now value.now }
 {
     if takes_field(options, word) {
         with_field(options, value)
@@ -91,32 +115,52 @@ fn with_value(options: Options, word: &[u8], value: &[u8]) -> Option<Options>
         with_separator(options, value)
     } else if takes_skip(options, word) {
         with_skip(options, value)
+    } else if takes_reading(options, word) {
+        with_reading(options, value)
+    } else if takes_offset(options, word) {
+        with_offset(options, value)
     } else {
         None
     }
 }
 
-fn with_field(options: Options, value: &[u8]) -> Option<Options>
-    ensures { result ≡ with_field options value.now }
+fn with_field(options: &Options, value: &[u8]) -> Option<Options>
+    ensures { result ≡ with_field options.now value.now }
 {
-    let mut more = options;
+    let mut more = *options;
     more.number = Some(field_number_of(value)?);
     Some(more)
 }
 
-fn with_separator(options: Options, value: &[u8]) -> Option<Options>
-    ensures { result ≡ with_separator options value.now }
+fn with_separator(options: &Options, value: &[u8]) -> Option<Options>
+    ensures { result ≡ with_separator options.now value.now }
 {
-    let mut more = options;
+    let mut more = *options;
     more.separator = Some(byte_of(value)?);
     Some(more)
 }
 
-fn with_skip(options: Options, value: &[u8]) -> Option<Options>
-    ensures { result ≡ with_skip options value.now }
+fn with_skip(options: &Options, value: &[u8]) -> Option<Options>
+    ensures { result ≡ with_skip options.now value.now }
 {
-    let mut more = options;
+    let mut more = *options;
     more.skip = Some(skip_of(value)?);
+    Some(more)
+}
+
+fn with_reading(options: &Options, value: &[u8]) -> Option<Options>
+    ensures { result ≡ with_reading options.now value.now }
+{
+    let mut more = *options;
+    more.reading = Some(reading_of(value)?);
+    Some(more)
+}
+
+fn with_offset(options: &Options, value: &[u8]) -> Option<Options>
+    ensures { result ≡ with_offset options.now value.now }
+{
+    let mut more = *options;
+    more.offset = Some(offset_of(value)?);
     Some(more)
 }
 
@@ -152,21 +196,46 @@ fn skip_of(word: &[u8]) -> Option<u64>
     Some(number as u64)
 }
 
+/// The reading that a word names.
+fn reading_of(word: &[u8]) -> Option<Reading>
+    ensures { result ≡ reading_of word.now }
+{
+    if word == b"basic".as_slice() {
+        Some(Reading::Basic)
+    } else if word == b"dmy".as_slice() {
+        Some(Reading::DayFirst)
+    } else if word == b"mdy".as_slice() {
+        Some(Reading::MonthFirst)
+    } else if word == b"unix-ms".as_slice() {
+        Some(Reading::Unix(UnixUnit::Milliseconds))
+    } else if word == b"unix-us".as_slice() {
+        Some(Reading::Unix(UnixUnit::Microseconds))
+    } else if word == b"unix-ns".as_slice() {
+        Some(Reading::Unix(UnixUnit::Nanoseconds))
+    } else if word == b"local".as_slice() {
+        Some(Reading::Local(UtcOffset::UTC))
+    } else {
+        None
+    }
+}
+
 /// How many words the options are.
-pub fn words_in(options: Options) -> usize
-    ensures count { result ≡ words_in options }
-    ensures few { result ≤ 7 }
+pub fn words_in(options: &Options) -> usize
+    ensures count { result ≡ words_in options.now }
+    ensures few { result ≤ 11 }
 {
     let strict = if options.is_strict { 1 } else { 0 };
     let field = if options.number.is_some() { 2 } else { 0 };
     let separator = if options.separator.is_some() { 2 } else { 0 };
     let skip = if options.skip.is_some() { 2 } else { 0 };
-    strict + field + separator + skip
+    let reading = if options.reading.is_some() { 2 } else { 0 };
+    let offset = if options.offset.is_some() { 2 } else { 0 };
+    strict + field + separator + skip + reading + offset
 }
 
 /// The field that they name, whose separator is a tab where none is said.
-pub fn field_of(options: Options) -> Option<Field>
-    ensures { result ≡ field_of options }
+pub fn field_of(options: &Options) -> Option<Field>
+    ensures { result ≡ field_of options.now }
 {
     Some(Field {
         number: options.number?,
@@ -174,19 +243,47 @@ pub fn field_of(options: Options) -> Option<Field>
     })
 }
 
-/// Whether there is a separator, and no field.
-pub fn lacks_field(options: Options) -> bool
-    ensures { result ≡ lacks_field options }
+/// What the lines are read as, which is any form where none is named.
+pub fn reading_in(options: &Options) -> Reading
+    ensures { result ≡ reading_at options.now.reading options.now.offset }
 {
-    options.separator.is_some() && options.number.is_none()
+    match (options.reading, options.offset) {
+        (None, _) => Reading::Any,
+        (Some(Reading::Local(_)), Some(offset)) => Reading::Local(offset),
+        (Some(reading), _) => reading,
+    }
 }
 
-/// A verb, or at the start an option that stands alone too; or the field that a separator needs.
-pub fn verb_after(options: Options) -> Wanted
-    ensures { result ≡ verb_after options }
+fn is_local(options: &Options) -> bool
+    ensures { result ≡ is_local options.now.reading }
 {
-    if lacks_field(options) {
-        Wanted::Field
+    match options.reading {
+        Some(Reading::Local(_)) => true,
+        _ => false,
+    }
+}
+
+/// What the options need beside them, where they lack it.
+pub fn lacking(options: &Options) -> Option<Wanted>
+    ensures { result ≡ lacking options.now }
+{
+    if options.separator.is_some() && options.number.is_none() {
+        Some(Wanted::Field)
+    } else if is_local(options) && options.offset.is_none() {
+        Some(Wanted::Assume)
+    } else if options.offset.is_some() && !is_local(options) {
+        Some(Wanted::Local)
+    } else {
+        None
+    }
+}
+
+/// What the options lack, or else a verb, or at the start an option that stands alone too.
+pub fn verb_after(options: &Options) -> Wanted
+    ensures { result ≡ verb_after options.now }
+{
+    if let Some(wanted) = lacking(options) {
+        wanted
     } else if words_in(options) == 0 {
         Wanted::Start
     } else {
@@ -195,8 +292,8 @@ pub fn verb_after(options: Options) -> Wanted
 }
 
 /// What comes after the word, where it is an option that may stand there.
-pub fn value_of(options: Options, word: &[u8]) -> Option<Wanted>
-    ensures { result ≡ value_of options word.now }
+pub fn value_of(options: &Options, word: &[u8]) -> Option<Wanted>
+    ensures { result ≡ value_of options.now word.now }
 {
     if takes_field(options, word) {
         Some(Wanted::FieldNumber)
@@ -204,6 +301,10 @@ pub fn value_of(options: Options, word: &[u8]) -> Option<Wanted>
         Some(Wanted::Separator)
     } else if takes_skip(options, word) {
         Some(Wanted::Skip)
+    } else if takes_reading(options, word) {
+        Some(Wanted::Reading)
+    } else if takes_offset(options, word) {
+        Some(Wanted::Offset)
     } else {
         None
     }

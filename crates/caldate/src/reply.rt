@@ -107,7 +107,7 @@ fn push_field(
     requires field { filter.now.field ≡ Some field }
     ensures ok { OnOk result (AppendsThat (AllowedFor filter.now text.now (asked_text (Some field) text.now)) gathered.old gathered.new) }
     ensures strict { IfErr result (λ reason. (filter.now.is_strict ≡ true) × (gathered.new ≡ gathered.old)) }
-    ensures reason { IfErr result (λ reason. Shows reason (IsWhy filter.now.request (asked_text (Some field) text.now))) }
+    ensures reason { IfErr result (λ reason. Shows reason (IsWhy filter.now (asked_text (Some field) text.now))) }
     ensures short { length gathered.new ≤ length gathered.old + longest_text + longest_answer }
 {
     let Some((front, asked, rest)) = cut_field(field, text) else {
@@ -150,13 +150,13 @@ fn push_without_field(
 /// reason.
 fn push_asked(gathered: &mut Gathered, filter: &Filter, text: &[u8]) -> Result<(), ShownText>
     requires { HasRoom longest_answer gathered.old }
-    ensures ok { OnOk result (AppendsThat (Allowed filter.now.is_strict filter.now.request text.now) gathered.old gathered.new) }
+    ensures ok { OnOk result (AppendsThat (Allowed filter.now.is_strict filter.now text.now) gathered.old gathered.new) }
     ensures strict { IfErr result (λ reason. (filter.now.is_strict ≡ true) × (gathered.new ≡ gathered.old)) }
-    ensures reason { IfErr result (λ reason. Shows reason (LacksAnswer filter.now.request text.now)) }
+    ensures reason { IfErr result (λ reason. Shows reason (LacksAnswer filter.now text.now)) }
     ensures short { length gathered.new ≤ length gathered.old + longest_answer }
 {
     let before = gathered.len();
-    let has_answer = push_answer(gathered, &filter.request, text);
+    let has_answer = push_answer(gathered, filter, text);
     if filter.is_strict && !has_answer {
         let reason = ShownText::new(gathered.after(before));
         gathered.truncate(before);

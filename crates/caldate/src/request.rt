@@ -1,4 +1,5 @@
 //! What is asked of the lines.
+use crate::reading::Reading;
 use cal_text::{DateForm, DateOrMoment, MomentForm};
 use cal_time::{Date, SignedDuration, UtcOffset, Weekday};
 
@@ -135,6 +136,8 @@ pub struct Field {
 #[derive(Clone, Copy)]
 pub struct Filter {
     pub request: Request,
+    /// What the lines are read as.
+    pub reading: Reading,
     /// Whether the run ends at the first line without an answer.
     pub is_strict: bool,
     /// The field that is asked about, or all of the line where there is none.

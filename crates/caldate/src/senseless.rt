@@ -6,7 +6,7 @@ ghost use Rattle.caldate.specs.Senseless.{further_to, is_wanted, needed_by, sens
 
 use crate::listing::{date_of, step_in};
 use crate::offset::offset_of;
-use crate::options::{Options, lacks_field, options_of, value_of, verb_after, words_in};
+use crate::options::{Options, lacking, options_of, value_of, verb_after, words_in};
 use crate::request::Verb;
 use crate::spelling::{
     asks_for_help, count_of, cut, first_word, form_of, many_of, number_of, period_of, unit_of,
@@ -31,6 +31,12 @@ pub enum Wanted {
     Separator,
     /// A number of lines, from 0 on.
     Skip,
+    /// A form that lines are read in, as `dmy`.
+    Reading,
+    /// `--assume`, since lines are read as `local`.
+    Assume,
+    /// `--read local`, since an offset is assumed.
+    Local,
     /// A form, as `week`.
     Form,
     /// A number.
@@ -109,12 +115,12 @@ fn senseless_lines(arguments: &[u8]) -> Senseless
     ensures { (reading : List ℕ → Option DateOrMoment) → IsReading reading → result ≡ senseless_lines reading (arguments_of arguments.now) }
 {
     let (options, words) = options_of(arguments);
-    senseless_front(options, words)
+    senseless_front(&options, words)
 }
 
 /// From the word after the options on.
-fn senseless_front(options: Options, words: Option<&[u8]>) -> Senseless
-    ensures { (reading : List ℕ → Option DateOrMoment) → IsReading reading → result ≡ senseless_front reading options (words_left words.entry) }
+fn senseless_front(options: &Options, words: Option<&[u8]>) -> Senseless
+    ensures { (reading : List ℕ → Option DateOrMoment) → IsReading reading → result ≡ senseless_front reading options.now (words_left words.entry) }
 {
     let place = words_in(options);
     let Some(words) = words else {
@@ -128,12 +134,12 @@ fn senseless_front(options: Options, words: Option<&[u8]>) -> Senseless
 }
 
 /// From the verb on, where the word is no option.
-fn senseless_verb(options: Options, words: &[u8]) -> Senseless
-    ensures { (reading : List ℕ → Option DateOrMoment) → IsReading reading → result ≡ senseless_verb reading options (arguments_of words.now) }
+fn senseless_verb(options: &Options, words: &[u8]) -> Senseless
+    ensures { (reading : List ℕ → Option DateOrMoment) → IsReading reading → result ≡ senseless_verb reading options.now (arguments_of words.now) }
 {
     let place = words_in(options);
     let wanted = verb_after(options);
-    if lacks_field(options) {
+    if lacking(options).is_some() {
         senseless_at(place, wanted)
     } else {
         senseless_request(place, wanted, words)
@@ -173,7 +179,7 @@ fn senseless_among(place: usize, wanted: &[Wanted], words: Option<&[u8]>) -> Sen
 
 /// From the verb on, which has this place, where this is wanted.
 fn senseless_request(place: usize, wanted: Wanted, words: &[u8]) -> Senseless
-    requires { place ≤ 7 }
+    requires { place ≤ 11 }
     ensures { (reading : List ℕ → Option DateOrMoment) → IsReading reading → result ≡ senseless_request reading place wanted (arguments_of words.now) }
 {
     let (word, rest) = cut(words);
@@ -185,7 +191,7 @@ fn senseless_request(place: usize, wanted: Wanted, words: &[u8]) -> Senseless
 
 /// After a verb, from this place on.
 fn senseless_after(place: usize, words: Option<&[u8]>, verb: Verb) -> Senseless
-    requires { place ≤ 8 }
+    requires { place ≤ 12 }
     ensures { (reading : List ℕ → Option DateOrMoment) → IsReading reading → result ≡ senseless_after reading place (words_left words.entry) verb }
 {
     let needed = needed_by(verb);
@@ -202,7 +208,7 @@ fn senseless_after(place: usize, words: Option<&[u8]>, verb: Verb) -> Senseless
 
 /// After the word that the verb needs, which has this place.
 fn senseless_further(place: usize, further: Wanted, words: Option<&[u8]>) -> Senseless
-    requires { place ≤ 8 }
+    requires { place ≤ 12 }
     ensures { (reading : List ℕ → Option DateOrMoment) → IsReading reading → result ≡ senseless_further reading place further (words_left words.entry) }
 {
     let Some(words) = words else {
@@ -218,7 +224,7 @@ fn senseless_further(place: usize, further: Wanted, words: Option<&[u8]>) -> Sen
 
 /// After the word that may come after it.
 fn senseless_last(place: usize, further: Wanted, words: Option<&[u8]>) -> Senseless
-    requires { place ≤ 8 }
+    requires { place ≤ 12 }
     ensures { result ≡ senseless_last place further (words_left words.entry) }
 {
     match further {
@@ -230,7 +236,7 @@ fn senseless_last(place: usize, further: Wanted, words: Option<&[u8]>) -> Sensel
 /// Where no word may come: one is too many, or the number is too large for its unit.
 #[tactic(auto, using(crate::proofs::Words::one_too_many))]
 fn senseless_end(place: usize, words: Option<&[u8]>) -> Senseless
-    requires { place ≤ 8 }
+    requires { place ≤ 12 }
     ensures { result ≡ senseless_end place (words_left words.entry) }
 {
     match words {
@@ -241,7 +247,7 @@ fn senseless_end(place: usize, words: Option<&[u8]>) -> Senseless
 
 /// After `in`, where a unit has this place.
 fn senseless_unit(place: usize, words: Option<&[u8]>) -> Senseless
-    requires { place ≤ 10 }
+    requires { place ≤ 14 }
     ensures { result ≡ senseless_unit place (words_left words.entry) }
 {
     let Some(words) = words else {

@@ -15,6 +15,7 @@ mod failing;
 mod lists;
 mod long;
 mod one_answer;
+mod readings;
 mod requests;
 mod shown;
 mod strict;

@@ -113,7 +113,7 @@ fn complaint(alloc: Global, arguments: Option<&[u8]>) -> Option<Vec<u8>> {
 
 #[test]
 fn arguments_that_make_no_sense(rt: HostRuntime) {
-    let cases: [(&[u8], &[u8]); 91] = [
+    let cases: [(&[u8], &[u8]); 105] = [
         (b"list", b"there is no 'from'"),
         (b"list\02024-02-29", b"'2024-02-29' is no 'from'"),
         (
@@ -187,15 +187,15 @@ fn arguments_that_make_no_sense(rt: HostRuntime) {
         ),
         (
             b"\0to\0week",
-            b"'' is no verb (to, add, next, last, until, since, start, end, on-or-after, on-or-before, at, list) and no option (--strict, --field, --separator, --skip, --help, --version)",
+            b"'' is no verb (to, add, next, last, until, since, start, end, on-or-after, on-or-before, at, list) and no option (--strict, --field, --separator, --skip, --read, --assume, --help, --version)",
         ),
         (
             b"week",
-            b"'week' is no verb (to, add, next, last, until, since, start, end, on-or-after, on-or-before, at, list) and no option (--strict, --field, --separator, --skip, --help, --version)",
+            b"'week' is no verb (to, add, next, last, until, since, start, end, on-or-after, on-or-before, at, list) and no option (--strict, --field, --separator, --skip, --read, --assume, --help, --version)",
         ),
         (
             b"To\0week",
-            b"'To' is no verb (to, add, next, last, until, since, start, end, on-or-after, on-or-before, at, list) and no option (--strict, --field, --separator, --skip, --help, --version)",
+            b"'To' is no verb (to, add, next, last, until, since, start, end, on-or-after, on-or-before, at, list) and no option (--strict, --field, --separator, --skip, --read, --assume, --help, --version)",
         ),
         (
             b"--strict",
@@ -273,6 +273,59 @@ fn arguments_that_make_no_sense(rt: HostRuntime) {
         (
             b"--field\02\0--field\03\0to\0week",
             b"'--field' is no verb (to, add, next, last, until, since, start, end, on-or-after, on-or-before, at) and no further option",
+        ),
+        (
+            b"--read",
+            b"there is no form to read (basic, dmy, mdy, unix-ms, unix-us, unix-ns, local)",
+        ),
+        (
+            b"--strict\0--read\0iso\0to\0week",
+            b"'iso' is no form to read (basic, dmy, mdy, unix-ms, unix-us, unix-ns, local)",
+        ),
+        (
+            b"--read\0DMY\0to\0week",
+            b"'DMY' is no form to read (basic, dmy, mdy, unix-ms, unix-us, unix-ns, local)",
+        ),
+        (
+            b"--read\0dmy",
+            b"there is no verb (to, add, next, last, until, since, start, end, on-or-after, on-or-before, at) and no further option",
+        ),
+        (
+            b"--read\0dmy\0--read\0mdy\0to\0week",
+            b"'--read' is no verb (to, add, next, last, until, since, start, end, on-or-after, on-or-before, at) and no further option",
+        ),
+        (
+            b"--read\0local\0to\0week",
+            b"'to' is no --assume, which --read local needs",
+        ),
+        (
+            b"--read\0local",
+            b"there is no --assume, which --read local needs",
+        ),
+        (
+            b"--assume\0Z\0to\0week",
+            b"'to' is no --read local, which --assume needs",
+        ),
+        (
+            b"--assume\0Z\0--read\0dmy\0--strict\0to\0week",
+            b"'to' is no --read local, which --assume needs",
+        ),
+        (b"--assume", b"there is no offset (as +01:00, -05:30, Z)"),
+        (
+            b"--read\0local\0--assume\01\0to\0week",
+            b"'1' is no offset (as +01:00, -05:30, Z)",
+        ),
+        (
+            b"--strict\0--read\0local\0--assume\0Z\0until\02024-02-29\0in\0days\0x",
+            b"'x' is one word too many",
+        ),
+        (
+            b"--separator\0;\0--read\0local\0to\0week",
+            b"'to' is no --field, which --separator needs",
+        ),
+        (
+            b"--strict\0--field\02\0--separator\0,\0--skip\01\0--read\0local\0--assume\0Z\0until\02024-02-29\0in\0days\0x",
+            b"'x' is one word too many",
         ),
         (b"--help\0to", b"'to' is one word too many"),
         (b"help\0\0", b"'' is one word too many"),

@@ -7,12 +7,12 @@ pub returns-in_err-words-clause-asked : goal.returns-in_err-words-clause-asked
 returns-in_err-words-clause-asked c = λ reading h.
     let front = cut_options no_options (arguments_of c.args.arguments.now) in
     c.from_residual.ensures
-    ∙ sym (ap (λ words. filter_of front.0 (request_of reading words)) (sym c.options_of.ensures.words ∙ ap words_left c.in_err-words.was)
+    ∙ sym (ap (λ words. filter_of front.0 (request_of reading words)) (sym c.options_of-options.ensures.words ∙ ap words_left c.in_err-words.was)
     ∙ no_request front.0)
 
 pub returns-clause-asked : goal.returns-clause-asked
 returns-clause-asked c = λ reading h.
     let front = cut_options no_options (arguments_of c.args.arguments.now) in
-    c.filter_of.ensures.asked ∙ ap (filter_of c.options_of.result.0) (c.request_of.ensures reading h)
-    ∙ ap (λ options. filter_of options (request_of reading (arguments_of c.in_ok-words.field-0.now))) c.options_of.ensures.options
-    ∙ ap (λ words. filter_of front.0 (request_of reading words)) (ap words_left (sym c.in_ok-words.was) ∙ c.options_of.ensures.words)
+    c.filter_of.ensures.asked ∙ ap (filter_of c.options_of-options.result.0) (c.request_of.ensures reading h)
+    ∙ ap (λ options. filter_of options (request_of reading (arguments_of c.in_ok-words.field-0.now))) c.options_of-options.ensures.options
+    ∙ ap (λ words. filter_of front.0 (request_of reading words)) (ap words_left (sym c.in_ok-words.was) ∙ c.options_of-options.ensures.words)

@@ -5,14 +5,14 @@ use Rattle.caldate.proofs.options.next_option.Goals as goal
 
 pub returns-then-takes_strict-clause-cut : goal.returns-then-takes_strict-clause-cut
 returns-then-takes_strict-clause-cut c =
-    let options = c.args.options in
+    let options = c.args.options.now in
     let word = c.cut.result.0.now in
     ap (λ words. cut_options options (words_left words)) c.in_ok-words.was ∙ ap (cut_options options) c.cut.ensures.parts
     ∙ strict_first options word (words_left c.cut.result.1) (sym c.takes_strict.ensures ∙ c.if-takes_strict.true)
 
 pub returns-clause-cut : goal.returns-clause-cut
 returns-clause-cut c =
-    let options = c.args.options in
+    let options = c.args.options.now in
     let word = c.cut.result.0.now in
     let value = c.cut-2.result.0.now in
     ap (λ words. cut_options options (words_left words)) c.in_ok-words.was

@@ -13,7 +13,7 @@ from_verb reading options word words e =
 
 pub returns-in-None : goal.returns-in-None
 returns-in-None c = λ reading h.
-    let options = c.args.options in
+    let options = c.args.options.now in
     let word = c.cut.result.0.now in
     let words = c.cut.ensures.parts in
     c.senseless_verb.ensures reading h ∙ ap (senseless_verb reading options) words

@@ -6,5 +6,5 @@ use Rattle.caldate.proofs.senseless.senseless_lines.Goals as goal
 pub returns : goal.returns
 returns c = λ reading h.
     let front = cut_options no_options (arguments_of c.args.arguments.now) in
-    c.senseless_front.ensures reading h ∙ ap (λ options. senseless_front reading options (words_left c.options_of.result.1)) c.options_of.ensures.options
-    ∙ ap (senseless_front reading front.0) c.options_of.ensures.words
+    c.senseless_front.ensures reading h ∙ ap (λ options. senseless_front reading options (words_left c.options_of-options.result.1)) c.options_of-options.ensures.options
+    ∙ ap (senseless_front reading front.0) c.options_of-options.ensures.words
