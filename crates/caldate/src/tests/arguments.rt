@@ -112,8 +112,8 @@ fn complaint(alloc: Global, arguments: Option<&[u8]>) -> Option<Vec<u8>> {
 }
 
 #[test]
-fn arguments_that_make_no_sense(rt: HostRuntime) {
-    let cases: [(&[u8], &[u8]); 105] = [
+fn lists_that_make_no_sense(rt: HostRuntime) {
+    let cases: [(&[u8], &[u8]); 19] = [
         (b"list", b"there is no 'from'"),
         (b"list\02024-02-29", b"'2024-02-29' is no 'from'"),
         (
@@ -181,6 +181,16 @@ fn arguments_that_make_no_sense(rt: HostRuntime) {
             b"--strict\0list\0from\02024-02-29\0to\02024-03-01",
             b"'list' is no verb (to, add, next, last, until, since, start, end, on-or-after, on-or-before, at) and no further option",
         ),
+    ];
+    for (arguments, wanted) in cases {
+        let told = complaint(rt.alloc(), Some(arguments)).unwrap_or(Vec::new(rt.alloc()));
+        assert!(rt; is_line(&told, wanted), "{arguments:?}");
+    }
+}
+
+#[test]
+fn arguments_that_make_no_sense(rt: HostRuntime) {
+    let cases: [(&[u8], &[u8]); 43] = [
         (
             b"",
             b"nothing to do; caldate --help shows what can be asked",
@@ -338,6 +348,18 @@ fn arguments_that_make_no_sense(rt: HostRuntime) {
             b"to\0",
             b"'' is no form (calendar, ordinal, week, julian, weekday, short-weekday, month, quarter, basic, rfc3339, unix, unix-ms, unix-us, unix-ns)",
         ),
+    ];
+    for (arguments, wanted) in cases {
+        let told = complaint(rt.alloc(), Some(arguments)).unwrap_or(Vec::new(rt.alloc()));
+        assert!(rt; is_line(&told, wanted), "{arguments:?}");
+    }
+    let told = complaint(rt.alloc(), None).unwrap_or(Vec::new(rt.alloc()));
+    assert!(rt; is_line(&told, b"the arguments have more than 4096 bytes"));
+}
+
+#[test]
+fn further_arguments_that_make_no_sense(rt: HostRuntime) {
+    let cases: [(&[u8], &[u8]); 43] = [
         (
             b"to\0Week\0x",
             b"'Week' is no form (calendar, ordinal, week, julian, weekday, short-weekday, month, quarter, basic, rfc3339, unix, unix-ms, unix-us, unix-ns)",
@@ -458,8 +480,6 @@ fn arguments_that_make_no_sense(rt: HostRuntime) {
         let told = complaint(rt.alloc(), Some(arguments)).unwrap_or(Vec::new(rt.alloc()));
         assert!(rt; is_line(&told, wanted), "{arguments:?}");
     }
-    let told = complaint(rt.alloc(), None).unwrap_or(Vec::new(rt.alloc()));
-    assert!(rt; is_line(&told, b"the arguments have more than 4096 bytes"));
 }
 
 /// Whether the bytes are these after the name of the program, in one line.
