@@ -284,7 +284,7 @@ typedef struct fots_text_result {
 typedef struct fots_read_date_result {
     int32_t status;
     fots_date date; /* or {FOTS_NOTHING} */
-    size_t place; /* where the status is FOTS_UNREADABLE, the place from 0 of the first byte that no such text has there, or the
+    size_t position; /* where the status is FOTS_UNREADABLE, the position from 0 of the first byte that no such text has there, or the
                    * length of a text that ends too early; else SIZE_MAX */
 } fots_read_date_result;
 
@@ -294,7 +294,7 @@ typedef struct fots_read_moment_result {
     fots_date date; /* or {FOTS_NOTHING} */
     fots_time time; /* or FOTS_NO_TIME */
     fots_offset offset; /* or {FOTS_NOTHING} */
-    size_t place; /* as of fots_read_date_result */
+    size_t position; /* as of fots_read_date_result */
 } fots_read_moment_result;
 
 /* A period, all of one sign. */
@@ -821,7 +821,7 @@ fots_text_result fots_weekday_name(uint32_t weekday);
  *
  * Each call takes bytes and their number, and looks at no byte after them; no zero byte need be there. The bytes must be there, also where
  * their number is 0. The whole of them must be the text: no spaces, and nothing before or after it. A text that has not the form is
- * FOTS_UNREADABLE, with a place; one that has the form is refused for the first component that is out of range. */
+ * FOTS_UNREADABLE, with a position; one that has the form is refused for the first component that is out of range. */
 
 /* The day of a calendar date, an ordinal date or an ISO week date, as "2024-02-29", "2024-060" and "2024-W09-4", just as they are
  * printed: years from 0 to 9999 in four digits, others with their sign. Refused as FOTS_UNREADABLE, FOTS_MONTH, FOTS_YEAR, FOTS_DAY,
@@ -900,7 +900,7 @@ size_t fots_dates_workdays_between(const int32_t *dates, size_t dates_length, co
  * One array has the bytes of all texts, and another one their bounds, one more than there are rows: the text of row k is the bytes from
  * bounds[k] to bounds[k + 1], as Arrow has its strings. The other columns are as above, times as uint64_t and offsets as int32_t. */
 
-/* As fots_date_read, but for the place. FOTS_BOUNDS where a row's bounds are not from 0 to bytes_length and rising. */
+/* As fots_date_read, but for the position. FOTS_BOUNDS where a row's bounds are not from 0 to bytes_length and rising. */
 size_t fots_dates_read(const char *bytes, size_t bytes_length, const int32_t *bounds, size_t bounds_length, int32_t *dates,
     size_t dates_length, uint8_t *statuses, size_t length);
 

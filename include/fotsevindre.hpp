@@ -30,8 +30,8 @@ namespace fotsevindre {
 // Why a call has no answer: a component out of its range, a result past the range, or a text of no form that is read.
 class error : public std::runtime_error {
 public:
-    explicit error(std::int32_t status, std::size_t place = SIZE_MAX)
-        : std::runtime_error(words(status, place)), status_(status), place_(place)
+    explicit error(std::int32_t status, std::size_t position = SIZE_MAX)
+        : std::runtime_error(words(status, position)), status_(status), position_(position)
     {
     }
 
@@ -44,20 +44,20 @@ public:
     // Whether the range of the component depends on other components.
     bool is_conditional() const noexcept { return fots_status_is_conditional(status_) != 0; }
 
-    // Where the status is FOTS_UNREADABLE, the place of the first byte that no text has there.
-    std::size_t place() const noexcept { return place_; }
+    // Where the status is FOTS_UNREADABLE, the position of the first byte that no text has there.
+    std::size_t position() const noexcept { return position_; }
 
 private:
-    static std::string words(std::int32_t status, std::size_t place)
+    static std::string words(std::int32_t status, std::size_t position)
     {
         if (status == FOTS_UNREADABLE) {
-            return "unexpected byte at " + std::to_string(place);
+            return "unexpected byte at " + std::to_string(position);
         }
         return status >= FOTS_YEAR ? std::string(fots_status_name(status)) + " was not in range" : fots_status_name(status);
     }
 
     std::int32_t status_;
-    std::size_t place_;
+    std::size_t position_;
 };
 
 namespace detail {
@@ -77,7 +77,7 @@ template <class Result> Result done(Result result)
 template <class Result> Result read(Result result)
 {
     if (result.status != FOTS_DONE) {
-        throw error(result.status, result.place);
+        throw error(result.status, result.position);
     }
     return result;
 }
@@ -428,8 +428,8 @@ public:
     // The days that are marked, from Monday to Sunday.
     Workdays(std::array<bool, 7> marks, const std::vector<Date> &holidays) : week_(0)
     {
-        for (std::size_t place = 0; place < marks.size(); ++place) {
-            week_ |= std::uint32_t{marks[place]} << place;
+        for (std::size_t index = 0; index < marks.size(); ++index) {
+            week_ |= std::uint32_t{marks[index]} << index;
         }
         // One more than there are, so that the array is there.
         holidays_.reserve(holidays.size() + 1);
@@ -514,8 +514,8 @@ public:
             with([&](const fots_rule *rule) { return fots_rule_days_after(rule, date.c(), room.data(), count); }));
         std::vector<Date> days;
         days.reserve(written.length);
-        for (std::size_t place = 0; place < written.length; ++place) {
-            days.push_back(Date(room[place], {}));
+        for (std::size_t index = 0; index < written.length; ++index) {
+            days.push_back(Date(room[index], {}));
         }
         return days;
     }

@@ -97,27 +97,27 @@ static void is_no_text(fots_text_result result, int32_t status, const char *what
 
 static void is_read(fots_read_date_result result, fots_date date, const char *what)
 {
-    check(result.status == FOTS_DONE && result.date.julian_day == date.julian_day && result.place == SIZE_MAX, what, result.status,
+    check(result.status == FOTS_DONE && result.date.julian_day == date.julian_day && result.position == SIZE_MAX, what, result.status,
         result.date.julian_day);
 }
 
-/* What is refused, with its place where it is unreadable. */
-static void is_not_read(fots_read_date_result result, int32_t status, size_t place, const char *what)
+/* What is refused, with its position where it is unreadable. */
+static void is_not_read(fots_read_date_result result, int32_t status, size_t position, const char *what)
 {
-    check(result.status == status && result.date.julian_day == FOTS_NOTHING && result.place == place, what, result.status,
-        (long long)result.place);
+    check(result.status == status && result.date.julian_day == FOTS_NOTHING && result.position == position, what, result.status,
+        (long long)result.position);
 }
 
 static void is_moment(fots_read_moment_result result, fots_date date, fots_time time, fots_offset offset, const char *what)
 {
     check(result.status == FOTS_DONE && result.date.julian_day == date.julian_day && result.time == time
-        && result.offset.seconds == offset.seconds && result.place == SIZE_MAX, what, result.status, result.date.julian_day);
+        && result.offset.seconds == offset.seconds && result.position == SIZE_MAX, what, result.status, result.date.julian_day);
 }
 
-static void is_no_moment(fots_read_moment_result result, int32_t status, size_t place, const char *what)
+static void is_no_moment(fots_read_moment_result result, int32_t status, size_t position, const char *what)
 {
     check(result.status == status && result.date.julian_day == FOTS_NOTHING && result.time == FOTS_NO_TIME
-        && result.offset.seconds == FOTS_NOTHING && result.place == place, what, result.status, (long long)result.place);
+        && result.offset.seconds == FOTS_NOTHING && result.position == position, what, result.status, (long long)result.position);
 }
 
 static fots_time clock_of(uint32_t hour, uint32_t minute, uint32_t second, uint32_t nanosecond)
@@ -454,7 +454,7 @@ static void refused_texts_of_days(void)
     static const struct {
         const char *text;
         int32_t status;
-        size_t place;
+        size_t position;
     } rows[] = {
         {"", FOTS_UNREADABLE, 0}, {"2024x", FOTS_UNREADABLE, 4}, {"2024", FOTS_UNREADABLE, 4}, {"20240229", FOTS_UNREADABLE, 4},
         {"12345-01-01", FOTS_UNREADABLE, 4}, {"+2024-01-01", FOTS_UNREADABLE, 5}, {"+02024-01-01", FOTS_UNREADABLE, 1},
@@ -468,18 +468,18 @@ static void refused_texts_of_days(void)
     static const struct {
         const char *text;
         int32_t status;
-        size_t place;
+        size_t position;
     } julian_days[] = {
         {"", FOTS_UNREADABLE, 0}, {"2460370", FOTS_UNREADABLE, 0}, {"J", FOTS_UNREADABLE, 1}, {"J-", FOTS_UNREADABLE, 2},
         {"J+1", FOTS_UNREADABLE, 1}, {"J-0", FOTS_UNREADABLE, 2}, {"J02", FOTS_UNREADABLE, 2}, {"J24603700000", FOTS_UNREADABLE, 10},
         {"J2460370 ", FOTS_UNREADABLE, 8}, {"J366963560", FOTS_JULIAN_DAY, SIZE_MAX}, {"J-363521075", FOTS_JULIAN_DAY, SIZE_MAX},
     };
     for (int k = 0; k < COUNT(rows); k++) {
-        is_not_read(fots_date_read(rows[k].text, strlen(rows[k].text)), rows[k].status, rows[k].place, rows[k].text);
+        is_not_read(fots_date_read(rows[k].text, strlen(rows[k].text)), rows[k].status, rows[k].position, rows[k].text);
     }
     for (int k = 0; k < COUNT(julian_days); k++) {
         const char *text = julian_days[k].text;
-        is_not_read(fots_julian_day_read(text, strlen(text)), julian_days[k].status, julian_days[k].place, text);
+        is_not_read(fots_julian_day_read(text, strlen(text)), julian_days[k].status, julian_days[k].position, text);
     }
 }
 
@@ -503,7 +503,7 @@ static void texts_of_moments(void)
     static const struct {
         const char *text;
         int32_t status;
-        size_t place;
+        size_t position;
     } refused[] = {
         {"1990-12-31T23:59:60Z", FOTS_SECOND, SIZE_MAX}, {"1990-12-31T15:59:60-08:00", FOTS_SECOND, SIZE_MAX},
         {"2024-00-99T99:99:99Z", FOTS_MONTH, SIZE_MAX}, {"2023-02-29T24:00:00Z", FOTS_DAY, SIZE_MAX},
@@ -523,7 +523,7 @@ static void texts_of_moments(void)
     }
     for (int k = 0; k < COUNT(refused); k++) {
         const char *text = refused[k].text;
-        is_no_moment(fots_moment_read(text, strlen(text)), refused[k].status, refused[k].place, text);
+        is_no_moment(fots_moment_read(text, strlen(text)), refused[k].status, refused[k].position, text);
     }
     is_no_text(fots_moment_text(day_of(10000, 1, 1), 0, offset_at(0)), FOTS_PAST_RANGE, "a moment of the year 10000");
     is_no_text(fots_moment_text(day_of(-1, 12, 31), 0, offset_at(0)), FOTS_PAST_RANGE, "a moment of the year -1");
@@ -559,7 +559,7 @@ static void unix_times(void)
     static const struct {
         const char *text;
         int32_t status;
-        size_t place;
+        size_t position;
     } refused[] = {
         {"@31494784780800", FOTS_TIMESTAMP, SIZE_MAX}, {"@-31619087596800.000000001", FOTS_TIMESTAMP, SIZE_MAX},
         {"@999999999999999999", FOTS_TIMESTAMP, SIZE_MAX}, {"", FOTS_UNREADABLE, 0}, {"@", FOTS_UNREADABLE, 1},
@@ -584,7 +584,7 @@ static void unix_times(void)
     is_moment(fots_unix_read("@1709164800.50", 14), date_at(2460370), 500000000, offset_at(0), "a zero at the end");
     for (int k = 0; k < COUNT(refused); k++) {
         const char *text = refused[k].text;
-        is_no_moment(fots_unix_read(text, strlen(text)), refused[k].status, refused[k].place, text);
+        is_no_moment(fots_unix_read(text, strlen(text)), refused[k].status, refused[k].position, text);
     }
     pair = fots_unix_pair(seconds(31494784780799), offset_at(3600));
     check(pair.status == FOTS_PAST_RANGE && pair.date.julian_day == FOTS_NOTHING && pair.time == FOTS_NO_TIME, "past the last day",

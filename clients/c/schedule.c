@@ -126,9 +126,9 @@ static void drawn_months(void)
         const fots_date date = date_at((int32_t)(drawn() % 4000000));
         const int32_t count = (int32_t)(drawn() % 4001) - 2000;
         const fots_calendar_date_result parts = fots_date_to_calendar_date(date);
-        const int32_t place = parts.year * 12 + (int32_t)parts.month - 1 + count;
-        const int32_t year = place >= 0 ? place / 12 : -((11 - place) / 12);
-        const uint32_t month = (uint32_t)(place - year * 12) + 1;
+        const int32_t index = parts.year * 12 + (int32_t)parts.month - 1 + count;
+        const int32_t year = index >= 0 ? index / 12 : -((11 - index) / 12);
+        const uint32_t month = (uint32_t)(index - year * 12) + 1;
         const uint32_t most = fots_month_length(month, year).number;
         is_day(fots_date_add_months(date, count), day(year, month, parts.day < most ? parts.day : most), "drawn months");
         const fots_date other = date_at((int32_t)(drawn() % 4000000));
@@ -265,10 +265,10 @@ static void recurrences_of_the_rfc(void)
         const fots_days_result written = fots_rule_days_after(&rule, date_at(rule.start.julian_day - 1), found, COUNT(found));
         check(written.status == FOTS_DONE && written.length <= (size_t)COUNT(found), its->text, row, (long long)written.length);
         fots_date_result next = fots_rule_first(&rule);
-        size_t place = 0;
-        for (; place < (size_t)COUNT(found) && its->days[place] != 0; place++) {
-            is_day(next, of_number(its->days[place]), its->text);
-            check(found[place].julian_day == next.date.julian_day, its->text, row, (long long)place);
+        size_t index = 0;
+        for (; index < (size_t)COUNT(found) && its->days[index] != 0; index++) {
+            is_day(next, of_number(its->days[index]), its->text);
+            check(found[index].julian_day == next.date.julian_day, its->text, row, (long long)index);
             const fots_date_result after = fots_rule_next_after(&rule, next.date);
             for (fots_date date = next.date; date.julian_day <= next.date.julian_day + 6; date.julian_day++) {
                 const int is_one = date.julian_day == next.date.julian_day || (after.status == FOTS_DONE && after.date.julian_day <= date.julian_day);
@@ -280,7 +280,7 @@ static void recurrences_of_the_rfc(void)
         }
         if (its->ends) {
             refuses(next, FOTS_PAST_RANGE, its->text);
-            check(written.length == place, its->text, row, (long long)written.length);
+            check(written.length == index, its->text, row, (long long)written.length);
         }
     }
 }
@@ -306,9 +306,9 @@ static void recurrences_refused(void)
 
     static uint8_t months[13] = {1, 2, 3, 4, 5, 6, 7, 8, 9, 10, 11, 12, 12};
     static fots_rule_weekday weekdays[65];
-    for (int place = 0; place < 65; place++) {
-        weekdays[place].number = (int8_t)(place / 7 - 4);
-        weekdays[place].weekday = (uint8_t)(place % 7 + 1);
+    for (int index = 0; index < 65; index++) {
+        weekdays[index].number = (int8_t)(index / 7 - 4);
+        weekdays[index].weekday = (uint8_t)(index % 7 + 1);
     }
     fots_rule rule = daily;
     rule.months = months;

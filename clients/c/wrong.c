@@ -361,11 +361,11 @@ static void moments(int32_t julian_day, fots_time time, int32_t seconds, fots_du
     }
 }
 
-/* A status that a call that reads has, and a place exactly where it is unreadable: that of a byte of the text, or its length. */
-static void reads(int32_t status, size_t place, size_t length, int is_listed, int has_value, const char *what)
+/* A status that a call that reads has, and a position exactly where it is unreadable: that of a byte of the text, or its length. */
+static void reads(int32_t status, size_t position, size_t length, int is_listed, int has_value, const char *what)
 {
     check(status == FOTS_DONE || status == FOTS_UNREADABLE || is_listed, what, status, (long long)length);
-    check(status == FOTS_UNREADABLE ? place <= length : place == SIZE_MAX, what, status, (long long)place);
+    check(status == FOTS_UNREADABLE ? position <= length : position == SIZE_MAX, what, status, (long long)position);
     check((status == FOTS_DONE) == has_value, what, status, (long long)length);
 }
 
@@ -384,10 +384,10 @@ static int reads_as_date(fots_text_result text, fots_date date)
 static void read_date(const char *bytes, size_t length)
 {
     fots_read_date_result read = fots_date_read(bytes, length);
-    reads(read.status, read.place, length, read.status == FOTS_MONTH || read.status == FOTS_YEAR
+    reads(read.status, read.position, length, read.status == FOTS_MONTH || read.status == FOTS_YEAR
         || (read.status >= FOTS_DAY && read.status <= FOTS_WEEKDAY), is_date(read.date), "date_read");
-    if (read.status == FOTS_UNREADABLE && read.place < length) {
-        check(fots_date_read(bytes, read.place + 1).place == read.place, "the place in a date", (long long)read.place,
+    if (read.status == FOTS_UNREADABLE && read.position < length) {
+        check(fots_date_read(bytes, read.position + 1).position == read.position, "the position in a date", (long long)read.position,
             (long long)length);
     }
     if (read.status == FOTS_DONE) {
@@ -404,9 +404,9 @@ static void read_date(const char *bytes, size_t length)
 static void read_julian_day(const char *bytes, size_t length)
 {
     fots_read_date_result read = fots_julian_day_read(bytes, length);
-    reads(read.status, read.place, length, read.status == FOTS_JULIAN_DAY, is_date(read.date), "julian_day_read");
-    if (read.status == FOTS_UNREADABLE && read.place < length) {
-        check(fots_julian_day_read(bytes, read.place + 1).place == read.place, "the place in a Julian day", (long long)read.place,
+    reads(read.status, read.position, length, read.status == FOTS_JULIAN_DAY, is_date(read.date), "julian_day_read");
+    if (read.status == FOTS_UNREADABLE && read.position < length) {
+        check(fots_julian_day_read(bytes, read.position + 1).position == read.position, "the position in a Julian day", (long long)read.position,
             (long long)length);
     }
     if (read.status == FOTS_DONE) {
@@ -429,11 +429,11 @@ static int is_same_moment(fots_read_moment_result one, fots_read_moment_result o
 static void read_moment(const char *bytes, size_t length)
 {
     fots_read_moment_result read = fots_moment_read(bytes, length);
-    reads(read.status, read.place, length, read.status == FOTS_MONTH || read.status == FOTS_DAY
+    reads(read.status, read.position, length, read.status == FOTS_MONTH || read.status == FOTS_DAY
         || (read.status >= FOTS_HOUR && read.status <= FOTS_SECOND) || read.status == FOTS_OFFSET_HOUR
         || read.status == FOTS_OFFSET_MINUTE, is_moment(read), "moment_read");
-    if (read.status == FOTS_UNREADABLE && read.place < length) {
-        check(fots_moment_read(bytes, read.place + 1).place == read.place, "the place in a moment", (long long)read.place,
+    if (read.status == FOTS_UNREADABLE && read.position < length) {
+        check(fots_moment_read(bytes, read.position + 1).position == read.position, "the position in a moment", (long long)read.position,
             (long long)length);
     }
     if (read.status == FOTS_DONE) {
@@ -446,9 +446,9 @@ static void read_moment(const char *bytes, size_t length)
 static void read_unix(const char *bytes, size_t length)
 {
     fots_read_moment_result read = fots_unix_read(bytes, length);
-    reads(read.status, read.place, length, read.status == FOTS_TIMESTAMP, is_moment(read) && read.offset.seconds == 0, "unix_read");
-    if (read.status == FOTS_UNREADABLE && read.place < length) {
-        check(fots_unix_read(bytes, read.place + 1).place == read.place, "the place in a Unix time", (long long)read.place,
+    reads(read.status, read.position, length, read.status == FOTS_TIMESTAMP, is_moment(read) && read.offset.seconds == 0, "unix_read");
+    if (read.status == FOTS_UNREADABLE && read.position < length) {
+        check(fots_unix_read(bytes, read.position + 1).position == read.position, "the position in a Unix time", (long long)read.position,
             (long long)length);
     }
     if (read.status == FOTS_DONE) {
@@ -476,17 +476,17 @@ static void nearly_texts(void)
         "9999-12-31 23:59:59.999999999-23:59", "@0", "@1709164800.5", "@-0.000000001", "@-31619087596800"};
     for (int k = 0; k < COUNT(texts); k++) {
         size_t length = strlen(texts[k]);
-        for (size_t place = 0; place <= length; place++) {
+        for (size_t position = 0; position <= length; position++) {
             char changed[LONGEST], longer[LONGEST], shorter[LONGEST];
             memcpy(changed, texts[k], length + 1);
-            memcpy(shorter, texts[k], place);
-            memcpy(shorter + place, texts[k] + place + 1, length - place);
-            memcpy(longer, texts[k], place);
-            memcpy(longer + place + 1, texts[k] + place, length - place);
-            read_all(texts[k], place);
+            memcpy(shorter, texts[k], position);
+            memcpy(shorter + position, texts[k] + position + 1, length - position);
+            memcpy(longer, texts[k], position);
+            memcpy(longer + position + 1, texts[k] + position, length - position);
+            read_all(texts[k], position);
             read_all(shorter, length - 1);
             for (int byte = 0; byte < 256; byte++) {
-                changed[place] = longer[place] = (char)byte;
+                changed[position] = longer[position] = (char)byte;
                 read_all(changed, length);
                 read_all(longer, length + 1);
             }
@@ -501,9 +501,9 @@ static void drawn_texts(void)
     for (int k = 0; k < 4000; k++) {
         for (size_t length = 0; length <= LONGEST; length++) {
             char bytes[LONGEST];
-            for (size_t place = 0; place < length; place++) {
+            for (size_t position = 0; position < length; position++) {
                 uint64_t word = drawn();
-                bytes[place] = k % 2 == 0 ? used[word % (sizeof(used) - 1)] : (char)(word >> 24);
+                bytes[position] = k % 2 == 0 ? used[word % (sizeof(used) - 1)] : (char)(word >> 24);
             }
             read_all(bytes, length);
         }

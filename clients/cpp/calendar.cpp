@@ -63,7 +63,7 @@ int main()
     check(fots_status_is_conditional(none.status) == 1, "the mark of a day");
     check(fots_date_weekday(none.date).status == FOTS_BAD_DATE, "the weekday of no date");
     const fots_read_date_result read = fots_date_read("2024-060", 8);
-    check(read.status == FOTS_DONE && read.date.julian_day == leap_day.date.julian_day && read.place == SIZE_MAX,
+    check(read.status == FOTS_DONE && read.date.julian_day == leap_day.date.julian_day && read.position == SIZE_MAX,
         "an ordinal date read");
     const fots_text_result text = fots_date_week_text(read.date);
     check(text.length == 10 && std::strcmp(text.bytes, "2024-W09-4") == 0, "a week date printed");

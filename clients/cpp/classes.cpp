@@ -24,7 +24,7 @@ void check(bool holds, const char *what)
     }
 }
 
-// What the call throws: its status, its words and its place.
+// What the call throws: its status, its words and its position.
 template <class Call> void throws(Call call, std::int32_t status, const std::string &words, const char *what)
 {
     try {
@@ -87,7 +87,7 @@ void refusals()
     try {
         Date::from_calendar_date(2023, 2, 29);
     } catch (const error &thrown) {
-        check(std::string(thrown.name()) == "day" && thrown.is_conditional() && thrown.place() == SIZE_MAX, "the name and the mark");
+        check(std::string(thrown.name()) == "day" && thrown.is_conditional() && thrown.position() == SIZE_MAX, "the name and the mark");
     }
 }
 

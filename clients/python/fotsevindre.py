@@ -128,7 +128,7 @@ class _Result(ctypes.Structure):
     seconds: int
     length: int
     bytes: bytes
-    place: int
+    position: int
     years: int
     months: int
     days: int
@@ -160,8 +160,8 @@ _PERIOD = _result(("years", _I32), ("months", _I32), ("days", _I32))
 _YEAR_FRACTION = _result(("denominator", _U32), ("numerator", _I64))
 _DAYS = _result(("length", ctypes.c_size_t))
 _TEXT = _result(("length", _U32), ("bytes", ctypes.c_char * 40))
-_READ_DATE = _result(("date", _I32), ("place", ctypes.c_size_t))
-_READ_MOMENT = _result(("date", _I32), ("time", _U64), ("offset", _I32), ("place", ctypes.c_size_t))
+_READ_DATE = _result(("date", _I32), ("position", ctypes.c_size_t))
+_READ_MOMENT = _result(("date", _I32), ("time", _U64), ("offset", _I32), ("position", ctypes.c_size_t))
 
 # What each call returns, what it takes, and the calls of that form.
 _FORMS: List[Tuple[Any, List[Any], str]] = [
@@ -322,7 +322,7 @@ class ComponentRange(ValueError):
 
 
 class Unreadable(ValueError):
-    """A text has no form that is read: `place` is that, from 0, of the first character that no text of the forms has there.
+    """A text has no form that is read: `position` is that, from 0, of the first character that no text of the forms has there.
 
     It is the length of a text that ends too early.
 
@@ -331,14 +331,14 @@ class Unreadable(ValueError):
     fotsevindre.Unreadable: unexpected byte at 4
     """
 
-    place: int
+    position: int
 
-    def __init__(self, place: int) -> None:
-        super().__init__(place)
-        self.place = place
+    def __init__(self, position: int) -> None:
+        super().__init__(position)
+        self.position = position
 
     def __str__(self) -> str:
-        return f"unexpected byte at {self.place}"
+        return f"unexpected byte at {self.position}"
 
 
 def _error(status: int) -> Exception:
@@ -370,11 +370,11 @@ def _number(result: _Result) -> int:
 
 def _read(call: Callable[..., _Result], text: str) -> _Result:
     """What the call reads of the text."""
-    # Every byte before the first wrong one is ASCII, so its place is the same among the characters. A lone surrogate is a wrong byte.
+    # Every byte before the first wrong one is ASCII, so its position is the same among the characters. A lone surrogate is a wrong byte.
     encoded = _is(text, str).encode("utf-8", "surrogatepass")
     result = call(encoded, len(encoded))
     if result.status == _UNREADABLE:
-        raise Unreadable(result.place)
+        raise Unreadable(result.position)
     return _done(result)
 
 
@@ -1432,7 +1432,7 @@ class Date(_Value):
         return _number(_C.date_day(self._key))
 
     def ordinal(self) -> int:
-        """The place of the day in its year, from 1 to 366. That of 2020-12-31 is 366."""
+        """The number of the day in its year, from 1 to 366. That of 2020-12-31 is 366."""
         return _number(_C.date_ordinal(self._key))
 
     def iso_week(self) -> int:
@@ -1695,15 +1695,15 @@ class Days(Sequence[Date]):
         return len(self._julian_days)
 
     @overload
-    def __getitem__(self, place: SupportsIndex) -> Date: ...
+    def __getitem__(self, index: SupportsIndex) -> Date: ...
 
     @overload
-    def __getitem__(self, place: slice) -> Days: ...
+    def __getitem__(self, index: slice) -> Days: ...
 
-    def __getitem__(self, place: Union[SupportsIndex, slice]) -> Union[Date, Days]:
-        if isinstance(place, slice):
-            return Days(self._julian_days[place])
-        return Date._of(self._julian_days[place])
+    def __getitem__(self, index: Union[SupportsIndex, slice]) -> Union[Date, Days]:
+        if isinstance(index, slice):
+            return Days(self._julian_days[index])
+        return Date._of(self._julian_days[index])
 
     def __iter__(self) -> Iterator[Date]:
         return map(Date._of, self._julian_days)
@@ -2036,7 +2036,7 @@ class _DateTime(_Value):
         return self.date().day()
 
     def ordinal(self) -> int:
-        """The place of the day in its year, as that of `date()`."""
+        """The number of the day in its year, as that of `date()`."""
         return self.date().ordinal()
 
     def iso_week(self) -> int:
@@ -2487,7 +2487,7 @@ def _over_columns(name: str, *columns: object, workdays: Optional[Workdays] = No
     """The columns of the answer, the statuses, and how many rows have none."""
     kinds, kinds_given = _COLUMNS[name]
     of_dates = 2 if name == "dates_workdays_between" else int(name.startswith("dates_") and not name.startswith("dates_from_"))
-    found = [_column(values, kind, place < of_dates) for place, (values, kind) in enumerate(zip(columns, kinds))]
+    found = [_column(values, kind, index < of_dates) for index, (values, kind) in enumerate(zip(columns, kinds))]
     length = len(found[0])
     if any(len(column) != length for column in found):
         raise ValueError("columns of one length expected")
@@ -2692,7 +2692,7 @@ def moments_read(texts: object, bounds: object) -> MomentColumns:
 
 
 def _printed(name: str, room: int, columns: Tuple[object, ...]) -> TextColumns:
-    found = [_column(values, kind, place == 0) for place, (values, kind) in enumerate(zip(columns, _COLUMNS[name][0]))]
+    found = [_column(values, kind, index == 0) for index, (values, kind) in enumerate(zip(columns, _COLUMNS[name][0]))]
     rows = len(found[0])
     if any(len(column) != rows for column in found):
         raise ValueError("columns of one length expected")

@@ -371,10 +371,10 @@ class Texts(Cases):
         (-363521074, "-999999-01-01", "-999999-001", "-999999-W01-1", "J-363521074"),
     ]
 
-    def unreadable(self, place, call, text):
+    def unreadable(self, position, call, text):
         with self.assertRaises(Unreadable, msg=text) as caught:
             call(text)
-        self.assertEqual((caught.exception.place, str(caught.exception)), (place, f"unexpected byte at {place}"), text)
+        self.assertEqual((caught.exception.position, str(caught.exception)), (position, f"unexpected byte at {position}"), text)
         self.assertIsInstance(caught.exception, ValueError)
 
     def test_days(self):
@@ -425,10 +425,10 @@ class Texts(Cases):
             ("2024-w09-4", 5), ("2024-W09-0", 9), ("2024-W09-8", 9), ("2024-02-2\u0661", 9), ("2024-02-29\0", 10), ("\udc80", 0),
             ("2024-\ud800", 5), ("\0" * 50, 0),
         ]
-        for text, place in rows:
-            self.unreadable(place, Date.read, text)
-        for text, place in [("", 0), ("2460370", 0), ("J", 1), ("J-", 2), ("J+1", 1), ("J-0", 2), ("J02", 2), ("J24603700000", 10)]:
-            self.unreadable(place, Date.read_julian_day, text)
+        for text, position in rows:
+            self.unreadable(position, Date.read, text)
+        for text, position in [("", 0), ("2460370", 0), ("J", 1), ("J-", 2), ("J+1", 1), ("J-0", 2), ("J02", 2), ("J24603700000", 10)]:
+            self.unreadable(position, Date.read_julian_day, text)
 
     # The examples of the standard come first.
     MOMENTS = [
@@ -474,8 +474,8 @@ class Texts(Cases):
             ("2024-02-29T00:00:00.Z", 20), ("2024-02-29T00:00:00.5", 21), ("2024-02-29T00:00:00Z ", 20),
             ("2024-02-29T00:00:00+0100", 22),
         ]
-        for text, place in rows:
-            self.unreadable(place, read_rfc3339, text)
+        for text, position in rows:
+            self.unreadable(position, read_rfc3339, text)
 
     def test_moments_of_the_standard_library(self):
         draw = random.Random(3339)
@@ -517,8 +517,8 @@ class Texts(Cases):
         self.assertIsNone(unix_pair(LEAST, UtcOffset.from_hms(-1, 0, 0)))
         for text in ("@31494784780800", "@-31619087596800.000000001", "@999999999999999999"):
             self.refused("timestamp", False, read_unix, text)
-        for text, place in [("", 0), ("@", 1), ("@+1", 1), ("@01", 2), ("@-0", 3), ("@-0.0", 5), ("@1.", 3), ("@1.1234567890", 12)]:
-            self.unreadable(place, read_unix, text)
+        for text, position in [("", 0), ("@", 1), ("@+1", 1), ("@01", 2), ("@-0", 3), ("@-0.0", 5), ("@1.", 3), ("@1.1234567890", 12)]:
+            self.unreadable(position, read_unix, text)
 
     def test_wrong_kinds(self):
         moment = day(2024, 2, 29), Time.MIDNIGHT, UtcOffset.UTC
@@ -527,9 +527,9 @@ class Texts(Cases):
                 with self.assertRaises(TypeError):
                     call(wrong)
         for call in (rfc3339_text, unix_text, unix_duration):
-            for place, wrong in itertools.product(range(3), NO_NUMBERS + [1, "Z", span(1)]):
+            for position, wrong in itertools.product(range(3), NO_NUMBERS + [1, "Z", span(1)]):
                 arguments = list(moment)
-                arguments[place] = wrong
+                arguments[index] = wrong
                 with self.assertRaises(TypeError):
                     call(*arguments)
             with self.assertRaises(TypeError):
@@ -540,7 +540,7 @@ class Texts(Cases):
 
     def test_copies_of_the_error(self):
         error = pickle.loads(pickle.dumps(Unreadable(4)))
-        self.assertEqual((error.place, str(error)), (4, "unexpected byte at 4"))
+        self.assertEqual((error.position, str(error)), (4, "unexpected byte at 4"))
 
 
 class Offsets(Cases):
@@ -597,8 +597,8 @@ class Durations(Cases):
             (SignedDuration.try_sum([GREATEST, nanoseconds(-1), nanoseconds(1)]), GREATEST), (SignedDuration.try_sum([]), zero),
             (-span(1, 5), span(-1, -5)), (span(1) - span(0, 1), span(0, 999999999)), (span(1) + span(-2), span(-1)),
         ]
-        for place, (found, expected) in enumerate(rows):
-            self.assertEqual(found, expected, place)
+        for index, (found, expected) in enumerate(rows):
+            self.assertEqual(found, expected, index)
 
     def test_parts(self):
         self.assertEqual(SignedDuration.days(-6).whole_weeks(), 0)
@@ -1113,9 +1113,9 @@ class Values(Cases):
             (days_in_year_month, 2),
         ]
         for call, count in number_calls:
-            for place, wrong in itertools.product(range(count), NO_NUMBERS + self.values() + [Weekday.Monday]):
+            for position, wrong in itertools.product(range(count), NO_NUMBERS + self.values() + [Weekday.Monday]):
                 arguments = [1] * count
-                arguments[place] = wrong
+                arguments[index] = wrong
                 with self.assertRaises(TypeError, msg=(call, arguments)):
                     call(*arguments)
         weekday_calls = [

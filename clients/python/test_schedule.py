@@ -41,9 +41,9 @@ class Months(unittest.TestCase):
         for _ in range(500):
             year, months = draw.randrange(1, 9000), draw.randrange(-5000, 5000)
             date = datetime.date(year, 1, 1) + datetime.timedelta(draw.randrange(365))
-            place = date.year * 12 + date.month - 1 + months
-            if place >= 12:
-                to_year, to_month = divmod(place, 12)
+            index = date.year * 12 + date.month - 1 + months
+            if index >= 12:
+                to_year, to_month = divmod(index, 12)
                 most = calendar.monthrange(to_year, to_month + 1)[1] if to_year < 10000 else 0
                 wanted = day(to_year, to_month + 1, min(date.day, most))
                 self.assertEqual(day(date.year, date.month, date.day).checked_add_months(months), wanted)
@@ -97,10 +97,10 @@ class WorkingDays(unittest.TestCase):
         work = Workdays(holidays=HOLIDAYS)
         start = day(2024, 1, 1)
         days = [date for date in start.iter_to(day(2024, 12, 31)) if date.weekday().number_from_monday() <= 5 and date not in HOLIDAYS]
-        for place, date in enumerate(days):
-            self.assertEqual(work.workdays_between(start, date), place)
-            self.assertEqual(work.checked_add_workdays(start, place + 1), date)
-            self.assertEqual(work.checked_add_workdays(date, -place), days[0])
+        for index, date in enumerate(days):
+            self.assertEqual(work.workdays_between(start, date), index)
+            self.assertEqual(work.checked_add_workdays(start, index + 1), date)
+            self.assertEqual(work.checked_add_workdays(date, -index), days[0])
         self.assertIsNone(work.checked_add_workdays(start, 2**31))
 
     def test_refusals(self):
@@ -158,7 +158,7 @@ class Recurrences(unittest.TestCase):
     def test_long_walks(self):
         rule = Rule(day(2000, 1, 1), Frequency.Daily, interval=3)
         days = rule.take(1000)
-        self.assertEqual(days, [Date.from_julian_day(2451545 + 3 * place) for place in range(1000)])
+        self.assertEqual(days, [Date.from_julian_day(2451545 + 3 * index) for index in range(1000)])
         self.assertEqual(list(itertools.islice(rule.days_after(days[70]), 200)), days[71:271])
         ended = Rule(day(2000, 1, 1), Frequency.Daily, interval=3, until=days[128])
         self.assertEqual(list(ended), days[:129])

@@ -113,7 +113,7 @@ impl Date {
         certain(ffi::fots_date_day(self.julian_day)) as u8
     }
 
-    /// The place of the day in its year, from 1 to 365, or 366 in a leap year. That of 2020-12-31 is 366.
+    /// The number of the day in its year, from 1 to 365, or 366 in a leap year. That of 2020-12-31 is 366.
     pub fn ordinal(self) -> u16 {
         certain(ffi::fots_date_ordinal(self.julian_day)) as u16
     }

@@ -20,7 +20,7 @@ macro_rules! date_time {
                 self.date().day()
             }
 
-            /// The place of the day in its year, from 1 to 366.
+            /// The number of the day in its year, from 1 to 366.
             pub fn ordinal(self) -> u16 {
                 self.date().ordinal()
             }

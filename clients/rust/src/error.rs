@@ -85,7 +85,7 @@ impl core::error::Error for ComponentRange {}
 /// `day was not in range`.
 #[derive(Clone, Copy, Debug, PartialEq, Eq, Hash)]
 pub enum Unreadable {
-    /// The text has no form that is read. This is the place, from 0, of the first byte that no text of the forms has there, or the
+    /// The text has no form that is read. This is the position, from 0, of the first byte that no text of the forms has there, or the
     /// length of a text that ends too early.
     UnexpectedByte(usize),
     /// The text has a form that is read, and this component of it is out of range.
@@ -95,7 +95,7 @@ pub enum Unreadable {
 impl fmt::Display for Unreadable {
     fn fmt(&self, f: &mut fmt::Formatter<'_>) -> fmt::Result {
         match self {
-            Self::UnexpectedByte(place) => write!(f, "unexpected byte at {place}"),
+            Self::UnexpectedByte(position) => write!(f, "unexpected byte at {position}"),
             Self::OutOfRange(error) => error.fmt(f),
         }
     }

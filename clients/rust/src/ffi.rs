@@ -150,8 +150,8 @@ results! {
     PeriodResult { years: i32, months: i32, days: i32 } => (i32, i32, i32);
     YearFractionResult { denominator: u32, numerator: i64 } => (u32, i64);
     TextResult { length: u32, bytes: [u8; 40] } => (u32, [u8; 40]);
-    ReadDateResult { date: i32, place: usize } => (i32, usize);
-    ReadMomentResult { date: i32, time: u64, offset: i32, place: usize } => (i32, u64, i32, usize);
+    ReadDateResult { date: i32, position: usize } => (i32, usize);
+    ReadMomentResult { date: i32, time: u64, offset: i32, position: usize } => (i32, u64, i32, usize);
 }
 
 /// Calls that return a struct with a status.
@@ -450,9 +450,9 @@ macro_rules! calls_that_read {
         $(
             pub(crate) fn $name(text: &[u8]) -> Result<<$result as Returned>::Value, Unreadable> {
                 let result = unsafe { declared_reading::$name(text.as_ptr(), text.len()) };
-                let place = result.place;
+                let position = result.position;
                 result.answer().map_err(|status| match status {
-                    UNREADABLE => Unreadable::UnexpectedByte(place),
+                    UNREADABLE => Unreadable::UnexpectedByte(position),
                     status => Unreadable::OutOfRange(ComponentRange::of_status(status)),
                 })
             }

@@ -6,23 +6,23 @@ use core::str::FromStr;
 /// What is left of a text.
 pub(crate) struct Reader<'a> {
     bytes: &'a [u8],
-    place: usize,
+    position: usize,
 }
 
 impl<'a> Reader<'a> {
     pub(crate) fn new(text: &'a str) -> Self {
-        Self { bytes: text.as_bytes(), place: 0 }
+        Self { bytes: text.as_bytes(), position: 0 }
     }
 
     /// The refusal of the byte that comes next, or of the end.
     pub(crate) fn unexpected(&self) -> Unreadable {
-        Unreadable::UnexpectedByte(self.place)
+        Unreadable::UnexpectedByte(self.position)
     }
 
     /// Takes the byte that comes next where it is this one.
     pub(crate) fn takes(&mut self, byte: u8) -> bool {
-        let is_next = self.bytes.get(self.place) == Some(&byte);
-        self.place += usize::from(is_next);
+        let is_next = self.bytes.get(self.position) == Some(&byte);
+        self.position += usize::from(is_next);
         is_next
     }
 
@@ -37,8 +37,8 @@ impl<'a> Reader<'a> {
 
     /// The digit that comes next, which is then taken, or `None`.
     pub(crate) fn digit(&mut self) -> Option<u8> {
-        let digit = self.bytes.get(self.place).filter(|byte| byte.is_ascii_digit())?;
-        self.place += 1;
+        let digit = self.bytes.get(self.position).filter(|byte| byte.is_ascii_digit())?;
+        self.position += 1;
         Some(digit - b'0')
     }
 
@@ -51,7 +51,7 @@ impl<'a> Reader<'a> {
 
     /// That nothing is left.
     pub(crate) fn end(&self) -> Result<(), Unreadable> {
-        if self.place == self.bytes.len() {
+        if self.position == self.bytes.len() {
             Ok(())
         } else {
             Err(self.unexpected())
@@ -73,7 +73,7 @@ where
     }
     let rest = text.get(end + 1..).ok_or(Unreadable::UnexpectedByte(end))?;
     match rest.parse() {
-        Err(Unreadable::UnexpectedByte(place)) => Err(Unreadable::UnexpectedByte(end + 1 + place)),
+        Err(Unreadable::UnexpectedByte(position)) => Err(Unreadable::UnexpectedByte(end + 1 + position)),
         second => Ok((first?, second?)),
     }
 }

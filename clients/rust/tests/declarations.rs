@@ -9,8 +9,8 @@ const ERRORS: &str = include_str!("../src/error.rs");
 /// The header without its comments, on one line.
 fn plain() -> String {
     let mut text = String::new();
-    for (place, part) in HEADER.split("/*").enumerate() {
-        text += if place == 0 { part } else { part.split_once("*/").unwrap().1 };
+    for (index, part) in HEADER.split("/*").enumerate() {
+        text += if index == 0 { part } else { part.split_once("*/").unwrap().1 };
     }
     text.split_whitespace().collect::<Vec<_>>().join(" ")
 }

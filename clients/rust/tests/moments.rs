@@ -211,13 +211,13 @@ fn texts() {
     }
     let unexpected =
         [("", 0), ("2024", 4), ("2024-02-29", 10), ("2024-02-29 ", 11), ("2024-02 0:00:00", 7), ("2024-02-29 0:00", 15)];
-    for (text, place) in unexpected.into_iter().chain([("2024-02-30 0:00:0x", 17), ("2024-02-29 0:00:00 ", 18)]) {
-        assert_eq!(text.parse::<PlainDateTime>(), Err(Unreadable::UnexpectedByte(place)), "{text}");
+    for (text, position) in unexpected.into_iter().chain([("2024-02-30 0:00:0x", 17), ("2024-02-29 0:00:00 ", 18)]) {
+        assert_eq!(text.parse::<PlainDateTime>(), Err(Unreadable::UnexpectedByte(position)), "{text}");
     }
     let unexpected =
         [("2024-02-29", 10), ("2024-02-29 0:00:00.0 +1", 23), ("2024-02-29  0:00:00 +01:00", 11), ("2024-02-29 0:00:00.0 ", 21)];
-    for (text, place) in unexpected {
-        assert_eq!(text.parse::<OffsetDateTime>(), Err(Unreadable::UnexpectedByte(place)), "{text}");
+    for (text, position) in unexpected {
+        assert_eq!(text.parse::<OffsetDateTime>(), Err(Unreadable::UnexpectedByte(position)), "{text}");
     }
     for (text, name) in [("2023-02-29 24:00:00", "day"), ("2024-02-29 24:00:00", "hour")] {
         let Err(Unreadable::OutOfRange(error)) = text.parse::<PlainDateTime>() else { panic!("{text}") };

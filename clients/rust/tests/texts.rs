@@ -124,12 +124,12 @@ fn first_wrong_bytes() {
         ("2024-W09-41", 10),
         ("2024-02-2\u{661}", 9),
     ];
-    for (text, place) in dates {
-        assert_eq!(text.parse::<Date>(), Err(Unreadable::UnexpectedByte(place)), "{text}");
+    for (text, position) in dates {
+        assert_eq!(text.parse::<Date>(), Err(Unreadable::UnexpectedByte(position)), "{text}");
     }
     assert_eq!("2024x".parse::<Date>().unwrap_err().to_string(), "unexpected byte at 4");
-    for (text, place) in [("", 0), ("2460370", 0), ("j2460370", 0), ("J", 1), ("J-", 2), ("J+1", 1), ("J-0", 2), ("J02", 2)] {
-        assert_eq!(julian_day::read(text.as_bytes()), Err(Unreadable::UnexpectedByte(place)), "{text}");
+    for (text, position) in [("", 0), ("2460370", 0), ("j2460370", 0), ("J", 1), ("J-", 2), ("J+1", 1), ("J-0", 2), ("J02", 2)] {
+        assert_eq!(julian_day::read(text.as_bytes()), Err(Unreadable::UnexpectedByte(position)), "{text}");
     }
     let moments = [
         ("", 0),
@@ -147,8 +147,8 @@ fn first_wrong_bytes() {
         ("2024-02-29T00:00:00+0100", 22),
         ("2024-02-29T00:00:00+01:00:00", 25),
     ];
-    for (text, place) in moments {
-        assert_eq!(rfc3339::read(text.as_bytes()), Err(Unreadable::UnexpectedByte(place)), "{text}");
+    for (text, position) in moments {
+        assert_eq!(rfc3339::read(text.as_bytes()), Err(Unreadable::UnexpectedByte(position)), "{text}");
     }
     let unix_times = [
         ("", 0),
@@ -163,8 +163,8 @@ fn first_wrong_bytes() {
         ("@1709164800 ", 11),
         ("@1000000000000000000", 19),
     ];
-    for (text, place) in unix_times {
-        assert_eq!(unix::read(text.as_bytes()), Err(Unreadable::UnexpectedByte(place)), "{text}");
+    for (text, position) in unix_times {
+        assert_eq!(unix::read(text.as_bytes()), Err(Unreadable::UnexpectedByte(position)), "{text}");
     }
 }
 
@@ -324,13 +324,13 @@ fn times_and_offsets_in_text() {
         ("-9:05:00", 0),
         (" 9:05:00", 0),
     ];
-    for (text, place) in no_times {
-        assert_eq!(text.parse::<Time>(), Err(Unreadable::UnexpectedByte(place)), "{text}");
+    for (text, position) in no_times {
+        assert_eq!(text.parse::<Time>(), Err(Unreadable::UnexpectedByte(position)), "{text}");
     }
     let no_offsets =
         [("", 0), ("05:30", 0), ("+5:30", 2), ("+0530", 3), ("+05", 3), ("+05:3", 5), ("+05:30:", 7), ("Z ", 1), ("+05:30:000", 9)];
-    for (text, place) in no_offsets {
-        assert_eq!(text.parse::<UtcOffset>(), Err(Unreadable::UnexpectedByte(place)), "{text}");
+    for (text, position) in no_offsets {
+        assert_eq!(text.parse::<UtcOffset>(), Err(Unreadable::UnexpectedByte(position)), "{text}");
     }
     for (text, name) in [("24:60:60", "hour"), ("23:60:60", "minute"), ("23:59:60", "second")] {
         assert_eq!(text.parse::<Time>().unwrap_err().to_string(), format!("{name} was not in range"));
@@ -364,8 +364,8 @@ fn any_form() {
     for (text, found) in rows {
         assert_eq!(read_any(text.as_bytes()), Ok(found), "{text}");
     }
-    for (text, place) in [("", 0), ("x", 0), ("2024-02-2", 9), ("2024-02-29T", 11), ("J", 1), ("@", 1), ("2024-02-29x", 10)] {
-        assert_eq!(read_any(text.as_bytes()), Err(Unreadable::UnexpectedByte(place)), "{text}");
+    for (text, position) in [("", 0), ("x", 0), ("2024-02-2", 9), ("2024-02-29T", 11), ("J", 1), ("@", 1), ("2024-02-29x", 10)] {
+        assert_eq!(read_any(text.as_bytes()), Err(Unreadable::UnexpectedByte(position)), "{text}");
     }
     for (text, name) in
         [("2023-02-29", "day"), ("2024-13-01T00:00:00Z", "month"), ("J999999999", "julian_day"), ("@99999999999999", "timestamp")]

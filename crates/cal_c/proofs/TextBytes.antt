@@ -4,9 +4,9 @@ use Rattle.std.proofs.lemmas.List.{drop-replicate}
 use Rattle.cal_time.specs.declared.Month.{Month}
 use Rattle.cal_time.specs.declared.Weekday.{Weekday}
 use Rattle.cal_time.specs.Month as months
-use Rattle.cal_time.specs.MonthCycle.{month_at-place}
+use Rattle.cal_time.specs.MonthCycle.{month_at-index}
 use Rattle.cal_time.specs.Weekday as weekdays
-use Rattle.cal_time.specs.WeekdayCycle.{weekday_at-place}
+use Rattle.cal_time.specs.WeekdayCycle.{weekday_at-index}
 use Rattle.cal_c.specs.Statuses.{done}
 use Rattle.cal_c.specs.Texts.{text_done, month_name, weekday_name}
 use Rattle.cal_c.specs.declared.texts.TextResult.{TextResult}
@@ -21,12 +21,12 @@ copied-over-zeros text copied same =
 -- the names of the month and the weekday that have a number
 pub month-named : (m : Month) (n : ℕ) → months.number m ≡ n → months.name m ≡ month_name n
 month-named m n e =
-    let place : n - 1 ≡ months.place m = omega (arith, e) in
-    ap months.name (sym (ap months.month_at place ∙ month_at-place m))
+    let index : n - 1 ≡ months.index m = omega (arith, e) in
+    ap months.name (sym (ap months.month_at index ∙ month_at-index m))
 
-pub weekday-named : (w : Weekday) (n : ℕ) → weekdays.place w + 1 ≡ n → weekdays.name w ≡ weekday_name n
+pub weekday-named : (w : Weekday) (n : ℕ) → weekdays.index w + 1 ≡ n → weekdays.name w ≡ weekday_name n
 weekday-named w n e =
-    let place : n - 1 ≡ weekdays.place w = omega (arith, e) in
-    ap weekdays.name (sym (ap weekdays.weekday_at place ∙ weekday_at-place w))
+    let index : n - 1 ≡ weekdays.index w = omega (arith, e) in
+    ap weekdays.name (sym (ap weekdays.weekday_at index ∙ weekday_at-index w))
 
 pub ruleset names = (month-named, weekday-named)

@@ -108,7 +108,7 @@ thursdays (suc n) =
     ]
 
 thursday_week : (t o : ℕ) → t % 7 ≡ 3 → ordinal_at t ≡ o → weekdays_upto 3 t ≡ (o + 6) / 7
-thursday_week t o place ordinal =
+thursday_week t o index ordinal =
     let sums : t + 1 ≡ suc t = omega arith in
     let all = ap (count_before (is_weekday_of_year 3 (year_at t))) sums ∙ thursdays t in
     all ∙ omega arith

@@ -7,7 +7,7 @@ use Rattle.cal_schedule.specs.declared.rule.kinds.Frequency.{Frequency}
 use Rattle.cal_schedule.specs.declared.rule.kinds.Frequency.TheVariants.{Daily, Weekly, Monthly, Yearly}
 use Rattle.cal_schedule.specs.declared.rule.kinds.Rule.{Rule}
 use Rattle.cal_time.specs.Month.{month_at}
-use Rattle.cal_time.specs.Weekday.{place, weekday_at}
+use Rattle.cal_time.specs.Weekday.{index, weekday_at}
 use Rattle.cal_time.specs.declared.Month.{Month}
 use Rattle.cal_time.specs.declared.Weekday.{Weekday}
 use Rattle.cal_c.specs.Statuses.{bad_date, bad_frequency, bad_weekday, done, many_parts, month_refused}
@@ -86,7 +86,7 @@ pub record IsPlainRuleOf (p : RuleParts) (rule : Rule) : Type 0 where
   pub until : rule.until ≡ Some (day_of p.until)
   pub frequency : frequency_number rule.frequency ≡ p.frequency
   pub interval : rule.interval ≡ p.interval
-  pub week_start : place rule.week_start + 1 ≡ p.week_start
+  pub week_start : index rule.week_start + 1 ≡ p.week_start
   pub month_days : rule.month_days.now ≡ p.month_days.now
 
 pub record IsRuleOf (p : RuleParts) (rule : Rule) : Type 0 where

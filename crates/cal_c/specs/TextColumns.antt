@@ -48,7 +48,7 @@ pub record HasRoomFor (longest rows bytes : ℕ) : Type 0 where
 abbrev pub moment_row : ℤ → ℕ → ℤ → ℕ → MomentResult
 moment_row date time offset status = record { status = pos status; moment = record { date = date; offset = offset; time = time } }
 
--- as `fots_date_read`, but for the place
+-- as `fots_date_read`, but for the position
 pub record IsDateOfText (bytes : List ℕ) (r : DateResult) : Type 0 where
   pub date : (n : ℕ) → IsDate n → IsDateText bytes n → r ≡ date_done (julian_day_at n)
   pub form : (HasDateForm bytes → ⊥) → r ≡ date_refused unreadable
@@ -63,7 +63,7 @@ pub record IsDateOfPart (bytes : List ℕ) (from to : ℤ) (r : DateResult) : Ty
   pub bounds : (ArePartOf bytes from to → ⊥) → r ≡ date_refused bounds_refused
   pub read : ArePartOf bytes from to → IsDateOfText (part bytes from to) r
 
--- as `fots_moment_read`, but for the place
+-- as `fots_moment_read`, but for the position
 pub record IsMomentOfText (bytes : List ℕ) (r : MomentResult) : Type 0 where
   pub moment : (m : Shown) → IsMomentText bytes m → r ≡ moment_done m
   pub form : (HasFormOfMoment bytes → ⊥) → r ≡ moment_refused unreadable

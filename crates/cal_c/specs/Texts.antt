@@ -36,27 +36,27 @@ HasDateForm bytes = HasFormThat (λ form. ⊤) bytes
 abbrev pub HasFormOfMoment : List ℕ → Type 0
 HasFormOfMoment bytes = HasMomentThat (λ form. ⊤) bytes
 
--- ---- what is read: a place is the greatest number where no byte is wrong
+-- ---- what is read: a position is the greatest number where no byte is wrong
 abbrev pub nowhere : ℕ
 nowhere = 18_446_744_073_709_551_615
 
 abbrev pub read_date_done : ℕ → ReadDateResult
-read_date_done n = record { status = done; date = julian_day_at n; place = nowhere }
+read_date_done n = record { status = done; date = julian_day_at n; position = nowhere }
 
 abbrev pub read_date_refused : ℤ → ReadDateResult
-read_date_refused s = record { status = s; date = nothing; place = nowhere }
+read_date_refused s = record { status = s; date = nothing; position = nowhere }
 
 -- some byte is wrong
 abbrev pub IsUnreadableDate : ReadDateResult → Type 0
-IsUnreadableDate r = (at : ℕ) × (r ≡ record { status = unreadable; date = nothing; place = at })
+IsUnreadableDate r = (at : ℕ) × (r ≡ record { status = unreadable; date = nothing; position = at })
 
 abbrev pub read_moment_done : Shown → ReadMomentResult
 read_moment_done m =
-    record { status = done; date = julian_day_at (date_at m.local); time = time_at m.local; offset = m.offset; place = nowhere }
+    record { status = done; date = julian_day_at (date_at m.local); time = time_at m.local; offset = m.offset; position = nowhere }
 
 abbrev pub read_moment_refused : ℤ → ReadMomentResult
-read_moment_refused s = record { status = s; date = nothing; time = 18_446_744_073_709_551_615; offset = nothing; place = nowhere }
+read_moment_refused s = record { status = s; date = nothing; time = 18_446_744_073_709_551_615; offset = nothing; position = nowhere }
 
 abbrev pub IsUnreadableMoment : ReadMomentResult → Type 0
 IsUnreadableMoment r =
-    (at : ℕ) × (r ≡ record { status = unreadable; date = nothing; time = 18_446_744_073_709_551_615; offset = nothing; place = at })
+    (at : ℕ) × (r ≡ record { status = unreadable; date = nothing; time = 18_446_744_073_709_551_615; offset = nothing; position = at })

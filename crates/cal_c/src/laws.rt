@@ -1,4 +1,4 @@
-//! Laws: the cases in which texts are read are all that there are, so the clauses of the readers leave one answer, but for the place of
+//! Laws: the cases in which texts are read are all that there are, so the clauses of the readers leave one answer, but for the position of
 //! a wrong byte.
 ghost use Rattle.std.specs.Prelude.{◌≡◌, ◌⊎◌, ℕ, ℤ};
 ghost use Rattle.cal_time.specs.Date.{IsDate};

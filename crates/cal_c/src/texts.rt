@@ -30,16 +30,16 @@ pub struct TextResult {
     pub bytes: [u8; CAPACITY],
 }
 
-/// A date that was read, or the place of the first byte that is wrong.
+/// A date that was read, or the position of the first byte that is wrong.
 #[repr(C)]
 #[derive(Clone, Copy)]
 pub struct ReadDateResult {
     pub status: i32,
     pub date: i32,
-    pub place: usize,
+    pub position: usize,
 }
 
-/// A date, a time and an offset that were read, or the place of the first byte that is wrong.
+/// A date, a time and an offset that were read, or the position of the first byte that is wrong.
 #[repr(C)]
 #[derive(Clone, Copy)]
 pub struct ReadMomentResult {
@@ -47,7 +47,7 @@ pub struct ReadMomentResult {
     pub date: i32,
     pub time: u64,
     pub offset: i32,
-    pub place: usize,
+    pub position: usize,
 }
 
 impl TextResult {
@@ -82,7 +82,7 @@ impl ReadDateResult {
         ReadDateResult {
             status: DONE,
             date: date.to_julian_day(),
-            place: usize::MAX,
+            position: usize::MAX,
         }
     }
 
@@ -94,7 +94,7 @@ impl ReadDateResult {
         ReadDateResult {
             status: status_of(error),
             date: i32::MIN,
-            place: place_of(error),
+            position: position_of(error),
         }
     }
 }
@@ -108,7 +108,7 @@ impl ReadMomentResult {
             date: moment.date().to_julian_day(),
             time: nanoseconds_of(moment.time()),
             offset: moment.offset().whole_seconds(),
-            place: usize::MAX,
+            position: usize::MAX,
         }
     }
 
@@ -122,17 +122,17 @@ impl ReadMomentResult {
             date: i32::MIN,
             time: u64::MAX,
             offset: i32::MIN,
-            place: place_of(error),
+            position: position_of(error),
         }
     }
 }
 
-/// The place of the first byte that is wrong, or the greatest number where none is.
-fn place_of(error: Unreadable) -> usize
+/// The position of the first byte that is wrong, or the greatest number where none is.
+fn position_of(error: Unreadable) -> usize
     ensures { (why : ComponentRange) → component_of error ≡ Some why → result ≡ nowhere }
 {
     match error {
-        Unreadable::UnexpectedByte(place) => place,
+        Unreadable::UnexpectedByte(position) => position,
         Unreadable::OutOfRange(_) => usize::MAX,
     }
 }

@@ -5,7 +5,7 @@ ghost use Rattle.cal_time.specs.IsoWeekDate.{IsWeek};
 ghost use Rattle.cal_time.specs.Month.{number};
 ghost use Rattle.cal_time.specs.Time.{IsTime};
 ghost use Rattle.cal_time.specs.UtcOffset.{IsOffset};
-ghost use Rattle.cal_time.specs.Weekday.{place};
+ghost use Rattle.cal_time.specs.Weekday.{index};
 ghost use Rattle.cal_c.specs.Values.{IsJulianDay, IsMonth, IsWeekday, IsDurationPair, day_of, nanoseconds_in};
 
 use crate::results::Duration;
@@ -42,7 +42,7 @@ pub fn month_of(month: u32) -> Option<Month>
 
 /// The weekday that has the number, from Monday, 1.
 pub fn weekday_of(weekday: u32) -> Option<Weekday>
-    ensures { MatchOption result (¬ IsWeekday weekday) (λ found. IsWeekday weekday × (place found + 1 ≡ weekday)) }
+    ensures { MatchOption result (¬ IsWeekday weekday) (λ found. IsWeekday weekday × (index found + 1 ≡ weekday)) }
 {
     match weekday {
         1 => Some(Weekday::Monday),

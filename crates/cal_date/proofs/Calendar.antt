@@ -4,7 +4,7 @@ use Rattle.std.proofs.lemmas.Bool.Decides.{nat_tests}
 use Rattle.cal_units.specs.Lengths.{days_in_month}
 use Rattle.cal_date.specs.CalendarDay.{calendar_day}
 use Rattle.cal_date.specs.Date.{first_year, day_at, year_at, month_at, day_of_month_at, ordinal_at, IsYear, IsDate, IsOrdinal, IsDayOfMonth, HasCalendarDate, NoDate}
-use Rattle.cal_date.specs.CountLaws.{days_of_months, days_before, in_months, place_in_year, year_start-days_before}
+use Rattle.cal_date.specs.CountLaws.{days_of_months, days_before, in_months, index_in_year, year_start-days_before}
 use Rattle.cal_date.specs.PackedDate.{ordinal_number}
 use Rattle.cal_date.proofs.Dates.{stands, in_range}
 
@@ -45,14 +45,14 @@ pub record IsInMonthOf (n : ℕ) : Type 0 where
 pub in_month_of : (n : ℕ) → IsInMonthOf n
 in_month_of n =
     let at = stands n in
-    let place = place_in_year (year_at n) (ordinal_at n - 1) (omega (arith, at.ordinal.0, at.ordinal.1)) in
-    let found = stands_at (year_at n) place.months (place.days + 1) at.year place.months_below (omega arith, omega (arith, place.days_below)) in
-    let number : ordinal_number (year_at n) (ordinal_in (year_at n) place.months (place.days + 1)) ≡ n = omega (arith, place.place_is, at.number_is) in
-    let here : StandsInMonth (year_at n) place.months (place.days + 1) n = subst (StandsInMonth (year_at n) place.months (place.days + 1)) number found in
-    let day : place.days + 1 ≡ day_of_month_at n = sym (ap (λ d. d.day) here.has) in
+    let index = index_in_year (year_at n) (ordinal_at n - 1) (omega (arith, at.ordinal.0, at.ordinal.1)) in
+    let found = stands_at (year_at n) index.months (index.days + 1) at.year index.months_below (omega arith, omega (arith, index.days_below)) in
+    let number : ordinal_number (year_at n) (ordinal_in (year_at n) index.months (index.days + 1)) ≡ n = omega (arith, index.index_is, at.number_is) in
+    let here : StandsInMonth (year_at n) index.months (index.days + 1) n = subst (StandsInMonth (year_at n) index.months (index.days + 1)) number found in
+    let day : index.days + 1 ≡ day_of_month_at n = sym (ap (λ d. d.day) here.has) in
     record {
-      months = place.months;
-      stands = subst (λ d. StandsInMonth (year_at n) place.months d n) day here;
+      months = index.months;
+      stands = subst (λ d. StandsInMonth (year_at n) index.months d n) day here;
       month_is = ap (λ d. d.month) here.has;
     }
 

@@ -81,7 +81,7 @@ days_of-no_back w e = rw e refl
 pub length-days_of : (w : Walk) (b : ℕ) → w.back ≡ Some b → length (days_of w) ≡ b + 1 - w.front
 length-days_of w b e = ap length (days_of-back w b e) ∙ length-days_from w.front (b + 1 - w.front)
 
--- the day at a place, from the front and from the back
+-- the day at an index, from the front and from the back
 pub slice_get-days_of : (w : Walk) (b n : ℕ) → w.back ≡ Some b → w.front + n ≤ b → slice_get (days_of w) n ≡ Some (w.front + n)
 slice_get-days_of w b n e h = ap (λ l. slice_get l n) (days_of-back w b e) ∙ slice_get-days_from w.front (b + 1 - w.front) n (omega arith)
 
@@ -222,21 +222,21 @@ pub ruleset days_left_after = (without_first-all, nat_tests)
 
 pub ruleset days_left_before = (without_last-from, without_last-all, nat_tests)
 
--- where a place is one of the walk
+-- where an index is one of the walk
 pub record IsPlace (front back n : ℕ) : Type 0 where
   pub within : front + n ≤ back
   pub in_range : IsDate back
 
-place : (w : Walk) (b n : ℕ) → IsWalk w → w.back ≡ Some b → n < length (days_of w) → IsPlace w.front b n
-place w b n h e less =
+index : (w : Walk) (b n : ℕ) → IsWalk w → w.back ≡ Some b → n < length (days_of w) → IsPlace w.front b n
+index w b n h e less =
     let at = ends w b h e in
     record { within = omega (arith, at.in_order, length-days_of w b e); in_range = at.in_range }
 
 -- the same, by the fields of the walk
-pub place_in : (v w : Walk) (b n len : ℕ) → v ≡ w → IsWalk v → v.back ≡ Some b → len ≡ length (days_of w) → n < len → IsPlace v.front b n
-place_in v w b n len same h e count less =
+pub index_in : (v w : Walk) (b n len : ℕ) → v ≡ w → IsWalk v → v.back ≡ Some b → len ≡ length (days_of w) → n < len → IsPlace v.front b n
+index_in v w b n len same h e count less =
     let total : len ≡ length (days_of v) = count ∙ ap (λ u. length (days_of u)) (sym same) in
-    place v b n h e (omega (arith, total))
+    index v b n h e (omega (arith, total))
 
 -- walks within one year, by the ordinals of their ends
 pub length-one_year : (w : Walk) (back len : ℕ) → IsWalk w → IsInOneYear w back → len ≡ length (days_of w) → len + ordinal_at w.front ≡ ordinal_at back + 1

@@ -16,7 +16,7 @@ use Rattle.cal_date.proofs.IsoWeeks.{iso_number, in_weeks, HasIsoWeekDate-iso_nu
 use Rattle.cal_date.proofs.Rising.{has_ordinal_number}
 use Rattle.cal_date.proofs.Weekdays.{weekday_at-is, first_weekday-days_before, weeks_in_year-days_before}
 use Rattle.cal_date.proofs.Years.{days_before-next}
-use Rattle.cal_units.specs.WeekdayCycle.{place-weekday_at}
+use Rattle.cal_units.specs.WeekdayCycle.{index-weekday_at}
 
 -- the weekday of the first of January, by the years of the range before
 pub first_weekday-years_before : (y : ℤ) (k : ℕ) → first_year ≤ℤ y → k ≡ years_before y → first_weekday y ≡ (k + k / 4 - k / 100 + k / 400) % 7
@@ -196,4 +196,4 @@ NoDate-week_date y w p year week below late n h has =
     let most = year.1 in
     omega (arith, ints)
 
-pub ruleset weekdays = (weekday_at-first_weekday, place-weekday_at, IsYear-i32, ints, nat_tests)
+pub ruleset weekdays = (weekday_at-first_weekday, index-weekday_at, IsYear-i32, ints, nat_tests)

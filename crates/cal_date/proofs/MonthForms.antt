@@ -45,7 +45,7 @@ day_of_ordinal-is n =
     let is = closed (year_at n) at.months (day_of_month_at n) at.stands.month at.stands.day in
     ap (day_of_ordinal (is_leap_year (year_at n))) at.stands.ordinal_is ∙ is.day_is
 
--- the place of a day in its part of the year, and the two quotients
+-- the index of a day in its part of the year, and the two quotients
 pub record IsInPart (n days months : ℕ) : Type 0 where
   pub some : 1 ≤ days
   pub most : days ≤ 366

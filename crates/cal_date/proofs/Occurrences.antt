@@ -5,7 +5,7 @@ use Rattle.cal_date.specs.Date.{last_day, weekday_at}
 use Rattle.cal_date.specs.Occurrence.{days_from, days_before_back, is_on, next_occurrences, prev_occurrences, kth}
 use Rattle.cal_date.proofs.Weekdays.{weekday_at-is}
 use Rattle.std.proofs.lemmas.Int.{ints}
-use Rattle.cal_units.specs.WeekdayCycle.{place-below}
+use Rattle.cal_units.specs.WeekdayCycle.{index-below}
 
 -- one step of each list
 days_from-suc : (n count : ℕ) → days_from n (suc count) ≡ n ∷ days_from (n + 1) count
@@ -105,4 +105,4 @@ pub prev_found : (w n m : ℕ) → w < 7
     → kth (suc m) (prev_occurrences w n) ≡ (if nat_le ((n + 6 - w) % 7 + 1 + 7 * m) n then Some (n - ((n + 6 - w) % 7 + 1 + 7 * m)) else None)
 prev_found w n m below = kth-prev_occurrences w n ((n + 6 - w) % 7 + 1) m (omega arith) (omega arith) below (days_to_prev w n below)
 
-pub ruleset days_before = (weekday_at-is, prev_found, place-below, ints, nat_tests)
+pub ruleset days_before = (weekday_at-is, prev_found, index-below, ints, nat_tests)

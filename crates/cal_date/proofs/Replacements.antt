@@ -20,9 +20,9 @@ record IsMonthAt (y : ℤ) (i : ℕ) : Type 0 where
   february : i ≡ 1 → (days_of_months y i ≡ 31) × (days_in_month y (i + 1) ≡ (if is_leap_year y then 29 else 28))
   march_on : 2 ≤ i → (if is_leap_year y then 60 else 59) ≤ days_of_months y i
 
-month_at_place : (y : ℤ) (i : ℕ) → i < 12 → IsMonthAt y i
+month_at_index : (y : ℤ) (i : ℕ) → i < 12 → IsMonthAt y i
 unfolding days_of_months days_in_month
-month_at_place y i low =
+month_at_index y i low =
     each_month (λ m. IsMonthAt y m)
     (record { january = λ e. grind (arith, nat_tests); february = λ e. grind (arith, nat_tests); march_on = λ h. grind (arith, nat_tests) })
     (record { january = λ e. grind (arith, nat_tests); february = λ e. grind (arith, nat_tests); march_on = λ h. grind (arith, nat_tests) })
@@ -76,24 +76,24 @@ same_mark y z i d low h e =
 
 pub up_to_february : (y z : ℤ) (i d : ℕ) → i < 12 → IsDayOfMonth y (i + 1) d → ordinal_in y i d < 60 → IsOrdinalIn z i d (ordinal_in y i d)
 up_to_february y z i d low h early =
-    let here = month_at_place y i low in
-    let there = month_at_place z i low in
+    let here = month_at_index y i low in
+    let there = month_at_index z i low in
     let other = shifted y z i low in
     record { day = grind (arith, nat_tests); ordinal_is = grind (arith, nat_tests) }
 
 pub one_later : (y z : ℤ) (i d : ℕ) → i < 12 → IsDayOfMonth y (i + 1) d → 60 ≤ ordinal_in y i d → is_leap_year y ≡ false → is_leap_year z ≡ true
     → IsOrdinalIn z i d (ordinal_in y i d + 1)
 one_later y z i d low h late common leap =
-    let here = month_at_place y i low in
-    let there = month_at_place z i low in
+    let here = month_at_index y i low in
+    let there = month_at_index z i low in
     let other = shifted y z i low in
     record { day = grind (arith, nat_tests); ordinal_is = grind (arith, nat_tests) }
 
 pub one_earlier : (y z : ℤ) (i d : ℕ) → i < 12 → IsDayOfMonth y (i + 1) d → 60 < ordinal_in y i d → is_leap_year y ≡ true → is_leap_year z ≡ false
     → IsOrdinalIn z i d (ordinal_in y i d - 1)
 one_earlier y z i d low h late leap common =
-    let here = month_at_place y i low in
-    let there = month_at_place z i low in
+    let here = month_at_index y i low in
+    let there = month_at_index z i low in
     let other = shifted z y i low in
     record { day = grind (arith, nat_tests); ordinal_is = grind (arith, nat_tests) }
 
@@ -101,8 +101,8 @@ one_earlier y z i d low h late leap common =
 pub leap_day : (y z : ℤ) (i d : ℕ) → i < 12 → IsDayOfMonth y (i + 1) d → ordinal_in y i d ≡ 60 → is_leap_year y ≡ true → is_leap_year z ≡ false
     → ¬ IsDayOfMonth z (i + 1) d
 leap_day y z i d low h e leap common day =
-    let here = month_at_place y i low in
-    let there = month_at_place z i low in
+    let here = month_at_index y i low in
+    let there = month_at_index z i low in
     absurd (grind (arith, nat_tests))
 
 -- two marks that are alike, and two that are not

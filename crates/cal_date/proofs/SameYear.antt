@@ -9,14 +9,14 @@ use Rattle.cal_date.specs.Move.{IsDateNumber, IsOrdinalNumber, date_nearest}
 use Rattle.cal_date.proofs.Dates.{year-most, in_range, IsDate-ordinal_number}
 use Rattle.cal_date.proofs.Moves.{number-date_nearest, found_number}
 
--- a sum that wraps is far above the places of a year; one that does not is the place of the moved ordinal
-pub place-added : (w : ℤ) (o : ℕ) → FitsSigned w64 w → 1 ≤ o → o ≤ 366 → (of_z w64 w + (o - 1)) % 18446744073709551616 < 366
+-- a sum that wraps is far above the indexes of a year; one that does not is the index of the moved ordinal
+pub index-added : (w : ℤ) (o : ℕ) → FitsSigned w64 w → 1 ≤ o → o ≤ 366 → (of_z w64 w + (o - 1)) % 18446744073709551616 < 366
     → pos ((of_z w64 w + (o - 1)) % 18446744073709551616 + 1) ≡ pos o +ℤ w
-place-added w o fits low high near = grind (arith, ints)
+index-added w o fits low high near = grind (arith, ints)
 
--- and each ordinal of the year has its place
-pub place-added-in_year : (y w : ℤ) (o : ℕ) → FitsSigned w64 w → 1 ≤ o → o ≤ 366 → IsOrdinalNumber y (pos o +ℤ w) → (of_z w64 w + (o - 1)) % 18446744073709551616 < days_in_year y
-place-added-in_year y w o fits low high h = let first = h.not_before in let last = h.not_after in let most = year-most y in grind (arith, ints)
+-- and each ordinal of the year has its index
+pub index-added-in_year : (y w : ℤ) (o : ℕ) → FitsSigned w64 w → 1 ≤ o → o ≤ 366 → IsOrdinalNumber y (pos o +ℤ w) → (of_z w64 w + (o - 1)) % 18446744073709551616 < days_in_year y
+index-added-in_year y w o fits low high h = let first = h.not_before in let last = h.not_after in let most = year-most y in grind (arith, ints)
 
 -- the day d of the year of day n that has the ordinal p + 1, which is z as a whole number; m is the number that day n moves to
 pub record IsNear (n d : ℕ) (m z : ℤ) : Type 0 where

@@ -6,7 +6,7 @@ use Rattle.std.proofs.lemmas.Bool.{cases_Bool}
 use Rattle.std.proofs.lemmas.Int.{ints}
 use Rattle.std.proofs.lemmas.Bool.Decides.{nat_tests, Decides-int_eq}
 use Rattle.cal_units.specs.Lengths.{days_in_year}
-use Rattle.cal_units.specs.Weekday.{place, days_from_sunday}
+use Rattle.cal_units.specs.Weekday.{index, days_from_sunday}
 use Rattle.cal_units.specs.declared.weekday.Weekday.{Weekday}
 use Rattle.cal_units.specs.declared.weekday.Weekday.TheVariants.{Monday, Tuesday, Wednesday, Thursday, Friday, Saturday, Sunday}
 use Rattle.cal_units.specs.Weeks.{first_weekday, weeks_in_year}
@@ -107,21 +107,21 @@ weekdays_upto-is w n below =
 
 -- the same by the ordinal, and the days since the last one
 pub weekdays_upto-ordinal : (w since n : ℕ) → w < 7 → since < 7 → (since + w) % 7 ≡ n % 7 → (ordinal_at n + 6 - since) / 7 ≡ weekdays_upto w n
-weekdays_upto-ordinal w since n below small place =
+weekdays_upto-ordinal w since n below small index =
     let at = stands n in
     let count = weekdays_upto-is w n below in
     let number : n ≡ days_before (year_at n) + (ordinal_at n - 1) = at.number_is in
     let low : 1 ≤ ordinal_at n = at.ordinal.0 in
     omega arith
 
-pub days_from_sunday-place : (w : Weekday) → days_from_sunday w ≡ (place w + 1) % 7
-days_from_sunday-place Monday = refl
-days_from_sunday-place Tuesday = refl
-days_from_sunday-place Wednesday = refl
-days_from_sunday-place Thursday = refl
-days_from_sunday-place Friday = refl
-days_from_sunday-place Saturday = refl
-days_from_sunday-place Sunday = refl
+pub days_from_sunday-index : (w : Weekday) → days_from_sunday w ≡ (index w + 1) % 7
+days_from_sunday-index Monday = refl
+days_from_sunday-index Tuesday = refl
+days_from_sunday-index Wednesday = refl
+days_from_sunday-index Thursday = refl
+days_from_sunday-index Friday = refl
+days_from_sunday-index Saturday = refl
+days_from_sunday-index Sunday = refl
 
 -- the weeks of a year, from the days before it
 pub weeks_in_year-days_before : (y : ℤ) → first_year ≤ℤ y → weeks_in_year y + (days_before y + 3) / 7 ≡ (days_before y + days_in_year y + 3) / 7
@@ -145,6 +145,6 @@ weeks_in_year-count y h =
     let weeks = weeks_in_year-days_before y h.0 in
     omega arith ∙ sym all ∙ ap (count_before test) sums
 
-pub ruleset weeks_begun = (ordinal-most, weekday_at-is, weekdays_upto-ordinal, days_from_sunday-place, ints, nat_tests)
+pub ruleset weeks_begun = (ordinal-most, weekday_at-is, weekdays_upto-ordinal, days_from_sunday-index, ints, nat_tests)
 
 pub ruleset weeks_of_years = (IsYear-i32, weeks_in_year-count, ints, nat_tests)

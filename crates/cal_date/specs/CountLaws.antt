@@ -99,7 +99,7 @@ days_in_month-december : (y : ℤ) → 30 < days_in_month y 12
 unfolding days_in_month
 days_in_month-december y = lit< tt
 
--- a place in the first k months lies in one of them
+-- an index in the first k months lies in one of them
 month_of : (y : ℤ) (k j : ℕ) → j < days_of_months y k → (i : ℕ) × (d : ℕ) × (i < k) × (d < days_in_month y (i + 1)) × (j ≡ days_of_months y i + d)
 unfolding days_of_months
 month_of y zero j h = absurd (omega arith)
@@ -121,25 +121,25 @@ in_months n y i d e low h =
     let sums : n + days_of_months y i + d ≡ n + (days_of_months y i + d) = omega arith in
     rw (← sums) (record { day_is = here.day_is; ordinal_is = here.ordinal_is ∙ omega arith })
 
--- each place in a year is so many months and days into it
+-- each index in a year is so many months and days into it
 pub record IsInMonth (y : ℤ) (j : ℕ) : Type 0 where
   pub months : ℕ
   pub days : ℕ
   pub months_below : months < 12
   pub days_below : days < days_in_month y (months + 1)
-  pub place_is : j ≡ days_of_months y months + days
+  pub index_is : j ≡ days_of_months y months + days
 
-pub place_in_year : (y : ℤ) (j : ℕ) → j < days_in_year y → IsInMonth y j
-place_in_year y j h =
+pub index_in_year : (y : ℤ) (j : ℕ) → j < days_in_year y → IsInMonth y j
+index_in_year y j h =
     let found = month_of y 12 j (rw (days_of_months-all y) h) in
-    record { months = found.0; days = found.1; months_below = found.2; days_below = found.3; place_is = found.4 }
+    record { months = found.0; days = found.1; months_below = found.2; days_below = found.3; index_is = found.4 }
 
 -- the days of one year follow one another
 pub in_year : (n : ℕ) (y : ℤ) (j : ℕ) → IsYearStart n y → j < days_in_year y → HasOrdinalDate y (j + 1) (n + j)
 in_year n y j e h =
-    let at = place_in_year y j h in
+    let at = index_in_year y j h in
     let here = in_months n y at.months at.days e at.months_below at.days_below in
-    (ap year_at (ap (λ k. n + k) at.place_is) ∙ ap (λ d. d.year) here.day_is, ap ordinal_at (ap (λ k. n + k) at.place_is) ∙ here.ordinal_is ∙ omega (arith, at.place_is))
+    (ap year_at (ap (λ k. n + k) at.index_is) ∙ ap (λ d. d.year) here.day_is, ap ordinal_at (ap (λ k. n + k) at.index_is) ∙ here.ordinal_is ∙ omega (arith, at.index_is))
 
 -- 31 December is the last day of the year
 pub year_end : (n : ℕ) (y : ℤ) → IsYearStart n y → IsDayAt (n + (days_in_year y - 1)) y 12 31 (days_in_year y)

@@ -44,7 +44,7 @@ unfoldable pub ordinal_at : ℕ → ℕ
 ordinal_at zero = 1
 ordinal_at (suc n) = if is_first_of_january (day_at (suc n)) then 1 else ordinal_at n + 1
 
--- the weekday by its place in the week, from Monday, 0, to Sunday, 6: day 0 is a Monday
+-- the weekday by its index in the week, from Monday, 0, to Sunday, 6: day 0 is a Monday
 unfoldable pub weekday_at : ℕ → ℕ
 weekday_at zero = 0
 weekday_at (suc n) = (weekday_at n + 1) % 7

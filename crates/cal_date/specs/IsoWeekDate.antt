@@ -1,5 +1,5 @@
 -- The ISO week date of a day, and the weeks of its year from Sunday or Monday on: each by counting days (ISO 8601: a week begins on
--- Monday, and belongs to the year that holds its Thursday). A weekday is its place from Monday, 0, to Sunday, 6.
+-- Monday, and belongs to the year that holds its Thursday). A weekday is its index from Monday, 0, to Sunday, 6.
 use Rattle.std.specs.Prelude.{◌≡◌, ℕ, zero, suc, ◌+◌, ◌-◌, ◌≤◌, ◌==◌, ◌&&◌, Bool, if◌then◌else◌, ℤ}
 use Rattle.std.specs.Ordering.{int_eq}
 use Rattle.cal_units.specs.Weeks.{weeks_in_year}

@@ -1,4 +1,4 @@
--- The days with a weekday after a day, and before it. A weekday is its place from Monday, 0, to Sunday, 6.
+-- The days with a weekday after a day, and before it. A weekday is its index from Monday, 0, to Sunday, 6.
 use Rattle.std.specs.Prelude.{ℕ, zero, suc, ◌+◌, ◌-◌, ◌==◌, Bool, List, [], ◌∷◌, Option, None, filter, slice_get}
 use Rattle.cal_date.specs.Date.{last_day, weekday_at}
 

@@ -16,6 +16,6 @@ ordinal_date_at n = year_at n ∷ pos (ordinal_at n) ∷ []
 abbrev pub calendar_date_at : ℕ → List ℤ
 calendar_date_at n = year_at n ∷ pos (month_at n) ∷ pos (day_of_month_at n) ∷ []
 
--- a weekday stands by its place from Monday
+-- a weekday stands by its index from Monday
 abbrev pub iso_week_date_at : ℕ → List ℤ
 iso_week_date_at n = iso_year_at n ∷ pos (iso_week_at n) ∷ pos (weekday_at n) ∷ []

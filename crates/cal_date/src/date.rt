@@ -162,7 +162,7 @@ impl Date {
         self.packed >> 10
     }
 
-    /// The place of the day in its year, from 1 to 365, or 366 in a leap year. That of 2020-12-31 is 366.
+    /// The number of the day in its year, from 1 to 365, or 366 in a leap year. That of 2020-12-31 is 366.
     pub fn ordinal(self) -> u16
         ensures counted { result ≡ ordinal_at self }
         ensures range { IsOrdinal (year_at self) result }
@@ -336,13 +336,13 @@ impl Date {
 
     /// The day of the same year that has so many days of the year before it, or `None` where the year has no such day.
     #[tactic(auto, using(crate::proofs::Neighbours::places))]
-    fn of_same_year(self, place: u64) -> Option<Self>
-        ensures day { SomeIff result (place < days_in_year (year_at self)) (ordinal_number (year_at self) (place + 1)) }
+    fn of_same_year(self, index: u64) -> Option<Self>
+        ensures day { SomeIff result (index < days_in_year (year_at self)) (ordinal_number (year_at self) (index + 1)) }
         ensures in_range { IsDate self }
     {
         let length = 365 + u64::from(self.is_in_leap_year());
-        if place < length {
-            Some(self.moved_in_year(place as i32 + 1 - i32::from(self.ordinal())))
+        if index < length {
+            Some(self.moved_in_year(index as i32 + 1 - i32::from(self.ordinal())))
         } else {
             None
         }

@@ -1,7 +1,7 @@
 //! Callers that know no more than a stated condition, and the laws. The worked values stand in the crate of the facade.
 ghost use Rattle.std.specs.Prelude.{◌≡◌, pos, ◌+ℤ◌, ◌-ℤ◌, IsSome};
 ghost use Rattle.cal_span.specs.SignedDuration.{whole_days};
-ghost use Rattle.cal_units.specs.Weekday.{place};
+ghost use Rattle.cal_units.specs.Weekday.{index};
 ghost use Rattle.cal_date.specs.Move.{IsDateNumber};
 ghost use Rattle.cal_date.specs.Occurrence.{next_occurrences, prev_occurrences, kth};
 
@@ -37,10 +37,10 @@ fn earlier(date: Date, duration: SignedDuration) -> [Date; 2]
 }
 
 fn occurrences(date: Date, weekday: Weekday, n: u8) -> [Date; 4]
-    requires next { IsSome (kth 1 (next_occurrences (place weekday) date)) }
-    requires prev { IsSome (kth 1 (prev_occurrences (place weekday) date)) }
-    requires nth_next { IsSome (kth n (next_occurrences (place weekday) date)) }
-    requires nth_prev { IsSome (kth n (prev_occurrences (place weekday) date)) }
+    requires next { IsSome (kth 1 (next_occurrences (index weekday) date)) }
+    requires prev { IsSome (kth 1 (prev_occurrences (index weekday) date)) }
+    requires nth_next { IsSome (kth n (next_occurrences (index weekday) date)) }
+    requires nth_prev { IsSome (kth n (prev_occurrences (index weekday) date)) }
 {
     [
         date.next_occurrence(weekday),

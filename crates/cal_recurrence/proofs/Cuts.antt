@@ -1,4 +1,4 @@
--- How bytes are cut at the first place where a byte stands.
+-- How bytes are cut at the first position where a byte stands.
 use Rattle.std.proofs.Common.{◌≡◌, ℕ, ◌+◌, ◌<◌, ◌≤◌, Bool, eqb, List, [], ◌∷◌, length, take, drop, Some, None, ap, arith, subst, sym}
 use Rattle.std.specs.List.{position, position_or_len}
 use Rattle.std.proofs.lemmas.List.{take_all, drop_all}

@@ -4,7 +4,7 @@ use Rattle.std.specs.Prelude.{option_map}
 use Rattle.std.specs.Option.{option_zip}
 use Rattle.cal_recurrence.specs.Text.{each}
 
--- what the words left spell comes after what was read, and each word has its place
+-- what the words left spell comes after what was read, and each word has its position
 pub record IsRead {X : Type 0} (meaning : List ℕ → Option X) (so_far : List X) (left all : List (List ℕ)) : Type 0 where
   pub joined : option_map (λ more. so_far ++ more) (each meaning left) ≡ each meaning all
   pub count : length so_far + length left ≡ length all

@@ -7,7 +7,7 @@ use Rattle.std.specs.Ordering.{int_eq}
 use Rattle.std.specs.Str.{all_ascii_digits, str_eq_ignore_ascii_case}
 use Rattle.std.specs.Str.Parse.{digits_value}
 use Rattle.cal_time.specs.Date.{last_day, year_at, month_at, day_of_month_at}
-use Rattle.cal_time.specs.Month.{month_at as month_with_place}
+use Rattle.cal_time.specs.Month.{month_at as month_with_index}
 use Rattle.cal_time.specs.Occurrence.{days_from}
 use Rattle.cal_time.specs.declared.Month.{Month}
 use Rattle.cal_time.specs.declared.Weekday.{Weekday}
@@ -92,25 +92,25 @@ abbrev pub short_count_of : ℕ → List ℕ → Option ℕ
 short_count_of most word = if nat_le (length word) 2 then count_of most word else None
 
 -- the same, perhaps after a sign: 45 is the minus sign and 43 the plus sign
-abbrev pub place_of : ℕ → List ℕ → Option ℤ
-place_of most word =
+abbrev pub index_of : ℕ → List ℕ → Option ℤ
+index_of most word =
     if slice_index word 0 == 45 then option_map (λ n. neg_ℤ (pos n)) (short_count_of most (drop 1 word)) else
     if slice_index word 0 == 43 then option_map pos (short_count_of most (drop 1 word)) else
     option_map pos (short_count_of most word)
 
 -- ---- values
 abbrev pub month_of : List ℕ → Option Month
-month_of word = option_map (λ n. month_with_place (n - 1)) (short_count_of 12 word)
+month_of word = option_map (λ n. month_with_index (n - 1)) (short_count_of 12 word)
 
 abbrev pub month_day_of : List ℕ → Option ℤ
-month_day_of word = place_of 31 word
+month_day_of word = index_of 31 word
 
--- a weekday of two letters, perhaps after a place among those of the month or the year
+-- a weekday of two letters, perhaps after a number among those of the month or the year
 abbrev pub by_day_of : List ℕ → Option ByDay
 by_day_of word =
     let front = length word - 2 in
     if front == 0 then option_map Every (weekday_of word)
-    else option_map (λ both. Nth both.0 both.1) (option_zip (place_of 53 (take front word)) (weekday_of (drop front word)))
+    else option_map (λ both. Nth both.0 both.1) (option_zip (index_of 53 (take front word)) (weekday_of (drop front word)))
 
 -- day k has the year, the month and the day of the month that the eight digits of n spell
 abbrev pub has_digits : ℕ → ℕ → Bool

@@ -39,7 +39,7 @@ pub enum RuleReason {
 /// The first part that is at fault.
 #[derive(Clone, Copy, Debug, PartialEq, Eq)]
 pub struct RuleFault {
-    /// The place of its first byte, counted from 0. A part that is missing has the place at the end of the text.
+    /// The position of its first byte, counted from 0. A part that is missing has the position at the end of the text.
     pub position: usize,
     /// What is at fault.
     pub reason: RuleReason,

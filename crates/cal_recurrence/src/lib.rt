@@ -1,6 +1,6 @@
 //! Recurrences and their texts, after RFC 5545: what a `RRULE` says, read from its text.
 //!
-//! A text is read as the one recurrence that it is the text of, or refused with the place and the reason.
+//! A text is read as the one recurrence that it is the text of, or refused with the position and the reason.
 #![tactic(auto)]
 
 mod draft;

@@ -26,7 +26,7 @@ impl<T> Model for Values<T> {
 }
 
 impl<T: Copy> Values<T> {
-    /// No values. What is passed stands at the places that are free, where no call sees it.
+    /// No values. What is passed stands at the indexes that are free, where no call sees it.
     pub fn none(filler: T) -> Self
         ensures { result ≡ [] }
     {

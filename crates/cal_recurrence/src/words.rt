@@ -1,6 +1,6 @@
 //! What single words of the text of a rule spell, and how the text is cut.
 ghost use Rattle.std.specs.Prelude.{◌≡◌, ◌+◌, ◌<◌, ◌≤◌, ◌==◌, ◌∷◌, length, position, slice_index, MatchOption, IfSome};
-ghost use Rattle.cal_recurrence.specs.Words.{by_day_of, bytes_left, count_of, date_of, day_with, frequency_of, from_one_to, front_at, is_alike, month_day_of, month_of, number_of, part_of, parts_at, parts_left, place_of, rest_at, short_count_of, weekday_of};
+ghost use Rattle.cal_recurrence.specs.Words.{by_day_of, bytes_left, count_of, date_of, day_with, frequency_of, from_one_to, front_at, is_alike, month_day_of, month_of, number_of, part_of, parts_at, parts_left, index_of, rest_at, short_count_of, weekday_of};
 
 use crate::fault::RulePart;
 use cal_schedule::{ByDay, Frequency};
@@ -14,7 +14,7 @@ fn position_of(byte: u8, bytes: &[u8]) -> Option<usize>
     bytes.iter().position(|b| *b == byte)
 }
 
-/// The bytes before the first place where a byte stands, and those after it, if it stands there.
+/// The bytes before the first position where a byte stands, and those after it, if it stands there.
 #[tactic(auto, using(crate::proofs::Cuts::cut_some, crate::proofs::Cuts::cut_none, std::proofs::lemmas::List::take_rest))]
 pub fn cut(bytes: &[u8], byte: u8) -> (&[u8], Option<&[u8]>)
     ensures parts { parts_at byte bytes.now ≡ result.0.now ∷ parts_left byte result.1 }
@@ -147,9 +147,9 @@ fn short_count_of(word: &[u8], most: u8) -> Option<u8>
 }
 
 /// The same, perhaps after a sign.
-fn place_of(word: &[u8], most: u8) -> Option<i8>
+fn index_of(word: &[u8], most: u8) -> Option<i8>
     requires { most ≤ 127 }
-    ensures { result ≡ place_of most word.now }
+    ensures { result ≡ index_of most word.now }
 {
     match word {
         [b'-', digits @ ..] => Some(-(short_count_of(digits, most)? as i8)),
@@ -169,10 +169,10 @@ pub fn month_of(word: &[u8]) -> Option<Month>
 pub fn month_day_of(word: &[u8]) -> Option<i8>
     ensures { result ≡ month_day_of word.now }
 {
-    place_of(word, 31)
+    index_of(word, 31)
 }
 
-/// The weekday, perhaps with a place among those of the month or the year.
+/// The weekday, perhaps with a number among those of the month or the year.
 pub fn by_day_of(word: &[u8]) -> Option<ByDay>
     ensures { result ≡ by_day_of word.now }
 {
@@ -180,8 +180,8 @@ pub fn by_day_of(word: &[u8]) -> Option<ByDay>
         return Some(ByDay::Every(weekday_of(word)?));
     }
     let front = word.len() - 2;
-    let place = place_of(&word[..front], 53)?;
-    Some(ByDay::Nth(place, weekday_of(&word[front..])?))
+    let index = index_of(&word[..front], 53)?;
+    Some(ByDay::Nth(index, weekday_of(&word[front..])?))
 }
 
 /// The day whose year, month and day of the month the eight digits of the number are.

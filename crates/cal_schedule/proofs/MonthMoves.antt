@@ -73,10 +73,10 @@ one_later a r s m x y =
 pub number_from : (n : ℕ) (y : ℤ) (m d : ℕ) → HasCalendarDate y m d n → month_number_at n ≡ y *ℤ pos 12 +ℤ pos m -ℤ pos 1
 number_from n y m d e = ap (λ day. day.year *ℤ pos 12 +ℤ pos day.month -ℤ pos 1) e
 
--- and its place among the months of the range
-pub has_place : (n : ℕ) (y : ℤ) (m d p : ℕ) → HasCalendarDate y m d n → (y *ℤ pos 12 +ℤ pos m) ≡ pos p -ℤ pos 11999987
+-- and its index among the months of the range
+pub has_index : (n : ℕ) (y : ℤ) (m d p : ℕ) → HasCalendarDate y m d n → (y *ℤ pos 12 +ℤ pos m) ≡ pos p -ℤ pos 11999987
     → pos p ≡ month_number_at n +ℤ pos 11999988
-has_place n y m d p has e = omega (arith, ints, number_from n y m d has)
+has_index n y m d p has e = omega (arith, ints, number_from n y m d has)
 
 -- the month of a day of the range is one of the range
 pub IsMonthNumber-date : (n : ℕ) → IsDate n → IsMonthNumber (month_number_at n)

@@ -8,8 +8,8 @@ use Rattle.cal_time.specs.Date.{first_year, day_at, year_at, month_at, day_of_mo
 use Rattle.cal_time.specs.Days.{day_at-first, day_at-period, days_in_month-period, month_at-range, weekday_at-period}
 use Rattle.cal_time.specs.Lengths.{days_in_month, days_in_year}
 use Rattle.cal_time.specs.Parts.{year_at-rises}
-use Rattle.cal_time.specs.Weekday.{place}
-use Rattle.cal_time.specs.WeekdayCycle.{place-below}
+use Rattle.cal_time.specs.Weekday.{index}
+use Rattle.cal_time.specs.WeekdayCycle.{index-below}
 use Rattle.cal_time.specs.declared.Weekday.{Weekday}
 use Rattle.cal_schedule.specs.declared.rule.kinds.Frequency.{Frequency}
 use Rattle.cal_schedule.specs.declared.rule.kinds.Frequency.TheVariants.{Daily, Weekly, Monthly, Yearly}
@@ -120,13 +120,13 @@ daily-is : (w : Weekday) (n : ℕ) → turn_at Daily w n ≡ n
 unfolding turn_at
 daily-is w n = refl
 
-pub weeks-is : (w : Weekday) (n : ℕ) → turn_at Weekly w n ≡ (n + 7 - place w) / 7
+pub weeks-is : (w : Weekday) (n : ℕ) → turn_at Weekly w n ≡ (n + 7 - index w) / 7
 unfolding turn_at
 weeks-is w n = refl
 
 pub turn_at-rises : (f : Frequency) (w : Weekday) (m n : ℕ) → m ≤ n → turn_at f w m ≤ turn_at f w n
 turn_at-rises Daily w m n h = omega (arith, daily-is w m, daily-is w n)
-turn_at-rises Weekly w m n h = omega (arith, weeks-is w m, weeks-is w n, place-below w)
+turn_at-rises Weekly w m n h = omega (arith, weeks-is w m, weeks-is w n, index-below w)
 turn_at-rises Monthly w m n h = omega (arith, ints, pos-months w m, pos-months w n, month_numbers-rise m n h)
 turn_at-rises Yearly w m n h = omega (arith, ints, pos-years w m, pos-years w n, year_at-rises m n h)
 
@@ -138,7 +138,7 @@ turns_in Yearly = 400
 
 turn_at-periods : (f : Frequency) (w : Weekday) (n j : ℕ) → turn_at f w (n + 146097 * j) ≡ turn_at f w n + turns_in f * j
 turn_at-periods Daily w n j = omega (arith, daily-is w n, daily-is w (n + 146097 * j))
-turn_at-periods Weekly w n j = omega (arith, weeks-is w n, weeks-is w (n + 146097 * j), place-below w)
+turn_at-periods Weekly w n j = omega (arith, weeks-is w n, weeks-is w (n + 146097 * j), index-below w)
 turn_at-periods Monthly w n j = omega (arith, ints, pos-months w n, pos-months w (n + 146097 * j), (periods n j).year, (periods n j).alike.month)
 turn_at-periods Yearly w n j = omega (arith, ints, pos-years w n, pos-years w (n + 146097 * j), (periods n j).year)
 

@@ -15,7 +15,7 @@ use Rattle.cal_time.specs.Laws.{weekday_at-is}
 use Rattle.cal_time.specs.Lengths.{days_in_month}
 use Rattle.cal_time.specs.Occurrence.{days_from}
 use Rattle.cal_time.specs.Parts.{day_of_month_at-rises}
-use Rattle.cal_time.specs.Weekday.{place}
+use Rattle.cal_time.specs.Weekday.{index}
 use Rattle.cal_time.specs.declared.Weekday.{Weekday}
 use Rattle.cal_schedule.specs.declared.rule.kinds.ByDay.{ByDay}
 use Rattle.cal_schedule.specs.declared.rule.kinds.ByDay.TheVariants.{Every, Nth}
@@ -123,7 +123,7 @@ then_allows a p q r xs [] h e = refl
 then_allows a p q r [] (y ∷ ys) h e = any-more q r h (y ∷ ys) e
 then_allows a p q r (x ∷ xs) (y ∷ ys) h e = any-more q r h (y ∷ ys) (and_parts _ _ e).1
 
-weekday_is : (b : Bool) (n : ℕ) (by : ByDay) → is_weekday b n by ≡ true → (weekday_at n == place (weekday_of by)) ≡ true
+weekday_is : (b : Bool) (n : ℕ) (by : ByDay) → is_weekday b n by ≡ true → (weekday_at n == index (weekday_of by)) ≡ true
 unfolding is_weekday
 weekday_is b n (Every w) e = e
 weekday_is b n (Nth k w) e = (and_parts _ _ e).0

@@ -1,4 +1,4 @@
--- The days of a month that have a weekday, by their places in the month, and the days next to a day that have one.
+-- The days of a month that have a weekday, by their indexes in the month, and the days next to a day that have one.
 use Rattle.std.proofs.Common.{◌≡◌, ℕ, zero, suc, ◌+◌, ◌-◌, ◌*◌, ◌/◌, ◌%◌, ◌<◌, ◌≤◌, ◌==◌, refl, sym, ap, ◌∙◌, subst, add-zero, arith, ℤ, inl, inr, Bool, true, false, if◌then◌else◌, nat_le, filter, slice_get, Option, Some, None}
 use Rattle.std.specs.Prelude.{SomeIff}
 use Rattle.std.specs.Ordering.{int_eq}
@@ -97,9 +97,9 @@ pub record IsPlaceOf (f w k d : ℕ) : Type 0 where
   pub least : 1 ≤ k
   pub most : k ≤ 5
 
-pub nth-place : (y : ℤ) (m f w k n : ℕ) → HasCalendarDate y m 1 f → w < 7 → IsNthWeekday y m w k n
+pub nth-index : (y : ℤ) (m f w k n : ℕ) → HasCalendarDate y m 1 f → w < 7 → IsNthWeekday y m w k n
     → HasCalendarDate y m (day_of_month_at n) n × IsPlaceOf f w k (day_of_month_at n)
-nth-place y m f w k n e below h =
+nth-index y m f w k n e below h =
     let at : HasCalendarDate y m (day_of_month_at n) n =
     ap (λ z. calendar_day z (month_at n) (day_of_month_at n)) h.is.year ∙ ap (λ i. calendar_day y i (day_of_month_at n)) h.is.month in
     let count = counted y m f w (day_of_month_at n) n e at below in
@@ -114,8 +114,8 @@ nth-place y m f w k n e below h =
       },
     )
 
-pub place-nth : (y : ℤ) (m f w k d n : ℕ) → HasCalendarDate y m 1 f → HasCalendarDate y m d n → w < 7 → d + 6 ≡ 7 * k + (w + 7 - f % 7) % 7 → IsNthWeekday y m w k n
-place-nth y m f w k d n e at below day =
+pub index-nth : (y : ℤ) (m f w k d n : ℕ) → HasCalendarDate y m 1 f → HasCalendarDate y m d n → w < 7 → d + 6 ≡ 7 * k + (w + 7 - f % 7) % 7 → IsNthWeekday y m w k n
+index-nth y m f w k d n e at below day =
     let count = counted y m f w d n e at below in
     record {
       is = record { year = ap (λ c. c.year) at; month = ap (λ c. c.month) at; weekday = weekday_at-is n ∙ omega (arith, count.0) };
@@ -123,9 +123,9 @@ place-nth y m f w k d n e at below day =
     }
 
 -- the last one, from the last day of the month
-pub last-place : (y : ℤ) (m t w r : ℕ) → IsDate t → IsDate r → w < 7 → HasCalendarDate y m (days_in_month y m) t
+pub last-index : (y : ℤ) (m t w r : ℕ) → IsDate t → IsDate r → w < 7 → HasCalendarDate y m (days_in_month y m) t
     → HasCalendarDate y m (days_in_month y m - (weekday_at t + 7 - w) % 7) r → IsLastWeekday y m w r
-last-place y m t w r dates date below end at =
+last-index y m t w r dates date below end at =
     let weekday = weekday_at-is t in
     let day : day_of_month_at r ≡ days_in_month y m - (weekday_at t + 7 - w) % 7 = ap (λ c. c.day) at in
     let length : day_of_month_at t ≡ days_in_month y m = ap (λ c. c.day) end in
@@ -192,9 +192,9 @@ iff a b x y r e same =
       | inr within ↦ let some : nat_le a b ≡ true = grind (arith, nat_tests) in rw (e, some) (within, same)
     ]
 
-pub next-place : (w n : ℕ) (r : Option ℕ) → w < 7 → ¬ (weekday_at n ≡ w) → r ≡ kth 1 (next_occurrences w n)
+pub next-index : (w n : ℕ) (r : Option ℕ) → w < 7 → ¬ (weekday_at n ≡ w) → r ≡ kth 1 (next_occurrences w n)
     → SomeIff r (n + (w + 7 - weekday_at n) % 7 ≤ last_day) (n + (w + 7 - weekday_at n) % 7)
-next-place w n r below other e =
+next-index w n r below other e =
     let k = (w + 7 - weekday_at n) % 7 in
     let is = weekday_at-is n in
     let some : 1 ≤ k = omega arith in
@@ -202,9 +202,9 @@ next-place w n r below other e =
     let plain : k + 7 * 0 ≡ k = omega arith in
     iff _ _ _ _ r (e ∙ kth-next_occurrences w n k 0 some (omega arith) there ∙ ap (λ j. if nat_le (n + j) last_day then Some (n + j) else None) plain) refl
 
-pub previous-place : (w n : ℕ) (r : Option ℕ) → w < 7 → ¬ (weekday_at n ≡ w) → r ≡ kth 1 (prev_occurrences w n)
+pub previous-index : (w n : ℕ) (r : Option ℕ) → w < 7 → ¬ (weekday_at n ≡ w) → r ≡ kth 1 (prev_occurrences w n)
     → SomeIff r ((weekday_at n + 7 - w) % 7 ≤ n) (n - (weekday_at n + 7 - w) % 7)
-previous-place w n r below other e =
+previous-index w n r below other e =
     let k = (weekday_at n + 7 - w) % 7 in
     let is = weekday_at-is n in
     let some : 1 ≤ k = omega arith in

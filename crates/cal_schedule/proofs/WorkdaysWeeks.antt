@@ -16,7 +16,7 @@ use Rattle.cal_schedule.specs.Workdays.{WorkWeek, is_marked, is_holiday, is_work
 use Rattle.cal_schedule.specs.WorkdaysSplit.{IsSplit, marked_count}
 use Rattle.cal_schedule.specs.Ranks.{count-none, count-yes, count-no, count-rises, count-weeks}
 
--- the mark of a day is that of its place in the week
+-- the mark of a day is that of its index in the week
 pub marked-is : (w : WorkWeek) (n : ℕ) → is_marked w n ≡ get_or w.marks (n % 7) false
 unfolding is_marked
 marked-is w n = ap (λ day. get_or w.marks day false) (weekday_at-is n)
@@ -77,10 +77,10 @@ rises days h i (suc j) less low =
       | inr most ↦ let e : i ≡ j = omega arith in omega (arith, next-rises days h j low, ap (λ k. get_or days k 0) e)
     ]
 
--- each comes at its place or later
-pub place-most : (days : List ℕ) → Rises days → (i : ℕ) → i < length days → i ≤ get_or days i 0
-place-most days r zero h = omega arith
-place-most days r (suc i) h = omega (arith, place-most days r i (omega arith), r i (suc i) (omega arith) h)
+-- each comes at its index or later
+pub index-most : (days : List ℕ) → Rises days → (i : ℕ) → i < length days → i ≤ get_or days i 0
+index-most days r zero h = omega arith
+index-most days r (suc i) h = omega (arith, index-most days r i (omega arith), r i (suc i) (omega arith) h)
 
 -- a day is a holiday where one of the list has its number
 pub holiday-at : (w : WorkWeek) (n i : ℕ) → i < length w.holidays → get_or w.holidays i 0 ≡ n → is_holiday w n ≡ true
@@ -189,7 +189,7 @@ pub held-next : (w : WorkWeek) (i : ℕ) (b : Bool) (k : ℕ) → i < length w.h
 held-next w i true k h e f = let one : k ≡ 1 = f in omega (arith, count_by_more_yes (is_marked w) w.holidays i 0 h (sym e))
 held-next w i false k h e f = let none : k ≡ 0 = f in omega (arith, count_by_more_no (is_marked w) w.holidays i 0 h (sym e))
 
--- the halves of a search for a place
+-- the halves of a search for an index
 pub low-more : (days : List ℕ) → Rises days → (m n : ℕ) → m < length days → get_or days m 0 < n → (j : ℕ) → j < m + 1 → get_or days j 0 < n
 low-more days r m n low h j less =
     elim (cases_lt j m) as (λ _. get_or days j 0 < n) [

@@ -145,7 +145,7 @@ pub greater-rank : (test : ℕ → Bool) (m n : ℕ) → count_before test m < c
 greater-rank test m n h =
     elim (cases_lt m n) as (λ _. m < n) [ inl less ↦ less | inr most ↦ absurd (omega (arith, count-rises test n m most)) ]
 
--- The day that passes with k more before it than before day n is at place k of those from day n on.
+-- The day that passes with k more before it than before day n is at index k of those from day n on.
 pub nth-from : (test : ℕ → Bool) (n count k x : ℕ) → n ≤ x → x < n + count → test x ≡ true → count_before test x ≡ count_before test n + k
     → slice_get (filter test (days_from n count)) k ≡ Some x
 nth-from test n zero k x low high on e = absurd (omega arith)

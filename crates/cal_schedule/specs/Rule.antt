@@ -5,7 +5,7 @@ use Rattle.cal_time.specs.Date.{first_year, last_day, year_at, month_at, day_of_
 use Rattle.cal_time.specs.Lengths.{days_in_month, days_in_year}
 use Rattle.cal_time.specs.Month.{number}
 use Rattle.cal_time.specs.Occurrence.{days_from}
-use Rattle.cal_time.specs.Weekday.{place}
+use Rattle.cal_time.specs.Weekday.{index}
 use Rattle.cal_time.specs.declared.Weekday.{Weekday}
 use Rattle.cal_schedule.specs.Months.{month_number_at}
 use Rattle.cal_schedule.specs.declared.rule.kinds.Frequency.{Frequency}
@@ -17,11 +17,11 @@ use Rattle.cal_schedule.specs.declared.rule.kinds.Rule.{Rule}
 -- the day, the week, the month or the year of day n, counted from the first one of the range; a week begins with the weekday first
 unfoldable pub turn_at : Frequency → Weekday → ℕ → ℕ
 turn_at Daily first n = n
-turn_at Weekly first n = (n + 7 - place first) / 7
+turn_at Weekly first n = (n + 7 - index first) / 7
 turn_at Monthly first n = unsigned_abs (month_number_at n -ℤ first_year *ℤ pos 12)
 turn_at Yearly first n = unsigned_abs (year_at n -ℤ first_year)
 
--- what has this place from the first one, which has 1, and that place from the last one is the k-th, where -1 is the last
+-- what has this number from the first one, which has 1, and that number from the last one is the k-th, where -1 is the last
 abbrev pub is_nth : ℤ → ℕ → ℕ → Bool
 is_nth (pos k) ahead back = ahead == k
 is_nth (negsuc k) ahead back = back == suc k
@@ -46,8 +46,8 @@ is_nth_of false n k = is_nth k ((day_of_month_at n + 6) / 7) ((days_in_month (ye
 
 -- day n is that weekday
 unfoldable pub is_weekday : Bool → ℕ → ByDay → Bool
-is_weekday of_year n (Every w) = weekday_at n == place w
-is_weekday of_year n (Nth k w) = (weekday_at n == place w) && is_nth_of of_year n k
+is_weekday of_year n (Every w) = weekday_at n == index w
+is_weekday of_year n (Nth k w) = (weekday_at n == index w) && is_nth_of of_year n k
 
 abbrev pub is_yearly : Frequency → Bool
 is_yearly Yearly = true

@@ -1,7 +1,7 @@
 -- What the search for a rule's next day answers, step by step.
 use Rattle.std.specs.Prelude.{◌≡◌, ℕ, ◌+◌, ◌<◌, ◌≤◌, ◌==◌, Bool, true, false, Option, MatchOption}
 use Rattle.cal_time.specs.Date.{last_day, IsDate}
-use Rattle.cal_time.specs.Weekday.{place}
+use Rattle.cal_time.specs.Weekday.{index}
 use Rattle.cal_time.specs.declared.Weekday.{Weekday}
 use Rattle.cal_schedule.specs.declared.rule.kinds.Frequency.{Frequency}
 use Rattle.cal_schedule.specs.declared.rule.kinds.ByDay.{ByDay}
@@ -13,13 +13,13 @@ use Rattle.cal_schedule.specs.Rule.{allows, is_on, turn_at}
 abbrev pub NoDayBetween : Rule → ℕ → ℕ → Type 0
 NoDayBetween rule m n = (k : ℕ) → m ≤ k → k < n → is_on rule k ≡ false
 
--- the rule takes days of the weekday at that place of the week, with whatever number; an empty part excludes nothing
+-- the rule takes days of the weekday at that index of the week, with whatever number; an empty part excludes nothing
 abbrev pub weekday_of : ByDay → Weekday
 weekday_of (Every w) = w
 weekday_of (Nth k w) = w
 
 abbrev pub takes_weekday : Rule → ℕ → Bool
-takes_weekday rule at = allows (λ by. at == place (weekday_of by)) rule.weekdays.now
+takes_weekday rule at = allows (λ by. at == index (weekday_of by)) rule.weekdays.now
 
 -- r is the first day of the range that is in that turn or a later one
 abbrev pub IsFirstOf : Frequency → Weekday → ℕ → Option ℕ → Type 0

@@ -1,4 +1,4 @@
--- The days that have a weekday: those of a month, and those from a day on or up to it. A weekday is its place from Monday, 0, to
+-- The days that have a weekday: those of a month, and those from a day on or up to it. A weekday is its index from Monday, 0, to
 -- Sunday, 6.
 use Rattle.std.specs.Prelude.{◌≡◌, ℕ, ◌+◌, ◌-◌, ◌<◌, ◌==◌, ◌&&◌, Bool, List, filter, ℤ}
 use Rattle.std.specs.Ordering.{int_eq}

@@ -59,7 +59,7 @@ pub fn quarter(date: Date) -> u8
     ensures range { (1 ≤ result) × (result ≤ 4) }
     ensures in_range { IsDate date }
 {
-    date.month().place() / 3 + 1
+    date.month().index() / 3 + 1
 }
 
 /// The first day of the quarter: of 29 February 2024 it is 1 January 2024.
@@ -68,8 +68,8 @@ pub fn first_of_quarter(date: Date) -> Date
     ensures not_after { result ≤ date }
     ensures in_range { IsDate date × IsDate result }
 {
-    let place = date.month().place();
-    first_in(date.year(), Month::at(place - place % 3))
+    let index = date.month().index();
+    first_in(date.year(), Month::at(index - index % 3))
 }
 
 /// The last day of the quarter: of 29 February 2024 it is 31 March 2024.
@@ -78,8 +78,8 @@ pub fn last_of_quarter(date: Date) -> Date
     ensures not_before { date ≤ result }
     ensures in_range { IsDate date × IsDate result }
 {
-    let place = date.month().place();
-    last_in(date.year(), Month::at(place - place % 3 + 2))
+    let index = date.month().index();
+    last_in(date.year(), Month::at(index - index % 3 + 2))
 }
 
 /// The first day of the year: of 29 February 2024 it is 1 January 2024.
@@ -106,7 +106,7 @@ pub fn first_of_iso_week(date: Date) -> Date
     ensures days { result + weekday_at date ≡ date }
     ensures in_range { IsDate date × IsDate result }
 {
-    let back = i32::from(date.weekday().place());
+    let back = i32::from(date.weekday().index());
     match Date::from_julian_day(date.to_julian_day() - back) {
         Ok(monday) => monday,
         Err(_) => unreachable!(),
@@ -121,7 +121,7 @@ pub fn last_of_iso_week(date: Date) -> Option<Date>
     ensures date { IfSome result (HasIsoWeekDate (iso_year_at date) (iso_week_at date) 6) }
     ensures in_range { IsDate date }
 {
-    let on = 6 - i32::from(date.weekday().place());
+    let on = 6 - i32::from(date.weekday().index());
     match Date::from_julian_day(date.to_julian_day() + on) {
         Ok(sunday) => Some(sunday),
         Err(_) => None,

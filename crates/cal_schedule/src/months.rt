@@ -12,35 +12,35 @@ use cal_time::{Cycle, Date, Month};
 const MONTHS: i64 = 23_999_988;
 
 /// The months of the range that come before the month of the day, and its day of the month.
-pub(crate) fn place_and_day(date: Date) -> (u32, u8)
-    ensures place { pos result.0 ≡ month_number_at date +ℤ pos 11_999_988 }
+pub(crate) fn index_and_day(date: Date) -> (u32, u8)
+    ensures index { pos result.0 ≡ month_number_at date +ℤ pos 11_999_988 }
     ensures bound { result.0 < 23_999_988 }
     ensures day { result.1 ≡ day_of_month_at date }
     ensures first { 1 ≤ result.1 }
     ensures in_range { IsDate date }
 {
     let (year, month, day) = date.to_calendar_date();
-    ((year + 999_999) as u32 * 12 + u32::from(month.place()), day)
+    ((year + 999_999) as u32 * 12 + u32::from(month.index()), day)
 }
 
 /// The year and the month that have so many months of the range before them.
-fn year_and_month(place: u32) -> (i32, Month)
-    requires { place < 23_999_988 }
-    ensures month { result.0 *ℤ pos 12 +ℤ pos (number result.1) ≡ pos place -ℤ pos 11_999_987 }
+fn year_and_month(index: u32) -> (i32, Month)
+    requires { index < 23_999_988 }
+    ensures month { result.0 *ℤ pos 12 +ℤ pos (number result.1) ≡ pos index -ℤ pos 11_999_987 }
     ensures year { IsYear result.0 }
 {
-    ((place / 12) as i32 - 999_999, Month::at((place % 12) as u8))
+    ((index / 12) as i32 - 999_999, Month::at((index % 12) as u8))
 }
 
 /// The day of that month that has this day of the month, or the last day of the month where it has no such day.
-pub(crate) fn day_in_month(place: u32, day: u8) -> Date
-    requires month { place < 23_999_988 }
+pub(crate) fn day_in_month(index: u32, day: u8) -> Date
+    requires month { index < 23_999_988 }
     requires day { 1 ≤ day }
-    ensures month { pos place ≡ month_number_at result +ℤ pos 11_999_988 }
+    ensures month { pos index ≡ month_number_at result +ℤ pos 11_999_988 }
     ensures day { day_of_month_at result ≡ min day (days_in_month (year_at result) (month_at result)) }
     ensures in_range { IsDate result }
 {
-    let (year, month) = year_and_month(place);
+    let (year, month) = year_and_month(index);
     match Date::from_calendar_date(year, month, day.min(days_in_month(month, year))) {
         Ok(date) => date,
         Err(_) => unreachable!(),
@@ -57,12 +57,12 @@ fn moved(date: Date, months: i64) -> Option<Date>
     ensures none { IfNone result (¬ IsMonthNumber (month_number_at date +ℤ months)) }
     ensures in_range { IsDate date }
 {
-    let (place, day) = place_and_day(date);
-    let place = i64::from(place) + months;
-    if place < 0 || place >= MONTHS {
+    let (index, day) = index_and_day(date);
+    let index = i64::from(index) + months;
+    if index < 0 || index >= MONTHS {
         return None;
     }
-    Some(day_in_month(place as u32, day))
+    Some(day_in_month(index as u32, day))
 }
 
 /// The day so many months later, or earlier where they are below zero: in that month the same day of the month, or the last

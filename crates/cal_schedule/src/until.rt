@@ -4,7 +4,7 @@ ghost use Rattle.cal_time.specs.Date.{IsDate};
 ghost use Rattle.cal_schedule.specs.Months.{month_number_at, IsMonthNumber, IsMonthsLater};
 ghost use Rattle.cal_schedule.specs.Until.{months_of, IsGreatest, IsLeast, LeadsTo, LeadsUpTo, LeadsBackTo};
 
-use crate::months::{checked_add_months, place_and_day};
+use crate::months::{checked_add_months, index_and_day};
 use crate::period::Period;
 use cal_time::Date;
 
@@ -16,8 +16,8 @@ pub(crate) fn months_apart(from: Date, to: Date) -> i32
     ensures most { result ≤ℤ pos (2 ^ 25) }
     ensures in_range { IsDate from × IsDate to }
 {
-    let (start, _) = place_and_day(from);
-    let (end, _) = place_and_day(to);
+    let (start, _) = index_and_day(from);
+    let (end, _) = index_and_day(to);
     end as i32 - start as i32
 }
 

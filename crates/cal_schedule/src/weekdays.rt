@@ -4,7 +4,7 @@ ghost use Rattle.cal_time.specs.Date.{last_day, weekday_at, IsDate, IsYear, NoDa
 ghost use Rattle.cal_time.specs.Month.{number};
 ghost use Rattle.cal_time.specs.Refusal.{IsRefused};
 ghost use Rattle.cal_time.specs.Refusals.{year_out_of_range, weekday_out_of_range};
-ghost use Rattle.cal_time.specs.Weekday.{place};
+ghost use Rattle.cal_time.specs.Weekday.{index};
 ghost use Rattle.cal_schedule.specs.Weekdays.{IsNthWeekday, IsLastWeekday, occurrences_from, occurrences_upto};
 
 use crate::bounds::{first_in, last_in};
@@ -14,16 +14,16 @@ use cal_time::{Cycle, Date, Month, Weekday};
 
 /// The days from one weekday on to the next day with another, from 0 to 6.
 fn days_on(from: Weekday, to: Weekday) -> u8
-    ensures { result ≡ (place to + 7 - place from) % 7 }
+    ensures { result ≡ (index to + 7 - index from) % 7 }
 {
-    (to.place() + 7 - from.place()) % 7
+    (to.index() + 7 - from.index()) % 7
 }
 
 /// The n-th day with the weekday in a month of the range, if it has one.
 fn nth_of_month(year: i32, month: Month, weekday: Weekday, n: u8) -> Option<Date>
     requires { IsYear year }
-    ensures every { (k : ℕ) → IsDate k → IsNthWeekday year (number month) (place weekday) n k → result ≡ Some k }
-    ensures has { IfSome result (λ k. IsDate k × IsNthWeekday year (number month) (place weekday) n k) }
+    ensures every { (k : ℕ) → IsDate k → IsNthWeekday year (number month) (index weekday) n k → result ≡ Some k }
+    ensures has { IfSome result (λ k. IsDate k × IsNthWeekday year (number month) (index weekday) n k) }
 {
     if n == 0 || n > 5 {
         return None;
@@ -39,7 +39,7 @@ fn nth_of_month(year: i32, month: Month, weekday: Weekday, n: u8) -> Option<Date
 /// The last day with the weekday in a month of the range.
 fn last_of_month(year: i32, month: Month, weekday: Weekday) -> Date
     requires { IsYear year }
-    ensures last { IsLastWeekday year (number month) (place weekday) result }
+    ensures last { IsLastWeekday year (number month) (index weekday) result }
     ensures range { IsDate result }
 {
     let last = last_in(year, month);
@@ -67,12 +67,12 @@ pub fn nth_weekday_of_month(
     weekday: Weekday,
     n: u8,
 ) -> Result<Date, ComponentRange>
-    ensures every { (k : ℕ) → IsDate k → IsNthWeekday year (number month) (place weekday) n k → result ≡ Ok k }
-    ensures has { IfOk result (λ k. IsDate k × IsNthWeekday year (number month) (place weekday) n k) }
-    ensures refused { IsErr result ↔ NoDate (IsNthWeekday year (number month) (place weekday) n) }
+    ensures every { (k : ℕ) → IsDate k → IsNthWeekday year (number month) (index weekday) n k → result ≡ Ok k }
+    ensures has { IfOk result (λ k. IsDate k × IsNthWeekday year (number month) (index weekday) n k) }
+    ensures refused { IsErr result ↔ NoDate (IsNthWeekday year (number month) (index weekday) n) }
     ensures reason { IfErr result (λ e. (e ≡ year_out_of_range) ⊎ (e ≡ weekday_out_of_range)) }
     ensures year { IsRefused year_out_of_range result ↔ ¬ IsYear year }
-    ensures weekday { IsRefused weekday_out_of_range result ↔ IsYear year × NoDate (IsNthWeekday year (number month) (place weekday) n) }
+    ensures weekday { IsRefused weekday_out_of_range result ↔ IsYear year × NoDate (IsNthWeekday year (number month) (index weekday) n) }
 {
     if !is_year(year) {
         return Err(ComponentRange::unconditional(Component::Year));
@@ -91,8 +91,8 @@ pub fn last_weekday_of_month(
     month: Month,
     weekday: Weekday,
 ) -> Result<Date, ComponentRange>
-    ensures every { (k : ℕ) → IsDate k → IsLastWeekday year (number month) (place weekday) k → result ≡ Ok k }
-    ensures has { IfOk result (λ k. IsDate k × IsLastWeekday year (number month) (place weekday) k) }
+    ensures every { (k : ℕ) → IsDate k → IsLastWeekday year (number month) (index weekday) k → result ≡ Ok k }
+    ensures has { IfOk result (λ k. IsDate k × IsLastWeekday year (number month) (index weekday) k) }
     ensures refused { IsErr result ↔ ¬ IsYear year }
     ensures reason { IfErr result (λ e. e ≡ year_out_of_range) }
 {
@@ -106,9 +106,9 @@ pub fn last_weekday_of_month(
 ///
 /// `None` exactly where the range ends before it.
 pub fn on_or_after(date: Date, weekday: Weekday) -> Option<Date>
-    ensures day { result ≡ slice_get (occurrences_from (place weekday) date) 0 }
-    ensures place { let days = (place weekday + 7 - weekday_at date) % 7 in SomeIff result (date + days ≤ last_day) (date + days) }
-    ensures weekday { IfSome result (λ n. weekday_at n ≡ place weekday) }
+    ensures day { result ≡ slice_get (occurrences_from (index weekday) date) 0 }
+    ensures index { let days = (index weekday + 7 - weekday_at date) % 7 in SomeIff result (date + days ≤ last_day) (date + days) }
+    ensures weekday { IfSome result (λ n. weekday_at n ≡ index weekday) }
     ensures in_range { IsDate date }
 {
     if date.weekday() == weekday {
@@ -122,9 +122,9 @@ pub fn on_or_after(date: Date, weekday: Weekday) -> Option<Date>
 ///
 /// `None` exactly where the range begins after it.
 pub fn on_or_before(date: Date, weekday: Weekday) -> Option<Date>
-    ensures day { result ≡ slice_get (occurrences_upto (place weekday) date) 0 }
-    ensures place { let days = (weekday_at date + 7 - place weekday) % 7 in SomeIff result (days ≤ date) (date - days) }
-    ensures weekday { IfSome result (λ n. weekday_at n ≡ place weekday) }
+    ensures day { result ≡ slice_get (occurrences_upto (index weekday) date) 0 }
+    ensures index { let days = (weekday_at date + 7 - index weekday) % 7 in SomeIff result (days ≤ date) (date - days) }
+    ensures weekday { IfSome result (λ n. weekday_at n ≡ index weekday) }
     ensures in_range { IsDate date }
 {
     if date.weekday() == weekday {

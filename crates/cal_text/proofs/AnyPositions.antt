@@ -17,7 +17,7 @@ use Rattle.cal_text.proofs.Positions.{begins_less}
 use Rattle.cal_text.proofs.Shapes.{date-shape, moment-shape, julian-first, unix-first, date_digits-long}
 use Rattle.cal_text.proofs.YearTexts.{year-plain}
 
--- what is at a place is there in each beginning that goes past it
+-- what is at a position is there in each beginning that goes past it
 at_same : (text more : List ℕ) (i q : ℕ) → i < q → q ≤ length text → get_or (take q text ++ more) i 0 ≡ get_or text i 0
 at_same text more i q before within =
     let long : i < length (take q text) = omega (arith, length-take-le q text within) in

@@ -1,4 +1,4 @@
--- Where the contract of a reader leaves one answer, or one but for the place of a wrong byte.
+-- Where the contract of a reader leaves one answer, or one but for the position of a wrong byte.
 use Rattle.std.proofs.Common.{◌≡◌, ◌⊎◌, ℕ, List, Option, inl, inr, refl, sym, ap, subst, Result, Ok, Err}
 use Rattle.std.specs.Prelude.{IfOk, IfErr, IsErrAnd}
 use Rattle.cal_time.specs.declared.error.ComponentRange.{ComponentRange}

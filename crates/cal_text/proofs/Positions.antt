@@ -1,4 +1,4 @@
--- What a reader that stopped has shown; and that a text stops being of a form at one place.
+-- What a reader that stopped has shown; and that a text stops being of a form at one position.
 use Rattle.std.proofs.Common.{◌≡◌, ℕ, suc, ◌+◌, ◌-◌, ◌<◌, ◌≤◌, List, ◌++◌, length, take, drop, sym, ap, subst, ◌∙◌, arith, inl, inr}
 use Rattle.std.specs.Prelude.{Option, Some, None, IfSome, IfNone}
 use Rattle.std.proofs.lemmas.Bool.{cases_lt}
@@ -44,7 +44,7 @@ position Has f text p r shape e whole =
         let over = gone_over (f k) (take (p + 1) text) others (drop (p + 1) text) (shape.each k (take (p + 1) text ++ others) few has) in
         omega (arith, e k text_few, whole, more, over, ap (left (f k)) (take-append-drop (p + 1) text), length-drop (p + 1) text)
 
--- ---- one place
+-- ---- one position
 pub begins_less : (IsText : List ℕ → Type 0) (text : List ℕ) (p q : ℕ) → p ≤ q → Begins IsText (take q text) → Begins IsText (take p text)
 begins_less IsText text p q less h =
     let same : take p (take q text) ++ drop p (take q text) ≡ take q text = take-append-drop p (take q text) in

@@ -5,5 +5,5 @@ use Rattle.cal_text.specs.declared.error.Unreadable.{Unreadable}
 use Rattle.cal_text.specs.declared.error.Unreadable.TheVariants.{UnexpectedByte, OutOfRange}
 
 abbrev pub error_text : Unreadable → List ℕ
-error_text (UnexpectedByte place) = codes "unexpected byte at " ++ decimal place
+error_text (UnexpectedByte position) = codes "unexpected byte at " ++ decimal position
 error_text (OutOfRange e) = component_name e.component ++ codes " was not in range"

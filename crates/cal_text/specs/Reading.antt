@@ -25,7 +25,7 @@ IsRefusedFor why r = IsErrAnd r (λ e. component_of e ≡ Some why)
 abbrev pub IsRefusedForForm : {V : Type 0} → Result V Unreadable → Type 0
 IsRefusedForForm r = IsErrAnd r (λ e. component_of e ≡ None)
 
--- two answers that say the same, but for the place of a wrong byte
+-- two answers that say the same, but for the position of a wrong byte
 abbrev pub AreAlikeButForPlace : {V : Type 0} → Result V Unreadable → Result V Unreadable → Type 0
 AreAlikeButForPlace (Ok v) (Ok w) = v ≡ w
 AreAlikeButForPlace (Ok v) (Err f) = ⊥

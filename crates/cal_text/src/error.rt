@@ -11,7 +11,7 @@ use std::fmt;
 /// of range: `day was not in range`.
 #[derive(Clone, Copy, Debug, PartialEq, Eq)]
 pub enum Unreadable {
-    /// The text has no form that is read. This is the place, from 0, of the first byte that no text of the forms has
+    /// The text has no form that is read. This is the position, from 0, of the first byte that no text of the forms has
     /// there, or the length of a text that ends too early.
     UnexpectedByte(usize),
     /// The text has a form that is read, and this component of it is out of range.
@@ -23,7 +23,7 @@ impl fmt::Display for Unreadable {
 
     fn fmt<W: fmt::Write>(&self, f: &mut fmt::Formatter<W>) -> fmt::Result {
         match self {
-            Unreadable::UnexpectedByte(place) => write!(f, "unexpected byte at {place}"),
+            Unreadable::UnexpectedByte(position) => write!(f, "unexpected byte at {position}"),
             Unreadable::OutOfRange(error) => write!(f, "{error}"),
         }
     }

@@ -42,14 +42,14 @@ fn reads<T: Copy + Debug + PartialEq, R: Copy + Debug>(
     );
 }
 
-/// Stops the test unless the text was refused for the byte at this place.
+/// Stops the test unless the text was refused for the byte at this position.
 fn wrong_at<T: Copy + Debug + PartialEq>(
     rt: &impl Abort,
     text: &str,
     found: &Result<T, Unreadable>,
-    place: usize,
+    position: usize,
 ) {
-    reads(rt, text, found, &Err(Unreadable::UnexpectedByte(place)));
+    reads(rt, text, found, &Err(Unreadable::UnexpectedByte(position)));
 }
 
 /// Stops the test unless the text was refused for the component of this name, with this mark.
@@ -77,7 +77,7 @@ fn prints<T: Display>(rt: &impl Abort, alloc: Global, value: &T, wanted: &str) -
     Ok(())
 }
 
-/// Stops the test unless the value prints these at the right and at the left of sixteen places.
+/// Stops the test unless the value prints these at the right and at the left of sixteen columns.
 fn prints_padded<T: Display>(
     rt: &impl Abort,
     alloc: Global,
@@ -139,7 +139,7 @@ fn components_out_of_range(rt: HostRuntime) {
 
 #[test]
 fn first_wrong_bytes(rt: HostRuntime) {
-    for (text, place) in [
+    for (text, position) in [
         ("", 0),
         ("x024-02-29", 0),
         ("202-02-29", 3),
@@ -168,7 +168,7 @@ fn first_wrong_bytes(rt: HostRuntime) {
         ("2024-W09-8", 9),
         ("2024-W09-41", 10),
     ] {
-        wrong_at(&rt, text, &read(text.as_bytes()), place);
+        wrong_at(&rt, text, &read(text.as_bytes()), position);
     }
 }
 
@@ -198,7 +198,7 @@ fn texts_of_errors(rt: HostRuntime) -> Result<(), Fail> {
     )
 }
 
-/// A wrong byte is found at its place whatever comes after it, and none is found there before it.
+/// A wrong byte is found at its position whatever comes after it, and none is found there before it.
 #[test]
 fn each_byte_replaced(rt: HostRuntime) {
     for text in [*b"+12024-02-29", *b"-0024-W09-4x", *b"2024-060xxxx"] {
@@ -206,14 +206,14 @@ fn each_byte_replaced(rt: HostRuntime) {
             for byte in 0..=255 {
                 let mut changed = text;
                 changed[i] = byte;
-                let Err(Unreadable::UnexpectedByte(place)) = read(&changed) else {
+                let Err(Unreadable::UnexpectedByte(position)) = read(&changed) else {
                     continue;
                 };
-                assert!(rt; place >= i || text[place] == b'x');
-                if place < 12 {
-                    let wrong = Err(Unreadable::UnexpectedByte(place));
-                    reads(&rt, (i, byte), &read(&changed[..place + 1]), &wrong);
-                    changed[place] = b'!';
+                assert!(rt; position >= i || text[position] == b'x');
+                if position < 12 {
+                    let wrong = Err(Unreadable::UnexpectedByte(position));
+                    reads(&rt, (i, byte), &read(&changed[..position + 1]), &wrong);
+                    changed[position] = b'!';
                     reads(&rt, (i, byte), &read(&changed), &wrong);
                 }
             }
@@ -326,7 +326,7 @@ fn julian_days(rt: HostRuntime) -> Result<(), Fail> {
             false,
         );
     }
-    for (text, place) in [
+    for (text, position) in [
         ("", 0),
         ("2460370", 0),
         ("j2460370", 0),
@@ -340,7 +340,7 @@ fn julian_days(rt: HostRuntime) -> Result<(), Fail> {
         ("J2460370.5", 8),
         ("J2460370 ", 8),
     ] {
-        wrong_at(&rt, text, &julian_day::read(text.as_bytes()), place);
+        wrong_at(&rt, text, &julian_day::read(text.as_bytes()), position);
     }
     Ok(())
 }

@@ -94,27 +94,27 @@ come_back a n length below =
     let small = mod-eq_of_lt below in
     cc
 
--- a step back leads to one value, since no two values have one place
+-- a step back leads to one value, since no two values have one index
 back-one : {C : Type 0} (cycle : Ghosts C)
-    → ((x : C) → cycle.place_of x < cycle.LENGTH) → ((x : C) → cycle.value_at (cycle.place_of x) ≡ x)
+    → ((x : C) → cycle.index_of x < cycle.LENGTH) → ((x : C) → cycle.value_at (cycle.index_of x) ≡ x)
     → (n : ℕ) (x y z : C) → IsBack cycle n x y → IsBack cycle n x z → y ≡ z
-back-one cycle below at_place n x y z e f =
+back-one cycle below at_index n x y z e f =
     let length = cycle.LENGTH in
-    let there = come_back (cycle.place_of y) n length (below y) in
-    let other = come_back (cycle.place_of z) n length (below z) in
-    let same : cycle.place_of y ≡ cycle.place_of z = sym there ∙ ap (λ p. (p + (length - n % length)) % length) (e ∙ sym f) ∙ other in
-    sym (at_place y) ∙ ap cycle.value_at same ∙ at_place z
+    let there = come_back (cycle.index_of y) n length (below y) in
+    let other = come_back (cycle.index_of z) n length (below z) in
+    let same : cycle.index_of y ≡ cycle.index_of z = sym there ∙ ap (λ p. (p + (length - n % length)) % length) (e ∙ sym f) ∙ other in
+    sym (at_index y) ∙ ap cycle.value_at same ∙ at_index z
 
 pub nth_back-one : {C : Type 0} (cycle : Ghosts C)
-    → ((x : C) → cycle.place_of x < cycle.LENGTH) → ((x : C) → cycle.value_at (cycle.place_of x) ≡ x)
+    → ((x : C) → cycle.index_of x < cycle.LENGTH) → ((x : C) → cycle.value_at (cycle.index_of x) ≡ x)
     → (n : ℕ) (x : C) (r s : Option C × C)
     → IsSomeAnd r.0 (λ y. IsBack cycle n x y × IsBack cycle 1 y r.1)
     → IsSomeAnd s.0 (λ y. IsBack cycle n x y × IsBack cycle 1 y s.1) → r ≡ s
-nth_back-one cycle below at_place n x (None, after) (end, left) h k = absurd h
-nth_back-one cycle below at_place n x (Some y, after) (None, left) h k = absurd k
-nth_back-one cycle below at_place n x (Some y, after) (Some z, left) h k =
-    let items : y ≡ z = back-one cycle below at_place n x y z h.0 k.0 in
-    let rest : after ≡ left = back-one cycle below at_place 1 z after left (rw items at h.1) k.1 in
+nth_back-one cycle below at_index n x (None, after) (end, left) h k = absurd h
+nth_back-one cycle below at_index n x (Some y, after) (None, left) h k = absurd k
+nth_back-one cycle below at_index n x (Some y, after) (Some z, left) h k =
+    let items : y ≡ z = back-one cycle below at_index n x y z h.0 k.0 in
+    let rest : after ≡ left = back-one cycle below at_index 1 z after left (rw items at h.1) k.1 in
     λ i. (Some (items i), rest i)
 
 -- the questions of a closure of which each call leaves one answer
@@ -122,7 +122,7 @@ not-itself : (go : Bool) → go ≡ not go → ⊥
 not-itself true e = cc
 not-itself false e = cc
 
--- what the questions from one place on have come to
+-- what the questions from one index on have come to
 abbrev Seen : {F C : Type 0} (cycle : Ghosts C) (calls : F → C → Bool → F → Type 0) (go : Bool) → ℕ → F → Bool → Type 0
 Seen cycle calls go i f r =
     ((i ≡ cycle.LENGTH) × (r ≡ go))

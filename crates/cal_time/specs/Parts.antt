@@ -6,9 +6,9 @@ use Rattle.cal_units.specs.declared.month.Month.{Month}
 use Rattle.cal_units.specs.declared.weekday.Weekday.{Weekday}
 use Rattle.cal_units.specs.Lengths.{days_in_year}
 use Rattle.cal_units.specs.Month as month
-use Rattle.cal_units.specs.MonthCycle.{month_at-place}
+use Rattle.cal_units.specs.MonthCycle.{month_at-index}
 use Rattle.cal_units.specs.Weekday as weekday
-use Rattle.cal_units.specs.WeekdayCycle.{weekday_at-place}
+use Rattle.cal_units.specs.WeekdayCycle.{weekday_at-index}
 use Rattle.cal_date.specs.CountLaws.{days_of_years, days_of_years-suc, years_before, days_before}
 use Rattle.cal_date.specs.Date.{first_year, year_at, month_at, day_of_month_at, ordinal_at, weekday_at, HasCalendarDate}
 use Rattle.cal_date.specs.IsoWeekDate.{iso_year_at, iso_week_at, HasIsoWeekDate}
@@ -19,12 +19,12 @@ use Rattle.cal_date.proofs.Order.{in_order}
 use Rattle.cal_date.proofs.Rising.{Rises-calendar_date, Rises-ordinal_date}
 use Rattle.cal_time.specs.Days.{month_at-range}
 
--- the number of a month tells the month, and the place of a weekday the weekday
+-- the number of a month tells the month, and the index of a weekday the weekday
 pub number-one : (m k : Month) → month.number m ≡ month.number k → m ≡ k
-number-one m k e = sym (month_at-place m) ∙ ap month.month_at (omega (arith, e)) ∙ month_at-place k
+number-one m k e = sym (month_at-index m) ∙ ap month.month_at (omega (arith, e)) ∙ month_at-index k
 
-pub place-one : (v w : Weekday) → weekday.place v ≡ weekday.place w → v ≡ w
-place-one v w e = sym (weekday_at-place v) ∙ ap weekday.weekday_at e ∙ weekday_at-place w
+pub index-one : (v w : Weekday) → weekday.index v ≡ weekday.index w → v ≡ w
+index-one v w e = sym (weekday_at-index v) ∙ ap weekday.weekday_at e ∙ weekday_at-index w
 
 -- a day has one calendar date, and one ISO week date
 pub calendar_date-same : (n : ℕ) (r s : ℤ × Month × ℕ) → HasCalendarDate r.0 (month.number r.1) r.2 n → HasCalendarDate s.0 (month.number s.1) s.2 n → r ≡ s
@@ -34,11 +34,11 @@ calendar_date-same n r s e f =
     let days : r.2 ≡ s.2 = ap (λ d. d.day) (sym e ∙ f) in
     λ i. (years i, months i, days i)
 
-pub iso_week_date-same : (n : ℕ) (r s : ℤ × ℕ × Weekday) → HasIsoWeekDate r.0 r.1 (weekday.place r.2) n → HasIsoWeekDate s.0 s.1 (weekday.place s.2) n → r ≡ s
+pub iso_week_date-same : (n : ℕ) (r s : ℤ × ℕ × Weekday) → HasIsoWeekDate r.0 r.1 (weekday.index r.2) n → HasIsoWeekDate s.0 s.1 (weekday.index s.2) n → r ≡ s
 iso_week_date-same n r s e f =
     let years : r.0 ≡ s.0 = sym e.0 ∙ f.0 in
     let weeks : r.1 ≡ s.1 = sym e.1 ∙ f.1 in
-    let days : r.2 ≡ s.2 = place-one r.2 s.2 (sym e.2 ∙ f.2) in
+    let days : r.2 ≡ s.2 = index-one r.2 s.2 (sym e.2 ∙ f.2) in
     λ i. (years i, weeks i, days i)
 
 -- the order of two parts, and of three, by cases

@@ -1,4 +1,4 @@
--- Laws for callers: the days that a walk gives, by their places and in a loop.
+-- Laws for callers: the days that a walk gives, by their indexes and in a loop.
 use Rattle.std.proofs.Common.{◌≡◌, ℕ, ◌+◌, ◌-◌, ◌≤◌, ap, ◌∙◌, refl, arith, List, length, slice_get, Option, Some, None, if◌then◌else◌, nat_le, inl, inr, true}
 use Rattle.std.specs.Iterator.{Yields, YieldsFirst}
 use Rattle.std.proofs.lemmas.Bool.{cases_lt}
@@ -37,8 +37,8 @@ pub turn-day : (m n : ℕ) (w t u : Walk) (before : List ℕ) (day : Option ℕ)
 turn-day m n w t u before day x e run some gives =
     let turn = YieldsList-turn (yields-days (walk_between m n)) before t (rw e at run) day u x some gives in
     let many = length-walk_between m n in
-    let place : slice_get (days_of (walk_between m n)) (length before) ≡ Some (m + length before) = slice_get-walk_between m n (length before) ∙ grind (arith, nat_tests, turn.0) in
-    let here = get_or_from_slice_get (days_of (walk_between m n)) (length before) (m + length before) x place in
+    let index : slice_get (days_of (walk_between m n)) (length before) ≡ Some (m + length before) = slice_get-walk_between m n (length before) ∙ grind (arith, nat_tests, turn.0) in
+    let here = get_or_from_slice_get (days_of (walk_between m n)) (length before) (m + length before) x index in
     (turn.1 ∙ here, omega (arith, turn.0, turn.1 ∙ here))
 
 pub end-turns : (m n : ℕ) (w t u : Walk) (before : List ℕ) (day : Option ℕ) → w ≡ walk_between m n → Yields GivesDay w before t → day ≡ None → GivesDay t day u

@@ -55,16 +55,16 @@ fn same<T: Copy + Debug + PartialEq>(rt: &impl Abort, found: T, wanted: T) {
     assert!(rt; found == wanted, "{found:?} and not {wanted:?}");
 }
 
-/// The same, with the place in a table.
+/// The same, with the index in a table.
 fn same_at<T: Copy + Debug + PartialEq, P: Copy + Debug>(
     rt: &impl Abort,
-    place: P,
+    index: P,
     found: T,
     wanted: T,
 ) {
     assert!(rt;
         found == wanted,
-        "{found:?} and not {wanted:?} at {place:?}"
+        "{found:?} and not {wanted:?} at {index:?}"
     );
 }
 

@@ -1,4 +1,4 @@
--- The months by their places, numbers and names.
+-- The months by their indexes, numbers and names.
 use Rattle.std.specs.Prelude.{◌≡◌, ◌<◌, ◌+◌, ◌⊎◌, ℕ, List, [], ◌∷◌, codes, Result, MatchResult, slice_index_or}
 use Rattle.cal_units.specs.declared.error.Component.TheVariants as component
 use Rattle.cal_units.specs.declared.error.ComponentRange.{ComponentRange}
@@ -6,26 +6,26 @@ use Rattle.cal_units.specs.declared.month.Month.{Month}
 use Rattle.cal_units.specs.declared.month.Month.TheVariants.{January, February, March, April, May, June, July, August, September, October, November, December}
 use Rattle.cal_units.specs.Refusal.{unconditional}
 
--- the place on the cycle of the months
-abbrev pub place : Month → ℕ
-place January = 0
-place February = 1
-place March = 2
-place April = 3
-place May = 4
-place June = 5
-place July = 6
-place August = 7
-place September = 8
-place October = 9
-place November = 10
-place December = 11
+-- the index on the cycle of the months
+abbrev pub index : Month → ℕ
+index January = 0
+index February = 1
+index March = 2
+index April = 3
+index May = 4
+index June = 5
+index July = 6
+index August = 7
+index September = 8
+index October = 9
+index November = 10
+index December = 11
 
 -- the number of the month: January is 1
 abbrev pub number : Month → ℕ
-number m = place m + 1
+number m = index m + 1
 
--- the month at a place below 12, and December at each place past them
+-- the month at an index below 12, and December at each place past them
 abbrev pub month_at : ℕ → Month
 month_at i = slice_index_or (January ∷ February ∷ March ∷ April ∷ May ∷ June ∷ July ∷ August ∷ September ∷ October ∷ November ∷ December ∷ []) i December
 

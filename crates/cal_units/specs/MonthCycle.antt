@@ -1,38 +1,38 @@
--- The months stand on a cycle of 12 places.
+-- The months stand on a cycle of 12.
 use Rattle.std.specs.Prelude.{◌≡◌, ◌<◌, ℕ, refl}
 use Rattle.std.proofs.Common.{lit<}
 use Rattle.cal_units.specs.declared.month.Month.{Month}
 use Rattle.cal_units.specs.declared.month.Month.TheVariants.{January, February, March, April, May, June, July, August, September, October, November, December}
-use Rattle.cal_units.specs.Month.{place, month_at}
-use Rattle.cal_units.specs.Places.{each_place_below}
+use Rattle.cal_units.specs.Month.{index, month_at}
+use Rattle.cal_units.specs.Places.{each_index_below}
 
-pub place-below : (m : Month) → place m < 12
-place-below January = lit< tt
-place-below February = lit< tt
-place-below March = lit< tt
-place-below April = lit< tt
-place-below May = lit< tt
-place-below June = lit< tt
-place-below July = lit< tt
-place-below August = lit< tt
-place-below September = lit< tt
-place-below October = lit< tt
-place-below November = lit< tt
-place-below December = lit< tt
+pub index-below : (m : Month) → index m < 12
+index-below January = lit< tt
+index-below February = lit< tt
+index-below March = lit< tt
+index-below April = lit< tt
+index-below May = lit< tt
+index-below June = lit< tt
+index-below July = lit< tt
+index-below August = lit< tt
+index-below September = lit< tt
+index-below October = lit< tt
+index-below November = lit< tt
+index-below December = lit< tt
 
-pub month_at-place : (m : Month) → month_at (place m) ≡ m
-month_at-place January = refl
-month_at-place February = refl
-month_at-place March = refl
-month_at-place April = refl
-month_at-place May = refl
-month_at-place June = refl
-month_at-place July = refl
-month_at-place August = refl
-month_at-place September = refl
-month_at-place October = refl
-month_at-place November = refl
-month_at-place December = refl
+pub month_at-index : (m : Month) → month_at (index m) ≡ m
+month_at-index January = refl
+month_at-index February = refl
+month_at-index March = refl
+month_at-index April = refl
+month_at-index May = refl
+month_at-index June = refl
+month_at-index July = refl
+month_at-index August = refl
+month_at-index September = refl
+month_at-index October = refl
+month_at-index November = refl
+month_at-index December = refl
 
-pub place-month_at : (i : ℕ) → i < 12 → place (month_at i) ≡ i
-place-month_at = each_place_below (λ i. place (month_at i)) 12 refl
+pub index-month_at : (i : ℕ) → i < 12 → index (month_at i) ≡ i
+index-month_at = each_index_below (λ i. index (month_at i)) 12 refl

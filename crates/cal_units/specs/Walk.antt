@@ -4,14 +4,14 @@ use Rattle.cal_units.specs.declared.cycle.Cycle.{Ghosts}
 
 -- y is n places on from x, modulo the length of the cycle
 abbrev pub IsAhead : {C : Type 0} → Ghosts C → ℕ → C → C → Type 0
-IsAhead cycle n x y = cycle.place_of y ≡ (cycle.place_of x + n) % cycle.LENGTH
+IsAhead cycle n x y = cycle.index_of y ≡ (cycle.index_of x + n) % cycle.LENGTH
 
 -- y is n places back from x: x is n places on from y
 abbrev pub IsBack : {C : Type 0} → Ghosts C → ℕ → C → C → Type 0
-IsBack cycle n x y = (cycle.place_of y + n) % cycle.LENGTH ≡ cycle.place_of x
+IsBack cycle n x y = (cycle.index_of y + n) % cycle.LENGTH ≡ cycle.index_of x
 
 module _ {F C : Type 0} (cycle : Ghosts C) (calls : F → C → Bool → F → Type 0) (go : Bool) where
-  -- The closure f is asked of the value at place i and of each later one, for as long as it answers `go`; `calls f x b f'` is a call
+  -- The closure f is asked of the value at index i and of each later one, for as long as it answers `go`; `calls f x b f'` is a call
   -- of f on x that answers b and leaves f'. The outcome is `go` where all the answers are.
   pub data Asked : ℕ → F → Bool → Type 0 where
     at_end : (f : F) → Asked cycle.LENGTH f go

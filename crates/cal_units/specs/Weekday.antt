@@ -1,17 +1,17 @@
--- The weekdays by their places, numbers and names.
+-- The weekdays by their indexes, numbers and names.
 use Rattle.std.specs.Prelude.{ℕ, List, [], ◌∷◌, codes, slice_index_or}
 use Rattle.cal_units.specs.declared.weekday.Weekday.{Weekday}
 use Rattle.cal_units.specs.declared.weekday.Weekday.TheVariants.{Monday, Tuesday, Wednesday, Thursday, Friday, Saturday, Sunday}
 
--- the place on the cycle of the weekdays, which are the days since Monday (ISO 8601: a week begins on Monday)
-abbrev pub place : Weekday → ℕ
-place Monday = 0
-place Tuesday = 1
-place Wednesday = 2
-place Thursday = 3
-place Friday = 4
-place Saturday = 5
-place Sunday = 6
+-- the index on the cycle of the weekdays, which are the days since Monday (ISO 8601: a week begins on Monday)
+abbrev pub index : Weekday → ℕ
+index Monday = 0
+index Tuesday = 1
+index Wednesday = 2
+index Thursday = 3
+index Friday = 4
+index Saturday = 5
+index Sunday = 6
 
 -- the days since Sunday
 abbrev pub days_from_sunday : Weekday → ℕ
@@ -23,7 +23,7 @@ days_from_sunday Thursday = 4
 days_from_sunday Friday = 5
 days_from_sunday Saturday = 6
 
--- the weekday at a place below 7, and Sunday at each place past them
+-- the weekday at an index below 7, and Sunday at each index past them
 abbrev pub weekday_at : ℕ → Weekday
 weekday_at i = slice_index_or (Monday ∷ Tuesday ∷ Wednesday ∷ Thursday ∷ Friday ∷ Saturday ∷ Sunday ∷ []) i Sunday
 

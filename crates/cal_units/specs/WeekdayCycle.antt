@@ -1,28 +1,28 @@
--- The weekdays stand on a cycle of 7 places.
+-- The weekdays stand on a cycle of 7.
 use Rattle.std.specs.Prelude.{◌≡◌, ◌<◌, ℕ, refl}
 use Rattle.std.proofs.Common.{lit<}
 use Rattle.cal_units.specs.declared.weekday.Weekday.{Weekday}
 use Rattle.cal_units.specs.declared.weekday.Weekday.TheVariants.{Monday, Tuesday, Wednesday, Thursday, Friday, Saturday, Sunday}
-use Rattle.cal_units.specs.Places.{each_place_below}
-use Rattle.cal_units.specs.Weekday.{place, weekday_at}
+use Rattle.cal_units.specs.Places.{each_index_below}
+use Rattle.cal_units.specs.Weekday.{index, weekday_at}
 
-pub place-below : (w : Weekday) → place w < 7
-place-below Monday = lit< tt
-place-below Tuesday = lit< tt
-place-below Wednesday = lit< tt
-place-below Thursday = lit< tt
-place-below Friday = lit< tt
-place-below Saturday = lit< tt
-place-below Sunday = lit< tt
+pub index-below : (w : Weekday) → index w < 7
+index-below Monday = lit< tt
+index-below Tuesday = lit< tt
+index-below Wednesday = lit< tt
+index-below Thursday = lit< tt
+index-below Friday = lit< tt
+index-below Saturday = lit< tt
+index-below Sunday = lit< tt
 
-pub weekday_at-place : (w : Weekday) → weekday_at (place w) ≡ w
-weekday_at-place Monday = refl
-weekday_at-place Tuesday = refl
-weekday_at-place Wednesday = refl
-weekday_at-place Thursday = refl
-weekday_at-place Friday = refl
-weekday_at-place Saturday = refl
-weekday_at-place Sunday = refl
+pub weekday_at-index : (w : Weekday) → weekday_at (index w) ≡ w
+weekday_at-index Monday = refl
+weekday_at-index Tuesday = refl
+weekday_at-index Wednesday = refl
+weekday_at-index Thursday = refl
+weekday_at-index Friday = refl
+weekday_at-index Saturday = refl
+weekday_at-index Sunday = refl
 
-pub place-weekday_at : (i : ℕ) → i < 7 → place (weekday_at i) ≡ i
-place-weekday_at = each_place_below (λ i. place (weekday_at i)) 7 refl
+pub index-weekday_at : (i : ℕ) → i < 7 → index (weekday_at i) ≡ i
+index-weekday_at = each_index_below (λ i. index (weekday_at i)) 7 refl

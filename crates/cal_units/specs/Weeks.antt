@@ -1,6 +1,6 @@
 -- The weeks of a year, counted by its Thursdays (ISO 8601: a week belongs to the year that holds its Thursday).
 -- The weekday of each January 1 is counted on from 1 January of year 1, a Monday, a year's length at a time and in both directions.
--- A weekday is its place from Monday, 0, to Sunday, 6.
+-- A weekday is its index from Monday, 0, to Sunday, 6.
 use Rattle.std.specs.Prelude.{ℕ, zero, suc, ◌+◌, ◌-◌, ◌%◌, ◌==◌, if◌then◌else◌, ℤ, pos, negsuc, ◌-ℤ◌}
 use Rattle.cal_units.specs.Lengths.{days_in_year}
 

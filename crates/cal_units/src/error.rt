@@ -13,7 +13,7 @@ pub enum Component {
     Month,
     /// The day of the month.
     Day,
-    /// The place of the day in its year.
+    /// The number of the day in its year.
     Ordinal,
     /// The ISO week.
     Week,

@@ -4,7 +4,7 @@
 //! Derives and discriminants have no clauses, so a function that clones or casts says what comes of it.
 ghost use Rattle.std.specs.Prelude.{◌≡◌, Ok};
 ghost use Rattle.cal_units.specs.Month.{number};
-ghost use Rattle.cal_units.specs.Weekday.{place};
+ghost use Rattle.cal_units.specs.Weekday.{index};
 
 use crate::cycle::Cycle;
 use crate::error::{ComponentRange, ConversionRange, InvalidVariant};
@@ -45,7 +45,7 @@ pub(crate) fn month_as_number(month: Month) -> u8
 
 /// A weekday as a number is the number of days since Monday.
 pub(crate) fn weekday_as_number(weekday: Weekday) -> u8
-    ensures { result ≡ place weekday }
+    ensures { result ≡ index weekday }
 {
     weekday as u8
 }

@@ -7,8 +7,8 @@ ghost use Rattle.std.specs.Str.{IsAscii};
 ghost use Rattle.std.specs.Ordering.{nat_cmp, on, as_partial_cmp};
 ghost use Rattle.std.proofs.Common.{rules};
 ghost use Rattle.cal_units.specs.Lengths.{days_in_month};
-ghost use Rattle.cal_units.specs.Month.{number, place, month_at, name, FromNumber};
-ghost use Rattle.cal_units.specs.MonthCycle.{place-below, month_at-place, place-month_at};
+ghost use Rattle.cal_units.specs.Month.{number, index, month_at, name, FromNumber};
+ghost use Rattle.cal_units.specs.MonthCycle.{index-below, month_at-index, index-month_at};
 ghost use Rattle.cal_units.specs.Name.{Reads};
 
 use crate::cycle::Cycle;
@@ -52,14 +52,14 @@ impl Month {
 
     /// The month before. That of January is December.
     pub fn previous(self) -> Self
-        ensures { (place result + 1) % 12 ≡ place self }
+        ensures { (index result + 1) % 12 ≡ index self }
     {
         nth_back_in(self, 1)
     }
 
     /// The month after. That of December is January.
     pub fn next(self) -> Self
-        ensures { place result ≡ (place self + 1) % 12 }
+        ensures { index result ≡ (index self + 1) % 12 }
     {
         nth_in(self, 1)
     }
@@ -68,7 +68,7 @@ impl Month {
     ///
     /// `Month::January.nth_next(4)` is May, `Month::July.nth_next(9)` is April.
     pub fn nth_next(self, n: u8) -> Self
-        ensures { place result ≡ (place self + n) % 12 }
+        ensures { index result ≡ (index self + n) % 12 }
     {
         nth_in(self, n as usize)
     }
@@ -77,7 +77,7 @@ impl Month {
     ///
     /// `Month::January.nth_prev(4)` is September, `Month::July.nth_prev(9)` is October.
     pub fn nth_prev(self, n: u8) -> Self
-        ensures { (place result + n) % 12 ≡ place self }
+        ensures { (index result + n) % 12 ≡ index self }
     {
         nth_back_in(self, n as usize)
     }
@@ -157,22 +157,22 @@ impl Cycle for Month {
 
     ghost LENGTH = { 12 };
 
-    ghost place_of = { place };
+    ghost index_of = { index };
 
     ghost value_at = { month_at };
 
-    ghost place_below = { place-below };
+    ghost index_below = { index-below };
 
-    ghost value_at_place = { month_at-place };
+    ghost value_at_index = { month_at-index };
 
-    ghost place_of_value = { place-month_at };
+    ghost index_of_value = { index-month_at };
 
-    fn place(self) -> u8 {
+    fn index(self) -> u8 {
         self as u8 - 1
     }
 
-    fn at(place: u8) -> Self {
-        match place {
+    fn at(index: u8) -> Self {
+        match index {
             0 => Month::January,
             1 => Month::February,
             2 => Month::March,

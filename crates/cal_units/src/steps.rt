@@ -11,8 +11,8 @@ pub fn nth_in<C: Cycle>(start: C, n: usize) -> C
     ensures { IsAhead C.Cycle n start result }
 {
     let length = C::LENGTH as usize;
-    let place = (start.place() as usize + n % length) % length;
-    C::at(place as u8)
+    let index = (start.index() as usize + n % length) % length;
+    C::at(index as u8)
 }
 
 /// The value `n` places back from `start`, round the cycle as often as it takes.
@@ -20,30 +20,30 @@ pub(crate) fn nth_back_in<C: Cycle>(start: C, n: usize) -> C
     ensures { IsBack C.Cycle n start result }
 {
     let length = C::LENGTH as usize;
-    let place = (start.place() as usize + (length - n % length)) % length;
-    C::at(place as u8)
+    let index = (start.index() as usize + (length - n % length)) % length;
+    C::at(index as u8)
 }
 
-/// Whether `f` answers true at each value, asked in the order of the places up to the first false.
+/// Whether `f` answers true at each value, asked in the order of the indexes up to the first false.
 pub(crate) fn all_in<C: Cycle, F: FnMut(C) -> bool>(mut f: F) -> bool
     requires { F.IsAlwaysCallable f }
     ensures { Asked C.Cycle F.step true 0 f result }
 {
-    for place in 0..C::LENGTH {
-        if !f(C::at(place)) {
+    for index in 0..C::LENGTH {
+        if !f(C::at(index)) {
             return false;
         }
     }
     true
 }
 
-/// Whether `f` answers true at some value, asked in the order of the places up to the first true.
+/// Whether `f` answers true at some value, asked in the order of the indexes up to the first true.
 pub(crate) fn any_in<C: Cycle, F: FnMut(C) -> bool>(mut f: F) -> bool
     requires { F.IsAlwaysCallable f }
     ensures { Asked C.Cycle F.step false 0 f result }
 {
-    for place in 0..C::LENGTH {
-        if f(C::at(place)) {
+    for index in 0..C::LENGTH {
+        if f(C::at(index)) {
             return true;
         }
     }

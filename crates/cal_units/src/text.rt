@@ -213,8 +213,8 @@ fn two_digits(n: u32) -> [u8; 2]
     requires { n < 100 }
     ensures { result ≡ two_digits n }
 {
-    let place = 2 * n as usize;
-    [DIGIT_PAIRS[place], DIGIT_PAIRS[place + 1]]
+    let index = 2 * n as usize;
+    [DIGIT_PAIRS[index], DIGIT_PAIRS[index + 1]]
 }
 
 /// The nine ASCII digits of a number below 1000000000.

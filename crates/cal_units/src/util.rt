@@ -10,10 +10,10 @@ mod date_adjustment;
 
 pub use date_adjustment::DateAdjustment;
 
-/// The place of Thursday, from Monday, 0.
+/// The index of Thursday, from Monday, 0.
 const THURSDAY: i64 = 3;
 
-/// The place of Friday.
+/// The index of Friday.
 const FRIDAY: i64 = 4;
 
 /// Whether the year is a leap year of the proleptic Gregorian calendar: every fourth year is one, but of the centuries only every
@@ -87,7 +87,7 @@ pub fn days_in_year_month(year: i32, month: Month) -> u8
     days_in_month(month, year)
 }
 
-// The weekday of January 1, as its place from Monday, 0. Year 1 begins on a Monday; each year of 365 days moves that by one, and each
+// The weekday of January 1, as its index from Monday, 0. Year 1 begins on a Monday; each year of 365 days moves that by one, and each
 // leap day by one more. The quotients are rounded down, so this holds of years before year 1 too.
 fn first_weekday(year: i64) -> i64
     requires low { neg_ℤ (pos (2 ^ 32)) ≤ℤ year }

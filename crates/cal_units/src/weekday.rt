@@ -6,8 +6,8 @@ ghost use Rattle.std.specs.Str.{IsAscii};
 ghost use Rattle.std.specs.Ordering.{on};
 ghost use Rattle.std.proofs.Common.{rules};
 ghost use Rattle.cal_units.specs.Name.{Reads};
-ghost use Rattle.cal_units.specs.Weekday.{place, days_from_sunday, weekday_at, name};
-ghost use Rattle.cal_units.specs.WeekdayCycle.{place-below, weekday_at-place, place-weekday_at};
+ghost use Rattle.cal_units.specs.Weekday.{index, days_from_sunday, weekday_at, name};
+ghost use Rattle.cal_units.specs.WeekdayCycle.{index-below, weekday_at-index, index-weekday_at};
 
 use crate::cycle::Cycle;
 use crate::error::InvalidVariant;
@@ -34,14 +34,14 @@ pub enum Weekday {
 impl Weekday {
     /// The weekday before. That of Monday is Sunday.
     pub fn previous(self) -> Self
-        ensures { (place result + 1) % 7 ≡ place self }
+        ensures { (index result + 1) % 7 ≡ index self }
     {
         nth_back_in(self, 1)
     }
 
     /// The weekday after. That of Sunday is Monday.
     pub fn next(self) -> Self
-        ensures { place result ≡ (place self + 1) % 7 }
+        ensures { index result ≡ (index self + 1) % 7 }
     {
         nth_in(self, 1)
     }
@@ -50,7 +50,7 @@ impl Weekday {
     ///
     /// `Weekday::Sunday.nth_next(10)` is Wednesday.
     pub fn nth_next(self, n: u8) -> Self
-        ensures { place result ≡ (place self + n) % 7 }
+        ensures { index result ≡ (index self + n) % 7 }
     {
         nth_in(self, n as usize)
     }
@@ -59,14 +59,14 @@ impl Weekday {
     ///
     /// `Weekday::Sunday.nth_prev(10)` is Thursday.
     pub fn nth_prev(self, n: u8) -> Self
-        ensures { (place result + n) % 7 ≡ place self }
+        ensures { (index result + n) % 7 ≡ index self }
     {
         nth_back_in(self, n as usize)
     }
 
     /// The number of the weekday from Monday, 1, to Sunday, 7, as in ISO 8601. That of Friday is 5.
     pub fn number_from_monday(self) -> u8
-        ensures { result ≡ place self + 1 }
+        ensures { result ≡ index self + 1 }
     {
         self.number_days_from_monday() + 1
     }
@@ -80,9 +80,9 @@ impl Weekday {
 
     /// The number of days since Monday, from Monday, 0, to Sunday, 6. On Friday it is 4.
     pub fn number_days_from_monday(self) -> u8
-        ensures { result ≡ place self }
+        ensures { result ≡ index self }
     {
-        self.place()
+        self.index()
     }
 
     /// The number of days since Sunday, from Sunday, 0, to Saturday, 6. On Friday it is 5.
@@ -123,7 +123,7 @@ impl Weekday {
 }
 
 impl PartialEq for Weekday {
-    ghost eq = { on place ◌==◌ };
+    ghost eq = { on index ◌==◌ };
 
     ghost laws = { Prim.search (comparing, rules) };
 
@@ -141,22 +141,22 @@ impl Cycle for Weekday {
 
     ghost LENGTH = { 7 };
 
-    ghost place_of = { place };
+    ghost index_of = { index };
 
     ghost value_at = { weekday_at };
 
-    ghost place_below = { place-below };
+    ghost index_below = { index-below };
 
-    ghost value_at_place = { weekday_at-place };
+    ghost value_at_index = { weekday_at-index };
 
-    ghost place_of_value = { place-weekday_at };
+    ghost index_of_value = { index-weekday_at };
 
-    fn place(self) -> u8 {
+    fn index(self) -> u8 {
         self as u8
     }
 
-    fn at(place: u8) -> Self {
-        match place {
+    fn at(index: u8) -> Self {
+        match index {
             0 => Weekday::Monday,
             1 => Weekday::Tuesday,
             2 => Weekday::Wednesday,

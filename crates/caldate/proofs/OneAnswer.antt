@@ -1,4 +1,4 @@
--- What is answered to a text is one, but for the place in an unreadable one.
+-- What is answered to a text is one, but for the position in an unreadable one.
 use Rattle.std.proofs.Common.{◌≡◌, ◌⊎◌, ℕ, ◌+◌, ◌≤◌, List, length, [], ◌∷◌, ◌++◌, codes, Option, Some, None, Result, Ok, Err, inl, inr, ap, sym, subst, ◌∙◌, arith}
 use Rattle.std.specs.Prelude.{◌↔◌, IsOk}
 use Rattle.std.specs.Fmt.{signed_decimal}

@@ -1,4 +1,4 @@
--- How bytes are cut at the first place where a byte stands.
+-- How bytes are cut at the first position where a byte stands.
 use Rattle.std.proofs.Common.{◌≡◌, ℕ, ◌+◌, ◌<◌, ◌≤◌, Bool, false, eqb, get_or, List, [], ◌∷◌, ◌++◌, length, take, drop, Some, None, ap, ◌∙◌, arith, subst}
 use Rattle.std.specs.List.{slice_split, position, position_or_len}
 use Rattle.std.specs.Prelude.{All}
@@ -12,7 +12,7 @@ use Rattle.caldate.specs.Lines.{is_end}
 use Rattle.caldate.specs.Requests.{arguments_of}
 use Rattle.caldate.specs.Standing.{NoEnd}
 
--- the first part ends at the place
+-- the first part ends at the position
 split_at_some : (p : ℕ → Bool) (xs : List ℕ) (k : ℕ) → position p xs ≡ Some k
     → (k < length xs) × (slice_split p xs ≡ take k xs ∷ slice_split p (drop (k + 1) xs))
 split_at_some p xs k e =
@@ -20,7 +20,7 @@ split_at_some p xs k e =
     let within : position_or_len p xs < length xs = grind (arith, nat_tests) in
     (omega arith, subst (λ n. slice_split p xs ≡ take n xs ∷ slice_split p (drop (n + 1) xs)) c.1 (slice_split_first p xs 0 within))
 
--- where there is no such place, each element fails
+-- where there is no such position, each element fails
 none_passes : (p : ℕ → Bool) (xs : List ℕ) → position p xs ≡ None → length xs ≤ position_or_len p xs
 none_passes p xs e = grind (arith, nat_tests)
 

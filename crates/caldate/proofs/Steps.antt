@@ -14,7 +14,7 @@ use Rattle.caldate.specs.Runs.{AnswersAll, AnswersFront, AppendsFront, AppendsTh
 use Rattle.caldate.specs.Standing.{AreReplies, IsReply, IsHeld, IsShown, NoEnd, Stands, Words, counted}
 use Rattle.caldate.specs.Shown.{printed, shown, words_shown}
 use Rattle.caldate.specs.Unanswered.{IsUnanswered}
-use Rattle.caldate.specs.declared.place.Place.{Place}
+use Rattle.caldate.specs.declared.progress.Progress.{Progress}
 use Rattle.caldate.specs.declared.request.Filter.{Filter}
 use Rattle.caldate.specs.declared.shown.ShownText.{ShownText}
 use Rattle.caldate.specs.declared.unanswered.UnansweredLine.{UnansweredLine}
@@ -28,9 +28,9 @@ one_reply Allowed before n (l ∷ lines) line out reply e h r =
     (h.0, h.1 ++ reply, h.2, ap (λ o. o ++ reply) h.3 ∙ append_assoc h.0 h.1 reply, one_reply Allowed (before + 1) n lines line h.1 reply (omega (arith, e)) h.4 r)
 
 -- what is gathered for a line is its reply, whatever was let go of it
-abbrev pub Replies : Words → Place → List ℕ → List ℕ → List ℕ → Type 0
-Replies Allowed place line old new =
-    (kept : List ℕ) (before : ℕ) → IsHeld place.is_long kept line → place.number ≡ counted before → AppendsThat (IsReply (Allowed before) (kept ++ line)) old new
+abbrev pub Replies : Words → Progress → List ℕ → List ℕ → List ℕ → Type 0
+Replies Allowed progress line old new =
+    (kept : List ℕ) (before : ℕ) → IsHeld progress.is_long kept line → progress.number ≡ counted before → AppendsThat (IsReply (Allowed before) (kept ++ line)) old new
 
 -- ---- the line that was held
 kept_no_end : (b : Bool) (kept pending : List ℕ) → IsHeld b kept pending → NoEnd kept
@@ -71,33 +71,33 @@ cut_line kept line after more pending h n e =
 counted_more : (n m : ℕ) → m ≡ counted n → counted (m + 1) ≡ counted (n + 1)
 counted_more n m e = omega (arith, e)
 
-pub answered : (Allowed : Words) (input : List ℕ) (start now : Option (List ℕ)) (gathered gathered_now pending line after : List ℕ) (place place_now : Place)
+pub answered : (Allowed : Words) (input : List ℕ) (start now : Option (List ℕ)) (gathered gathered_now pending line after : List ℕ) (progress progress_now : Progress)
     → NoEnd line → pending ≡ line ++ 10 ∷ after
-    → Replies Allowed place line gathered gathered_now
-    → place_now.is_long ≡ false → place_now.number ≡ counted (place.number + 1)
-    → Stands Allowed input start now gathered pending place → Stands Allowed input start now gathered_now after place_now
-answered Allowed input start now gathered gathered_now pending line after place place_now n e reply short number s =
-    let r = reply s.kept (length s.lines) (held_line place.is_long s.kept pending line after s.held e) s.number in
+    → Replies Allowed progress line gathered gathered_now
+    → progress_now.is_long ≡ false → progress_now.number ≡ counted (progress.number + 1)
+    → Stands Allowed input start now gathered pending progress → Stands Allowed input start now gathered_now after progress_now
+answered Allowed input start now gathered gathered_now pending line after progress progress_now n e reply short number s =
+    let r = reply s.kept (length s.lines) (held_line progress.is_long s.kept pending line after s.held e) s.number in
     record {
       lines = s.lines ++ (s.kept ++ line) ∷ [];
       kept = [];
       out = s.out ++ r.0;
       written = s.written;
-      cut = λ more. s.cut more ∙ ap (λ parts. s.lines ++ parts) (cut_line s.kept line after more pending (kept_no_end place.is_long s.kept pending s.held) n e)
+      cut = λ more. s.cut more ∙ ap (λ parts. s.lines ++ parts) (cut_line s.kept line after more pending (kept_no_end progress.is_long s.kept pending s.held) n e)
           ∙ sym (append_assoc s.lines ((s.kept ++ line) ∷ []) (slice_split is_end (after ++ more)));
       replies = one_reply Allowed 0 _ s.lines (s.kept ++ line) s.out r.0 (omega arith) s.replies r.2;
       whole = ap (λ o. o ++ r.0) s.whole ∙ append_assoc s.written gathered r.0 ∙ ap (λ l. s.written ++ l) (sym r.1);
       taken = s.taken;
       held = subst (λ b. IsHeld b [] after) (sym short) refl;
-      front = subst (λ b. IsShown b place_now.front []) (sym short) tt;
-      number = number ∙ counted_more (length s.lines) place.number s.number ∙ ap counted (sym (length-append s.lines ((s.kept ++ line) ∷ [])));
+      front = subst (λ b. IsShown b progress_now.front []) (sym short) tt;
+      number = number ∙ counted_more (length s.lines) progress.number s.number ∙ ap counted (sym (length-append s.lines ((s.kept ++ line) ∷ [])));
     }
 
 -- ---- what was gathered goes out, all of it or a front of it
-pub gone : (Allowed : Words) (input : List ℕ) (start now new : Option (List ℕ)) (gathered left written pending : List ℕ) (place : Place)
+pub gone : (Allowed : Words) (input : List ℕ) (start now new : Option (List ℕ)) (gathered left written pending : List ℕ) (progress : Progress)
     → gathered ≡ written ++ left → Appends now new written
-    → Stands Allowed input start now gathered pending place → Stands Allowed input start new left pending place
-gone Allowed input start now new gathered left written pending place e a s = record {
+    → Stands Allowed input start now gathered pending progress → Stands Allowed input start new left pending progress
+gone Allowed input start now new gathered left written pending progress e a s = record {
   lines = s.lines;
   kept = s.kept;
   out = s.out;
@@ -174,10 +174,10 @@ front_more start now new written gathered out e a f = record {
   taken = Appends-trans start now new _ _ a f.taken;
 }
 
-pub failed : (filter : Filter) (input : List ℕ) (start now new : Option (List ℕ)) (gathered pending : List ℕ) (place : Place)
+pub failed : (filter : Filter) (input : List ℕ) (start now new : Option (List ℕ)) (gathered pending : List ℕ) (progress : Progress)
     → AppendsFront now new gathered
-    → Stands (IsAllowed filter) input start now gathered pending place → AnswersFront filter (ended_lines input) start new
-failed filter input start now new gathered pending place f s = record {
+    → Stands (IsAllowed filter) input start now gathered pending progress → AnswersFront filter (ended_lines input) start new
+failed filter input start now new gathered pending progress f s = record {
   lines = s.lines;
   more = ended_lines (s.kept ++ pending);
   out = s.out;
@@ -187,19 +187,19 @@ failed filter input start now new gathered pending place f s = record {
 }
 
 -- ---- a line without an answer
-abbrev Tells : Filter → Place → List ℕ → UnansweredLine → Type 0
-Tells filter place line told = (kept : List ℕ) (before : ℕ) → IsHeld place.is_long kept line → IsShown place.is_long place.front kept
-    → place.number ≡ counted before → IsUnanswered filter before (kept ++ line) told
+abbrev Tells : Filter → Progress → List ℕ → UnansweredLine → Type 0
+Tells filter progress line told = (kept : List ℕ) (before : ℕ) → IsHeld progress.is_long kept line → IsShown progress.is_long progress.front kept
+    → progress.number ≡ counted before → IsUnanswered filter before (kept ++ line) told
 
 pub all_more : (start now new : Option (List ℕ)) (written gathered out : List ℕ) → out ≡ written ++ gathered → Appends start now written
     → Appends now new gathered → Appends start new out
 all_more start now new written gathered out e a f = subst (Appends start new) (sym e) (Appends-trans start now new _ _ a f)
 
-pub stopped : (filter : Filter) (input : List ℕ) (start now new : Option (List ℕ)) (gathered pending line after : List ℕ) (place : Place) (told : UnansweredLine)
-    → NoEnd line → pending ≡ line ++ 10 ∷ after → filter.is_strict ≡ true → Tells filter place line told → Appends now new gathered
-    → Stands (IsAllowed filter) input start now gathered pending place → StopsAt filter told (ended_lines input) start new
-stopped filter input start now new gathered pending line after place told n e strict tells f s =
-    let held = kept_no_end place.is_long s.kept pending s.held in
+pub stopped : (filter : Filter) (input : List ℕ) (start now new : Option (List ℕ)) (gathered pending line after : List ℕ) (progress : Progress) (told : UnansweredLine)
+    → NoEnd line → pending ≡ line ++ 10 ∷ after → filter.is_strict ≡ true → Tells filter progress line told → Appends now new gathered
+    → Stands (IsAllowed filter) input start now gathered pending progress → StopsAt filter told (ended_lines input) start new
+stopped filter input start now new gathered pending line after progress told n e strict tells f s =
+    let held = kept_no_end progress.is_long s.kept pending s.held in
     let parts = cut_line s.kept line after [] pending held n e in
     let parts = ap (λ p. slice_split is_end (s.kept ++ p)) (sym (append-nil pending)) ∙ parts ∙ ap (λ a. (s.kept ++ line) ∷ slice_split is_end a) (append-nil after) in
     record {
@@ -210,7 +210,7 @@ stopped filter input start now new gathered pending line after place told n e st
       strict = strict;
       cut = ended_are input s.kept pending s.lines s.cut
           ∙ ap (λ p. s.lines ++ without_last p) parts ∙ ap (λ l. s.lines ++ l) (part_ended (s.kept ++ line) (slice_split is_end after) (split_some after));
-      unanswered = tells s.kept (length s.lines) (held_line place.is_long s.kept pending line after s.held e) s.front s.number;
+      unanswered = tells s.kept (length s.lines) (held_line progress.is_long s.kept pending line after s.held e) s.front s.number;
       replies = s.replies;
       taken = all_more start now new s.written gathered s.out s.whole s.taken f;
     }
@@ -223,10 +223,10 @@ kept_none true kept h = absurd (omega (arith, ap length h.2.2))
 held_some : (b : Bool) (kept pending : List ℕ) → IsHeld b kept pending → 0 < length pending → 0 < length (kept ++ pending)
 held_some b kept pending h l = omega (arith, l, length-append kept pending)
 
-pub all_answered : (filter : Filter) (input : List ℕ) (start now : Option (List ℕ)) (place : Place)
-    → Stands (IsAllowed filter) input start now [] [] place → AnswersAll filter (lines_of input) start now
-all_answered filter input start now place s =
-    let none = kept_none place.is_long s.kept s.held in
+pub all_answered : (filter : Filter) (input : List ℕ) (start now : Option (List ℕ)) (progress : Progress)
+    → Stands (IsAllowed filter) input start now [] [] progress → AnswersAll filter (lines_of input) start now
+all_answered filter input start now progress s =
+    let none = kept_none progress.is_long s.kept s.held in
     let lines : lines_of input ≡ s.lines =
     lines_of_are input s.kept [] s.lines s.cut ∙ ap (λ k. s.lines ++ lines_of (k ++ [])) none ∙ append-nil s.lines in
     record {
@@ -236,63 +236,63 @@ all_answered filter input start now place s =
     }
 
 -- the lines, and the last one, which has no end
-with_last : (filter : Filter) (input : List ℕ) (start now : Option (List ℕ)) (gathered line : List ℕ) (place : Place)
-    → NoEnd line → 0 < length line → (s : Stands (IsAllowed filter) input start now gathered line place)
+with_last : (filter : Filter) (input : List ℕ) (start now : Option (List ℕ)) (gathered line : List ℕ) (progress : Progress)
+    → NoEnd line → 0 < length line → (s : Stands (IsAllowed filter) input start now gathered line progress)
     → lines_of input ≡ s.lines ++ (s.kept ++ line) ∷ []
-with_last filter input start now gathered line place n l s =
+with_last filter input start now gathered line progress n l s =
     lines_of_are input s.kept line s.lines s.cut
-    ∙ ap (λ ls. s.lines ++ ls) (one_line (s.kept ++ line) (no_end_append s.kept line (kept_no_end place.is_long s.kept line s.held) n) (held_some place.is_long s.kept line s.held l))
+    ∙ ap (λ ls. s.lines ++ ls) (one_line (s.kept ++ line) (no_end_append s.kept line (kept_no_end progress.is_long s.kept line s.held) n) (held_some progress.is_long s.kept line s.held l))
 
-pub last_answered : (filter : Filter) (input : List ℕ) (start now new : Option (List ℕ)) (gathered line : List ℕ) (place : Place)
+pub last_answered : (filter : Filter) (input : List ℕ) (start now new : Option (List ℕ)) (gathered line : List ℕ) (progress : Progress)
     → NoEnd line → 0 < length line
-    → Replies (IsAllowed filter) place line [] gathered
+    → Replies (IsAllowed filter) progress line [] gathered
     → Appends now new gathered
-    → Stands (IsAllowed filter) input start now [] line place → AnswersAll filter (lines_of input) start new
-last_answered filter input start now new gathered line place n l reply f s =
+    → Stands (IsAllowed filter) input start now [] line progress → AnswersAll filter (lines_of input) start new
+last_answered filter input start now new gathered line progress n l reply f s =
     let r = reply s.kept (length s.lines) s.held s.number in
     record {
       out = s.out ++ r.0;
-      replies = subst (λ ls. AreReplies (IsAllowed filter) 0 ls (s.out ++ r.0)) (sym (with_last filter input start now [] line place n l s))
+      replies = subst (λ ls. AreReplies (IsAllowed filter) 0 ls (s.out ++ r.0)) (sym (with_last filter input start now [] line progress n l s))
           (one_reply (IsAllowed filter) 0 _ s.lines (s.kept ++ line) s.out r.0 (omega arith) s.replies r.2);
       taken = all_more start now new s.written gathered (s.out ++ r.0) (ap (λ o. o ++ r.0) (s.whole ∙ append-nil s.written) ∙ ap (λ g. s.written ++ g) (sym r.1)) s.taken f;
     }
 
-pub last_failed : (filter : Filter) (input : List ℕ) (start now new : Option (List ℕ)) (gathered line : List ℕ) (place : Place)
+pub last_failed : (filter : Filter) (input : List ℕ) (start now new : Option (List ℕ)) (gathered line : List ℕ) (progress : Progress)
     → NoEnd line → 0 < length line
-    → Replies (IsAllowed filter) place line [] gathered
+    → Replies (IsAllowed filter) progress line [] gathered
     → AppendsFront now new gathered
-    → Stands (IsAllowed filter) input start now [] line place → AnswersFront filter (lines_of input) start new
-last_failed filter input start now new gathered line place n l reply f s =
+    → Stands (IsAllowed filter) input start now [] line progress → AnswersFront filter (lines_of input) start new
+last_failed filter input start now new gathered line progress n l reply f s =
     let r = reply s.kept (length s.lines) s.held s.number in
     record {
       lines = s.lines ++ (s.kept ++ line) ∷ [];
       more = [];
       out = s.out ++ r.0;
-      cut = with_last filter input start now [] line place n l s ∙ sym (append-nil (s.lines ++ (s.kept ++ line) ∷ []));
+      cut = with_last filter input start now [] line progress n l s ∙ sym (append-nil (s.lines ++ (s.kept ++ line) ∷ []));
       replies = one_reply (IsAllowed filter) 0 _ s.lines (s.kept ++ line) s.out r.0 (omega arith) s.replies r.2;
       taken = front_more start now new s.written gathered (s.out ++ r.0) (ap (λ o. o ++ r.0) (s.whole ∙ append-nil s.written) ∙ ap (λ g. s.written ++ g) (sym r.1)) s.taken f;
     }
 
-pub last_stopped : (filter : Filter) (input : List ℕ) (start now : Option (List ℕ)) (line : List ℕ) (place : Place) (told : UnansweredLine)
-    → NoEnd line → 0 < length line → filter.is_strict ≡ true → Tells filter place line told
-    → Stands (IsAllowed filter) input start now [] line place → StopsAt filter told (lines_of input) start now
-last_stopped filter input start now line place told n l strict tells s =
+pub last_stopped : (filter : Filter) (input : List ℕ) (start now : Option (List ℕ)) (line : List ℕ) (progress : Progress) (told : UnansweredLine)
+    → NoEnd line → 0 < length line → filter.is_strict ≡ true → Tells filter progress line told
+    → Stands (IsAllowed filter) input start now [] line progress → StopsAt filter told (lines_of input) start now
+last_stopped filter input start now line progress told n l strict tells s =
     record {
       lines = s.lines;
       line = s.kept ++ line;
       more = [];
       out = s.out;
       strict = strict;
-      cut = with_last filter input start now [] line place n l s;
+      cut = with_last filter input start now [] line progress n l s;
       unanswered = tells s.kept (length s.lines) s.held s.front s.number;
       replies = s.replies;
       taken = subst (Appends start now) (sym (s.whole ∙ append-nil s.written)) s.taken;
     }
 
 -- ---- reads
-pub begun : (Allowed : Words) (start : Option (List ℕ)) (place : Place) → place.is_long ≡ false → place.number ≡ 0
-    → Stands Allowed [] start start [] [] place
-begun Allowed start place short zero = record {
+pub begun : (Allowed : Words) (start : Option (List ℕ)) (progress : Progress) → progress.is_long ≡ false → progress.number ≡ 0
+    → Stands Allowed [] start start [] [] progress
+begun Allowed start progress short zero = record {
   lines = [];
   kept = [];
   out = [];
@@ -302,7 +302,7 @@ begun Allowed start place short zero = record {
   whole = refl;
   taken = Appends-nil start;
   held = subst (λ b. IsHeld b [] []) (sym short) refl;
-  front = subst (λ b. IsShown b place.front []) (sym short) tt;
+  front = subst (λ b. IsShown b progress.front []) (sym short) tt;
   number = zero;
 }
 
@@ -310,9 +310,9 @@ held_more : (b : Bool) (kept pending given : List ℕ) → IsHeld b kept pending
 held_more false kept pending given h = h
 held_more true kept pending given h = (h.0, h.1, (h.2.0, h.2.1 ++ given, ap (λ p. p ++ given) h.2.2, h.2.3))
 
-pub read : (Allowed : Words) (input given : List ℕ) (start now : Option (List ℕ)) (gathered pending : List ℕ) (place : Place)
-    → Stands Allowed input start now gathered pending place → Stands Allowed (input ++ given) start now gathered (pending ++ given) place
-read Allowed input given start now gathered pending place s = record {
+pub read : (Allowed : Words) (input given : List ℕ) (start now : Option (List ℕ)) (gathered pending : List ℕ) (progress : Progress)
+    → Stands Allowed input start now gathered pending progress → Stands Allowed (input ++ given) start now gathered (pending ++ given) progress
+read Allowed input given start now gathered pending progress s = record {
   lines = s.lines;
   kept = s.kept;
   out = s.out;
@@ -322,15 +322,15 @@ read Allowed input given start now gathered pending place s = record {
   replies = s.replies;
   whole = s.whole;
   taken = s.taken;
-  held = held_more place.is_long s.kept pending given s.held;
+  held = held_more progress.is_long s.kept pending given s.held;
   front = s.front;
   number = s.number;
 }
 
-pub ended_answered : (filter : Filter) (input : List ℕ) (start now : Option (List ℕ)) (pending : List ℕ) (place : Place) → NoEnd pending
-    → Stands (IsAllowed filter) input start now [] pending place → AnswersAll filter (ended_lines input) start now
-ended_answered filter input start now pending place n s =
-    let none = slice_split_none is_end (s.kept ++ pending) (no_end_append s.kept pending (kept_no_end place.is_long s.kept pending s.held) n) in
+pub ended_answered : (filter : Filter) (input : List ℕ) (start now : Option (List ℕ)) (pending : List ℕ) (progress : Progress) → NoEnd pending
+    → Stands (IsAllowed filter) input start now [] pending progress → AnswersAll filter (ended_lines input) start now
+ended_answered filter input start now pending progress n s =
+    let none = slice_split_none is_end (s.kept ++ pending) (no_end_append s.kept pending (kept_no_end progress.is_long s.kept pending s.held) n) in
     let lines : ended_lines input ≡ s.lines =
     ended_are input s.kept pending s.lines s.cut ∙ ap (λ parts. s.lines ++ without_last parts) none ∙ append-nil s.lines in
     record {
@@ -356,11 +356,11 @@ front_shown false front front_now kept pending k h held is whole same =
 front_shown true front front_now kept pending k h held is whole same =
     ap words_shown (same refl) ∙ is ∙ sym (shown_front kept (take k pending) (omega (arith, held.0)))
 
-pub let_go : (Allowed : Words) (input : List ℕ) (start now : Option (List ℕ)) (gathered pending pending_now : List ℕ) (place place_now : Place)
-    → NoEnd pending → 4097 < length pending → pending_now ≡ drop (length pending - 1) pending → (place.is_long ≡ false → words_shown place_now.front ≡ shown pending)
-    → (place.is_long ≡ true → place_now.front ≡ place.front) → place_now.is_long ≡ true → place_now.number ≡ place.number
-    → Stands Allowed input start now gathered pending place → Stands Allowed input start now gathered pending_now place_now
-let_go Allowed input start now gathered pending pending_now place place_now n long last_byte whole_front same_front is_long same s =
+pub let_go : (Allowed : Words) (input : List ℕ) (start now : Option (List ℕ)) (gathered pending pending_now : List ℕ) (progress progress_now : Progress)
+    → NoEnd pending → 4097 < length pending → pending_now ≡ drop (length pending - 1) pending → (progress.is_long ≡ false → words_shown progress_now.front ≡ shown pending)
+    → (progress.is_long ≡ true → progress_now.front ≡ progress.front) → progress_now.is_long ≡ true → progress_now.number ≡ progress.number
+    → Stands Allowed input start now gathered pending progress → Stands Allowed input start now gathered pending_now progress_now
+let_go Allowed input start now gathered pending pending_now progress progress_now n long last_byte whole_front same_front is_long same s =
     let k = length pending - 1 in
     let front : length (take k pending) ≡ k = length-take k pending ∙ min-eq_left (omega arith) in
     let last : length (drop k pending) ≡ 1 = omega (arith, length-drop k pending) in
@@ -371,10 +371,10 @@ let_go Allowed input start now gathered pending pending_now place place_now n lo
     ∙ sym (append_assoc s.kept (take k pending) (drop k pending ++ more)) in
     let held : IsHeld true (s.kept ++ take k pending) (drop k pending) = (
       omega (arith, front, length-append s.kept (take k pending)),
-      no_end_append s.kept (take k pending) (kept_no_end place.is_long s.kept pending s.held) n_front,
+      no_end_append s.kept (take k pending) (kept_no_end progress.is_long s.kept pending s.held) n_front,
       one_byte (drop k pending) (omega (arith, last)) n_last,
     ) in
-    subst (λ (p : List ℕ). Stands Allowed input start now gathered p place_now) (sym last_byte) (record {
+    subst (λ (p : List ℕ). Stands Allowed input start now gathered p progress_now) (sym last_byte) (record {
       lines = s.lines;
       kept = s.kept ++ take k pending;
       out = s.out;
@@ -384,7 +384,7 @@ let_go Allowed input start now gathered pending pending_now place place_now n lo
       whole = s.whole;
       taken = s.taken;
       held = subst (λ b. IsHeld b (s.kept ++ take k pending) (drop k pending)) (sym is_long) held;
-      front = subst (λ b. IsShown b place_now.front (s.kept ++ take k pending)) (sym is_long)
-          (front_shown place.is_long place.front place_now.front s.kept pending k (omega arith) s.held s.front whole_front same_front);
+      front = subst (λ b. IsShown b progress_now.front (s.kept ++ take k pending)) (sym is_long)
+          (front_shown progress.is_long progress.front progress_now.front s.kept pending k (omega arith) s.held s.front whole_front same_front);
       number = same ∙ s.number;
     })

@@ -120,7 +120,7 @@ why_text (OutOfRange e) = refused_text e
 abbrev pub IsRefused : Filter → List ℕ → List ℕ → Type 0
 IsRefused filter text words = (why : ComponentRange) × IsFaultIn filter.reading text why × (words ≡ refused_text why)
 
--- it has not the form; the place is that of the first wrong byte, as the reader of texts tells it
+-- it has not the form; the position is that of the first wrong byte, as the reader of texts tells it
 abbrev pub IsUnreadable : Filter → List ℕ → List ℕ → Type 0
 IsUnreadable filter text words = (¬ HasFormIn filter.reading text) × ((at : ℕ) × (words ≡ codes "unreadable at " ++ decimal at))
 

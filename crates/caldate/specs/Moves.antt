@@ -3,7 +3,7 @@ use Rattle.std.specs.Prelude.{◌≡◌, ℕ, ◌+◌, ◌-◌, ◌*◌, true, f
 use Rattle.cal_time.specs.Date.{IsDate, HasCalendarDate, year_at, month_at, weekday_at}
 use Rattle.cal_time.specs.Lengths.{days_in_month}
 use Rattle.cal_time.specs.Occurrence.{next_occurrences, prev_occurrences, kth}
-use Rattle.cal_time.specs.Weekday.{place}
+use Rattle.cal_time.specs.Weekday.{index}
 use Rattle.cal_schedule.specs.Months.{IsMonthsLater, quarter_at}
 use Rattle.cal_schedule.specs.Weekdays.{occurrences_from, occurrences_upto}
 use Rattle.cal_schedule.specs.Workdays.{WorkWeek, nth_workday}
@@ -31,10 +31,10 @@ IsLastOf Year n r = HasCalendarDate (year_at n) 12 31 r
 
 -- the move leads from day n to day r
 abbrev pub LeadsTo : DayMove → ℕ → ℕ → Type 0
-LeadsTo (move.Next w k) n r = kth k (next_occurrences (place w) n) ≡ Some r
-LeadsTo (move.Last w k) n r = kth k (prev_occurrences (place w) n) ≡ Some r
-LeadsTo (move.OnOrAfter w) n r = slice_get (occurrences_from (place w) n) 0 ≡ Some r
-LeadsTo (move.OnOrBefore w) n r = slice_get (occurrences_upto (place w) n) 0 ≡ Some r
+LeadsTo (move.Next w k) n r = kth k (next_occurrences (index w) n) ≡ Some r
+LeadsTo (move.Last w k) n r = kth k (prev_occurrences (index w) n) ≡ Some r
+LeadsTo (move.OnOrAfter w) n r = slice_get (occurrences_from (index w) n) 0 ≡ Some r
+LeadsTo (move.OnOrBefore w) n r = slice_get (occurrences_upto (index w) n) 0 ≡ Some r
 LeadsTo (move.Months z) n r = IsDate r × IsMonthsLater n z r
 LeadsTo (move.Years z) n r = IsDate r × IsMonthsLater n (pos 12 *ℤ z) r
 LeadsTo (move.Workdays z) n r = nth_workday monday_to_friday z n ≡ Some r

@@ -9,7 +9,7 @@ use Rattle.caldate.specs.Standing.{AreReplies, Stands}
 use Rattle.caldate.specs.Unanswered.{IsUnanswered}
 use Rattle.caldate.specs.declared.fault.Fault.{Fault}
 use Rattle.caldate.specs.declared.fault.Fault.TheVariants.{Read, Write, Unanswered}
-use Rattle.caldate.specs.declared.place.Place.{Place}
+use Rattle.caldate.specs.declared.progress.Progress.{Progress}
 use Rattle.caldate.specs.declared.request.Filter.{Filter}
 use Rattle.caldate.specs.declared.unanswered.UnansweredLine.{UnansweredLine}
 
@@ -106,16 +106,16 @@ Shown page (Err fault) old new = IsOfWrite fault × AppendsFront old new page
 
 -- ---- from where a run stands, of these lines of its input
 -- it ends as after a write that failed
-abbrev pub FailsFrom : Filter → (List ℕ → List (List ℕ)) → Option (List ℕ) → Option (List ℕ) → List ℕ → List ℕ → Place → Type 0
-FailsFrom filter lines_in old new gathered pending place =
-    (input : List ℕ) (start : Option (List ℕ)) → Stands (IsAllowed filter) input start old gathered pending place → AnswersFront filter (lines_in input) start new
+abbrev pub FailsFrom : Filter → (List ℕ → List (List ℕ)) → Option (List ℕ) → Option (List ℕ) → List ℕ → List ℕ → Progress → Type 0
+FailsFrom filter lines_in old new gathered pending progress =
+    (input : List ℕ) (start : Option (List ℕ)) → Stands (IsAllowed filter) input start old gathered pending progress → AnswersFront filter (lines_in input) start new
 
 -- it ends at the line that is told
-abbrev pub StopsFrom : Filter → UnansweredLine → (List ℕ → List (List ℕ)) → Option (List ℕ) → Option (List ℕ) → List ℕ → List ℕ → Place → Type 0
-StopsFrom filter told lines_in old new gathered pending place =
-    (input : List ℕ) (start : Option (List ℕ)) → Stands (IsAllowed filter) input start old gathered pending place → StopsAt filter told (lines_in input) start new
+abbrev pub StopsFrom : Filter → UnansweredLine → (List ℕ → List (List ℕ)) → Option (List ℕ) → Option (List ℕ) → List ℕ → List ℕ → Progress → Type 0
+StopsFrom filter told lines_in old new gathered pending progress =
+    (input : List ℕ) (start : Option (List ℕ)) → Stands (IsAllowed filter) input start old gathered pending progress → StopsAt filter told (lines_in input) start new
 
 -- it ends with all lines answered
-abbrev pub EndsFrom : Filter → Option (List ℕ) → Option (List ℕ) → List ℕ → List ℕ → Place → Type 0
-EndsFrom filter old new gathered pending place =
-    (input : List ℕ) (start : Option (List ℕ)) → Stands (IsAllowed filter) input start old gathered pending place → AnswersAll filter (lines_of input) start new
+abbrev pub EndsFrom : Filter → Option (List ℕ) → Option (List ℕ) → List ℕ → List ℕ → Progress → Type 0
+EndsFrom filter old new gathered pending progress =
+    (input : List ℕ) (start : Option (List ℕ)) → Stands (IsAllowed filter) input start old gathered pending progress → AnswersAll filter (lines_of input) start new

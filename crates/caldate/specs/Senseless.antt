@@ -14,7 +14,7 @@ use Rattle.caldate.specs.declared.senseless.Wanted.{Wanted}
 use Rattle.caldate.specs.declared.senseless.Wanted.TheVariants as wanted
 
 abbrev pub senseless_at : ℕ → Wanted → Senseless
-senseless_at at what = record { place = at; wanted = what }
+senseless_at at what = record { index = at; wanted = what }
 
 -- ---- what may stand where
 -- what each verb needs, and what may come after that
@@ -63,7 +63,7 @@ is_wanted reading word wanted.Many = is_some (many_of word)
 is_wanted reading word wanted.UnitOfDays = is_some (option_and_then (step_in 1) (unit_of word))
 is_wanted reading word what = false
 
--- ---- the first word that makes no sense, by its place among the arguments, counted from 0
+-- ---- the first word that makes no sense, by its index among the arguments, counted from 0
 -- each word is what is wanted, so the number is too large for its unit, or a word too many comes after them
 abbrev pub senseless_end : ℕ → List (List ℕ) → Senseless
 senseless_end at [] = senseless_at at wanted.Amount
@@ -83,13 +83,13 @@ senseless_further reading at further [] = senseless_end at []
 senseless_further reading at further (word ∷ words) =
     if is_wanted reading word further then senseless_last at further words else senseless_at (at + 1) further
 
--- after a verb, from this place on
+-- after a verb, from this index on
 abbrev pub senseless_after : (List ℕ → Option DateOrMoment) → ℕ → List (List ℕ) → Verb → Senseless
 senseless_after reading at [] verb = senseless_at at (needed_by verb)
 senseless_after reading at (word ∷ words) verb =
     if is_wanted reading word (needed_by verb) then senseless_further reading at (further_to verb) words else senseless_at at (needed_by verb)
 
--- from the verb on, which has this place, where this is wanted
+-- from the verb on, which has this index, where this is wanted
 abbrev pub senseless_request : (List ℕ → Option DateOrMoment) → ℕ → Wanted → List (List ℕ) → Senseless
 senseless_request reading at what [] = senseless_at at what
 senseless_request reading at what (word ∷ words) = option_map_or (senseless_after reading (at + 1) words) (verb_of word) (senseless_at at what)
@@ -126,7 +126,7 @@ senseless_front reading options [] = senseless_at (words_in options) (verb_after
 senseless_front reading options (word ∷ words) =
     option_map_or (senseless_at (words_in options + 1)) (value_of options word) (senseless_verb reading options (word ∷ words))
 
--- after `list`: the first that is not what is wanted at its place, or is missing, or is one too many
+-- after `list`: the first that is not what is wanted at its index, or is missing, or is one too many
 abbrev pub list_words : List Wanted
 list_words = wanted.From ∷ wanted.Date ∷ wanted.UpTo ∷ wanted.Date ∷ wanted.By ∷ wanted.Many ∷ wanted.UnitOfDays ∷ []
 
@@ -194,5 +194,5 @@ word_words (Some word) = codes "'" ++ shown word ++ codes "' is "
 
 abbrev pub complaint : List (List ℕ) → Senseless → List ℕ
 complaint words senseless =
-    codes "caldate: " ++ (if is_something senseless.wanted then [] else word_words (slice_get words senseless.place))
+    codes "caldate: " ++ (if is_something senseless.wanted then [] else word_words (slice_get words senseless.index))
     ++ wanted_words senseless.wanted ++ 10 ∷ []

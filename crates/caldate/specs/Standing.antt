@@ -5,7 +5,7 @@ use Rattle.std.specs.Io.KnownBytes.{Appends}
 use Rattle.caldate.specs.Lines.{is_end, text_of, end_of}
 use Rattle.caldate.specs.Room.{longest_text}
 use Rattle.caldate.specs.Shown.{shown, words_shown}
-use Rattle.caldate.specs.declared.place.Place.{Place}
+use Rattle.caldate.specs.declared.progress.Progress.{Progress}
 use Rattle.caldate.specs.declared.shown.ShownText.{ShownText}
 
 -- the reply to a line: the words that are allowed for its text, and the end that it has
@@ -43,7 +43,7 @@ counted n = min n (2 ^ 64 - 1)
 
 -- Of this input some lines are answered. Their replies went out but for what is gathered. What comes after the lines is pending,
 -- but for what was let go of a long line.
-pub record Stands (Allowed : Words) (input : List ℕ) (start now : Option (List ℕ)) (gathered pending : List ℕ) (place : Place) : Type 0 where
+pub record Stands (Allowed : Words) (input : List ℕ) (start now : Option (List ℕ)) (gathered pending : List ℕ) (progress : Progress) : Type 0 where
   pub lines : List (List ℕ)
   pub kept : List ℕ
   pub out : List ℕ
@@ -52,12 +52,12 @@ pub record Stands (Allowed : Words) (input : List ℕ) (start now : Option (List
   pub replies : AreReplies Allowed 0 lines out
   pub whole : out ≡ written ++ gathered
   pub taken : Appends start now written
-  pub held : IsHeld place.is_long kept pending
-  pub front : IsShown place.is_long place.front kept
-  pub number : place.number ≡ counted (length lines)
+  pub held : IsHeld progress.is_long kept pending
+  pub front : IsShown progress.is_long progress.front kept
+  pub number : progress.number ≡ counted (length lines)
 
 -- whatever the input was, and what the writer held at the start
-abbrev pub Advances : Words → Option (List ℕ) → Option (List ℕ) → List ℕ → List ℕ → List ℕ → List ℕ → Place → Place → Type 0
-Advances Allowed old new gathered gathered_now pending pending_now place place_now =
-    (input : List ℕ) (start : Option (List ℕ)) → Stands Allowed input start old gathered pending place
-    → Stands Allowed input start new gathered_now pending_now place_now
+abbrev pub Advances : Words → Option (List ℕ) → Option (List ℕ) → List ℕ → List ℕ → List ℕ → List ℕ → Progress → Progress → Type 0
+Advances Allowed old new gathered gathered_now pending pending_now progress progress_now =
+    (input : List ℕ) (start : Option (List ℕ)) → Stands Allowed input start old gathered pending progress
+    → Stands Allowed input start new gathered_now pending_now progress_now

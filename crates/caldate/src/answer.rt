@@ -8,9 +8,9 @@ ghost use Rattle.caldate.specs.Forms.{IsInForm};
 ghost use Rattle.caldate.specs.Room.{HasRoom, longest_answer};
 ghost use Rattle.caldate.specs.Runs.{AppendsThat};
 
+use crate::buffer::Buffer;
 use crate::counts::count_between;
 use crate::forms::{basic_text, month_text, quarter_text, unix_text};
-use crate::gathered::Gathered;
 use crate::moves::led_to;
 use crate::reading::read_in;
 use crate::request::{DayMove, Filter, Form, Request, TimeUnit};
@@ -26,83 +26,83 @@ use cal_time::{Date, ShortText, SignedDuration, Time, UtcOffset};
 pub const LONGEST_TEXT: usize = 4096;
 
 /// Gathers the answer to a text, or the words that say why it has none, and returns whether it has one.
-pub fn push_answer(gathered: &mut Gathered, filter: &Filter, text: &[u8]) -> bool
-    requires { HasRoom longest_answer gathered.old }
-    ensures has { result ≡ true → AppendsThat (HasAnswer filter.now text.now) gathered.old gathered.new }
-    ensures lacks { result ≡ false → AppendsThat (LacksAnswer filter.now text.now) gathered.old gathered.new }
-    ensures short { length gathered.new ≤ length gathered.old + longest_answer }
+pub fn push_answer(buffer: &mut Buffer, filter: &Filter, text: &[u8]) -> bool
+    requires { HasRoom longest_answer buffer.old }
+    ensures has { result ≡ true → AppendsThat (HasAnswer filter.now text.now) buffer.old buffer.new }
+    ensures lacks { result ≡ false → AppendsThat (LacksAnswer filter.now text.now) buffer.old buffer.new }
+    ensures short { length buffer.new ≤ length buffer.old + longest_answer }
 {
     if text.len() > LONGEST_TEXT {
-        gathered.push(b"line too long");
+        buffer.push(b"line too long");
         return false;
     }
     match read_in(filter.reading, text) {
-        Ok(found) => push_answer_to(gathered, &filter.request, &found),
+        Ok(found) => push_answer_to(buffer, &filter.request, &found),
         Err(error) => {
-            push_why(gathered, error);
+            push_why(buffer, error);
             false
         }
     }
 }
 
 /// Gathers why a text is not read.
-fn push_why(gathered: &mut Gathered, error: Unreadable)
-    requires { HasRoom longest_answer gathered.old }
-    ensures text { gathered.new ≡ gathered.old ++ why_text error }
-    ensures short { length gathered.new ≤ length gathered.old + longest_answer }
+fn push_why(buffer: &mut Buffer, error: Unreadable)
+    requires { HasRoom longest_answer buffer.old }
+    ensures text { buffer.new ≡ buffer.old ++ why_text error }
+    ensures short { length buffer.new ≤ length buffer.old + longest_answer }
 {
     match error {
-        Unreadable::UnexpectedByte(place) => {
-            gathered.push(b"unreadable at ");
-            gathered.push_number(place as u64);
+        Unreadable::UnexpectedByte(position) => {
+            buffer.push(b"unreadable at ");
+            buffer.push_number(position as u64);
         }
-        Unreadable::OutOfRange(component) => push_refusal(gathered, component),
+        Unreadable::OutOfRange(component) => push_refusal(buffer, component),
     }
 }
 
 /// Gathers the name of a refusal, and whether it depends on other components.
-fn push_refusal(gathered: &mut Gathered, error: ComponentRange)
-    requires { HasRoom 64 gathered.old }
-    ensures text { gathered.new ≡ gathered.old ++ refused_text error }
-    ensures short { length gathered.new ≤ length gathered.old + 64 }
+fn push_refusal(buffer: &mut Buffer, error: ComponentRange)
+    requires { HasRoom 64 buffer.old }
+    ensures text { buffer.new ≡ buffer.old ++ refused_text error }
+    ensures short { length buffer.new ≤ length buffer.old + 64 }
 {
-    gathered.push(b"refused ");
-    gathered.push(error.name().as_bytes());
+    buffer.push(b"refused ");
+    buffer.push(error.name().as_bytes());
     if error.is_conditional() {
-        gathered.push(b" conditional");
+        buffer.push(b" conditional");
     }
 }
 
 /// Gathers what the request answers for this date or this moment, or `none`, and returns whether there is an answer.
-fn push_answer_to(gathered: &mut Gathered, request: &Request, found: &DateOrMoment) -> bool
-    requires { HasRoom longest_answer gathered.old }
-    ensures has { result ≡ true → AppendsThat (IsAnswerTo request.now found.now) gathered.old gathered.new }
-    ensures none { result ≡ false → (gathered.new ≡ gathered.old ++ codes "none") × ((words : List ℕ) → ¬ IsAnswerTo request.now found.now words) }
-    ensures short { length gathered.new ≤ length gathered.old + longest_answer }
+fn push_answer_to(buffer: &mut Buffer, request: &Request, found: &DateOrMoment) -> bool
+    requires { HasRoom longest_answer buffer.old }
+    ensures has { result ≡ true → AppendsThat (IsAnswerTo request.now found.now) buffer.old buffer.new }
+    ensures none { result ≡ false → (buffer.new ≡ buffer.old ++ codes "none") × ((words : List ℕ) → ¬ IsAnswerTo request.now found.now words) }
+    ensures short { length buffer.new ≤ length buffer.old + longest_answer }
 {
     let moment = moment_of(found);
     let form = form_read(found);
     match request {
-        Request::To(form) => push_in_form(gathered, *form, moment),
+        Request::To(form) => push_in_form(buffer, *form, moment),
         Request::Add(duration) => match later(found, *duration) {
-            Some(later) => push_in_form(gathered, form, later),
-            None => push_none(gathered),
+            Some(later) => push_in_form(buffer, form, later),
+            None => push_none(buffer),
         },
-        Request::Move(by) => push_moved(gathered, *by, found),
-        Request::Until(target, unit) => push_between(gathered, *unit, found, target),
-        Request::Since(target, unit) => push_between(gathered, *unit, target, found),
-        Request::At(offset) => push_at(gathered, *offset, moment),
+        Request::Move(by) => push_moved(buffer, *by, found),
+        Request::Until(target, unit) => push_between(buffer, *unit, found, target),
+        Request::Since(target, unit) => push_between(buffer, *unit, target, found),
+        Request::At(offset) => push_at(buffer, *offset, moment),
     }
 }
 
 /// Gathers that there is no answer.
-fn push_none(gathered: &mut Gathered) -> bool
-    requires { HasRoom longest_answer gathered.old }
-    ensures text { gathered.new ≡ gathered.old ++ codes "none" }
-    ensures short { length gathered.new ≤ length gathered.old + longest_answer }
+fn push_none(buffer: &mut Buffer) -> bool
+    requires { HasRoom longest_answer buffer.old }
+    ensures text { buffer.new ≡ buffer.old ++ codes "none" }
+    ensures short { length buffer.new ≤ length buffer.old + longest_answer }
     ensures no { result ≡ false }
 {
-    gathered.push(b"none");
+    buffer.push(b"none");
     false
 }
 
@@ -134,30 +134,30 @@ fn on_day(moment: OffsetDateTime, date: Date) -> OffsetDateTime
 }
 
 /// Gathers a moment in the form, and returns whether it has a text of it.
-fn push_in_form(gathered: &mut Gathered, form: Form, moment: OffsetDateTime) -> bool
-    requires { HasRoom longest_answer gathered.old }
-    ensures has { result ≡ true → AppendsThat (IsInForm form moment) gathered.old gathered.new }
-    ensures none { result ≡ false → (gathered.new ≡ gathered.old ++ codes "none") × ((words : List ℕ) → ¬ IsInForm form moment words) }
-    ensures short { length gathered.new ≤ length gathered.old + longest_answer }
+fn push_in_form(buffer: &mut Buffer, form: Form, moment: OffsetDateTime) -> bool
+    requires { HasRoom longest_answer buffer.old }
+    ensures has { result ≡ true → AppendsThat (IsInForm form moment) buffer.old buffer.new }
+    ensures none { result ≡ false → (buffer.new ≡ buffer.old ++ codes "none") × ((words : List ℕ) → ¬ IsInForm form moment words) }
+    ensures short { length buffer.new ≤ length buffer.old + longest_answer }
 {
     match form {
-        Form::Date(form) => gathered.push(text_of_date(form, moment.date()).as_bytes()),
-        Form::Weekday => gathered.push(moment.date().weekday().name().as_bytes()),
+        Form::Date(form) => buffer.push(text_of_date(form, moment.date()).as_bytes()),
+        Form::Weekday => buffer.push(moment.date().weekday().name().as_bytes()),
         Form::Moment(form) => match form {
             MomentForm::Rfc3339 => match rfc3339::Text::new(moment) {
-                Some(text) => gathered.push(text.text().as_bytes()),
-                None => return push_none(gathered),
+                Some(text) => buffer.push(text.text().as_bytes()),
+                None => return push_none(buffer),
             },
-            MomentForm::Unix => gathered.push(unix::Text::new(moment).text().as_bytes()),
+            MomentForm::Unix => buffer.push(unix::Text::new(moment).text().as_bytes()),
         },
-        Form::ShortWeekday => gathered.push(&moment.date().weekday().name().as_bytes()[..3]),
-        Form::Month => gathered.push(month_text(moment.date()).as_bytes()),
-        Form::Quarter => gathered.push(quarter_text(moment.date()).as_bytes()),
+        Form::ShortWeekday => buffer.push(&moment.date().weekday().name().as_bytes()[..3]),
+        Form::Month => buffer.push(month_text(moment.date()).as_bytes()),
+        Form::Quarter => buffer.push(quarter_text(moment.date()).as_bytes()),
         Form::Basic => match basic_text(moment.date()) {
-            Some(text) => gathered.push(text.as_bytes()),
-            None => return push_none(gathered),
+            Some(text) => buffer.push(text.as_bytes()),
+            None => return push_none(buffer),
         },
-        Form::Unix(unit) => gathered.push(unix_text(unit, moment).as_bytes()),
+        Form::Unix(unit) => buffer.push(unix_text(unit, moment).as_bytes()),
     }
     true
 }
@@ -203,72 +203,72 @@ fn moment_later(moment: OffsetDateTime, duration: SignedDuration) -> Option<Offs
 }
 
 /// Gathers the day that a move leads to, at the same time of day, and returns whether there is one.
-fn push_moved(gathered: &mut Gathered, by: DayMove, found: &DateOrMoment) -> bool
-    requires { HasRoom longest_answer gathered.old }
-    ensures has { result ≡ true → AppendsThat (IsMoved by found.now) gathered.old gathered.new }
-    ensures none { result ≡ false → (gathered.new ≡ gathered.old ++ codes "none") × ((words : List ℕ) → ¬ IsMoved by found.now words) }
-    ensures short { length gathered.new ≤ length gathered.old + longest_answer }
+fn push_moved(buffer: &mut Buffer, by: DayMove, found: &DateOrMoment) -> bool
+    requires { HasRoom longest_answer buffer.old }
+    ensures has { result ≡ true → AppendsThat (IsMoved by found.now) buffer.old buffer.new }
+    ensures none { result ≡ false → (buffer.new ≡ buffer.old ++ codes "none") × ((words : List ℕ) → ¬ IsMoved by found.now words) }
+    ensures short { length buffer.new ≤ length buffer.old + longest_answer }
 {
     let moment = moment_of(found);
     let form = form_read(found);
     match led_to(moment.date(), by) {
-        Some(day) => push_in_form(gathered, form, on_day(moment, day)),
-        None => push_none(gathered),
+        Some(day) => push_in_form(buffer, form, on_day(moment, day)),
+        None => push_none(buffer),
     }
 }
 
 /// Gathers the moment as a clock at this offset shows it, and returns whether it has a text.
-fn push_at(gathered: &mut Gathered, offset: UtcOffset, moment: OffsetDateTime) -> bool
-    requires { HasRoom longest_answer gathered.old }
-    ensures has { result ≡ true → AppendsThat (IsAt offset moment) gathered.old gathered.new }
-    ensures none { result ≡ false → (gathered.new ≡ gathered.old ++ codes "none") × ((words : List ℕ) → ¬ IsAt offset moment words) }
-    ensures short { length gathered.new ≤ length gathered.old + longest_answer }
+fn push_at(buffer: &mut Buffer, offset: UtcOffset, moment: OffsetDateTime) -> bool
+    requires { HasRoom longest_answer buffer.old }
+    ensures has { result ≡ true → AppendsThat (IsAt offset moment) buffer.old buffer.new }
+    ensures none { result ≡ false → (buffer.new ≡ buffer.old ++ codes "none") × ((words : List ℕ) → ¬ IsAt offset moment words) }
+    ensures short { length buffer.new ≤ length buffer.old + longest_answer }
 {
     match moment.checked_to_offset(offset) {
-        Some(shown) => push_in_form(gathered, Form::Moment(MomentForm::Rfc3339), shown),
-        None => push_none(gathered),
+        Some(shown) => push_in_form(buffer, Form::Moment(MomentForm::Rfc3339), shown),
+        None => push_none(buffer),
     }
 }
 
 /// Gathers what is between, in whole units where one is named, and returns whether it is known.
 fn push_between(
-    gathered: &mut Gathered,
+    buffer: &mut Buffer,
     unit: Option<TimeUnit>,
     from: &DateOrMoment,
     to: &DateOrMoment,
 ) -> bool
-    requires { HasRoom longest_answer gathered.old }
-    ensures has { result ≡ true → AppendsThat (IsBetween unit from.now to.now) gathered.old gathered.new }
-    ensures none { result ≡ false → (gathered.new ≡ gathered.old ++ codes "none") × ((words : List ℕ) → ¬ IsBetween unit from.now to.now words) }
-    ensures short { length gathered.new ≤ length gathered.old + longest_answer }
+    requires { HasRoom longest_answer buffer.old }
+    ensures has { result ≡ true → AppendsThat (IsBetween unit from.now to.now) buffer.old buffer.new }
+    ensures none { result ≡ false → (buffer.new ≡ buffer.old ++ codes "none") × ((words : List ℕ) → ¬ IsBetween unit from.now to.now words) }
+    ensures short { length buffer.new ≤ length buffer.old + longest_answer }
 {
     let Some(unit) = unit else {
-        push_until(gathered, from, to);
+        push_until(buffer, from, to);
         return true;
     };
     match count_between(unit, moment_of(from), moment_of(to)) {
         Some(count) => {
-            gathered.push(signed_text(i128::from(count)).as_bytes());
+            buffer.push(signed_text(i128::from(count)).as_bytes());
             true
         }
-        None => push_none(gathered),
+        None => push_none(buffer),
     }
 }
 
 /// Gathers the days between two dates, else the duration between two moments.
-fn push_until(gathered: &mut Gathered, from: &DateOrMoment, to: &DateOrMoment)
-    requires { HasRoom longest_answer gathered.old }
-    ensures text { gathered.new ≡ gathered.old ++ until_text from.now to.now }
-    ensures short { length gathered.new ≤ length gathered.old + longest_answer }
+fn push_until(buffer: &mut Buffer, from: &DateOrMoment, to: &DateOrMoment)
+    requires { HasRoom longest_answer buffer.old }
+    ensures text { buffer.new ≡ buffer.old ++ until_text from.now to.now }
+    ensures short { length buffer.new ≤ length buffer.old + longest_answer }
 {
     let start = moment_of(from);
     let end = moment_of(to);
     if is_date(from) && is_date(to) {
         let mut days = ShortText::new();
         days.push_signed(end.date().to_julian_day() - start.date().to_julian_day());
-        gathered.push(days.as_bytes());
+        buffer.push(days.as_bytes());
     } else {
-        gathered.push((end - start).text().as_bytes());
+        buffer.push((end - start).text().as_bytes());
     }
 }
 

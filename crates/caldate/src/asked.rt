@@ -21,7 +21,7 @@ use cal_time::{SignedDuration, Weekday};
 
 /// What the arguments ask for, or the first word that makes no sense. Between them stands a zero byte.
 ///
-/// `to week` asks for the lines in the form of week dates; of `add 1 fortnight` the word at place 2 is no unit.
+/// `to week` asks for the lines in the form of week dates; of `add 1 fortnight` the word at index 2 is no unit.
 pub fn asked_of(arguments: &[u8]) -> Result<Asked, Senseless>
     ensures steps { IfOk result IsAsked }
     ensures asked { (reading : List ℕ → Option DateOrMoment) → IsReading reading → result ≡ asked_of reading (arguments_of arguments.now) }

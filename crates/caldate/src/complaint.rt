@@ -5,8 +5,8 @@ ghost use Rattle.caldate.specs.Runs.{Shown};
 ghost use Rattle.std.specs.Option.{option_copied};
 ghost use Rattle.caldate.specs.Senseless.{complaint, wanted_words, word_words};
 
+use crate::buffer::Buffer;
 use crate::fault::Fault;
-use crate::gathered::Gathered;
 use crate::output::write_all;
 use crate::senseless::{Senseless, Wanted, word_at};
 use crate::shown::ShownText;
@@ -24,26 +24,26 @@ pub fn complain<W: Write>(
 ) -> Result<(), Fault>
     ensures { Shown (complaint (arguments_of arguments.now) senseless) result (W.contents writer.old) (W.contents writer.new) }
 {
-    let mut line = Gathered::new();
+    let mut line = Buffer::new();
     push_complaint(&mut line, arguments, senseless);
     write_all(writer, line.as_bytes())
 }
 
 /// Gathers that line.
-fn push_complaint(line: &mut Gathered, arguments: &[u8], senseless: Senseless)
+fn push_complaint(line: &mut Buffer, arguments: &[u8], senseless: Senseless)
     requires { line.old ≡ [] }
     ensures { line.new ≡ complaint (arguments_of arguments.now) senseless }
 {
     line.push(b"caldate: ");
     if senseless.wanted != Wanted::Something {
-        push_word(line, word_at(arguments, senseless.place));
+        push_word(line, word_at(arguments, senseless.index));
     }
     line.push(wanted_words(senseless.wanted));
     line.push(b"\n");
 }
 
 /// The word itself, or that it is missing.
-fn push_word(line: &mut Gathered, word: Option<&[u8]>)
+fn push_word(line: &mut Buffer, word: Option<&[u8]>)
     requires { length line.old ≤ 9 }
     ensures text { line.new ≡ line.old ++ word_words (option_copied word.entry) }
     ensures short { length line.new ≤ length line.old + 86 }
@@ -57,7 +57,7 @@ fn push_word(line: &mut Gathered, word: Option<&[u8]>)
     line.push(b"' is ");
 }
 
-/// What may stand at the place.
+/// What may stand at the index.
 fn wanted_words(wanted: Wanted) -> &'static [u8]
     ensures words { result.now ≡ wanted_words wanted }
     ensures short { length result.now ≤ 200 }

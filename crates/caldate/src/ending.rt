@@ -3,8 +3,8 @@ ghost use Rattle.std.specs.Prelude.{◌≡◌, ◌++◌, [], codes};
 ghost use Rattle.caldate.specs.Ending.{Tells, status_of, words_of_end};
 ghost use Rattle.caldate.specs.Runs.{Shown};
 
+use crate::buffer::Buffer;
 use crate::fault::{Fault, is_closed};
-use crate::gathered::Gathered;
 use crate::output::write_all;
 use std::io::Write;
 
@@ -33,7 +33,7 @@ pub fn end<W: Write>(outcome: Result<(), Fault>, writer: &mut W) -> Ending
 fn tell<W: Write>(outcome: Result<(), Fault>, writer: &mut W) -> Result<(), Fault>
     ensures { Shown (words_of_end outcome) result (W.contents writer.old) (W.contents writer.new) }
 {
-    let mut words = Gathered::new();
+    let mut words = Buffer::new();
     push_words(&mut words, outcome);
     write_all(writer, words.as_bytes())
 }
@@ -51,7 +51,7 @@ fn status_of(outcome: Result<(), Fault>) -> u8
 }
 
 /// What is said of a run.
-fn push_words(words: &mut Gathered, outcome: Result<(), Fault>)
+fn push_words(words: &mut Buffer, outcome: Result<(), Fault>)
     requires { words.old ≡ [] }
     ensures { words.new ≡ words_of_end outcome }
 {

@@ -2,7 +2,7 @@
 ghost use Rattle.std.specs.Prelude.{◌≡◌, ◌+◌, ◌≤◌, ◌++◌, ◌∷◌, [], ℕ, List, Some, None, MatchOption, length};
 ghost use Rattle.caldate.specs.Fields.{asked_text, fields_of, text_with};
 
-use crate::lines::place_of;
+use crate::lines::index_of;
 use crate::request::Field;
 
 /// What comes before a field, the field, and what comes after it; `None` where the text has no such field.
@@ -33,6 +33,6 @@ fn first_field(field: Field, bytes: &[u8]) -> Option<(&[u8], &[u8])>
         (λ parts. fields_of field bytes.now ≡ parts.0.now ∷ fields_of field parts.1.now) }
     ensures whole { MatchOption result (length bytes.now ≡ length bytes.now) (λ parts. bytes.now ≡ parts.0.now ++ field.separator ∷ parts.1.now) }
 {
-    let at = place_of(field.separator, bytes)?;
+    let at = index_of(field.separator, bytes)?;
     Some((&bytes[..at], &bytes[at + 1..]))
 }

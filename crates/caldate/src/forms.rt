@@ -19,7 +19,7 @@ pub fn month_text(date: Date) -> ShortText
     let mut text = ShortText::new();
     text.push_year(year);
     text.push("-");
-    text.push_two_digits(u32::from(month.place()) + 1);
+    text.push_two_digits(u32::from(month.index()) + 1);
     text
 }
 
@@ -45,7 +45,7 @@ pub fn basic_text(date: Date) -> Option<ShortText>
     }
     let mut text = ShortText::new();
     text.push_year(year);
-    text.push_two_digits(u32::from(month.place()) + 1);
+    text.push_two_digits(u32::from(month.index()) + 1);
     text.push_two_digits(u32::from(day));
     Some(text)
 }

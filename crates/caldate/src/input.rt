@@ -7,7 +7,7 @@ ghost use Rattle.caldate.specs.Room.{capacity};
 ghost use Rattle.caldate.specs.Runs.{HasRead};
 
 use crate::fault::Fault;
-use crate::patience::Patience;
+use crate::retries::Retries;
 use std::io::{self, ErrorKind, Read};
 use std::marker::Model;
 
@@ -67,7 +67,7 @@ impl Input {
         ensures end { IsOkAnd result (λ n. n ≡ 0) → IsAtEnd (R.remaining reader.new) × (self.new ≡ self.old) }
         ensures err { IfErr result (λ fault. (fault ≡ Fault.Read) × Keeps (R.remaining reader.old) (R.remaining reader.new)) }
     {
-        match read_some(reader, &mut self.bytes[self.filled..], &mut Patience::new()) {
+        match read_some(reader, &mut self.bytes[self.filled..], &mut Retries::new()) {
             Ok(count) => {
                 self.filled += count;
                 Ok(count)
@@ -87,19 +87,15 @@ impl Input {
     }
 }
 
-/// One read, taken again where the patience bears an interruption. So it is interrupted only where no patience is left.
-fn read_some<R: Read>(
-    reader: &mut R,
-    buffer: &mut [u8],
-    patience: &mut Patience,
-) -> io::Result<usize>
+/// One read, taken again where it was interrupted and a retry is left. So it is interrupted only where no retry is left.
+fn read_some<R: Read>(reader: &mut R, buffer: &mut [u8], retries: &mut Retries) -> io::Result<usize>
     ensures bound { ReadsAtMost result buffer.new }
     ensures bytes { ReadConsumes (R.remaining reader.old) (R.remaining reader.new) result buffer.new }
-    ensures patient { IfErr result (λ error. error_kind error ≡ ErrorKind.Interrupted → patience.new ≡ 0) }
+    ensures patient { IfErr result (λ error. error_kind error ≡ ErrorKind.Interrupted → retries.new ≡ 0) }
 {
     loop {
         match reader.read(buffer) {
-            Err(error) if patience.bears(&error) => {}
+            Err(error) if retries.allows(&error) => {}
             other => return other,
         }
     }

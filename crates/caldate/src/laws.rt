@@ -6,7 +6,7 @@ use crate::reading::read_in;
 use crate::request::Filter;
 use cal_text::{DateOrMoment, Unreadable};
 
-/// No text has two answers to one request in one reading, but for the place that the words for an unreadable text name.
+/// No text has two answers to one request in one reading, but for the position that the words for an unreadable text name.
 pub(crate) fn one_answer(filter: &Filter, text: &[u8]) -> Result<DateOrMoment, Unreadable>
     ensures { (words others : List ℕ) → IsAnswer filter.now text.now words → IsAnswer filter.now text.now others
         → (words ≡ others) ⊎ IsUnreadable filter.now text.now words × IsUnreadable filter.now text.now others }

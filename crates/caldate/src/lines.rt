@@ -10,7 +10,7 @@ pub fn first_line(bytes: &[u8]) -> Option<(&[u8], &[u8])>
         (λ parts. NoEnd parts.0.now × (bytes.now ≡ parts.0.now ++ 10 ∷ parts.1.now)) }
     ensures shorter { MatchOption result (length bytes.now ≡ length bytes.now) (λ parts. length parts.1.now < length bytes.now) }
 {
-    let at = place_of(b'\n', bytes)?;
+    let at = index_of(b'\n', bytes)?;
     Some((&bytes[..at], &bytes[at + 1..]))
 }
 
@@ -27,7 +27,7 @@ pub fn text_and_end(line: &[u8]) -> (&[u8], &'static [u8])
 }
 
 /// Where a byte first stands.
-pub fn place_of(byte: u8, bytes: &[u8]) -> Option<usize>
+pub fn index_of(byte: u8, bytes: &[u8]) -> Option<usize>
     ensures { result ≡ position (λ b. b == byte) bytes.now }
 {
     bytes.iter().position(|b| *b == byte)

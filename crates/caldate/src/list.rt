@@ -4,8 +4,8 @@ ghost use Rattle.cal_time.specs.Date.{IsDate};
 ghost use Rattle.caldate.specs.Lists.{IsAfter, IsStep, IsWithin, Lists, line_of};
 ghost use Rattle.caldate.specs.Room.{HasRoom, longest_reply};
 
+use crate::buffer::Buffer;
 use crate::fault::Fault;
-use crate::gathered::Gathered;
 use crate::output::write_all;
 use crate::request::{Listing, StepUnit};
 use crate::run::make_room;
@@ -22,14 +22,14 @@ pub fn list<W: Write>(listing: &Listing, writer: &mut W) -> Result<(), Fault>
     requires { IsStep listing.now.step }
     ensures { Lists listing.now result (W.contents writer.old) (W.contents writer.new) }
 {
-    let mut gathered = Gathered::new();
+    let mut buffer = Buffer::new();
     let mut count = 0;
     while let Some(day) = day_within(listing, count) {
-        make_room(&mut gathered, writer)?;
-        push_line(&mut gathered, day);
+        make_room(&mut buffer, writer)?;
+        push_line(&mut buffer, day);
         count += listing.step.every;
     }
-    write_all(writer, gathered.as_bytes())
+    write_all(writer, buffer.as_bytes())
 }
 
 /// The day so many days or months after the first, or `None` where it is past the last.
@@ -73,10 +73,10 @@ fn months_after(date: Date, months: u64) -> Option<Date>
 }
 
 /// Gathers the line of a day.
-fn push_line(gathered: &mut Gathered, day: Date)
-    requires { HasRoom longest_reply gathered.old }
-    ensures { gathered.new ≡ gathered.old ++ line_of day }
+fn push_line(buffer: &mut Buffer, day: Date)
+    requires { HasRoom longest_reply buffer.old }
+    ensures { buffer.new ≡ buffer.old ++ line_of day }
 {
-    gathered.push(CalendarText(day).text().as_bytes());
-    gathered.push(b"\n");
+    buffer.push(CalendarText(day).text().as_bytes());
+    buffer.push(b"\n");
 }

@@ -19,13 +19,13 @@ pub fn offset_of(word: &[u8]) -> Option<UtcOffset>
     seconds_after(word[0], (hours, minutes))
 }
 
-/// The number of two digits that begin at this place.
-fn number_at(word: &[u8], place: usize) -> Option<u8>
-    requires { place + 1 < length word.now }
-    ensures { result ≡ number_at word.now place }
+/// The number of two digits that begin at this position.
+fn number_at(word: &[u8], index: usize) -> Option<u8>
+    requires { index + 1 < length word.now }
+    ensures { result ≡ number_at word.now index }
 {
-    let tens = word[place];
-    let ones = word[place + 1];
+    let tens = word[index];
+    let ones = word[index + 1];
     if tens.is_ascii_digit() && ones.is_ascii_digit() {
         Some((tens - b'0') * 10 + (ones - b'0'))
     } else {

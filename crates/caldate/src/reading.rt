@@ -35,7 +35,7 @@ pub enum Reading {
 
 /// The date or the moment that the text is in this reading, and the form that it is answered in.
 ///
-/// `29.02.2024` is 2024-02-29 where the day comes first. A text of another form is refused with the place of the first byte that no
+/// `29.02.2024` is 2024-02-29 where the day comes first. A text of another form is refused with the position of the first byte that no
 /// text of the reading has there; one that has the form, for the component at fault: in `31.04.2024` for `day`.
 pub fn read_in(reading: Reading, text: &[u8]) -> Result<DateOrMoment, Unreadable>
     ensures every { (found : DateOrMoment) → IsTextIn reading text.now found → result ≡ Ok found }

@@ -10,10 +10,10 @@ ghost use Rattle.caldate.specs.Standing.{IsHeld, IsReply, IsShown, counted};
 ghost use Rattle.caldate.specs.Unanswered.{IsReason, IsUnanswered, IsWhy, Shows};
 
 use crate::answer::{LONGEST_TEXT, push_answer};
+use crate::buffer::Buffer;
 use crate::fields::cut_field;
-use crate::gathered::Gathered;
 use crate::lines::text_and_end;
-use crate::place::Place;
+use crate::progress::Progress;
 use crate::request::{Field, Filter};
 use crate::shown::ShownText;
 use crate::unanswered::UnansweredLine;
@@ -21,145 +21,141 @@ use crate::unanswered::UnansweredLine;
 /// Gathers the reply to a line, of which a front may have been let go as the line is too long. In a strict run it gathers nothing
 /// for a line that has no answer, and returns what is told of it.
 pub fn push_reply(
-    gathered: &mut Gathered,
+    buffer: &mut Buffer,
     filter: &Filter,
-    place: &Place,
+    progress: &Progress,
     line: &[u8],
 ) -> Result<(), UnansweredLine>
-    requires { HasRoom longest_reply gathered.old }
-    ensures replied { OnOk result ((kept : List ℕ) (before : ℕ) → IsHeld place.now.is_long kept line.now → place.now.number ≡ counted before
-        → AppendsThat (IsReply (IsAllowed filter.now before) (kept ++ line.now)) gathered.old gathered.new) }
-    ensures strict { IfErr result (λ told. (filter.now.is_strict ≡ true) × (gathered.new ≡ gathered.old)) }
-    ensures told { IfErr result (λ told. (kept : List ℕ) (before : ℕ) → IsHeld place.now.is_long kept line.now
-        → IsShown place.now.is_long place.now.front kept → place.now.number ≡ counted before → IsUnanswered filter.now before (kept ++ line.now) told) }
+    requires { HasRoom longest_reply buffer.old }
+    ensures replied { OnOk result ((kept : List ℕ) (before : ℕ) → IsHeld progress.now.is_long kept line.now → progress.now.number ≡ counted before
+        → AppendsThat (IsReply (IsAllowed filter.now before) (kept ++ line.now)) buffer.old buffer.new) }
+    ensures strict { IfErr result (λ told. (filter.now.is_strict ≡ true) × (buffer.new ≡ buffer.old)) }
+    ensures told { IfErr result (λ told. (kept : List ℕ) (before : ℕ) → IsHeld progress.now.is_long kept line.now
+        → IsShown progress.now.is_long progress.now.front kept → progress.now.number ≡ counted before → IsUnanswered filter.now before (kept ++ line.now) told) }
 {
     let (text, end) = text_and_end(line);
-    let said = if place.is_long {
-        push_too_long(gathered, filter)
+    let said = if progress.is_long {
+        push_too_long(buffer, filter)
     } else {
-        push_text(gathered, filter, place.number, text)
+        push_text(buffer, filter, progress.number, text)
     };
     match said {
         Ok(()) => {
-            gathered.push(end);
+            buffer.push(end);
             Ok(())
         }
         Err(reason) => Err(UnansweredLine {
-            number: place.number.saturating_add(1),
+            number: progress.number.saturating_add(1),
             reason,
-            text: place.shown(text),
+            text: progress.shown(text),
         }),
     }
 }
 
 /// Gathers that a line is too long. In a strict run it gathers nothing, and returns this as the reason.
-fn push_too_long(gathered: &mut Gathered, filter: &Filter) -> Result<(), ShownText>
-    requires { HasRoom longest_answer gathered.old }
-    ensures ok { OnOk result ((filter.now.is_strict ≡ false) × (gathered.new ≡ gathered.old ++ codes "line too long")) }
-    ensures strict { IfErr result (λ reason. (filter.now.is_strict ≡ true) × (gathered.new ≡ gathered.old)) }
+fn push_too_long(buffer: &mut Buffer, filter: &Filter) -> Result<(), ShownText>
+    requires { HasRoom longest_answer buffer.old }
+    ensures ok { OnOk result ((filter.now.is_strict ≡ false) × (buffer.new ≡ buffer.old ++ codes "line too long")) }
+    ensures strict { IfErr result (λ reason. (filter.now.is_strict ≡ true) × (buffer.new ≡ buffer.old)) }
     ensures reason { IfErr result (λ reason. words_shown reason ≡ shown (codes "line too long")) }
-    ensures short { length gathered.new ≤ length gathered.old + longest_answer }
+    ensures short { length buffer.new ≤ length buffer.old + longest_answer }
 {
     if filter.is_strict {
         return Err(ShownText::new(b"line too long"));
     }
-    gathered.push(b"line too long");
+    buffer.push(b"line too long");
     Ok(())
 }
 
 /// Gathers what is written for the text of a line, after so many lines. In a strict run it gathers nothing for one without an answer, and
 /// returns the reason.
 fn push_text(
-    gathered: &mut Gathered,
+    buffer: &mut Buffer,
     filter: &Filter,
     number: u64,
     text: &[u8],
 ) -> Result<(), ShownText>
-    requires { HasRoom longest_reply gathered.old }
-    ensures ok { OnOk result ((before : ℕ) → number ≡ counted before → AppendsThat (IsAllowed filter.now before text.now) gathered.old gathered.new) }
-    ensures strict { IfErr result (λ reason. (filter.now.is_strict ≡ true) × (gathered.new ≡ gathered.old)) }
+    requires { HasRoom longest_reply buffer.old }
+    ensures ok { OnOk result ((before : ℕ) → number ≡ counted before → AppendsThat (IsAllowed filter.now before text.now) buffer.old buffer.new) }
+    ensures strict { IfErr result (λ reason. (filter.now.is_strict ≡ true) × (buffer.new ≡ buffer.old)) }
     ensures reason { IfErr result (λ reason. (before : ℕ) → number ≡ counted before → Shows reason (IsReason filter.now before text.now)) }
-    ensures short { length gathered.new ≤ length gathered.old + longest_text + longest_answer }
+    ensures short { length buffer.new ≤ length buffer.old + longest_text + longest_answer }
 {
     if text.len() > LONGEST_TEXT {
-        return push_too_long(gathered, filter);
+        return push_too_long(buffer, filter);
     }
     if number < filter.skip {
-        gathered.push(text);
+        buffer.push(text);
         return Ok(());
     }
     match filter.field {
-        Some(field) => push_field(gathered, filter, field, text),
-        None => push_asked(gathered, filter, text),
+        Some(field) => push_field(buffer, filter, field, text),
+        None => push_asked(buffer, filter, text),
     }
 }
 
 /// Gathers a text with what is written for its field in the field's place. In a strict run it gathers nothing where there is no answer or
 /// no such field, and returns the reason.
 fn push_field(
-    gathered: &mut Gathered,
+    buffer: &mut Buffer,
     filter: &Filter,
     field: Field,
     text: &[u8],
 ) -> Result<(), ShownText>
-    requires room { HasRoom longest_reply gathered.old }
+    requires room { HasRoom longest_reply buffer.old }
     requires fits { length text.now ≤ longest_text }
     requires field { filter.now.field ≡ Some field }
-    ensures ok { OnOk result (AppendsThat (AllowedFor filter.now text.now (asked_text (Some field) text.now)) gathered.old gathered.new) }
-    ensures strict { IfErr result (λ reason. (filter.now.is_strict ≡ true) × (gathered.new ≡ gathered.old)) }
+    ensures ok { OnOk result (AppendsThat (AllowedFor filter.now text.now (asked_text (Some field) text.now)) buffer.old buffer.new) }
+    ensures strict { IfErr result (λ reason. (filter.now.is_strict ≡ true) × (buffer.new ≡ buffer.old)) }
     ensures reason { IfErr result (λ reason. Shows reason (IsWhy filter.now (asked_text (Some field) text.now))) }
-    ensures short { length gathered.new ≤ length gathered.old + longest_text + longest_answer }
+    ensures short { length buffer.new ≤ length buffer.old + longest_text + longest_answer }
 {
     let Some((front, asked, rest)) = cut_field(field, text) else {
-        return push_without_field(gathered, filter, text);
+        return push_without_field(buffer, filter, text);
     };
-    let before = gathered.len();
-    gathered.push(front);
-    match push_asked(gathered, filter, asked) {
+    let before = buffer.len();
+    buffer.push(front);
+    match push_asked(buffer, filter, asked) {
         Ok(()) => {
-            gathered.push(rest);
+            buffer.push(rest);
             Ok(())
         }
         Err(reason) => {
-            gathered.truncate(before);
+            buffer.truncate(before);
             Err(reason)
         }
     }
 }
 
 /// Gathers a text that has no such field as it is. In a strict run it gathers nothing, and returns the reason.
-fn push_without_field(
-    gathered: &mut Gathered,
-    filter: &Filter,
-    text: &[u8],
-) -> Result<(), ShownText>
-    requires { HasRoom (length text.now) gathered.old }
-    ensures ok { OnOk result ((filter.now.is_strict ≡ false) × (gathered.new ≡ gathered.old ++ text.now)) }
-    ensures strict { IfErr result (λ reason. (filter.now.is_strict ≡ true) × (gathered.new ≡ gathered.old)) }
+fn push_without_field(buffer: &mut Buffer, filter: &Filter, text: &[u8]) -> Result<(), ShownText>
+    requires { HasRoom (length text.now) buffer.old }
+    ensures ok { OnOk result ((filter.now.is_strict ≡ false) × (buffer.new ≡ buffer.old ++ text.now)) }
+    ensures strict { IfErr result (λ reason. (filter.now.is_strict ≡ true) × (buffer.new ≡ buffer.old)) }
     ensures reason { IfErr result (λ reason. words_shown reason ≡ shown (codes "no such field")) }
-    ensures short { length gathered.new ≤ length gathered.old + length text.now }
+    ensures short { length buffer.new ≤ length buffer.old + length text.now }
 {
     if filter.is_strict {
         return Err(ShownText::new(b"no such field"));
     }
-    gathered.push(text);
+    buffer.push(text);
     Ok(())
 }
 
 /// Gathers what is written for a text that is asked about. In a strict run it gathers nothing where there is no answer, and returns the
 /// reason.
-fn push_asked(gathered: &mut Gathered, filter: &Filter, text: &[u8]) -> Result<(), ShownText>
-    requires { HasRoom longest_answer gathered.old }
-    ensures ok { OnOk result (AppendsThat (Allowed filter.now.is_strict filter.now text.now) gathered.old gathered.new) }
-    ensures strict { IfErr result (λ reason. (filter.now.is_strict ≡ true) × (gathered.new ≡ gathered.old)) }
+fn push_asked(buffer: &mut Buffer, filter: &Filter, text: &[u8]) -> Result<(), ShownText>
+    requires { HasRoom longest_answer buffer.old }
+    ensures ok { OnOk result (AppendsThat (Allowed filter.now.is_strict filter.now text.now) buffer.old buffer.new) }
+    ensures strict { IfErr result (λ reason. (filter.now.is_strict ≡ true) × (buffer.new ≡ buffer.old)) }
     ensures reason { IfErr result (λ reason. Shows reason (LacksAnswer filter.now text.now)) }
-    ensures short { length gathered.new ≤ length gathered.old + longest_answer }
+    ensures short { length buffer.new ≤ length buffer.old + longest_answer }
 {
-    let before = gathered.len();
-    let has_answer = push_answer(gathered, filter, text);
+    let before = buffer.len();
+    let has_answer = push_answer(buffer, filter, text);
     if filter.is_strict && !has_answer {
-        let reason = ShownText::new(gathered.after(before));
-        gathered.truncate(before);
+        let reason = ShownText::new(buffer.after(before));
+        buffer.truncate(before);
         return Err(reason);
     }
     Ok(())

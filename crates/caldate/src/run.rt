@@ -7,12 +7,12 @@ ghost use Rattle.caldate.specs.Runs.{AppendsFront, Ended, EndsFrom, FailsFrom, I
 ghost use Rattle.caldate.specs.Standing.{Advances, NoEnd};
 ghost use Rattle.caldate.specs.declared.unanswered.UnansweredLine.{UnansweredLine};
 
+use crate::buffer::Buffer;
 use crate::fault::Fault;
-use crate::gathered::Gathered;
 use crate::input::Input;
 use crate::lines::first_line;
 use crate::output::write_all;
-use crate::place::Place;
+use crate::progress::Progress;
 use crate::reply::push_reply;
 use crate::request::Filter;
 use crate::shown::ShownText;
@@ -29,8 +29,8 @@ pub fn run<R: Read, W: Write>(filter: Filter, reader: &mut R, writer: &mut W) ->
     ensures { Ended filter result (R.remaining reader.old) (R.remaining reader.new) (W.contents writer.old) (W.contents writer.new) }
 {
     let mut input = Input::new();
-    let mut gathered = Gathered::new();
-    let mut place = Place {
+    let mut buffer = Buffer::new();
+    let mut progress = Progress {
         number: 0,
         is_long: false,
         front: ShownText::new(b""),
@@ -38,12 +38,18 @@ pub fn run<R: Read, W: Write>(filter: Filter, reader: &mut R, writer: &mut W) ->
     let mut reads = u64::MAX;
     while reads > 0 {
         if input.read_more(reader)? == 0 {
-            return answer_last(&filter, &mut place, &mut gathered, writer, input.as_bytes());
+            return answer_last(
+                &filter,
+                &mut progress,
+                &mut buffer,
+                writer,
+                input.as_bytes(),
+            );
         }
         let left = match answer_lines(
             &filter,
-            &mut place,
-            &mut gathered,
+            &mut progress,
+            &mut buffer,
             writer,
             input.as_bytes(),
         ) {
@@ -51,8 +57,8 @@ pub fn run<R: Read, W: Write>(filter: Filter, reader: &mut R, writer: &mut W) ->
             Err(fault) => return Err(fault),
         };
         input.keep_last(left);
-        let_go(&mut input, &mut place);
-        flush(&mut gathered, writer)?;
+        let_go(&mut input, &mut progress);
+        flush(&mut buffer, writer)?;
         reads -= 1;
     }
     Err(Fault::Read)
@@ -61,44 +67,44 @@ pub fn run<R: Read, W: Write>(filter: Filter, reader: &mut R, writer: &mut W) ->
 /// Answers the lines that end within the bytes, and returns how many bytes come after them.
 fn answer_lines<W: Write>(
     filter: &Filter,
-    place: &mut Place,
-    gathered: &mut Gathered,
+    progress: &mut Progress,
+    buffer: &mut Buffer,
     writer: &mut W,
     bytes: &[u8],
 ) -> Result<usize, Fault>
     ensures within { IfOk result (λ left. left ≤ length bytes.now) }
     ensures no_end { IfOk result (λ left. NoEnd (drop (length bytes.now - left) bytes.now)) }
-    ensures ok { IfOk result (λ left. Advances (IsAllowed filter.now) (W.contents writer.old) (W.contents writer.new) gathered.old gathered.new
-        bytes.now (drop (length bytes.now - left) bytes.now) place.old place.new) }
+    ensures ok { IfOk result (λ left. Advances (IsAllowed filter.now) (W.contents writer.old) (W.contents writer.new) buffer.old buffer.new
+        bytes.now (drop (length bytes.now - left) bytes.now) progress.old progress.new) }
     ensures write { IsErrAnd result IsOfWrite
-        → FailsFrom filter.now ended_lines (W.contents writer.old) (W.contents writer.new) gathered.old bytes.now place.old }
+        → FailsFrom filter.now ended_lines (W.contents writer.old) (W.contents writer.new) buffer.old bytes.now progress.old }
     ensures unanswered { (told : UnansweredLine) → IsErrOf result (Fault.Unanswered told)
-        → StopsFrom filter.now told ended_lines (W.contents writer.old) (W.contents writer.new) gathered.old bytes.now place.old }
+        → StopsFrom filter.now told ended_lines (W.contents writer.old) (W.contents writer.new) buffer.old bytes.now progress.old }
     ensures no_read { IsErrOf result Fault.Read → ⊥ }
 {
     let mut rest = bytes;
     while let Some((line, after)) = first_line(rest) {
-        make_room(gathered, writer)?;
-        match push_reply(gathered, filter, place, line) {
+        make_room(buffer, writer)?;
+        match push_reply(buffer, filter, progress, line) {
             Ok(()) => {}
-            Err(told) => return Err(stop(told, gathered, writer)),
+            Err(told) => return Err(stop(told, buffer, writer)),
         }
-        place.number = place.number.saturating_add(1);
-        place.is_long = false;
+        progress.number = progress.number.saturating_add(1);
+        progress.is_long = false;
         rest = after;
     }
     Ok(rest.len())
 }
 
 /// Lets what was answered before a line without an answer go out, and tells that line.
-fn stop<W: Write>(told: UnansweredLine, gathered: &Gathered, writer: &mut W) -> Fault
+fn stop<W: Write>(told: UnansweredLine, buffer: &Buffer, writer: &mut W) -> Fault
     ensures write { IsOfWrite result
-        → AppendsFront (W.contents writer.old) (W.contents writer.new) gathered.now }
+        → AppendsFront (W.contents writer.old) (W.contents writer.new) buffer.now }
     ensures unanswered { (line : UnansweredLine) → result ≡ Fault.Unanswered line → (line ≡ told)
-        × Appends (W.contents writer.old) (W.contents writer.new) gathered.now }
+        × Appends (W.contents writer.old) (W.contents writer.new) buffer.now }
     ensures no_read { result ≡ Fault.Read → ⊥ }
 {
-    match write_all(writer, gathered.as_bytes()) {
+    match write_all(writer, buffer.as_bytes()) {
         Ok(()) => Fault::Unanswered(told),
         Err(fault) => fault,
     }
@@ -107,66 +113,66 @@ fn stop<W: Write>(told: UnansweredLine, gathered: &Gathered, writer: &mut W) -> 
 /// Answers the last line where it does not end, and lets the answers go out.
 fn answer_last<W: Write>(
     filter: &Filter,
-    place: &mut Place,
-    gathered: &mut Gathered,
+    progress: &mut Progress,
+    buffer: &mut Buffer,
     writer: &mut W,
     line: &[u8],
 ) -> Result<(), Fault>
     requires no_end { NoEnd line.now }
-    requires none { gathered.old ≡ [] }
-    ensures ok { OnOk result (EndsFrom filter.now (W.contents writer.old) (W.contents writer.new) [] line.now place.old) }
+    requires none { buffer.old ≡ [] }
+    ensures ok { OnOk result (EndsFrom filter.now (W.contents writer.old) (W.contents writer.new) [] line.now progress.old) }
     ensures write { IsErrAnd result IsOfWrite
-        → FailsFrom filter.now lines_of (W.contents writer.old) (W.contents writer.new) [] line.now place.old }
+        → FailsFrom filter.now lines_of (W.contents writer.old) (W.contents writer.new) [] line.now progress.old }
     ensures unanswered { (told : UnansweredLine) → IsErrOf result (Fault.Unanswered told)
-        → StopsFrom filter.now told lines_of (W.contents writer.old) (W.contents writer.new) [] line.now place.old }
+        → StopsFrom filter.now told lines_of (W.contents writer.old) (W.contents writer.new) [] line.now progress.old }
     ensures no_read { IsErrOf result Fault.Read → ⊥ }
 {
     if line.is_empty() {
         return Ok(());
     }
-    match push_reply(gathered, filter, place, line) {
-        Ok(()) => write_all(writer, gathered.as_bytes()),
+    match push_reply(buffer, filter, progress, line) {
+        Ok(()) => write_all(writer, buffer.as_bytes()),
         Err(told) => Err(Fault::Unanswered(told)),
     }
 }
 
 /// Lets go of a long line but for its last byte. Whether that is a carriage return tells how the line ends.
 #[tactic(auto, using(crate::proofs::Steps::let_go))]
-fn let_go(input: &mut Input, place: &mut Place)
+fn let_go(input: &mut Input, progress: &mut Progress)
     requires { NoEnd input.old }
     ensures few { length input.new ≤ longest_text + 1 }
     ensures no_end { NoEnd input.new }
-    ensures advances { (filter : Filter) (now : Option (List ℕ)) (gathered : List ℕ)
-        → Advances (IsAllowed filter) now now gathered gathered input.old input.new place.old place.new }
+    ensures advances { (filter : Filter) (now : Option (List ℕ)) (buffer : List ℕ)
+        → Advances (IsAllowed filter) now now buffer buffer input.old input.new progress.old progress.new }
 {
     if input.len() > MOST_KEPT {
-        place.front = place.shown(input.as_bytes());
+        progress.front = progress.shown(input.as_bytes());
         input.keep_last(1);
-        place.is_long = true;
+        progress.is_long = true;
     }
 }
 
 /// Makes room for a reply: where there is none, what was gathered is written.
-pub fn make_room<W: Write>(gathered: &mut Gathered, writer: &mut W) -> Result<(), Fault>
-    ensures room { OnOk result (HasRoom longest_reply gathered.new) }
-    ensures ok { OnOk result ((written : List ℕ) × (gathered.old ≡ written ++ gathered.new)
+pub fn make_room<W: Write>(buffer: &mut Buffer, writer: &mut W) -> Result<(), Fault>
+    ensures room { OnOk result (HasRoom longest_reply buffer.new) }
+    ensures ok { OnOk result ((written : List ℕ) × (buffer.old ≡ written ++ buffer.new)
         × Appends (W.contents writer.old) (W.contents writer.new) written) }
-    ensures front { OnErr result (AppendsFront (W.contents writer.old) (W.contents writer.new) gathered.old) }
+    ensures front { OnErr result (AppendsFront (W.contents writer.old) (W.contents writer.new) buffer.old) }
     ensures err { IfErr result IsOfWrite }
 {
-    if !gathered.has_room_for_a_reply() {
-        flush(gathered, writer)?;
+    if !buffer.has_room_for_a_reply() {
+        flush(buffer, writer)?;
     }
     Ok(())
 }
 
 /// Writes what was gathered.
-fn flush<W: Write>(gathered: &mut Gathered, writer: &mut W) -> Result<(), Fault>
-    ensures ok { OnOk result (Appends (W.contents writer.old) (W.contents writer.new) gathered.old × (gathered.new ≡ [])) }
-    ensures front { OnErr result (AppendsFront (W.contents writer.old) (W.contents writer.new) gathered.old) }
+fn flush<W: Write>(buffer: &mut Buffer, writer: &mut W) -> Result<(), Fault>
+    ensures ok { OnOk result (Appends (W.contents writer.old) (W.contents writer.new) buffer.old × (buffer.new ≡ [])) }
+    ensures front { OnErr result (AppendsFront (W.contents writer.old) (W.contents writer.new) buffer.old) }
     ensures err { IfErr result IsOfWrite }
 {
-    write_all(writer, gathered.as_bytes())?;
-    gathered.clear();
+    write_all(writer, buffer.as_bytes())?;
+    buffer.clear();
     Ok(())
 }

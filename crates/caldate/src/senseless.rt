@@ -14,7 +14,7 @@ use crate::spelling::{
 };
 use cal_text::read_any;
 
-/// What may stand at a place of the arguments.
+/// What may stand at an index of the arguments.
 #[derive(Clone, Copy, Debug, PartialEq, Eq)]
 pub enum Wanted {
     /// Something to do: there are no arguments.
@@ -76,8 +76,8 @@ pub enum Wanted {
 /// The first word that makes no sense.
 #[derive(Clone, Copy, Debug, PartialEq, Eq)]
 pub struct Senseless {
-    /// Its place among the arguments, counted from 0. A word that is missing has the place that it would have.
-    pub place: usize,
+    /// Its index among the arguments, counted from 0. A word that is missing has the index that it would have.
+    pub index: usize,
     /// What may stand there.
     pub wanted: Wanted,
 }
@@ -93,7 +93,7 @@ const LIST_WORDS: [Wanted; 7] = [
     Wanted::UnitOfDays,
 ];
 
-/// The first word that makes no sense, of arguments that make none: of `next frday` that at place 1, where a weekday may stand.
+/// The first word that makes no sense, of arguments that make none: of `next frday` that at index 1, where a weekday may stand.
 pub fn senseless_of(arguments: &[u8]) -> Senseless
     ensures { (reading : List ℕ → Option DateOrMoment) → IsReading reading → result ≡ senseless_of reading (arguments_of arguments.now) }
 {
@@ -122,13 +122,13 @@ fn senseless_lines(arguments: &[u8]) -> Senseless
 fn senseless_front(options: &Options, words: Option<&[u8]>) -> Senseless
     ensures { (reading : List ℕ → Option DateOrMoment) → IsReading reading → result ≡ senseless_front reading options.now (words_left words.entry) }
 {
-    let place = words_in(options);
+    let index = words_in(options);
     let Some(words) = words else {
-        return senseless_at(place, verb_after(options));
+        return senseless_at(index, verb_after(options));
     };
     let (word, _) = cut(words);
     match value_of(options, word) {
-        Some(wanted) => senseless_at(place + 1, wanted),
+        Some(wanted) => senseless_at(index + 1, wanted),
         None => senseless_verb(options, words),
     }
 }
@@ -137,134 +137,134 @@ fn senseless_front(options: &Options, words: Option<&[u8]>) -> Senseless
 fn senseless_verb(options: &Options, words: &[u8]) -> Senseless
     ensures { (reading : List ℕ → Option DateOrMoment) → IsReading reading → result ≡ senseless_verb reading options.now (arguments_of words.now) }
 {
-    let place = words_in(options);
+    let index = words_in(options);
     let wanted = verb_after(options);
     if lacking(options).is_some() {
-        senseless_at(place, wanted)
+        senseless_at(index, wanted)
     } else {
-        senseless_request(place, wanted, words)
+        senseless_request(index, wanted, words)
     }
 }
 
-/// The word at a place, if there is one.
-pub fn word_at(arguments: &[u8], place: usize) -> Option<&[u8]>
-    ensures { MatchOption result (slice_get (arguments_of arguments.now) place ≡ None)
-        (λ word. slice_get (arguments_of arguments.now) place ≡ Some word.now) }
+/// The word at an index, if there is one.
+pub fn word_at(arguments: &[u8], index: usize) -> Option<&[u8]>
+    ensures { MatchOption result (slice_get (arguments_of arguments.now) index ≡ None)
+        (λ word. slice_get (arguments_of arguments.now) index ≡ Some word.now) }
 {
     let mut words = Some(arguments);
-    for _ in 0..place {
+    for _ in 0..index {
         words = cut(words?).1;
     }
     Some(cut(words?).0)
 }
 
-/// Of words from this place on, each of which is wanted so, the first that is not, or is missing, or is one too many.
-fn senseless_among(place: usize, wanted: &[Wanted], words: Option<&[u8]>) -> Senseless
-    requires { place + length wanted.now ≤ 8 }
-    ensures { (reading : List ℕ → Option DateOrMoment) → IsReading reading → result ≡ senseless_among reading place wanted.now (words_left words.entry) }
+/// Of words from this index on, each of which is wanted so, the first that is not, or is missing, or is one too many.
+fn senseless_among(index: usize, wanted: &[Wanted], words: Option<&[u8]>) -> Senseless
+    requires { index + length wanted.now ≤ 8 }
+    ensures { (reading : List ℕ → Option DateOrMoment) → IsReading reading → result ≡ senseless_among reading index wanted.now (words_left words.entry) }
 {
     let Some((first, others)) = wanted.split_first() else {
-        return senseless_at(place, Wanted::End);
+        return senseless_at(index, Wanted::End);
     };
     let Some(words) = words else {
-        return senseless_at(place, *first);
+        return senseless_at(index, *first);
     };
     let (word, rest) = cut(words);
     if is_wanted(word, *first) {
-        senseless_among(place + 1, others, rest)
+        senseless_among(index + 1, others, rest)
     } else {
-        senseless_at(place, *first)
+        senseless_at(index, *first)
     }
 }
 
-/// From the verb on, which has this place, where this is wanted.
-fn senseless_request(place: usize, wanted: Wanted, words: &[u8]) -> Senseless
-    requires { place ≤ 11 }
-    ensures { (reading : List ℕ → Option DateOrMoment) → IsReading reading → result ≡ senseless_request reading place wanted (arguments_of words.now) }
+/// From the verb on, which has this index, where this is wanted.
+fn senseless_request(index: usize, wanted: Wanted, words: &[u8]) -> Senseless
+    requires { index ≤ 11 }
+    ensures { (reading : List ℕ → Option DateOrMoment) → IsReading reading → result ≡ senseless_request reading index wanted (arguments_of words.now) }
 {
     let (word, rest) = cut(words);
     match verb_of(word) {
-        Some(verb) => senseless_after(place + 1, rest, verb),
-        None => senseless_at(place, wanted),
+        Some(verb) => senseless_after(index + 1, rest, verb),
+        None => senseless_at(index, wanted),
     }
 }
 
-/// After a verb, from this place on.
-fn senseless_after(place: usize, words: Option<&[u8]>, verb: Verb) -> Senseless
-    requires { place ≤ 12 }
-    ensures { (reading : List ℕ → Option DateOrMoment) → IsReading reading → result ≡ senseless_after reading place (words_left words.entry) verb }
+/// After a verb, from this index on.
+fn senseless_after(index: usize, words: Option<&[u8]>, verb: Verb) -> Senseless
+    requires { index ≤ 12 }
+    ensures { (reading : List ℕ → Option DateOrMoment) → IsReading reading → result ≡ senseless_after reading index (words_left words.entry) verb }
 {
     let needed = needed_by(verb);
     let Some(words) = words else {
-        return senseless_at(place, needed);
+        return senseless_at(index, needed);
     };
     let (word, rest) = cut(words);
     if is_wanted(word, needed) {
-        senseless_further(place, further_to(verb), rest)
+        senseless_further(index, further_to(verb), rest)
     } else {
-        senseless_at(place, needed)
+        senseless_at(index, needed)
     }
 }
 
-/// After the word that the verb needs, which has this place.
-fn senseless_further(place: usize, further: Wanted, words: Option<&[u8]>) -> Senseless
-    requires { place ≤ 12 }
-    ensures { (reading : List ℕ → Option DateOrMoment) → IsReading reading → result ≡ senseless_further reading place further (words_left words.entry) }
+/// After the word that the verb needs, which has this index.
+fn senseless_further(index: usize, further: Wanted, words: Option<&[u8]>) -> Senseless
+    requires { index ≤ 12 }
+    ensures { (reading : List ℕ → Option DateOrMoment) → IsReading reading → result ≡ senseless_further reading index further (words_left words.entry) }
 {
     let Some(words) = words else {
-        return senseless_at(place, Wanted::Amount);
+        return senseless_at(index, Wanted::Amount);
     };
     let (word, rest) = cut(words);
     if is_wanted(word, further) {
-        senseless_last(place, further, rest)
+        senseless_last(index, further, rest)
     } else {
-        senseless_at(place + 1, further)
+        senseless_at(index + 1, further)
     }
 }
 
 /// After the word that may come after it.
-fn senseless_last(place: usize, further: Wanted, words: Option<&[u8]>) -> Senseless
-    requires { place ≤ 12 }
-    ensures { result ≡ senseless_last place further (words_left words.entry) }
+fn senseless_last(index: usize, further: Wanted, words: Option<&[u8]>) -> Senseless
+    requires { index ≤ 12 }
+    ensures { result ≡ senseless_last index further (words_left words.entry) }
 {
     match further {
-        Wanted::In => senseless_unit(place + 2, words),
-        _ => senseless_end(place, words),
+        Wanted::In => senseless_unit(index + 2, words),
+        _ => senseless_end(index, words),
     }
 }
 
 /// Where no word may come: one is too many, or the number is too large for its unit.
 #[tactic(auto, using(crate::proofs::Words::one_too_many))]
-fn senseless_end(place: usize, words: Option<&[u8]>) -> Senseless
-    requires { place ≤ 12 }
-    ensures { result ≡ senseless_end place (words_left words.entry) }
+fn senseless_end(index: usize, words: Option<&[u8]>) -> Senseless
+    requires { index ≤ 12 }
+    ensures { result ≡ senseless_end index (words_left words.entry) }
 {
     match words {
-        Some(_) => senseless_at(place + 2, Wanted::End),
-        None => senseless_at(place, Wanted::Amount),
+        Some(_) => senseless_at(index + 2, Wanted::End),
+        None => senseless_at(index, Wanted::Amount),
     }
 }
 
-/// After `in`, where a unit has this place.
-fn senseless_unit(place: usize, words: Option<&[u8]>) -> Senseless
-    requires { place ≤ 14 }
-    ensures { result ≡ senseless_unit place (words_left words.entry) }
+/// After `in`, where a unit has this index.
+fn senseless_unit(index: usize, words: Option<&[u8]>) -> Senseless
+    requires { index ≤ 14 }
+    ensures { result ≡ senseless_unit index (words_left words.entry) }
 {
     let Some(words) = words else {
-        return senseless_at(place, Wanted::UnitOfTime);
+        return senseless_at(index, Wanted::UnitOfTime);
     };
     let (word, _) = cut(words);
     if unit_of(word).is_some() {
-        senseless_at(place + 1, Wanted::End)
+        senseless_at(index + 1, Wanted::End)
     } else {
-        senseless_at(place, Wanted::UnitOfTime)
+        senseless_at(index, Wanted::UnitOfTime)
     }
 }
 
-fn senseless_at(place: usize, wanted: Wanted) -> Senseless
-    ensures { result ≡ senseless_at place wanted }
+fn senseless_at(index: usize, wanted: Wanted) -> Senseless
+    ensures { result ≡ senseless_at index wanted }
 {
-    Senseless { place, wanted }
+    Senseless { index, wanted }
 }
 
 /// What a verb needs.

@@ -3,7 +3,7 @@ ghost use Rattle.std.specs.Prelude.{◌≡◌, ◌≤◌, ℕ, List, [], ◌∷�
 ghost use Rattle.std.specs.Str.{str_eq_ignore_ascii_case};
 ghost use Rattle.caldate.specs.Requests.{arguments_of, asks_for_help, verb_of, number_of, count_of, form_of, further_form_of, weekday_of, period_of, unit_of, spells, spells_unit, words_left, many_of};
 
-use crate::lines::place_of;
+use crate::lines::index_of;
 use crate::request::{Form, Period, TimeUnit, UnixUnit, Verb};
 use cal_text::{DateForm, MomentForm};
 use cal_time::Weekday;
@@ -221,7 +221,7 @@ pub fn first_word(bytes: &[u8]) -> Option<(&[u8], &[u8])>
     ensures { MatchOption result (arguments_of bytes.now ≡ bytes.now ∷ [])
         (λ parts. arguments_of bytes.now ≡ parts.0.now ∷ arguments_of parts.1.now) }
 {
-    let at = place_of(0, bytes)?;
+    let at = index_of(0, bytes)?;
     Some((&bytes[..at], &bytes[at + 1..]))
 }
 
@@ -243,7 +243,7 @@ pub fn only_word(bytes: &[u8]) -> Option<&[u8]>
         ((first second : List ℕ) × (more : List (List ℕ)) × (arguments_of bytes.now ≡ first ∷ second ∷ more))
         (λ word. arguments_of bytes.now ≡ word.now ∷ []) }
 {
-    match place_of(0, bytes) {
+    match index_of(0, bytes) {
         Some(_) => None,
         None => Some(bytes),
     }

@@ -7,7 +7,7 @@ use Rattle.std.proofs.lemmas.Bool.Decides.{nat_tests}
 use Rattle.std.proofs.lemmas.Int.{ints}
 use Rattle.cal_time.specs.declared.Month.{Month}
 use Rattle.cal_time.specs.Month.{number}
-use Rattle.cal_time.specs.MonthCycle.{place-below}
+use Rattle.cal_time.specs.MonthCycle.{index-below}
 use Rattle.cal_time.specs.CalendarDay.{calendar_day}
 use Rattle.cal_time.specs.Date.{IsDate, first_julian_day, last_day, IsYear, NoDate, HasJulianDay, HasOrdinalDate, HasCalendarDate, julian_day_at, year_at, month_at, day_of_month_at}
 use Rattle.cal_time.specs.IsoWeekDate.{IsWeek, HasIsoWeekDate}
@@ -126,7 +126,7 @@ day_with-moved_away n w none =
 
 -- a month has the number of a month
 pub number-is_month : (m : Month) → is_month (number m) ≡ true
-number-is_month m = let below = place-below m in grind (arith, nat_tests)
+number-is_month m = let below = index-below m in grind (arith, nat_tests)
 
 -- whether a year has a week
 pub a_week : (y : ℤ) (w : ℕ) → IsWeek y w → is_week y w ≡ true

@@ -15,7 +15,7 @@ use Rattle.cal_time.specs.Month.{month_out_of_range}
 use Rattle.cal_time.specs.Order.{ordinal_date_at, calendar_date_at, iso_week_date_at}
 use Rattle.cal_time.specs.Pair.{moment}
 use Rattle.cal_time.specs.Time.{time_of, hour_out_of_range, minute_out_of_range, second_out_of_range, text as time_text}
-use Rattle.cal_time.specs.Weekday.{name, place, weekday_at as weekday_in_place}
+use Rattle.cal_time.specs.Weekday.{name, index, weekday_at as weekday_in_place}
 use Rattle.cal_time.specs.Weeks.{weeks_in_year}
 use Rattle.caltool.specs.Lines.{lines_of, words_of}
 use Rattle.caltool.specs.Commands.{command_of}
@@ -161,7 +161,7 @@ abbrev pub answer_of : Option Command → List ℕ
 answer_of (Some (Julian j)) = julian_answer j
 answer_of (Some (Ordinal y o)) = ordinal_answer y o
 answer_of (Some (Calendar y m d)) = calendar_answer y m d
-answer_of (Some (Iso y w weekday)) = iso_answer y w (place weekday)
+answer_of (Some (Iso y w weekday)) = iso_answer y w (index weekday)
 answer_of (Some (Show j)) = show_answer j
 answer_of (Some (Add j s)) = add_answer j s
 answer_of (Some (Moment j h m s d)) = moment_answer j h m s d

@@ -3,7 +3,7 @@ ghost use Rattle.std.specs.Prelude.{◌≡◌, ℕ, List, [], ◌∷◌, MatchOp
 ghost use Rattle.caltool.specs.Commands.{command_of, julian_command, ordinal_command, calendar_command, iso_command, show_command, add_command, moment_command, weekday_numbered};
 ghost use Rattle.caltool.specs.Lines.{words_of};
 
-use crate::lines::place_of;
+use crate::lines::index_of;
 use crate::number::{parse_i32, parse_i64, parse_u8, parse_u16};
 use cal_time::Weekday;
 
@@ -130,7 +130,7 @@ fn first_word(bytes: &[u8]) -> Option<(&[u8], &[u8])>
     ensures { MatchOption result (words_of bytes.now ≡ bytes.now ∷ [])
         (λ parts. words_of bytes.now ≡ parts.0.now ∷ words_of parts.1.now) }
 {
-    let at = place_of(b' ', bytes)?;
+    let at = index_of(b' ', bytes)?;
     Some((&bytes[..at], &bytes[at + 1..]))
 }
 
@@ -141,7 +141,7 @@ fn only_word(bytes: &[u8]) -> Option<&[u8]>
         ((first second : List ℕ) × (more : List (List ℕ)) × (words_of bytes.now ≡ first ∷ second ∷ more))
         (λ word. words_of bytes.now ≡ word.now ∷ []) }
 {
-    match place_of(b' ', bytes) {
+    match index_of(b' ', bytes) {
         Some(_) => None,
         None => Some(bytes),
     }

@@ -4,7 +4,7 @@ ghost use Rattle.caltool.specs.Ending.{Says, status_of, words_of_end};
 
 use crate::fault::Fault;
 use crate::output::write_all;
-use crate::patience::Patience;
+use crate::retries::Retries;
 use std::io::Write;
 
 /// Tells why the run ended early, in one line, and returns the status: 0 after a run that answered all of its input, else 2.
@@ -14,7 +14,7 @@ pub fn end<W: Write>(outcome: Result<(), Fault>, writer: &mut W) -> u8
     ensures status { result ≡ status_of outcome }
     ensures told { Says (words_of_end outcome) (W.contents writer.old) (W.contents writer.new) }
 {
-    let _ = write_all(writer, words(outcome), &mut Patience::new());
+    let _ = write_all(writer, words(outcome), &mut Retries::new());
     match outcome {
         Ok(()) => 0,
         Err(_) => 2,

@@ -1,7 +1,7 @@
 //! The day that a command asks for, or why there is none.
 ghost use Rattle.cal_time.specs.Month.{number};
 ghost use Rattle.cal_time.specs.Refusals.{julian_day_out_of_range};
-ghost use Rattle.cal_time.specs.Weekday.{place};
+ghost use Rattle.cal_time.specs.Weekday.{index};
 ghost use Rattle.caltool.specs.Answers.{day_of_calendar_date, day_of_iso_date, day_of_julian_day, day_of_ordinal_date, why_no_calendar_date, why_no_iso_date, why_no_ordinal_date};
 ghost use Rattle.caltool.specs.Finds.{Finds};
 
@@ -40,7 +40,7 @@ fn find_date_of_month(year: i32, month: Month, day: u8) -> Result<Date, Componen
 
 /// The day of this ISO year, week and weekday.
 pub fn find_iso_week_date(year: i32, week: u8, weekday: Weekday) -> Result<Date, ComponentRange>
-    ensures { Finds (day_of_iso_date year week (place weekday)) (why_no_iso_date year week) result }
+    ensures { Finds (day_of_iso_date year week (index weekday)) (why_no_iso_date year week) result }
 {
     Date::from_iso_week_date(year, week, weekday)
 }

@@ -2,17 +2,17 @@
 #![tactic(auto)]
 
 mod answer;
+mod buffer;
 mod command;
 mod ending;
 mod fault;
 mod find;
-mod gathered;
 mod input;
 mod lines;
 mod number;
 mod output;
-mod patience;
 mod program;
+mod retries;
 mod run;
 #[cfg(test)]
 mod tests;

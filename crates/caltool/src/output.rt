@@ -4,18 +4,14 @@ ghost use Rattle.std.specs.Io.KnownBytes.{Appends};
 ghost use Rattle.caltool.specs.Runs.{AppendsFront};
 
 use crate::fault::Fault;
-use crate::patience::Patience;
+use crate::retries::Retries;
 use std::io::Write;
 
 /// Writes all the bytes. Where that fails, a beginning of them has gone out.
 ///
-/// A write is taken again where the patience bears an interruption.
+/// A write is taken again where it was interrupted and a retry is left.
 #[tactic(auto, using(crate::proofs::Known::taken_more))]
-pub fn write_all<W: Write>(
-    writer: &mut W,
-    bytes: &[u8],
-    patience: &mut Patience,
-) -> Result<(), Fault>
+pub fn write_all<W: Write>(writer: &mut W, bytes: &[u8], retries: &mut Retries) -> Result<(), Fault>
     ensures ok { OnOk result (Appends (W.contents writer.old) (W.contents writer.new) bytes.now) }
     ensures front { OnErr result
         (AppendsFront (W.contents writer.old) (W.contents writer.new) bytes.now) }
@@ -26,7 +22,7 @@ pub fn write_all<W: Write>(
         match writer.write(rest) {
             Ok(0) => return Err(Fault::Write),
             Ok(count) => rest = &rest[count..],
-            Err(e) if patience.bears(&e) => {}
+            Err(e) if retries.allows(&e) => {}
             Err(_) => return Err(Fault::Write),
         }
     }

@@ -6,12 +6,12 @@ ghost use Rattle.caltool.specs.Runs.{AppendsFront, GivesAll, GivesTooMany};
 ghost use Rattle.caltool.specs.Answers.{out};
 
 use crate::answer::reply;
+use crate::buffer::Buffer;
 use crate::fault::Fault;
-use crate::gathered::Gathered;
 use crate::input::{MOST_BYTES, read_all};
 use crate::lines::first_line;
 use crate::output::write_all;
-use crate::patience::Patience;
+use crate::retries::Retries;
 use std::io::{Read, Write};
 
 /// Reads the whole input, of 4096 bytes at most, and then answers it line by line.
@@ -41,34 +41,34 @@ fn write_answers<W: Write>(writer: &mut W, input: &[u8]) -> Result<(), Fault>
         (AppendsFront (W.contents writer.old) (W.contents writer.new) (out input.now)) }
     ensures err { IfErr result (λ fault. fault ≡ Fault.Write) }
 {
-    let mut patience = Patience::new();
-    let mut gathered = Gathered::new();
+    let mut retries = Retries::new();
+    let mut buffer = Buffer::new();
     let mut rest = input;
     while let Some((line, after)) = first_line(rest) {
-        make_room(writer, &mut gathered, &mut patience)?;
-        reply(&mut gathered, line);
+        make_room(writer, &mut buffer, &mut retries)?;
+        reply(&mut buffer, line);
         rest = after;
     }
-    write_all(writer, gathered.as_bytes(), &mut patience)
+    write_all(writer, buffer.as_bytes(), &mut retries)
 }
 
 /// Makes room for a reply: where there is none, what was gathered is written.
 fn make_room<W: Write>(
     writer: &mut W,
-    gathered: &mut Gathered,
-    patience: &mut Patience,
+    buffer: &mut Buffer,
+    retries: &mut Retries,
 ) -> Result<(), Fault>
-    ensures room { OnOk result (HasRoom longest_reply gathered.new) }
+    ensures room { OnOk result (HasRoom longest_reply buffer.new) }
     ensures ok { OnOk result ((written : List ℕ)
-        × (gathered.old ≡ written ++ gathered.new)
+        × (buffer.old ≡ written ++ buffer.new)
         × Appends (W.contents writer.old) (W.contents writer.new) written) }
     ensures front { OnErr result
-        (AppendsFront (W.contents writer.old) (W.contents writer.new) gathered.old) }
+        (AppendsFront (W.contents writer.old) (W.contents writer.new) buffer.old) }
     ensures err { IfErr result (λ fault. fault ≡ Fault.Write) }
 {
-    if !gathered.has_room_for_a_reply() {
-        write_all(writer, gathered.as_bytes(), patience)?;
-        gathered.clear();
+    if !buffer.has_room_for_a_reply() {
+        write_all(writer, buffer.as_bytes(), retries)?;
+        buffer.clear();
     }
     Ok(())
 }

@@ -3,7 +3,7 @@ ghost use Rattle.std.specs.Prelude.{◌≡◌, ℕ, IfOk, IfErr, IfSome, IsNone}
 ghost use Rattle.cal_time.specs.Date.{weekday_at, HasCalendarDate, HasJulianDay, HasOrdinalDate, IsDate};
 ghost use Rattle.cal_time.specs.Month.{number};
 ghost use Rattle.cal_time.specs.Refusals.{julian_day_out_of_range};
-ghost use Rattle.cal_time.specs.Weekday.{place};
+ghost use Rattle.cal_time.specs.Weekday.{index};
 
 use cal_time::error::ComponentRange;
 use cal_time::{Date, Month, Time, Weekday};
@@ -11,7 +11,7 @@ use std::io;
 
 /// The first day of that month and its weekday, or the refusal, handed on.
 fn first_of_month(year: i32, month: Month) -> Result<(Date, Weekday), ComponentRange>
-    ensures { IfOk result (λ first. HasCalendarDate year (number month) 1 first.0 × (place first.1 ≡ weekday_at first.0)) }
+    ensures { IfOk result (λ first. HasCalendarDate year (number month) 1 first.0 × (index first.1 ≡ weekday_at first.0)) }
 {
     let date = Date::from_calendar_date(year, month, 1)?;
     Ok((date, date.weekday()))

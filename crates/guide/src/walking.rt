@@ -23,7 +23,7 @@ pub fn show(rt: &impl Print) -> io::Result<()> {
     };
     println!(rt; "{}", fridays_13th(from, to))?;
 
-    // From both ends, by place, and with the length known.
+    // From both ends, by index, and with the length known.
     let mut walk = from.iter_to(to);
     let (day, last) = (walk.nth(30), walk.next_back());
     println!(rt; "{day:?} {last:?} {}", walk.len())?;

@@ -2,7 +2,7 @@
 ghost use Rattle.std.specs.Prelude.{◌≡◌, ℕ, ◌+◌, ◌-◌, ◌<◌, MatchOption, length, get_or, count_by, pos};
 ghost use Rattle.cal_time.specs.Date.{julian_day_at, IsDate, IsYear, IsDayOfMonth, IsOrdinal, HasCalendarDate, HasOrdinalDate, NoDate};
 ghost use Rattle.cal_time.specs.IsoWeekDate.{IsWeek, HasIsoWeekDate};
-ghost use Rattle.cal_time.specs.Weekday.{place};
+ghost use Rattle.cal_time.specs.Weekday.{index};
 ghost use Rattle.cal_c.specs.Columns.{Alike3, Alike4, Alike5, date_row, is_refused, IsDateOfJulianDay, IsDateOfCalendarDate, IsDateOfOrdinalDate, IsDateOfIsoWeekDate};
 ghost use Rattle.cal_c.specs.Results.{date_done, date_if_any, date_refused, IsDayWith};
 ghost use Rattle.cal_c.specs.Statuses.{bad_weekday, julian_day_refused, year_refused, month_refused, day_refused, ordinal_refused, week_refused, weekday_refused};
@@ -156,7 +156,7 @@ pub(super) fn made_if_any(date: Option<Date>) -> (i32, u8)
 
 /// The weekday that has the number, from Monday, 1.
 fn weekday_of(weekday: u8) -> Option<Weekday>
-    ensures { MatchOption result (¬ IsWeekday weekday) (λ found. IsWeekday weekday × (place found + 1 ≡ weekday)) }
+    ensures { MatchOption result (¬ IsWeekday weekday) (λ found. IsWeekday weekday × (index found + 1 ≡ weekday)) }
 {
     values::weekday_of(u32::from(weekday))
 }

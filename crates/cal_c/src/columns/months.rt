@@ -54,13 +54,13 @@ fn date_months_later(date: i32, months: i32) -> (i32, u8)
     ensures day { IsJulianDay date → IsMonthNumber (month_number_at (day_of date) +ℤ months)
         → IsDayWith (IsMonthsLater (day_of date) months) (date_row result.0 result.1) }
 {
-    let (place, day) = place_and_day(date);
+    let (index, day) = index_and_day(date);
     // A sum below zero wraps, far above the last month.
-    let place = place.wrapping_add(months.cast_unsigned());
-    let later = day_in_month(place.min(LAST_MONTH), day);
+    let index = index.wrapping_add(months.cast_unsigned());
+    let later = day_in_month(index.min(LAST_MONTH), day);
     if !is_julian_day(date) {
         refused(BAD_DATE)
-    } else if place > LAST_MONTH {
+    } else if index > LAST_MONTH {
         refused(PAST_RANGE)
     } else {
         (later, DONE)
@@ -69,8 +69,8 @@ fn date_months_later(date: i32, months: i32) -> (i32, u8)
 
 /// The months of the range that come before the month of a date, and its day of the month.
 #[inline(always)]
-fn place_and_day(date: i32) -> (u32, u8)
-    ensures place { IsJulianDay date → pos result.0 ≡ month_number_at (day_of date) +ℤ pos 11_999_988 }
+fn index_and_day(date: i32) -> (u32, u8)
+    ensures index { IsJulianDay date → pos result.0 ≡ month_number_at (day_of date) +ℤ pos 11_999_988 }
     ensures day { IsJulianDay date → result.1 ≡ day_of_month_at (day_of date) }
     ensures most { result.0 ≤ 23_999_987 }
     ensures some { 1 ≤ result.1 }
@@ -78,7 +78,7 @@ fn place_and_day(date: i32) -> (u32, u8)
     match date_of(date) {
         Some(date) => {
             let (year, month, day) = date.to_calendar_date();
-            ((year + 999_999) as u32 * 12 + u32::from(month.place()), day)
+            ((year + 999_999) as u32 * 12 + u32::from(month.index()), day)
         }
         None => (0, 1),
     }
@@ -86,14 +86,14 @@ fn place_and_day(date: i32) -> (u32, u8)
 
 /// The day of the month that has so many months of the range before it, or its last day where it has no such day.
 #[inline(always)]
-fn day_in_month(place: u32, day: u8) -> i32
-    requires place { place ≤ 23_999_987 }
+fn day_in_month(index: u32, day: u8) -> i32
+    requires index { index ≤ 23_999_987 }
     requires day { 1 ≤ day }
-    ensures month { month_number_at (day_of result) +ℤ pos 11_999_988 ≡ pos place }
+    ensures month { month_number_at (day_of result) +ℤ pos 11_999_988 ≡ pos index }
     ensures day { day_of_month_at (day_of result) ≡ min day (days_in_month (year_at (day_of result)) (month_at (day_of result))) }
     ensures in_range { IsJulianDay result }
 {
-    let year = (place / 12) as i32 - 999_999;
-    let month = (place % 12) as u8 + 1;
+    let year = (index / 12) as i32 - 999_999;
+    let month = (index % 12) as u8 + 1;
     julian_day_at(year, month, day.min(length_of(month, is_leap_year(year))))
 }

@@ -102,11 +102,11 @@ fn write_days(rule: &Rule<'_>, date: Date, days: &mut [i32]) -> usize
     ensures { AreWritten (days_after rule.now date) days.old days.new result }
 {
     let mut last = date;
-    for place in 0..days.len() {
+    for index in 0..days.len() {
         let Some(day) = rule.next_after(last) else {
-            return place;
+            return index;
         };
-        days[place] = day.to_julian_day();
+        days[index] = day.to_julian_day();
         last = day;
     }
     days.len()

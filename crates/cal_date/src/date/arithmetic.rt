@@ -76,8 +76,8 @@ impl Date {
         // Days below zero are taken as 2^64 more. So is a sum below zero, which is then far above the length of a year and the
         // number of the last day.
         let days = days.cast_unsigned();
-        let place = days.wrapping_add(u64::from(self.ordinal()) - 1);
-        if let Some(date) = self.of_same_year(place) {
+        let index = days.wrapping_add(u64::from(self.ordinal()) - 1);
+        if let Some(date) = self.of_same_year(index) {
             return Some(date);
         }
         Self::checked_at_number(days.wrapping_add(u64::from(self.number())))

@@ -58,7 +58,7 @@ impl Date {
         if !has_day(month, leap, day) {
             return Err(ComponentRange::conditional(Component::Day));
         }
-        let ordinal = days_before_month(month.place(), leap) + u16::from(day);
+        let ordinal = days_before_month(month.index(), leap) + u16::from(day);
         Ok(Date::from_parts(year, leap, ordinal))
     }
 
@@ -111,7 +111,7 @@ impl Date {
         ensures closed_day { result.1 ≡ day_of_ordinal (is_leap_year (year_at self)) (ordinal_at self) }
         ensures in_range { IsDate self }
     {
-        let (days, months) = self.place_in_part();
+        let (days, months) = self.index_in_part();
         let month = (days * 268 + 8031) >> 13;
         let day = days - ((month * 3917 - 3866) >> 7);
         (Month::at((month + months - 1) as u8), day as u8)
@@ -120,7 +120,7 @@ impl Date {
     /// The days into its part of the year, and the months before that part: January and February are the one part,
     /// and March to December are the other.
     #[tactic(auto, using(crate::proofs::Neighbours::parts_of_years))]
-    fn place_in_part(self) -> (u32, u32)
+    fn index_in_part(self) -> (u32, u32)
         ensures days { result.0 ≡ days_in_part (is_leap_year (year_at self)) (ordinal_at self) }
         ensures months { result.1 ≡ months_before_part (is_leap_year (year_at self)) (ordinal_at self) }
         ensures in_range { IsDate self }
@@ -140,19 +140,19 @@ impl Date {
 fn has_day(month: Month, leap: bool, day: u8) -> bool
     ensures { (year : ℤ) → leap ≡ is_leap_year year → IsTrue result ↔ IsDayOfMonth year (number month) day }
 {
-    let place = month.place();
-    let ordinal = days_before_month(place, leap) + u16::from(day);
-    day > 0 && ordinal <= days_before_month(place + 1, leap)
+    let index = month.index();
+    let ordinal = days_before_month(index, leap) + u16::from(day);
+    day > 0 && ordinal <= days_before_month(index + 1, leap)
 }
 
 /// The days that come before the month, in a leap year or in a common one.
 ///
-/// The month is given by its place. At 12 they are all the days of the year.
+/// The month is given by its index. At 12 they are all the days of the year.
 #[tactic(auto, using(crate::proofs::Months::days_before_months))]
-fn days_before_month(place: u8, leap: bool) -> u16
-    requires { place ≤ 12 }
-    ensures value { (year : ℤ) → leap ≡ is_leap_year year → result ≡ days_of_months year place }
+fn days_before_month(index: u8, leap: bool) -> u16
+    requires { index ≤ 12 }
+    ensures value { (year : ℤ) → leap ≡ is_leap_year year → result ≡ days_of_months year index }
     ensures most { result ≤ 366 }
 {
-    DAYS_BEFORE_MONTH[usize::from(place)][usize::from(leap)]
+    DAYS_BEFORE_MONTH[usize::from(index)][usize::from(leap)]
 }

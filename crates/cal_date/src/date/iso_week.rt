@@ -1,7 +1,7 @@
 //! Weekdays, ISO week dates, and the weeks of a year from Sunday or Monday on.
 ghost use Rattle.std.specs.Prelude.{◌≡◌, ℕ, ◌+◌, ◌-◌, ◌*◌, ◌/◌, ◌%◌, ◌^◌, ◌<◌, ◌≤◌, pos, ◌↔◌, ◌⊎◌, IfOk, IfErr, IsErr, IsTrue, Ok, [], ◌∷◌};
 ghost use Rattle.cal_units.specs.Refusal.{IsRefused};
-ghost use Rattle.cal_units.specs.Weekday.{place};
+ghost use Rattle.cal_units.specs.Weekday.{index};
 ghost use Rattle.cal_units.specs.Weeks.{first_weekday, weeks_in_year};
 ghost use Rattle.cal_date.specs.ClosedForms.{iso_year_of, iso_week_of, year_of_week, ordinal_of_week, IsWeekByForm, IsDayByForm};
 ghost use Rattle.cal_date.specs.Date.{year_at, ordinal_at, weekday_at, IsDate, IsYear, IsOrdinal, NoDate};
@@ -30,17 +30,17 @@ impl Date {
     /// range depends on the year, or `weekday`, conditionally, where the day would come after [`Self::MAX`]: on Saturday and
     /// Sunday of week 52 of 999999 alone.
     pub fn from_iso_week_date(year: i32, week: u8, weekday: Weekday) -> Result<Self, ComponentRange>
-        ensures every { (n : ℕ) → IsDate n → HasIsoWeekDate year week (place weekday) n → result ≡ Ok n }
-        ensures has { IfOk result (λ n. IsDate n × HasIsoWeekDate year week (place weekday) n) }
+        ensures every { (n : ℕ) → IsDate n → HasIsoWeekDate year week (index weekday) n → result ≡ Ok n }
+        ensures has { IfOk result (λ n. IsDate n × HasIsoWeekDate year week (index weekday) n) }
 
         // It is refused exactly where no day has it, for the first component that is out of range.
-        ensures refused { IsErr result ↔ NoDate (HasIsoWeekDate year week (place weekday)) }
+        ensures refused { IsErr result ↔ NoDate (HasIsoWeekDate year week (index weekday)) }
         ensures reason { IfErr result (λ e. (e ≡ year_out_of_range) ⊎ (e ≡ week_out_of_range) ⊎ (e ≡ weekday_out_of_range)) }
         ensures year { IsRefused year_out_of_range result ↔ ¬ IsYear year }
         ensures week { IsRefused week_out_of_range result ↔ IsYear year × ¬ IsWeek year week }
         ensures weekday { IsRefused weekday_out_of_range result
-            ↔ IsYear year × IsWeek year week × NoDate (HasIsoWeekDate year week (place weekday)) }
-        ensures closed_form { IfOk result (IsDayByForm year week (place weekday + 1)) }
+            ↔ IsYear year × IsWeek year week × NoDate (HasIsoWeekDate year week (index weekday)) }
+        ensures closed_form { IfOk result (IsDayByForm year week (index weekday + 1)) }
     {
         if !is_year(year) {
             return Err(ComponentRange::unconditional(Component::Year));
@@ -58,11 +58,11 @@ impl Date {
     /// The weekday. That of 2021-01-01 is Friday.
     #[tactic(auto, using(crate::proofs::IsoForms::weekdays))]
     pub fn weekday(self) -> Weekday
-        ensures counted { place result ≡ weekday_at self }
+        ensures counted { index result ≡ weekday_at self }
         ensures range { weekday_at self < 7 }
         ensures in_range { IsDate self }
     {
-        Weekday::at(weekday_place(self.year(), self.ordinal()))
+        Weekday::at(weekday_index(self.year(), self.ordinal()))
     }
 
     /// The week of the ISO week date, from 1 to 53. That of 2021-01-01 is 53, as its week belongs to 2020.
@@ -80,11 +80,11 @@ impl Date {
     ///
     /// The ISO year too is from -999999 to 999999.
     pub fn to_iso_week_date(self) -> (i32, u8, Weekday)
-        ensures date { HasIsoWeekDate result.0 result.1 (place result.2) self }
+        ensures date { HasIsoWeekDate result.0 result.1 (index result.2) self }
         ensures range { IsYear result.0 × IsWeek result.0 result.1 × (result.1 ≤ 53) }
         ensures in_range { IsDate self }
         ensures order { (n : ℕ) → IsDate n
-            → (n < self) ↔ IsBefore (iso_week_date_at n) (result.0 ∷ pos result.1 ∷ pos (place result.2) ∷ []) }
+            → (n < self) ↔ IsBefore (iso_week_date_at n) (result.0 ∷ pos result.1 ∷ pos (index result.2) ∷ []) }
         ensures closed_form { IsWeekByForm (year_at self) (ordinal_at self) (weekday_at self + 1) result.0 result.1 }
     {
         let weekday = self.weekday();
@@ -135,8 +135,8 @@ fn weeks_of_year(year: i32) -> u8
     weeks_in_year(year)
 }
 
-/// The place of the weekday of this day of a year of the range, from Monday, 0.
-fn weekday_place(year: i32, ordinal: u16) -> u8
+/// The index of the weekday of this day of a year of the range, from Monday, 0.
+fn weekday_index(year: i32, ordinal: u16) -> u8
     requires year { IsYear year }
     requires ordinal { 1 ≤ ordinal }
     ensures { result ≡ (first_weekday year + (ordinal - 1)) % 7 }
@@ -169,8 +169,8 @@ fn past_whole_weeks(days: u32) -> u8
 fn iso_year_and_week(year: i32, ordinal: u16, weekday: Weekday) -> (i32, u8)
     requires year { IsYear year }
     requires ordinal { IsOrdinal year ordinal }
-    ensures year { result.0 ≡ iso_year_of year ordinal (place weekday + 1) }
-    ensures week { result.1 ≡ iso_week_of year ordinal (place weekday + 1) }
+    ensures year { result.0 ≡ iso_year_of year ordinal (index weekday + 1) }
+    ensures week { result.1 ≡ iso_week_of year ordinal (index weekday + 1) }
 {
     let week = whole_weeks(ordinal + 10 - u16::from(weekday.number_from_monday()));
     if week == 0 {
@@ -187,11 +187,11 @@ fn iso_year_and_week(year: i32, ordinal: u16, weekday: Weekday) -> (i32, u8)
 fn ordinal_date_of(year: i32, week: u8, weekday: Weekday) -> (i32, u16)
     requires year { IsYear year }
     requires week { IsWeek year week }
-    ensures year { result.0 ≡ year_of_week year week (place weekday + 1) }
-    ensures ordinal { result.1 ≡ ordinal_of_week year week (place weekday + 1) }
+    ensures year { result.0 ≡ year_of_week year week (index weekday + 1) }
+    ensures ordinal { result.1 ≡ ordinal_of_week year week (index weekday + 1) }
 {
     // 4 January always lies in week 1.
-    let taken = u16::from(weekday_place(year, 4)) + 1 + 3;
+    let taken = u16::from(weekday_index(year, 4)) + 1 + 3;
     let days = 7 * u16::from(week) + u16::from(weekday.number_from_monday());
     if days <= taken {
         return (year - 1, days_in_year(year - 1) + days - taken);

@@ -1,6 +1,6 @@
 //! The days with a weekday after a date, and before it.
 ghost use Rattle.std.specs.Prelude.{◌≡◌, ◌+◌, ◌-◌, ◌*◌, ◌<◌, ◌≤◌, Some, IsSome, IfSome};
-ghost use Rattle.cal_units.specs.Weekday.{place};
+ghost use Rattle.cal_units.specs.Weekday.{index};
 ghost use Rattle.cal_date.specs.Date.{weekday_at, IsDate};
 ghost use Rattle.cal_date.specs.Occurrence.{next_occurrences, prev_occurrences, kth};
 
@@ -15,8 +15,8 @@ impl Date {
     ///
     /// The next Monday after 2023-06-28 is 2023-07-03, and that after a Monday is seven days later.
     pub fn checked_next_occurrence(self, weekday: Weekday) -> Option<Self>
-        ensures day { result ≡ kth 1 (next_occurrences (place weekday) self) }
-        ensures weekday { IfSome result (λ n. weekday_at n ≡ place weekday) }
+        ensures day { result ≡ kth 1 (next_occurrences (index weekday) self) }
+        ensures weekday { IfSome result (λ n. weekday_at n ≡ index weekday) }
         ensures within { IfSome result (λ n. (self < n) × (n ≤ self + 7) × IsDate n) }
         ensures in_range { IsDate self }
     {
@@ -27,8 +27,8 @@ impl Date {
     ///
     /// The Monday before 2023-06-19 is 2023-06-12, as 2023-06-19 is a Monday itself.
     pub fn checked_prev_occurrence(self, weekday: Weekday) -> Option<Self>
-        ensures day { result ≡ kth 1 (prev_occurrences (place weekday) self) }
-        ensures weekday { IfSome result (λ n. weekday_at n ≡ place weekday) }
+        ensures day { result ≡ kth 1 (prev_occurrences (index weekday) self) }
+        ensures weekday { IfSome result (λ n. weekday_at n ≡ index weekday) }
         ensures within { IfSome result (λ n. (n < self) × (self ≤ n + 7)) }
         ensures in_range { IsDate self }
     {
@@ -40,10 +40,10 @@ impl Date {
     ///
     /// The fifth Monday after 2023-06-25 is 2023-07-24.
     pub fn checked_nth_next_occurrence(self, weekday: Weekday, n: u8) -> Option<Self>
-        ensures day { result ≡ kth n (next_occurrences (place weekday) self) }
+        ensures day { result ≡ kth n (next_occurrences (index weekday) self) }
 
         // It comes in the n-th week after the day.
-        ensures weekday { IfSome result (λ later. weekday_at later ≡ place weekday) }
+        ensures weekday { IfSome result (λ later. weekday_at later ≡ index weekday) }
         ensures within { IfSome result (λ later. (self + 7 * (n - 1) < later) × (later ≤ self + 7 * n) × IsDate later) }
         ensures in_range { IsDate self }
     {
@@ -65,10 +65,10 @@ impl Date {
     /// The third Monday before 2023-06-27 is 2023-06-12.
     #[tactic(auto, using(crate::proofs::Occurrences::days_before))]
     pub fn checked_nth_prev_occurrence(self, weekday: Weekday, n: u8) -> Option<Self>
-        ensures day { result ≡ kth n (prev_occurrences (place weekday) self) }
+        ensures day { result ≡ kth n (prev_occurrences (index weekday) self) }
 
         // It comes in the n-th week before the day.
-        ensures weekday { IfSome result (λ earlier. weekday_at earlier ≡ place weekday) }
+        ensures weekday { IfSome result (λ earlier. weekday_at earlier ≡ index weekday) }
         ensures within { IfSome result (λ earlier. (earlier + 7 * (n - 1) < self) × (self ≤ earlier + 7 * n)) }
         ensures in_range { IsDate self }
     {
@@ -90,9 +90,9 @@ impl Date {
     ///
     /// The next Monday after 2023-06-28 is 2023-07-03.
     pub fn next_occurrence(self, weekday: Weekday) -> Self
-        requires { IsSome (kth 1 (next_occurrences (place weekday) self)) }
-        ensures day { kth 1 (next_occurrences (place weekday) self) ≡ Some result }
-        ensures weekday { weekday_at result ≡ place weekday }
+        requires { IsSome (kth 1 (next_occurrences (index weekday) self)) }
+        ensures day { kth 1 (next_occurrences (index weekday) self) ≡ Some result }
+        ensures weekday { weekday_at result ≡ index weekday }
         ensures within { (self < result) × (result ≤ self + 7) }
         ensures in_range { IsDate self }
     {
@@ -103,9 +103,9 @@ impl Date {
     ///
     /// The Monday before 2023-06-19 is 2023-06-12.
     pub fn prev_occurrence(self, weekday: Weekday) -> Self
-        requires { IsSome (kth 1 (prev_occurrences (place weekday) self)) }
-        ensures day { kth 1 (prev_occurrences (place weekday) self) ≡ Some result }
-        ensures weekday { weekday_at result ≡ place weekday }
+        requires { IsSome (kth 1 (prev_occurrences (index weekday) self)) }
+        ensures day { kth 1 (prev_occurrences (index weekday) self) ≡ Some result }
+        ensures weekday { weekday_at result ≡ index weekday }
         ensures within { (result < self) × (self ≤ result + 7) }
         ensures in_range { IsDate self }
     {
@@ -117,9 +117,9 @@ impl Date {
     ///
     /// The fifth Monday after 2023-06-25 is 2023-07-24.
     pub fn nth_next_occurrence(self, weekday: Weekday, n: u8) -> Self
-        requires { IsSome (kth n (next_occurrences (place weekday) self)) }
-        ensures day { kth n (next_occurrences (place weekday) self) ≡ Some result }
-        ensures weekday { weekday_at result ≡ place weekday }
+        requires { IsSome (kth n (next_occurrences (index weekday) self)) }
+        ensures day { kth n (next_occurrences (index weekday) self) ≡ Some result }
+        ensures weekday { weekday_at result ≡ index weekday }
         ensures within { (self + 7 * (n - 1) < result) × (result ≤ self + 7 * n) }
         ensures in_range { IsDate self }
     {
@@ -131,9 +131,9 @@ impl Date {
     ///
     /// The third Monday before 2023-06-27 is 2023-06-12.
     pub fn nth_prev_occurrence(self, weekday: Weekday, n: u8) -> Self
-        requires { IsSome (kth n (prev_occurrences (place weekday) self)) }
-        ensures day { kth n (prev_occurrences (place weekday) self) ≡ Some result }
-        ensures weekday { weekday_at result ≡ place weekday }
+        requires { IsSome (kth n (prev_occurrences (index weekday) self)) }
+        ensures day { kth n (prev_occurrences (index weekday) self) ≡ Some result }
+        ensures weekday { weekday_at result ≡ index weekday }
         ensures within { (result + 7 * (n - 1) < self) × (self ≤ result + 7 * n) }
         ensures in_range { IsDate self }
     {

@@ -1,7 +1,7 @@
 //! The parts of date-times.
 ghost use Rattle.std.specs.Prelude.{◌≡◌, ◌≤◌};
 ghost use Rattle.cal_time.specs.Month.{number};
-ghost use Rattle.cal_time.specs.Weekday.{place};
+ghost use Rattle.cal_time.specs.Weekday.{index};
 ghost use Rattle.cal_time.specs.Date.{year_at, month_at, day_of_month_at, ordinal_at, weekday_at, julian_day_at, IsDate, IsYear, IsOrdinal, IsDayOfMonth, HasOrdinalDate, HasCalendarDate};
 ghost use Rattle.cal_time.specs.IsoWeekDate.{iso_year_at, iso_week_at, weekdays_upto, IsWeek, HasIsoWeekDate};
 ghost use Rattle.cal_time.specs.Time.{hour_of, minute_of, second_of, millisecond_of, microsecond_of, nanosecond_of};
@@ -38,7 +38,7 @@ impl PlainDateTime {
         self.date().day()
     }
 
-    /// The place of the day in its year, from 1 to 365, or 366 in a leap year. That of 2024-02-29 23:59:59.25 is 60.
+    /// The number of the day in its year, from 1 to 365, or 366 in a leap year. That of 2024-02-29 23:59:59.25 is 60.
     pub fn ordinal(self) -> u16
         ensures counted { result ≡ ordinal_at (date_at self) }
         ensures range { IsOrdinal (year_at (date_at self)) result }
@@ -96,7 +96,7 @@ impl PlainDateTime {
 
     /// The ISO year, the week and the weekday: the week date of ISO 8601. That of 2024-02-29 23:59:59.25 is (2024, 9, Thursday).
     pub fn to_iso_week_date(self) -> (i32, u8, Weekday)
-        ensures date { HasIsoWeekDate result.0 result.1 (place result.2) (date_at self) }
+        ensures date { HasIsoWeekDate result.0 result.1 (index result.2) (date_at self) }
         ensures range { IsYear result.0 × IsWeek result.0 result.1 × (result.1 ≤ 53) }
         ensures in_range { IsDate (date_at self) }
     {
@@ -105,7 +105,7 @@ impl PlainDateTime {
 
     /// The weekday. That of 2024-02-29 23:59:59.25 is Thursday.
     pub fn weekday(self) -> Weekday
-        ensures counted { place result ≡ weekday_at (date_at self) }
+        ensures counted { index result ≡ weekday_at (date_at self) }
         ensures in_range { IsDate (date_at self) }
     {
         self.date().weekday()

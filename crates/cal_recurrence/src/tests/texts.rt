@@ -1,4 +1,4 @@
-//! Texts that are refused, by the place and the reason; texts that are read in each case and order; recurrences by their fields.
+//! Texts that are refused, by the position and the reason; texts that are read in each case and order; recurrences by their fields.
 use crate::{Recurrence, RuleEnd, RuleFault, RulePart, RuleReason, Values, parse};
 use cal_schedule::{ByDay, Frequency};
 use cal_time::{Date, Month, Weekday};

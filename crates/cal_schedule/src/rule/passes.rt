@@ -6,13 +6,13 @@ ghost use Rattle.cal_time.specs.Lengths.{days_in_year};
 ghost use Rattle.cal_time.specs.Month.{number as month_number};
 ghost use Rattle.cal_schedule.specs.Rule.{allows, is_as_start, is_by, is_empty, is_in_months, is_month_day, is_nth, is_nth_of, is_on, is_on_days, is_weekday, is_yearly, names_no_day, step, turn_at, turns_past};
 
-use crate::months::place_and_day;
+use crate::months::index_and_day;
 use crate::numbers::number;
 use crate::rule::kinds::{ByDay, Frequency, Rule};
 use cal_time::util::{days_in_month, days_in_year};
 use cal_time::{Cycle, Date, Month, Weekday};
 
-/// Whether what has these places from the first one and from the last one is the n-th, or from the end where n is below zero.
+/// Whether what has these numbers from the first one and from the last one is the n-th, or from the end where n is below zero.
 fn is_nth(n: i8, ahead: u16, back: u16) -> bool
     ensures { result ≡ is_nth n ahead back }
 {
@@ -28,14 +28,14 @@ fn is_nth(n: i8, ahead: u16, back: u16) -> bool
 fn month_of(date: Date) -> u8
     ensures { result ≡ month_at date }
 {
-    date.month().place() + 1
+    date.month().index() + 1
 }
 
 /// Whether the months have that number among them.
 fn any_month(months: &[Month], number: u8) -> bool
     ensures { result ≡ list_any (λ m. month_number m == number) months.now }
 {
-    months.iter().any(|month| month.place() + 1 == number)
+    months.iter().any(|month| month.index() + 1 == number)
 }
 
 /// Whether the day is that one of its month.
@@ -62,7 +62,7 @@ fn any_month_day(days: &[i8], date: Date) -> bool
 fn is_nth_of(of_year: bool, date: Date, n: i8) -> bool
     ensures { result ≡ is_nth_of of_year date n }
 {
-    let (place, length) = if of_year {
+    let (index, length) = if of_year {
         (date.ordinal(), days_in_year(date.year()))
     } else {
         (
@@ -70,7 +70,7 @@ fn is_nth_of(of_year: bool, date: Date, n: i8) -> bool
             u16::from(days_in_month(date.month(), date.year())),
         )
     };
-    is_nth(n, (place + 6) / 7, (length - place) / 7 + 1)
+    is_nth(n, (index + 6) / 7, (length - index) / 7 + 1)
 }
 
 /// Whether the day has that weekday, and is the so-many-th of it.
@@ -99,8 +99,8 @@ pub(super) fn turn_of(frequency: Frequency, first: Weekday, date: Date) -> u32
 {
     match frequency {
         Frequency::Daily => number(date),
-        Frequency::Weekly => (number(date) + 7 - u32::from(first.place())) / 7,
-        Frequency::Monthly => place_and_day(date).0,
+        Frequency::Weekly => (number(date) + 7 - u32::from(first.index())) / 7,
+        Frequency::Monthly => index_and_day(date).0,
         Frequency::Yearly => (date.year() + 999_999) as u32,
     }
 }

@@ -2,12 +2,12 @@
 ghost use Rattle.std.specs.Prelude.{◌≡◌, ℕ, ◌+◌, ◌<◌, ◌≤◌, ◌==◌, slice_get, IfSome, false, true};
 ghost use Rattle.std.specs.List.{list_any};
 ghost use Rattle.cal_time.specs.Date.{weekday_at, IsDate};
-ghost use Rattle.cal_time.specs.Weekday.{place};
+ghost use Rattle.cal_time.specs.Weekday.{index};
 ghost use Rattle.cal_schedule.specs.Rule.{days_after, is_on};
 ghost use Rattle.cal_schedule.specs.RuleSearch.{takes_weekday, weekday_of, IsFirstOf, IsNextFrom, IsSkip};
 ghost use Rattle.cal_schedule.specs.declared.rule.kinds.Frequency.TheVariants.{Monthly};
 
-use crate::months::{day_in_month, place_and_day};
+use crate::months::{day_in_month, index_and_day};
 use crate::numbers::{at_number, number};
 use crate::rule::kinds::{ByDay, Frequency, Rule};
 use crate::rule::passes::turn_of;
@@ -20,11 +20,11 @@ const MONTHS: u64 = 23_999_988;
 const PERIOD: u64 = 146_097;
 
 /// The first day of the month that has so many months of the range before it.
-fn first_of_month(place: u64, first: Weekday) -> Option<Date>
-    ensures { IsFirstOf Monthly first place result }
+fn first_of_month(index: u64, first: Weekday) -> Option<Date>
+    ensures { IsFirstOf Monthly first index result }
 {
-    if place < MONTHS {
-        Some(day_in_month(place as u32, 1))
+    if index < MONTHS {
+        Some(day_in_month(index as u32, 1))
     } else {
         None
     }
@@ -39,7 +39,7 @@ fn first_of(frequency: Frequency, first: Weekday, turn: u64) -> Option<Date>
 {
     match frequency {
         Frequency::Daily => at_number(turn),
-        Frequency::Weekly => at_number(7 * turn - 7 + u64::from(first.place())),
+        Frequency::Weekly => at_number(7 * turn - 7 + u64::from(first.index())),
         Frequency::Monthly => first_of_month(turn, first),
         Frequency::Yearly => first_of_month(12 * turn, first),
     }
@@ -54,19 +54,19 @@ fn weekday_of(by: ByDay) -> Weekday
     }
 }
 
-/// Whether the weekdays have one at that place of the week, which begins with Monday.
-fn any_at_place(weekdays: &[ByDay], at: u8) -> bool
-    ensures { result ≡ list_any (λ by. at == place (weekday_of by)) weekdays.now }
+/// Whether the weekdays have one at that index of the week, which begins with Monday.
+fn any_at_index(weekdays: &[ByDay], at: u8) -> bool
+    ensures { result ≡ list_any (λ by. at == index (weekday_of by)) weekdays.now }
 {
-    weekdays.iter().any(|by| at == weekday_of(*by).place())
+    weekdays.iter().any(|by| at == weekday_of(*by).index())
 }
 
 impl Rule<'_> {
-    /// Whether the rule takes days of the weekday at that place of the week, with whatever number.
+    /// Whether the rule takes days of the weekday at that index of the week, with whatever number.
     fn takes_weekday(&self, at: u8) -> bool
         ensures { result ≡ takes_weekday self.now at }
     {
-        self.weekdays.is_empty() || any_at_place(self.weekdays, at)
+        self.weekdays.is_empty() || any_at_index(self.weekdays, at)
     }
 
     /// How many days on the next day is whose weekday the rule takes; a week on there is one, if there is any.
@@ -77,7 +77,7 @@ impl Rule<'_> {
     {
         let mut days = 1;
         while days < 7 {
-            if self.takes_weekday((day.weekday().place() + days) % 7) {
+            if self.takes_weekday((day.weekday().index() + days) % 7) {
                 return days;
             }
             days += 1;
@@ -100,8 +100,8 @@ impl Rule<'_> {
         if self.is_in_months(day) {
             return at_number(u64::from(number(day)) + u64::from(self.days_on(day)));
         }
-        let (place, _) = place_and_day(day);
-        first_of_month(u64::from(place) + 1, self.week_start)
+        let (index, _) = index_and_day(day);
+        first_of_month(u64::from(index) + 1, self.week_start)
     }
 
     /// The first day of the rule from this one on.

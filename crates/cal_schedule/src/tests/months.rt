@@ -28,16 +28,16 @@ fn date(rt: &impl Abort, parts: Parts) -> Date {
     date
 }
 
-/// Stops the test unless the two are equal, with the place in a table.
+/// Stops the test unless the two are equal, with the index in a table.
 fn same<T: Copy + Debug + PartialEq, P: Copy + Debug>(
     rt: &impl Abort,
-    place: P,
+    index: P,
     found: T,
     wanted: T,
 ) {
     assert!(rt;
         found == wanted,
-        "{found:?} and not {wanted:?} at {place:?}"
+        "{found:?} and not {wanted:?} at {index:?}"
     );
 }
 

@@ -53,13 +53,13 @@ impl<'a> Workdays<'a> {
         self.holidays.len()
     }
 
-    /// The number of the holiday at that place.
-    pub(super) fn holiday(&self, place: usize) -> u32
-        requires { place < length self.now.holidays }
-        ensures number { result ≡ slice_index self.now.holidays place }
+    /// The number of the holiday at that index.
+    pub(super) fn holiday(&self, index: usize) -> u32
+        requires { index < length self.now.holidays }
+        ensures number { result ≡ slice_index self.now.holidays index }
         ensures in_range { IsDate result }
     {
         let holidays = self.holidays;
-        number(holidays[place])
+        number(holidays[index])
     }
 }

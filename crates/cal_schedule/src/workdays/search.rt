@@ -32,8 +32,8 @@ impl Workdays<'_> {
     pub(super) fn is_holiday(&self, day: u32) -> bool
         ensures { result ≡ is_holiday self.now day }
     {
-        let place = self.holidays_before(day);
-        place < self.holidays_len() && self.holiday(place) == day
+        let index = self.holidays_before(day);
+        index < self.holidays_len() && self.holiday(index) == day
     }
 
     /// How many working days there are from the day of the one number to the one before that of the other.
@@ -44,8 +44,8 @@ impl Workdays<'_> {
     {
         let (start, end) = (self.holidays_before(from), self.holidays_before(to));
         let mut held = 0;
-        for place in start..end {
-            held += u32::from(self.is_marked(self.holiday(place)));
+        for index in start..end {
+            held += u32::from(self.is_marked(self.holiday(index)));
         }
         self.marked_before(to) - self.marked_before(from) - held
     }
@@ -58,8 +58,8 @@ impl Workdays<'_> {
     {
         let start = self.holidays_before(from);
         let mut before = u64::from(self.marked_before(from)) + u64::from(n);
-        for place in start..self.holidays_len() {
-            let holiday = self.holiday(place);
+        for index in start..self.holidays_len() {
+            let holiday = self.holiday(index);
             if u64::from(self.marked_before(holiday)) > before {
                 return before;
             }
@@ -82,9 +82,9 @@ impl Workdays<'_> {
             return None;
         }
         let mut before = marked - n - 1;
-        let mut place = end;
-        while place > 0 {
-            let holiday = self.holiday(place - 1);
+        let mut index = end;
+        while index > 0 {
+            let holiday = self.holiday(index - 1);
             if self.marked_before(holiday + 1) <= before {
                 return Some(before);
             }
@@ -94,7 +94,7 @@ impl Workdays<'_> {
                 }
                 before -= 1;
             }
-            place -= 1;
+            index -= 1;
         }
         Some(before)
     }

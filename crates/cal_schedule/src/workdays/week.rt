@@ -13,14 +13,14 @@ impl Workdays<'_> {
         self.marks[(day % 7) as usize]
     }
 
-    /// How many days of the week before that place are marked.
-    pub(super) fn marked_in_week(&self, place: u32) -> u32
-        requires { place ≤ 7 }
-        ensures number { result ≡ count_before (is_marked self.now) place }
-        ensures most { result ≤ place }
+    /// How many days of the week before that index are marked.
+    pub(super) fn marked_in_week(&self, index: u32) -> u32
+        requires { index ≤ 7 }
+        ensures number { result ≡ count_before (is_marked self.now) index }
+        ensures most { result ≤ index }
     {
         let mut marked = 0;
-        for day in 0..place {
+        for day in 0..index {
             marked += u32::from(self.is_marked(day));
         }
         marked
@@ -34,10 +34,10 @@ impl Workdays<'_> {
         day / 7 * self.marked_in_week(7) + self.marked_in_week(day % 7)
     }
 
-    /// The place of the marked day of the week that has so many marked ones before it.
-    fn nth_place(&self, n: u32) -> u32
+    /// The index of the marked day of the week that has so many marked ones before it.
+    fn nth_index(&self, n: u32) -> u32
         requires { n < count_before (is_marked self.now) 7 }
-        ensures place { result < 7 }
+        ensures index { result < 7 }
         ensures marked { is_marked self.now result ≡ true }
         ensures number { count_before (is_marked self.now) result ≡ n }
     {
@@ -61,6 +61,6 @@ impl Workdays<'_> {
         ensures number { count_before (is_marked self.now) result ≡ n }
     {
         let in_week = u64::from(self.marked_in_week(7));
-        n / in_week * 7 + u64::from(self.nth_place((n % in_week) as u32))
+        n / in_week * 7 + u64::from(self.nth_index((n % in_week) as u32))
     }
 }

@@ -69,14 +69,14 @@ fn further(error: Unreadable, text: &[u8]) -> Unreadable
 {
     let mut scanner = Scanner { rest: text };
     match error {
-        Unreadable::UnexpectedByte(place) => match form_of(&mut scanner) {
-            Some(_) => Unreadable::UnexpectedByte(place),
+        Unreadable::UnexpectedByte(position) => match form_of(&mut scanner) {
+            Some(_) => Unreadable::UnexpectedByte(position),
             None => {
                 let date = text.len() - scanner.rest.len();
-                if place < date {
+                if position < date {
                     Unreadable::UnexpectedByte(date)
                 } else {
-                    Unreadable::UnexpectedByte(place)
+                    Unreadable::UnexpectedByte(position)
                 }
             }
         },

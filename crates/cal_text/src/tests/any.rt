@@ -62,10 +62,10 @@ fn components_of_texts_in_any_form(rt: HostRuntime) {
     }
 }
 
-/// The form that goes on furthest has the place.
+/// The form that goes on furthest has the position.
 #[test]
 fn first_wrong_bytes_in_any_form(rt: HostRuntime) {
-    for (text, place) in [
+    for (text, position) in [
         ("", 0),
         ("K2460370", 0),
         ("J", 1),
@@ -80,6 +80,6 @@ fn first_wrong_bytes_in_any_form(rt: HostRuntime) {
         ("+999999-02T00:00:00Z", 10),
         ("+999999-0 T", 9),
     ] {
-        wrong_at(&rt, text, &read_any(text.as_bytes()), place);
+        wrong_at(&rt, text, &read_any(text.as_bytes()), position);
     }
 }

@@ -112,7 +112,7 @@ fn components_of_moments_out_of_range(rt: HostRuntime) {
 
 #[test]
 fn first_wrong_bytes_of_moments(rt: HostRuntime) {
-    for (text, place) in [
+    for (text, position) in [
         ("", 0),
         ("24-02-29T00:00:00Z", 2),
         ("-2024-02-29T00:00:00Z", 0),
@@ -133,11 +133,11 @@ fn first_wrong_bytes_of_moments(rt: HostRuntime) {
         ("2024-02-29T00:00:00+0100", 22),
         ("2024-02-29T00:00:00+01:00:00", 25),
     ] {
-        wrong_at(&rt, text, &read(text.as_bytes()), place);
+        wrong_at(&rt, text, &read(text.as_bytes()), position);
     }
 }
 
-/// A wrong byte is found at its place whatever comes after it, and none is found there before it.
+/// A wrong byte is found at its position whatever comes after it, and none is found there before it.
 #[test]
 fn each_byte_of_a_moment_replaced(rt: HostRuntime) {
     for text in [
@@ -148,14 +148,14 @@ fn each_byte_of_a_moment_replaced(rt: HostRuntime) {
             for byte in 0..=255 {
                 let mut changed = text;
                 changed[i] = byte;
-                let Err(Unreadable::UnexpectedByte(place)) = read(&changed) else {
+                let Err(Unreadable::UnexpectedByte(position)) = read(&changed) else {
                     continue;
                 };
-                assert!(rt; place >= i);
-                if place < 28 {
-                    let wrong = Err(Unreadable::UnexpectedByte(place));
-                    reads(&rt, (i, byte), &read(&changed[..place + 1]), &wrong);
-                    changed[place] = b'!';
+                assert!(rt; position >= i);
+                if position < 28 {
+                    let wrong = Err(Unreadable::UnexpectedByte(position));
+                    reads(&rt, (i, byte), &read(&changed[..position + 1]), &wrong);
+                    changed[position] = b'!';
                     reads(&rt, (i, byte), &read(&changed), &wrong);
                 }
             }

@@ -92,7 +92,7 @@ fn unix_times_read(rt: HostRuntime) -> Result<(), Fail> {
 
 #[test]
 fn first_wrong_bytes_of_unix_times(rt: HostRuntime) {
-    for (text, place) in [
+    for (text, position) in [
         ("", 0),
         ("1709164800", 0),
         ("@", 1),
@@ -114,7 +114,7 @@ fn first_wrong_bytes_of_unix_times(rt: HostRuntime) {
         ("@1709164800 ", 11),
         ("@1000000000000000000", 19),
     ] {
-        wrong_at(&rt, text, &unix::read(text.as_bytes()), place);
+        wrong_at(&rt, text, &unix::read(text.as_bytes()), position);
     }
 }
 

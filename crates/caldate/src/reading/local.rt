@@ -6,7 +6,7 @@ ghost use Rattle.cal_text.specs.declared.any.DateOrMoment.{DateOrMoment};
 ghost use Rattle.caldate.specs.Readings.{HasFormIn, IsFaultIn, IsTextIn, assumed};
 ghost use Rattle.caldate.specs.declared.reading.Reading.TheVariants.{Local};
 
-use crate::reading::parts::at_place;
+use crate::reading::parts::at_position;
 use cal_text::{DateOrMoment, Unreadable, read_any, rfc3339};
 use cal_time::UtcOffset;
 
@@ -29,7 +29,7 @@ pub fn read_local(offset: UtcOffset, text: &[u8]) -> Result<DateOrMoment, Unread
     let full = with_offset(text);
     match read_any(&full[..text.len() + 1]) {
         Ok(found) => Ok(assumed(offset, found)),
-        Err(error) => Err(at_place(error, first_wrong_byte(text))),
+        Err(error) => Err(at_position(error, first_wrong_byte(text))),
     }
 }
 
@@ -55,18 +55,18 @@ fn with_offset(text: &[u8]) -> [u8; LONGEST + 1]
     full
 }
 
-/// The place of the first byte that no such text has there, or the length of a text that ends too early.
+/// The position of the first byte that no such text has there, or the length of a text that ends too early.
 fn first_wrong_byte(text: &[u8]) -> usize
     requires { length text.now ≤ 29 }
     ensures { result ≤ length text.now }
 {
     let full = with_offset(text);
-    let place = match rfc3339::read(&full[..text.len() + 1]) {
-        Err(Unreadable::UnexpectedByte(place)) => place,
+    let position = match rfc3339::read(&full[..text.len() + 1]) {
+        Err(Unreadable::UnexpectedByte(position)) => position,
         _ => text.len(),
     };
     // An offset of its own makes a moment with the Z alone unreadable.
-    place.min(end_of_fraction(text))
+    position.min(end_of_fraction(text))
 }
 
 /// Where the digits and points after the seconds end.

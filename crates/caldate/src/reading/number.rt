@@ -66,7 +66,7 @@ fn number_of(text: &[u8]) -> Option<i128>
     Some(number)
 }
 
-/// The place of the first byte that no such text has there, or the length of a text that ends too early.
+/// The position of the first byte that no such text has there, or the length of a text that ends too early.
 fn first_wrong_byte(text: &[u8]) -> usize
     ensures { result ≤ length text.now }
 {

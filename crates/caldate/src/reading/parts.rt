@@ -74,21 +74,21 @@ pub fn read_parts(
     };
     match read_any(&date) {
         Ok(found) => Ok(found),
-        Err(error) => Err(at_place(error, first_wrong_byte(text, shape))),
+        Err(error) => Err(at_position(error, first_wrong_byte(text, shape))),
     }
 }
 
-/// The error at this place, where it names one.
-pub fn at_place(error: Unreadable, place: usize) -> Unreadable
+/// The error at this position, where it names one.
+pub fn at_position(error: Unreadable, position: usize) -> Unreadable
     ensures { component_of result ≡ component_of error }
 {
     match error {
-        Unreadable::UnexpectedByte(_) => Unreadable::UnexpectedByte(place),
+        Unreadable::UnexpectedByte(_) => Unreadable::UnexpectedByte(position),
         Unreadable::OutOfRange(component) => Unreadable::OutOfRange(component),
     }
 }
 
-/// The place of the first byte that no text of the shape has there, or the length of a text that ends too early.
+/// The position of the first byte that no text of the shape has there, or the length of a text that ends too early.
 fn first_wrong_byte(text: &[u8], shape: &[u8]) -> usize
     ensures { result ≤ length text.now }
 {

@@ -96,7 +96,7 @@ fn moments_at_an_offset(rt: HostRuntime) {
     }
 }
 
-/// The place of the first wrong byte.
+/// The position of the first wrong byte.
 #[test]
 fn texts_of_no_form(rt: HostRuntime) {
     let cases: [(Reading, &[u8], usize); 41] = [
@@ -142,10 +142,10 @@ fn texts_of_no_form(rt: HostRuntime) {
         (AT_UTC, b"2024-02-29T10:00:00.1234567890", 29),
         (AT_UTC, b"2024-02-29T10:00:00.123456789+01:00", 29),
     ];
-    for (reading, text, place) in cases {
+    for (reading, text, position) in cases {
         assert_eq!(rt;
             read_in(reading, text),
-            Err(Unreadable::UnexpectedByte(place))
+            Err(Unreadable::UnexpectedByte(position))
         );
     }
 }

@@ -104,7 +104,7 @@ impl Write for Counting {
 
 // The answers are gathered: 4096 of nine bytes each go out in a few writes.
 #[test]
-fn answers_are_gathered(rt: HostRuntime) {
+fn answers_are_buffer(rt: HostRuntime) {
     let mut reader = [b'\n'; 4096].as_slice();
     let mut writer = Counting { calls: 0 };
     assert_eq!(rt; run(&mut reader, &mut writer), Ok(()));

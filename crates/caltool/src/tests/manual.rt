@@ -108,7 +108,7 @@ fn year_and_ordinal(julian_day: i64) -> (i64, i64) {
     (year, days.saturating_add(1))
 }
 
-/// The place in the week, from Monday, 0: the Julian days that 7 divides are Mondays.
+/// The index in the week, from Monday, 0: the Julian days that 7 divides are Mondays.
 fn weekday(julian_day: i64) -> i64 {
     julian_day.rem_euclid(7)
 }
@@ -217,10 +217,10 @@ fn date_text(alloc: Global, julian_day: i64) -> Result<String, AllocError> {
 }
 
 fn week_text(alloc: Global, julian_day: i64) -> Result<String, AllocError> {
-    let place = weekday(julian_day);
-    let (year, ordinal) = year_and_ordinal(julian_day.saturating_sub(place).saturating_add(3));
+    let index = weekday(julian_day);
+    let (year, ordinal) = year_and_ordinal(julian_day.saturating_sub(index).saturating_add(3));
     let week = ordinal.saturating_add(6) / 7;
-    let name = match place {
+    let name = match index {
         0 => "1 Monday",
         1 => "2 Tuesday",
         2 => "3 Wednesday",

@@ -16,13 +16,13 @@ const LINES: [&[u8]; 7] = [
 ];
 
 #[test]
-fn each_byte_in_the_place_of_each_byte(rt: HostRuntime) -> Result<(), Fail> {
+fn each_byte_in_the_index_of_each_byte(rt: HostRuntime) -> Result<(), Fail> {
     for line in LINES {
         for at in 0..line.len() {
             for byte in 0..=255u8 {
                 let mut input = line.to_vec(rt.alloc())?;
-                if let Some(place) = input.get_mut(at) {
-                    *place = byte;
+                if let Some(index) = input.get_mut(at) {
+                    *index = byte;
                 }
                 let (outcome, written) = answers(rt.alloc(), &input)?;
                 assert_eq!(rt; outcome, Ok(()));

@@ -35,8 +35,8 @@ impl Months {
         ensures { SomeIff result (AreMonths numbers.now) (months_in numbers.now) }
     {
         let mut months = [Month::January; MOST];
-        for place in 0..numbers.len() {
-            months[place] = month_of(u32::from(numbers[place]))?;
+        for index in 0..numbers.len() {
+            months[index] = month_of(u32::from(numbers[index]))?;
         }
         Some(Months {
             months,

@@ -50,8 +50,8 @@ impl Weekdays {
         ensures { SomeIff result (AreWeekdays parts.now) (weekdays_in parts.now) }
     {
         let mut weekdays = [ByDay::Every(Weekday::Monday); MOST];
-        for place in 0..parts.len() {
-            weekdays[place] = by_day_of(parts[place])?;
+        for index in 0..parts.len() {
+            weekdays[index] = by_day_of(parts[index])?;
         }
         Some(Weekdays {
             weekdays,

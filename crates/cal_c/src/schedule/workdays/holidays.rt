@@ -69,8 +69,8 @@ impl Holidays {
             return Err(MANY_HOLIDAYS);
         }
         let mut holidays = Self::new();
-        for place in 0..julian_days.len() {
-            let Some(date) = date_of(julian_days[place]) else {
+        for index in 0..julian_days.len() {
+            let Some(date) = date_of(julian_days[index]) else {
                 return Err(BAD_HOLIDAYS);
             };
             holidays.push(date);

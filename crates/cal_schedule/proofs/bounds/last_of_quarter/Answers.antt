@@ -1,14 +1,14 @@
 use Rattle.std.proofs.Common.{◌+◌, ◌-◌, ◌%◌, arith}
 use Rattle.std.proofs.lemmas.Int.{ints}
 use Rattle.cal_time.specs.Days.{month_at-range}
-use Rattle.cal_time.specs.MonthCycle.{place-month_at}
+use Rattle.cal_time.specs.MonthCycle.{index-month_at}
 use Rattle.cal_schedule.proofs.Ends.{last-greatest, last-same}
 use Rattle.cal_schedule.proofs.bounds.last_of_quarter.Goals as goal
 
 pub returns-clause-date : goal.returns-clause-date
 returns-clause-date c =
-    last-same _ _ _ _ _ (omega (arith, ints)) (rw c.at.ensures (omega (arith, month_at-range c.args.date, place-month_at (c.place-place.result - c.place-place.result % 3 + 2) (omega (arith, month_at-range c.args.date))))) c.last_in.ensures.date
+    last-same _ _ _ _ _ (omega (arith, ints)) (rw c.at.ensures (omega (arith, month_at-range c.args.date, index-month_at (c.index-index.result - c.index-index.result % 3 + 2) (omega (arith, month_at-range c.args.date))))) c.last_in.ensures.date
 
 pub returns-clause-not_before : goal.returns-clause-not_before
 returns-clause-not_before c =
-    last-greatest _ _ _ _ c.last_in.ensures.date (rw c.at.ensures (omega (arith, ints, month_at-range c.args.date, place-month_at (c.place-place.result - c.place-place.result % 3 + 2) (omega (arith, month_at-range c.args.date)))))
+    last-greatest _ _ _ _ c.last_in.ensures.date (rw c.at.ensures (omega (arith, ints, month_at-range c.args.date, index-month_at (c.index-index.result - c.index-index.result % 3 + 2) (omega (arith, month_at-range c.args.date)))))

@@ -4,10 +4,10 @@ use Rattle.cal_time.specs.CalendarDay.{calendar_day}
 use Rattle.cal_time.specs.Date.{weekday_at}
 use Rattle.cal_time.specs.Lengths.{days_in_month}
 use Rattle.cal_time.specs.Month.{number}
-use Rattle.cal_time.specs.Weekday.{place}
-use Rattle.cal_time.specs.WeekdayCycle.{place-below}
+use Rattle.cal_time.specs.Weekday.{index}
+use Rattle.cal_time.specs.WeekdayCycle.{index-below}
 use Rattle.cal_schedule.specs.Weekdays.{IsLastWeekday}
-use Rattle.cal_schedule.proofs.WeekdaysOfMonths.{last-place}
+use Rattle.cal_schedule.proofs.WeekdaysOfMonths.{last-index}
 use Rattle.cal_schedule.proofs.weekdays.last_of_month.Goals as goal
 
 pub unreachable-requires : goal.unreachable-requires
@@ -22,8 +22,8 @@ pub returns-clause-last : goal.returns-clause-last
 returns-clause-last c =
     let year : to_z w32 (of_z w32 c.args.year) ≡ c.args.year = omega (arith, ints) in
     let day : c.days_in_month.result - c.days_on.result
-    ≡ days_in_month (to_z w32 (of_z w32 c.args.year)) (number c.args.month) - (weekday_at c.last_in-last.result + 7 - place c.args.weekday) % 7 =
+    ≡ days_in_month (to_z w32 (of_z w32 c.args.year)) (number c.args.month) - (weekday_at c.last_in-last.result + 7 - index c.args.weekday) % 7 =
     omega (arith, c.days_in_month.ensures.value, c.days_on.ensures, c.weekday.ensures.counted) in
-    let last = last-place _ _ _ _ _ c.last_in-last.ensures.range c.in-Ok.ensures.has.0 (place-below c.args.weekday) c.last_in-last.ensures.date
+    let last = last-index _ _ _ _ _ c.last_in-last.ensures.range c.in-Ok.ensures.has.0 (index-below c.args.weekday) c.last_in-last.ensures.date
     (c.in-Ok.ensures.has.1 ∙ ap (calendar_day (to_z w32 (of_z w32 c.args.year)) (number c.args.month)) day) in
-    subst (λ y. IsLastWeekday y (number c.args.month) (place c.args.weekday) c.in-Ok.date) year last
+    subst (λ y. IsLastWeekday y (number c.args.month) (index c.args.weekday) c.in-Ok.date) year last

@@ -5,20 +5,20 @@ use Rattle.cal_time.specs.Days.{day_with}
 use Rattle.cal_time.specs.Date.{day_of_month_at}
 use Rattle.cal_time.specs.Laws.{weekday_at-is}
 use Rattle.cal_time.specs.Month.{number}
-use Rattle.cal_time.specs.Weekday.{place}
+use Rattle.cal_time.specs.Weekday.{index}
 use Rattle.cal_time.specs.MonthCycle as months
-use Rattle.cal_time.specs.WeekdayCycle.{place-below}
+use Rattle.cal_time.specs.WeekdayCycle.{index-below}
 use Rattle.cal_schedule.specs.Weekdays.{IsNthWeekday}
 use Rattle.cal_schedule.proofs.Ends.{days_in_month-least}
-use Rattle.cal_schedule.proofs.WeekdaysOfMonths.{nth-place, place-nth}
+use Rattle.cal_schedule.proofs.WeekdaysOfMonths.{nth-index, index-nth}
 use Rattle.cal_schedule.proofs.weekdays.nth_of_month.Goals as goal
 use Rattle.cal_schedule.proofs.weekdays.nth_of_month.Goals.{then-n-eq0-via-then-n-eq0, then-n-eq0-via-else-n-eq0+then-n-gt5}
 
 pub returns-then-n-eq0-clause-every : goal.returns-then-n-eq0-clause-every
 returns-then-n-eq0-clause-every c k h is =
-    let below = months.place-below c.args.month in
+    let below = months.index-below c.args.month in
     let first = day_with c.args.year (number c.args.month) 1 c.requires (omega arith, omega (arith, below)) (omega arith, omega (arith, days_in_month-least c.args.year (number c.args.month))) in
-    let at = nth-place _ _ first.day (place c.args.weekday) c.args.n k first.has (place-below c.args.weekday) is in
+    let at = nth-index _ _ first.day (index c.args.weekday) c.args.n k first.has (index-below c.args.weekday) is in
     elim c.then-n-eq0.branch [
       | then-n-eq0-via-then-n-eq0 w ↦ absurd (omega (arith, at.1.least))
       | then-n-eq0-via-else-n-eq0+then-n-gt5 w ↦ absurd (omega (arith, at.1.most))
@@ -27,8 +27,8 @@ returns-then-n-eq0-clause-every c k h is =
 pub returns-in-Ok-clause-every : goal.returns-in-Ok-clause-every
 returns-in-Ok-clause-every c k h is =
     let year : c.args.year ≡ to_z w32 (of_z w32 c.args.year) = omega (arith, ints) in
-    let there = subst (λ y. IsNthWeekday y (number c.args.month) (place c.args.weekday) c.args.n k) year is in
-    let at = nth-place _ _ _ (place c.args.weekday) c.args.n k c.first_in-first.ensures.date (place-below c.args.weekday) there in
+    let there = subst (λ y. IsNthWeekday y (number c.args.month) (index c.args.weekday) c.args.n k) year is in
+    let at = nth-index _ _ _ (index c.args.weekday) c.args.n k c.first_in-first.ensures.date (index-below c.args.weekday) there in
     let day : day_of_month_at k ≡ 7 * c.args.n - 6 + c.days_on.result = omega (arith, at.1.day, c.days_on.ensures, c.weekday.ensures.counted, weekday_at-is c.first_in-first.result) in
     let e = c.in-Ok.ensures.every k h (at.0 ∙ ap (calendar_day (to_z w32 (of_z w32 c.args.year)) (number c.args.month)) day) in
     cc
@@ -37,14 +37,14 @@ pub returns-in-Ok-clause-has : goal.returns-in-Ok-clause-has
 returns-in-Ok-clause-has c =
     let has = c.in-Ok.ensures.has in
     let year : to_z w32 (of_z w32 c.args.year) ≡ c.args.year = omega (arith, ints) in
-    let there = place-nth _ _ c.first_in-first.result (place c.args.weekday) c.args.n _ c.in-Ok.date c.first_in-first.ensures.date has.1 (place-below c.args.weekday)
+    let there = index-nth _ _ c.first_in-first.result (index c.args.weekday) c.args.n _ c.in-Ok.date c.first_in-first.ensures.date has.1 (index-below c.args.weekday)
     (omega (arith, c.days_on.ensures, c.weekday.ensures.counted, weekday_at-is c.first_in-first.result)) in
-    (has.0, subst (λ y. IsNthWeekday y (number c.args.month) (place c.args.weekday) c.args.n c.in-Ok.date) year there)
+    (has.0, subst (λ y. IsNthWeekday y (number c.args.month) (index c.args.weekday) c.args.n c.in-Ok.date) year there)
 
 pub returns-in-Err-clause-every : goal.returns-in-Err-clause-every
 returns-in-Err-clause-every c k h is =
     let year : c.args.year ≡ to_z w32 (of_z w32 c.args.year) = omega (arith, ints) in
-    let there = subst (λ y. IsNthWeekday y (number c.args.month) (place c.args.weekday) c.args.n k) year is in
-    let at = nth-place _ _ _ (place c.args.weekday) c.args.n k c.first_in-first.ensures.date (place-below c.args.weekday) there in
+    let there = subst (λ y. IsNthWeekday y (number c.args.month) (index c.args.weekday) c.args.n k) year is in
+    let at = nth-index _ _ _ (index c.args.weekday) c.args.n k c.first_in-first.ensures.date (index-below c.args.weekday) there in
     let day : day_of_month_at k ≡ 7 * c.args.n - 6 + c.days_on.result = omega (arith, at.1.day, c.days_on.ensures, c.weekday.ensures.counted, weekday_at-is c.first_in-first.result) in
     absurd (c.in-Err.ensures.refused.0 refl k h (at.0 ∙ ap (calendar_day (to_z w32 (of_z w32 c.args.year)) (number c.args.month)) day))

@@ -2,22 +2,22 @@ use Rattle.std.proofs.Common.{◌≡◌, ◌∙◌, ap, slice_get}
 use Rattle.std.proofs.lemmas.Bool.Decides.{nat_tests}
 use Rattle.std.proofs.Common.{arith}
 use Rattle.cal_time.specs.Date.{weekday_at}
-use Rattle.cal_time.specs.Weekday.{place}
-use Rattle.cal_time.specs.WeekdayCycle.{place-below}
-use Rattle.cal_schedule.proofs.WeekdaysOfMonths.{from-here, from-next, next-place}
+use Rattle.cal_time.specs.Weekday.{index}
+use Rattle.cal_time.specs.WeekdayCycle.{index-below}
+use Rattle.cal_schedule.proofs.WeekdaysOfMonths.{from-here, from-next, next-index}
 use Rattle.cal_schedule.proofs.weekdays.on_or_after.Goals as goal
 
 pub returns-then-eq-clause-day : goal.returns-then-eq-clause-day
 returns-then-eq-clause-day c =
-    let same : weekday_at c.args.date ≡ place c.args.weekday = grind (arith, nat_tests, c.eq.ensures, c.if-eq.true, c.weekday.ensures.counted) in
+    let same : weekday_at c.args.date ≡ index c.args.weekday = grind (arith, nat_tests, c.eq.ensures, c.if-eq.true, c.weekday.ensures.counted) in
     from-here _ _ c.weekday.ensures.in_range same
 
 pub returns-else-eq-clause-day : goal.returns-else-eq-clause-day
 returns-else-eq-clause-day c =
-    let other : weekday_at c.args.date ≡ place c.args.weekday → ⊥ = grind (arith, nat_tests, c.eq.ensures, c.if-eq.false, c.weekday.ensures.counted) in
+    let other : weekday_at c.args.date ≡ index c.args.weekday → ⊥ = grind (arith, nat_tests, c.eq.ensures, c.if-eq.false, c.weekday.ensures.counted) in
     c.checked_next_occurrence.ensures.day ∙ ap (λ days. slice_get days 0) (from-next _ _ c.weekday.ensures.in_range other)
 
-pub returns-else-eq-clause-place : goal.returns-else-eq-clause-place
-returns-else-eq-clause-place c =
-    let other : weekday_at c.args.date ≡ place c.args.weekday → ⊥ = grind (arith, nat_tests, c.eq.ensures, c.if-eq.false, c.weekday.ensures.counted) in
-    next-place _ _ _ (place-below c.args.weekday) other c.checked_next_occurrence.ensures.day
+pub returns-else-eq-clause-index : goal.returns-else-eq-clause-index
+returns-else-eq-clause-index c =
+    let other : weekday_at c.args.date ≡ index c.args.weekday → ⊥ = grind (arith, nat_tests, c.eq.ensures, c.if-eq.false, c.weekday.ensures.counted) in
+    next-index _ _ _ (index-below c.args.weekday) other c.checked_next_occurrence.ensures.day

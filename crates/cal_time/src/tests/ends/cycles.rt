@@ -20,48 +20,48 @@ fn numbers_of_months(rt: HostRuntime) {
     }
 }
 
-/// The place of a value `n` places on round a cycle of so many places.
-fn place_after(place: u8, n: usize, length: u8) -> u8
+/// The index of a value `n` places on round a cycle of this length.
+fn index_after(index: u8, n: usize, length: u8) -> u8
     requires { 0 < length }
 {
     let length = u128::from(length);
-    ((u128::from(place) + n as u128) % length) as u8
+    ((u128::from(index) + n as u128) % length) as u8
 }
 
-/// The place of a value `n` places back round a cycle of so many places.
-fn place_before(place: u8, n: usize, length: u8) -> u8
+/// The index of a value `n` places back round a cycle of this length.
+fn index_before(index: u8, n: usize, length: u8) -> u8
     requires { 0 < length }
 {
-    let (place, length) = (i128::from(place), i128::from(length));
-    (place - n as i128).rem_euclid(length) as u8
+    let (index, length) = (i128::from(index), i128::from(length));
+    (index - n as i128).rem_euclid(length) as u8
 }
 
 #[test]
 fn months_far_on_and_far_back(rt: HostRuntime) {
     for start in Month::iter_from(Month::January).take(12) {
-        let place = start as u8 - 1;
+        let index = start as u8 - 1;
         for n in [0, 255] {
-            let on = place_after(place, usize::from(n), 12);
-            let back = place_before(place, usize::from(n), 12);
-            let turned = (start.nth_next(n).place(), start.nth_prev(n).place());
+            let on = index_after(index, usize::from(n), 12);
+            let back = index_before(index, usize::from(n), 12);
+            let turned = (start.nth_next(n).index(), start.nth_prev(n).index());
             same_at(&rt, (start, n), turned, (on, back));
         }
         let far = nth_in(start, usize::MAX);
-        same_at(&rt, start, far.place(), place_after(place, usize::MAX, 12));
+        same_at(&rt, start, far.index(), index_after(index, usize::MAX, 12));
     }
 }
 
 #[test]
 fn weekdays_far_on_and_far_back(rt: HostRuntime) {
     for start in Weekday::iter_from(Weekday::Monday).take(7) {
-        let place = start as u8;
+        let index = start as u8;
         for n in [0, 255] {
-            let on = place_after(place, usize::from(n), 7);
-            let back = place_before(place, usize::from(n), 7);
-            let turned = (start.nth_next(n).place(), start.nth_prev(n).place());
+            let on = index_after(index, usize::from(n), 7);
+            let back = index_before(index, usize::from(n), 7);
+            let turned = (start.nth_next(n).index(), start.nth_prev(n).index());
             same_at(&rt, (start, n), turned, (on, back));
         }
         let far = nth_in(start, usize::MAX);
-        same_at(&rt, start, far.place(), place_after(place, usize::MAX, 7));
+        same_at(&rt, start, far.index(), index_after(index, usize::MAX, 7));
     }
 }

@@ -26,8 +26,8 @@ fn from_front(list: &[i32], k: usize) -> (Option<i32>, &[i32]) {
 fn from_back(list: &[i32], k: usize) -> (Option<i32>, &[i32]) {
     let length = list.len();
     if k < length {
-        let place = length - 1 - k;
-        (Some(list[place]), &list[..place])
+        let index = length - 1 - k;
+        (Some(list[index]), &list[..index])
     } else {
         (None, &list[..0])
     }

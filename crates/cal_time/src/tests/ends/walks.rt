@@ -4,7 +4,7 @@ use crate::iter::DateIter;
 use crate::tests::range::{DAYS, FIRST_YEAR, LAST_YEAR};
 use crate::tests::{date, same, same_at};
 
-/// The place of the last day in a walk over the whole range.
+/// The index of the last day in a walk over the whole range.
 const LAST_PLACE: usize = DAYS as usize - 1;
 
 /// Whether no days are left, whichever call is asked.

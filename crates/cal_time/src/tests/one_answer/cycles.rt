@@ -83,5 +83,5 @@ fn back_any_once<C: Cycle, F: FnMut(C) -> bool + Copy>(start: C, f: F) -> Twice<
 fn all_once_of_places_below(start: Month, end: u8) -> Twice<bool>
     ensures { result.0 ≡ result.1 }
 {
-    all_once(start, move |month: Month| month.place() < end)
+    all_once(start, move |month: Month| month.index() < end)
 }

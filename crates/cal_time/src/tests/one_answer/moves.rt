@@ -1,6 +1,6 @@
 //! Dates moved, alone and with a time.
 ghost use Rattle.std.specs.Prelude.{◌≡◌, pos, ◌+ℤ◌, ◌-ℤ◌, IsSome};
-ghost use Rattle.cal_units.specs.Weekday.{place};
+ghost use Rattle.cal_units.specs.Weekday.{index};
 ghost use Rattle.cal_span.specs.SignedDuration.{whole_days};
 ghost use Rattle.cal_date.specs.Move.{IsDateNumber};
 ghost use Rattle.cal_date.specs.Occurrence.{next_occurrences, prev_occurrences, kth};
@@ -69,28 +69,28 @@ fn sub_assign(date: Date, duration: SignedDuration) -> Twice<Date>
 }
 
 fn next_occurrence(date: Date, weekday: Weekday) -> Twice<Date>
-    requires { IsSome (kth 1 (next_occurrences (place weekday) date)) }
+    requires { IsSome (kth 1 (next_occurrences (index weekday) date)) }
     ensures { result.0 ≡ result.1 }
 {
     twice!(date.next_occurrence(weekday))
 }
 
 fn prev_occurrence(date: Date, weekday: Weekday) -> Twice<Date>
-    requires { IsSome (kth 1 (prev_occurrences (place weekday) date)) }
+    requires { IsSome (kth 1 (prev_occurrences (index weekday) date)) }
     ensures { result.0 ≡ result.1 }
 {
     twice!(date.prev_occurrence(weekday))
 }
 
 fn nth_next_occurrence(date: Date, weekday: Weekday, n: u8) -> Twice<Date>
-    requires { IsSome (kth n (next_occurrences (place weekday) date)) }
+    requires { IsSome (kth n (next_occurrences (index weekday) date)) }
     ensures { result.0 ≡ result.1 }
 {
     twice!(date.nth_next_occurrence(weekday, n))
 }
 
 fn nth_prev_occurrence(date: Date, weekday: Weekday, n: u8) -> Twice<Date>
-    requires { IsSome (kth n (prev_occurrences (place weekday) date)) }
+    requires { IsSome (kth n (prev_occurrences (index weekday) date)) }
     ensures { result.0 ≡ result.1 }
 {
     twice!(date.nth_prev_occurrence(weekday, n))

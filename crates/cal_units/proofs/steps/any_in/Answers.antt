@@ -4,13 +4,13 @@ use Rattle.cal_units.proofs.steps.any_in.Goals as goal
 
 pub returns-then-f : goal.returns-then-f
 returns-then-f g c =
-    c.loop-place.invariant.1 _ (stops _ _ c.f.new.self (omega arith) (rw (c.at.ensures, c.if-f.true) at c.f.ensures))
+    c.loop-index.invariant.1 _ (stops _ _ c.f.new.self (omega arith) (rw (c.at.ensures, c.if-f.true) at c.f.ensures))
 
-pub loop-place-preserved : goal.loop-place-preserved
-loop-place-preserved g c =
-    (search of_calls, λ r h. c.loop-place.invariant.1 _ (goes_on _ _ c.f.new.self _ (omega arith) (rw (c.at.ensures, c.if-f.false) at c.f.ensures) h))
+pub loop-index-preserved : goal.loop-index-preserved
+loop-index-preserved g c =
+    (search of_calls, λ r h. c.loop-index.invariant.1 _ (goes_on _ _ c.f.new.self _ (omega arith) (rw (c.at.ensures, c.if-f.false) at c.f.ensures) h))
 
 pub returns : goal.returns
 returns g c =
-    let e : c.loop-place.place ≡ g.C.Cycle.LENGTH = omega arith in
-    c.loop-place.invariant.1 _ (rw e (at_end _))
+    let e : c.loop-index.index ≡ g.C.Cycle.LENGTH = omega arith in
+    c.loop-index.invariant.1 _ (rw e (at_end _))

@@ -19,4 +19,4 @@ returns-then-is_date-2-clause-text c =
     let from_date = subst IsDate start_day c.to_julian_day-then-is_date-2.ensures.in_range in
     let days = days_between (day_of c.args.to.now) (day_of c.args.from.now) _ _ to_date from_date end start in
     let digits = signed_decimal (to_z w32 (of_z w32 (to_z w32 (of_z w32 c.to_julian_day.result) -ℤ to_z w32 (of_z w32 c.to_julian_day-then-is_date-2.result)))) in
-    rw (from, to) (c.push.ensures.appended ∙ ap (λ text. c.args.gathered.now ++ text) (c.as_bytes.ensures.bytes ∙ c.push_signed.ensures.appended ∙ ap (λ front. front ++ digits) c.new-days.ensures ∙ ap signed_decimal days))
+    rw (from, to) (c.push.ensures.appended ∙ ap (λ text. c.args.buffer.now ++ text) (c.as_bytes.ensures.bytes ∙ c.push_signed.ensures.appended ∙ ap (λ front. front ++ digits) c.new-days.ensures ∙ ap signed_decimal days))

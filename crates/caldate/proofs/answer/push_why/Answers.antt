@@ -4,6 +4,6 @@ use Rattle.caldate.proofs.answer.push_why.Goals as goal
 
 pub returns-in-UnexpectedByte-clause-text : goal.returns-in-UnexpectedByte-clause-text
 returns-in-UnexpectedByte-clause-text c =
-    c.push_number.ensures.appended ∙ ap (λ front. front ++ decimal c.in-UnexpectedByte.place) c.push.ensures.appended
-    ∙ append_assoc c.args.gathered.now (codes "unreadable at ") (decimal c.in-UnexpectedByte.place)
-    ∙ ap (λ error. c.args.gathered.now ++ why_text error) (sym c.in-UnexpectedByte.is)
+    c.push_number.ensures.appended ∙ ap (λ front. front ++ decimal c.in-UnexpectedByte.position) c.push.ensures.appended
+    ∙ append_assoc c.args.buffer.now (codes "unreadable at ") (decimal c.in-UnexpectedByte.position)
+    ∙ ap (λ error. c.args.buffer.now ++ why_text error) (sym c.in-UnexpectedByte.is)

@@ -5,5 +5,5 @@ use Rattle.caldate.proofs.lines.first_line.Goals as goal
 
 pub returns-clause-parts : goal.returns-clause-parts
 returns-clause-parts c =
-    let found = first_ends c.args.bytes.now c.in_ok-at.at (sym c.place_of.ensures ∙ c.in_ok-at.was) in
+    let found = first_ends c.args.bytes.now c.in_ok-at.at (sym c.index_of.ensures ∙ c.in_ok-at.was) in
     rw take_rest (found.1, found.2)

@@ -14,7 +14,7 @@ pub returns-in_err-make_room : goal.returns-in_err-make_room
 returns-in_err-make_room g c =
     let inv = c.loop-day.invariant.0 in
     let is : IsErrAnd c.from_residual.result IsOfWrite = search rules in
-    lists_failed c.args.listing.now _ _ _ inv.0 is inv.2 (front_more _ _ _ inv.1 c.loop-day.gathered _ inv.4 inv.5 c.in_err-make_room.ensures.front)
+    lists_failed c.args.listing.now _ _ _ inv.0 is inv.2 (front_more _ _ _ inv.1 c.loop-day.buffer _ inv.4 inv.5 c.in_err-make_room.ensures.front)
 
 pub loop-day-preserved : goal.loop-day-preserved
 loop-day-preserved g c =
@@ -23,13 +23,13 @@ loop-day-preserved g c =
     let day = c.in-Some.day in
     let room = c.in_ok-make_room.ensures.ok in
     let next = subst (λ count. IsWithin listing count day) inv.3 c.in-Some.ensures.day in
-    let whole = inv.4 ∙ ap (λ l. inv.1 ++ l) room.1 ∙ sym (append_assoc inv.1 room.0 c.make_room.new.gathered) in (
+    let whole = inv.4 ∙ ap (λ l. inv.1 ++ l) room.1 ∙ sym (append_assoc inv.1 room.0 c.make_room.new.buffer) in (
       (
         inv.0 ++ day ∷ [],
         inv.1 ++ room.0,
         one_more listing inv.0 day inv.2 next,
         next_count inv.0 day c.loop-day.count listing.step.every inv.3,
-        one_line_more inv.0 day (inv.1 ++ room.0) c.make_room.new.gathered whole ∙ ap (λ l. inv.1 ++ room.0 ++ l) (sym c.push_line.ensures),
+        one_line_more inv.0 day (inv.1 ++ room.0) c.make_room.new.buffer whole ∙ ap (λ l. inv.1 ++ room.0 ++ l) (sym c.push_line.ensures),
         Appends-trans _ _ _ _ _ inv.5 room.2,
       ),
       omega (arith, c.in-Some.ensures.near, c.requires.1),

@@ -7,7 +7,7 @@ use Rattle.caldate.proofs.list.list.Given as goal
 -- the first days are written but for what is gathered, and the next is as many steps on
 abbrev pub invariant-loop-day : goal.invariant-loop-day
 invariant-loop-day g l =
-    ((days written : List ℕ) × AreFirst l.listing days × (l.count ≡ length days * l.listing.step.every) × (flat_map line_of days ≡ written ++ l.gathered)
+    ((days written : List ℕ) × AreFirst l.listing days × (l.count ≡ length days * l.listing.step.every) × (flat_map line_of days ≡ written ++ l.buffer)
     × Appends (g.W.Write.contents l.initial.writer) (g.W.Write.contents l.writer) written) × (l.count ≤ 60000000000)
 
 abbrev pub decreases-loop-day : goal.decreases-loop-day

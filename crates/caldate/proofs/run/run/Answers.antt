@@ -8,7 +8,7 @@ use Rattle.caldate.specs.Lines.{lines_of}
 use Rattle.caldate.specs.Runs.{AnswersAll, EndsFrom, Gives, HasRead, IsAllowed, IsOfWrite}
 use Rattle.caldate.specs.declared.request.Filter.{Filter}
 use Rattle.caldate.specs.Standing.{NoEnd, Stands}
-use Rattle.caldate.specs.declared.place.Place.{Place}
+use Rattle.caldate.specs.declared.progress.Progress.{Progress}
 use Rattle.caldate.specs.declared.fault.Fault.TheVariants.{Read, Unanswered}
 use Rattle.caldate.proofs.Ends.{ended, read_ended, same_fault, write_ended}
 use Rattle.caldate.proofs.Steps.{begun, read, gone, failed, ended_answered}
@@ -16,9 +16,9 @@ use Rattle.caldate.proofs.run.run.Goals as goal
 
 pub loop-reads-init : goal.loop-reads-init
 loop-reads-init g c =
-    let place : Place = record { number = 0; is_long = false; front = c.new.result } in
+    let progress : Progress = record { number = 0; is_long = false; front = c.new.result } in
     let start = g.W.Write.contents c.args.writer.now in (
-      ([], Consumes-nil _, subst (λ (p : List ℕ). Stands (IsAllowed c.args.filter) [] start start [] p place) (sym c.new-input.ensures) (begun (IsAllowed c.args.filter) start place refl refl)),
+      ([], Consumes-nil _, subst (λ (p : List ℕ). Stands (IsAllowed c.args.filter) [] start start [] p progress) (sym c.new-input.ensures) (begun (IsAllowed c.args.filter) start progress refl refl)),
       subst NoEnd (sym c.new-input.ensures) (λ k d l. absurd (omega arith)),
       c.new-gathered.ensures,
       omega (arith, ap length c.new-input.ensures),
@@ -29,34 +29,34 @@ returns-in_err-read_more g c =
     let inv = c.loop-reads.invariant in
     let is : IsErrAnd c.from_residual.result (λ fault. fault ≡ Read) = search rules in
     read_ended c.args.filter _ _ _ _ _ is
-    (inv.0.0, Consumes-kept _ _ _ _ inv.0.1 c.in_err-read_more.ensures.err.1, ended_answered c.args.filter inv.0.0 _ _ c.loop-reads.input c.loop-reads.place inv.1 inv.0.2)
+    (inv.0.0, Consumes-kept _ _ _ _ inv.0.1 c.in_err-read_more.ensures.err.1, ended_answered c.args.filter inv.0.0 _ _ c.loop-reads.input c.loop-reads.progress inv.1 inv.0.2)
 
 -- what stands once a read gave some bytes
-stands_read : (filter : Filter) (r0 r r' w0 w : Option (List ℕ)) (gathered pending bytes got : List ℕ) (place : Place) → gathered ≡ [] → bytes ≡ got
-    → ((input : List ℕ) × Consumes r0 r input × Stands (IsAllowed filter) input w0 w [] pending place)
+stands_read : (filter : Filter) (r0 r r' w0 w : Option (List ℕ)) (gathered pending bytes got : List ℕ) (progress : Progress) → gathered ≡ [] → bytes ≡ got
+    → ((input : List ℕ) × Consumes r0 r input × Stands (IsAllowed filter) input w0 w [] pending progress)
     → HasRead r r' pending got
-    → (input : List ℕ) × Consumes r0 r' input × Stands (IsAllowed filter) input w0 w gathered bytes place
-stands_read filter r0 r r' w0 w gathered pending bytes got place none same s given =
-    let all = read (IsAllowed filter) s.0 given.0 w0 w [] pending place s.2 in
-    let all = subst (λ (p : List ℕ). Stands (IsAllowed filter) (s.0 ++ given.0) w0 w [] p place) (sym (same ∙ given.2)) all in (
+    → (input : List ℕ) × Consumes r0 r' input × Stands (IsAllowed filter) input w0 w gathered bytes progress
+stands_read filter r0 r r' w0 w gathered pending bytes got progress none same s given =
+    let all = read (IsAllowed filter) s.0 given.0 w0 w [] pending progress s.2 in
+    let all = subst (λ (p : List ℕ). Stands (IsAllowed filter) (s.0 ++ given.0) w0 w [] p progress) (sym (same ∙ given.2)) all in (
       s.0 ++ given.0,
       Consumes-trans _ _ _ _ _ s.1 given.1,
-      subst (λ (l : List ℕ). Stands (IsAllowed filter) (s.0 ++ given.0) w0 w l bytes place) (sym none) all,
+      subst (λ (l : List ℕ). Stands (IsAllowed filter) (s.0 ++ given.0) w0 w l bytes progress) (sym none) all,
     )
 
 -- what stands once its lines are answered and what is left of them is kept
-stands_kept : (filter : Filter) (input : List ℕ) (w0 w : Option (List ℕ)) (gathered bytes got kept : List ℕ) (left : ℕ) (place : Place) → bytes ≡ got
+stands_kept : (filter : Filter) (input : List ℕ) (w0 w : Option (List ℕ)) (gathered bytes got kept : List ℕ) (left : ℕ) (progress : Progress) → bytes ≡ got
     → kept ≡ drop (length got - left) got
-    → Stands (IsAllowed filter) input w0 w gathered (drop (length bytes - left) bytes) place → Stands (IsAllowed filter) input w0 w gathered kept place
-stands_kept filter input w0 w gathered bytes got kept left place same e s =
-    subst (λ (p : List ℕ). Stands (IsAllowed filter) input w0 w gathered p place) (ap (λ b. drop (length b - left) b) same ∙ sym e) s
+    → Stands (IsAllowed filter) input w0 w gathered (drop (length bytes - left) bytes) progress → Stands (IsAllowed filter) input w0 w gathered kept progress
+stands_kept filter input w0 w gathered bytes got kept left progress same e s =
+    subst (λ (p : List ℕ). Stands (IsAllowed filter) input w0 w gathered p progress) (ap (λ b. drop (length b - left) b) same ∙ sym e) s
 
 pub returns-then-branch-eq0 : goal.returns-then-branch-eq0
 returns-then-branch-eq0 g c =
-    let s = stands_read c.args.filter _ _ _ _ _ [] c.loop-reads.input c.as_bytes.result.now c.read_more.new.self c.loop-reads.place
+    let s = stands_read c.args.filter _ _ _ _ _ [] c.loop-reads.input c.as_bytes.result.now c.read_more.new.self c.loop-reads.progress
     refl c.as_bytes.ensures.bytes c.loop-reads.invariant.0 c.in_ok-read_more.ensures.given in
     let end = c.in_ok-read_more.ensures.end c.if-branch-eq0.true in
-    let all : EndsFrom c.args.filter (g.W.Write.contents c.loop-reads.writer) (g.W.Write.contents c.answer_last.new.writer) [] c.as_bytes.result.now c.loop-reads.place
+    let all : EndsFrom c.args.filter (g.W.Write.contents c.loop-reads.writer) (g.W.Write.contents c.answer_last.new.writer) [] c.as_bytes.result.now c.loop-reads.progress
     → IsAtEnd (g.R.Read.remaining c.read_more.new.reader) × Gives (g.R.Read.remaining c.args.reader.now) (g.R.Read.remaining c.read_more.new.reader) (λ input. AnswersAll c.args.filter (lines_of input) (g.W.Write.contents c.args.writer.now) (g.W.Write.contents c.answer_last.new.writer))
     = λ ends. (end.0, (s.0, s.1, ends s.0 _ s.2)) in
     ended c.args.filter c.answer_last.result _ _ _ _ (on_ok_weaker _ all c.answer_last.ensures.ok)
@@ -66,7 +66,7 @@ returns-then-branch-eq0 g c =
 
 pub returns-in-Err : goal.returns-in-Err
 returns-in-Err g c =
-    let s = stands_read c.args.filter _ _ _ _ _ c.loop-reads.gathered c.loop-reads.input c.as_bytes-in-loop-reads.result.now c.read_more.new.self c.loop-reads.place
+    let s = stands_read c.args.filter _ _ _ _ _ c.loop-reads.buffer c.loop-reads.input c.as_bytes-in-loop-reads.result.now c.read_more.new.self c.loop-reads.progress
     c.loop-reads.invariant.2 c.as_bytes-in-loop-reads.ensures.bytes c.loop-reads.invariant.0 c.in_ok-read_more.ensures.given in
     ended c.args.filter (Err c.in-Err.fault) _ _ _ _ tt
     (λ h. record { input = s.0; given = s.1; holds = inl (c.in-Err.ensures.write h s.0 _ s.2) })
@@ -75,24 +75,24 @@ returns-in-Err g c =
 
 pub returns-in_err-flush : goal.returns-in_err-flush
 returns-in_err-flush g c =
-    let s = stands_read c.args.filter _ _ _ _ _ c.loop-reads.gathered c.loop-reads.input c.as_bytes-in-loop-reads.result.now c.read_more.new.self c.loop-reads.place
+    let s = stands_read c.args.filter _ _ _ _ _ c.loop-reads.buffer c.loop-reads.input c.as_bytes-in-loop-reads.result.now c.read_more.new.self c.loop-reads.progress
     c.loop-reads.invariant.2 c.as_bytes-in-loop-reads.ensures.bytes c.loop-reads.invariant.0 c.in_ok-read_more.ensures.given in
-    let kept = stands_kept c.args.filter s.0 _ _ c.answer_lines.new.gathered c.as_bytes-in-loop-reads.result.now c.read_more.new.self c.keep_last.new.self c.in-Ok.left c.answer_lines.new.place
+    let kept = stands_kept c.args.filter s.0 _ _ c.answer_lines.new.buffer c.as_bytes-in-loop-reads.result.now c.read_more.new.self c.keep_last.new.self c.in-Ok.left c.answer_lines.new.progress
     c.as_bytes-in-loop-reads.ensures.bytes c.keep_last.ensures (c.in-Ok.ensures.ok s.0 _ s.2) in
-    let went = c.let_go.ensures.advances c.args.filter _ c.answer_lines.new.gathered s.0 _ kept in
+    let went = c.let_go.ensures.advances c.args.filter _ c.answer_lines.new.buffer s.0 _ kept in
     let is : IsErrAnd c.from_residual-in_err-flush.result IsOfWrite = search rules in
     write_ended c.args.filter _ _ _ _ _ is
-    (record { input = s.0; given = s.1; holds = inl (failed c.args.filter s.0 _ _ _ c.answer_lines.new.gathered c.let_go.new.input c.let_go.new.place c.in_err-flush.ensures.front went) })
+    (record { input = s.0; given = s.1; holds = inl (failed c.args.filter s.0 _ _ _ c.answer_lines.new.buffer c.let_go.new.input c.let_go.new.progress c.in_err-flush.ensures.front went) })
 
 pub loop-reads-preserved : goal.loop-reads-preserved
 loop-reads-preserved g c =
-    let s = stands_read c.args.filter _ _ _ _ _ c.loop-reads.gathered c.loop-reads.input c.as_bytes-in-loop-reads.result.now c.read_more.new.self c.loop-reads.place
+    let s = stands_read c.args.filter _ _ _ _ _ c.loop-reads.buffer c.loop-reads.input c.as_bytes-in-loop-reads.result.now c.read_more.new.self c.loop-reads.progress
     c.loop-reads.invariant.2 c.as_bytes-in-loop-reads.ensures.bytes c.loop-reads.invariant.0 c.in_ok-read_more.ensures.given in
-    let kept = stands_kept c.args.filter s.0 _ _ c.answer_lines.new.gathered c.as_bytes-in-loop-reads.result.now c.read_more.new.self c.keep_last.new.self c.in-Ok.left c.answer_lines.new.place
+    let kept = stands_kept c.args.filter s.0 _ _ c.answer_lines.new.buffer c.as_bytes-in-loop-reads.result.now c.read_more.new.self c.keep_last.new.self c.in-Ok.left c.answer_lines.new.progress
     c.as_bytes-in-loop-reads.ensures.bytes c.keep_last.ensures (c.in-Ok.ensures.ok s.0 _ s.2) in
-    let went = c.let_go.ensures.advances c.args.filter _ c.answer_lines.new.gathered s.0 _ kept in
+    let went = c.let_go.ensures.advances c.args.filter _ c.answer_lines.new.buffer s.0 _ kept in
     let out = c.in_ok-flush.ensures.ok in (
-      (s.0, s.1, gone (IsAllowed c.args.filter) s.0 _ _ _ c.answer_lines.new.gathered [] c.answer_lines.new.gathered c.let_go.new.input c.let_go.new.place (sym (append-nil c.answer_lines.new.gathered)) out.0 went),
+      (s.0, s.1, gone (IsAllowed c.args.filter) s.0 _ _ _ c.answer_lines.new.buffer [] c.answer_lines.new.buffer c.let_go.new.input c.let_go.new.progress (sym (append-nil c.answer_lines.new.buffer)) out.0 went),
       c.let_go.ensures.no_end,
       out.1,
       c.let_go.ensures.few,
@@ -101,4 +101,4 @@ loop-reads-preserved g c =
 pub returns : goal.returns
 returns g c =
     let inv = c.loop-reads.invariant in
-    (inv.0.0, inv.0.1, ended_answered c.args.filter inv.0.0 _ _ c.loop-reads.input c.loop-reads.place inv.1 inv.0.2)
+    (inv.0.0, inv.0.1, ended_answered c.args.filter inv.0.0 _ _ c.loop-reads.input c.loop-reads.progress inv.1 inv.0.2)

@@ -8,8 +8,8 @@ use Rattle.caldate.proofs.run.run.Given as goal
 abbrev pub invariant-loop-reads : goal.invariant-loop-reads
 invariant-loop-reads g l =
     ((input : List ℕ) × Consumes (g.R.Read.remaining l.initial.reader) (g.R.Read.remaining l.reader) input
-    × Stands (IsAllowed l.filter) input (g.W.Write.contents l.initial.writer) (g.W.Write.contents l.writer) [] l.input l.place)
-    × NoEnd l.input × (l.gathered ≡ []) × (length l.input ≤ 4097)
+    × Stands (IsAllowed l.filter) input (g.W.Write.contents l.initial.writer) (g.W.Write.contents l.writer) [] l.input l.progress)
+    × NoEnd l.input × (l.buffer ≡ []) × (length l.input ≤ 4097)
 
 abbrev pub decreases-loop-reads : goal.decreases-loop-reads
 decreases-loop-reads g l = l.reads

@@ -4,4 +4,4 @@ use Rattle.caldate.proofs.senseless.word_at.Given as goal
 
 -- the word is as far on among those that are left
 abbrev pub invariant-loop : goal.invariant-loop
-invariant-loop l = slice_get (arguments_of l.arguments) l.place ≡ slice_get (words_left l.words) (l.place - l.counter)
+invariant-loop l = slice_get (arguments_of l.arguments) l.index ≡ slice_get (words_left l.words) (l.index - l.counter)

@@ -8,7 +8,7 @@ returns-clause-text c =
     let year : to_z w32 (of_z w32 c.year.result) ≡ c.year.result = to_z-of_z w32 c.year.result (grind (arith, ints)) in
     let ordinal : to_z w32 (of_z w32 c.from.result) ≡ pos c.ordinal.result = to_z-of_z w32 c.from.result (grind (arith, ints)) ∙ c.from.ensures in
     let julian_day : to_z w32 (of_z w32 c.to_julian_day.result) ≡ c.to_julian_day.result = to_z-of_z w32 c.to_julian_day.result (grind (arith, ints)) in
-    day_in_place c.args.gathered.now c.push_number.new.gathered c.push.new.self c.push_number-2.new.gathered c.push-2.new.self c.push_number-3.new.gathered
+    day_in_place c.args.buffer.now c.push_number.new.buffer c.push.new.self c.push_number-2.new.buffer c.push-2.new.self c.push_number-3.new.buffer
     c.year.result c.to_julian_day.result c.ordinal.result c.args.date
     (rw year at c.push_number.ensures.text) c.push.ensures.appended (rw ordinal at c.push_number-2.ensures.text) c.push-2.ensures.appended
     (rw julian_day at c.push_number-3.ensures.text) c.year.ensures.counted c.ordinal.ensures.counted c.to_julian_day.ensures.day

@@ -10,7 +10,7 @@ returns-in-Some-clause-text c =
     let same : to_z w64 (of_z w64 c.args.seconds) ≡ c.args.seconds = to_z-of_z w64 c.args.seconds c.ranges.seconds in
     let duration = rw same at c.seconds.ensures in
     let is = rw duration at c.in-Some.ensures.day in
-    rw (day_with-moved c.args.date days is.0 ∙ ap Some (sym is.1)) (c.push.ensures.appended ∙ ap (λ words. c.args.gathered.now ++ words) (c.as_bytes.ensures.bytes ∙ c.text.ensures.text))
+    rw (day_with-moved c.args.date days is.0 ∙ ap Some (sym is.1)) (c.push.ensures.appended ∙ ap (λ words. c.args.buffer.now ++ words) (c.as_bytes.ensures.bytes ∙ c.text.ensures.text))
 
 pub returns-in-None-clause-text : goal.returns-in-None-clause-text
 returns-in-None-clause-text c =

@@ -15,27 +15,27 @@ returns-then-not-is_julian_day-clause-day c = λ h k.
     let e = is.1 h in
     absurd (cc)
 
-pub returns-then-place-gt-LAST_MONTH-clause-day : goal.returns-then-place-gt-LAST_MONTH-clause-day
-returns-then-place-gt-LAST_MONTH-clause-day c = λ h k.
+pub returns-then-index-gt-LAST_MONTH-clause-day : goal.returns-then-index-gt-LAST_MONTH-clause-day
+returns-then-index-gt-LAST_MONTH-clause-day c = λ h k.
     let f = c.ranges.date in
     let g = c.ranges.months in
-    let first = simp to_z-of_z at c.place_and_day-place.ensures.place in
+    let first = simp to_z-of_z at c.index_and_day-index.ensures.index in
     absurd (omega (arith, ints, first h, k.not_before, k.not_after))
 
-pub returns-else-place-gt-LAST_MONTH-clause-past_range : goal.returns-else-place-gt-LAST_MONTH-clause-past_range
-returns-else-place-gt-LAST_MONTH-clause-past_range c = λ h out.
+pub returns-else-index-gt-LAST_MONTH-clause-past_range : goal.returns-else-index-gt-LAST_MONTH-clause-past_range
+returns-else-index-gt-LAST_MONTH-clause-past_range c = λ h out.
     let f = c.ranges.date in
     let g = c.ranges.months in
-    let first = simp to_z-of_z at c.place_and_day-place.ensures.place in
+    let first = simp to_z-of_z at c.index_and_day-index.ensures.index in
     absurd (out (record { not_before = omega (arith, ints, first h); not_after = omega (arith, ints, first h) }))
 
-pub returns-else-place-gt-LAST_MONTH-clause-day : goal.returns-else-place-gt-LAST_MONTH-clause-day
-returns-else-place-gt-LAST_MONTH-clause-day c = λ h k.
+pub returns-else-index-gt-LAST_MONTH-clause-day : goal.returns-else-index-gt-LAST_MONTH-clause-day
+returns-else-index-gt-LAST_MONTH-clause-day c = λ h k.
     let f = c.ranges.date in
     let g = c.ranges.months in
     let fits : FitsSigned w32 c.day_in_month-later.result = search rules in
-    let first = simp to_z-of_z at c.place_and_day-place.ensures.place in
-    let same = simp to_z-of_z at c.place_and_day-place.ensures.day in
+    let first = simp to_z-of_z at c.index_and_day-index.ensures.index in
+    let same = simp to_z-of_z at c.index_and_day-index.ensures.day in
     let n = day_of c.args.date in
     let r = day_of c.day_in_month-later.result in
     let month : month_number_at r ≡ month_number_at n +ℤ c.args.months = omega (arith, ints, first h, c.day_in_month-later.ensures.month) in

@@ -1,6 +1,6 @@
 use Rattle.std.proofs.Common.{◌≡◌, ◌-◌, ap, ◌∙◌, sym, arith}
 use Rattle.std.proofs.lemmas.Int.{to_z-of_z}
-use Rattle.cal_time.specs.Weekday.{place}
+use Rattle.cal_time.specs.Weekday.{index}
 use Rattle.cal_time.specs.Date.{julian_day_at}
 use Rattle.cal_c.specs.Results.{date_done}
 use Rattle.cal_c.proofs.Days.{same_ok}
@@ -19,7 +19,7 @@ returns-in-Ok-clause-week c = λ w y out.
 pub returns-in-Ok-clause-date : goal.returns-in-Ok-clause-date
 returns-in-Ok-clause-date c = λ w n h has k.
     let f = c.ranges.year in
-    let p : place c.in-Some.weekday ≡ c.args.weekday - 1 = omega (arith, c.in-Some.ensures.1) in
+    let p : index c.in-Some.weekday ≡ c.args.weekday - 1 = omega (arith, c.in-Some.ensures.1) in
     let every = simp to_z-of_z at c.in-Ok.ensures.every in
     let week = simp to_z-of_z at c.week_of.ensures.has in
     let found = every n h (has.0, has.1 ∙ sym (week k), has.2 ∙ sym p) in

@@ -6,34 +6,34 @@ use Rattle.cal_schedule.specs.Rule.{days_after}
 use Rattle.cal_c.proofs.Recurring.{after_next, goes_on, kept_more, more_left, none_first, none_left, written_more}
 use Rattle.cal_c.proofs.schedule.recurrences.write_days.Goals as goal
 
-pub loop-place-preserved : goal.loop-place-preserved
-loop-place-preserved c =
-    let kept = c.loop-place.invariant in
+pub loop-index-preserved : goal.loop-index-preserved
+loop-index-preserved c =
+    let kept = c.loop-index.invariant in
     let rule = c.args.rule.now in
     let days = days_after rule c.args.date in
-    let place = c.loop-place.place in
-    let from = kept.left ∙ after_next rule c.loop-place.last c.in-Some.day (sym c.in-Some.is ∙ c.next_after.ensures.day) in
-    let more = more_left days (days_after rule c.in-Some.day) place c.in-Some.day from in
-    let on = goes_on days (days_after rule c.in-Some.day) place c.in-Some.day more from in
+    let index = c.loop-index.index in
+    let from = kept.left ∙ after_next rule c.loop-index.last c.in-Some.day (sym c.in-Some.is ∙ c.next_after.ensures.day) in
+    let more = more_left days (days_after rule c.in-Some.day) index c.in-Some.day from in
+    let on = goes_on days (days_after rule c.in-Some.day) index c.in-Some.day more from in
     let fits : FitsSigned w32 c.to_julian_day.result = search rules in
-    let here : to_z w32 (of_z w32 c.to_julian_day.result) ≡ julian_day_at (get_or days place 0) =
+    let here : to_z w32 (of_z w32 c.to_julian_day.result) ≡ julian_day_at (get_or days index 0) =
     simp to_z-of_z (c.to_julian_day.ensures.day ∙ ap julian_day_at (sym on.0)) in
     record {
       room = grind (arith, common_steps);
       few = omega (arith, more);
       left = on.1;
-      written = written_more (λ k z. z ≡ julian_day_at (get_or days k 0)) c.loop-place.days place (to_z w32 (of_z w32 c.to_julian_day.result)) (omega arith) kept.written here;
-      others = kept_more c.args.days.now c.loop-place.days place (to_z w32 (of_z w32 c.to_julian_day.result)) kept.others;
+      written = written_more (λ k z. z ≡ julian_day_at (get_or days k 0)) c.loop-index.days index (to_z w32 (of_z w32 c.to_julian_day.result)) (omega arith) kept.written here;
+      others = kept_more c.args.days.now c.loop-index.days index (to_z w32 (of_z w32 c.to_julian_day.result)) kept.others;
     }
 
 pub returns-in_default : goal.returns-in_default
 returns-in_default c =
-    let kept = c.loop-place.invariant in
+    let kept = c.loop-index.invariant in
     let days = days_after c.args.rule.now c.args.date in
-    let end = none_left days c.loop-place.place (kept.left ∙ none_first _ (sym c.in_default.is ∙ c.next_after.ensures.day)) in
+    let end = none_left days c.loop-index.index (kept.left ∙ none_first _ (sym c.in_default.is ∙ c.next_after.ensures.day)) in
     record { count_is = omega (arith, end); days = kept.written; others = kept.others }
 
 pub returns : goal.returns
 returns c =
-    let kept = c.loop-place.invariant in
+    let kept = c.loop-index.invariant in
     record { count_is = omega arith; days = λ k less. kept.written k (omega arith); others = λ k past. kept.others k (omega arith) }

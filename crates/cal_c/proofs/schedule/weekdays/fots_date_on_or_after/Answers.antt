@@ -1,6 +1,6 @@
 use Rattle.std.proofs.Common.{◌≡◌, ◌-◌, ap, ◌∙◌, arith, slice_get}
 use Rattle.std.proofs.lemmas.Int.{to_z-of_z}
-use Rattle.cal_time.specs.Weekday.{place}
+use Rattle.cal_time.specs.Weekday.{index}
 use Rattle.cal_schedule.specs.Weekdays.{occurrences_from}
 use Rattle.cal_c.specs.Results.{date_if_any}
 use Rattle.cal_c.specs.Values.{day_of}
@@ -10,7 +10,7 @@ pub returns-in-Some-weekday_of-clause-day : goal.returns-in-Some-weekday_of-clau
 returns-in-Some-weekday_of-clause-day c = λ h w.
     let f = c.ranges.date in
     let at = simp to_z-of_z at c.in-Some.ensures in
-    let p : place c.in-Some-weekday_of.weekday ≡ c.args.weekday - 1 = omega (arith, c.in-Some-weekday_of.ensures.1) in
-    let same = ap (λ n. slice_get (occurrences_from (place c.in-Some-weekday_of.weekday) n) 0) at.1
+    let p : index c.in-Some-weekday_of.weekday ≡ c.args.weekday - 1 = omega (arith, c.in-Some-weekday_of.ensures.1) in
+    let same = ap (λ n. slice_get (occurrences_from (index c.in-Some-weekday_of.weekday) n) 0) at.1
     ∙ ap (λ q. slice_get (occurrences_from q (day_of c.args.date)) 0) p in
     c.of_option.ensures ∙ ap date_if_any (c.on_or_after.ensures.day ∙ same)

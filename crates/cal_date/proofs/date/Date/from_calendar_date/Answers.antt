@@ -3,8 +3,8 @@ use Rattle.std.proofs.lemmas.Int.{to_z-of_z}
 use Rattle.std.proofs.lemmas.Bool.{false≢true}
 use Rattle.std.proofs.lemmas.Bool.Decides.{nat_tests}
 use Rattle.cal_units.specs.Lengths.{days_in_year, is_leap_year}
-use Rattle.cal_units.specs.Month.{place, number}
-use Rattle.cal_units.specs.MonthCycle.{place-below}
+use Rattle.cal_units.specs.Month.{index, number}
+use Rattle.cal_units.specs.MonthCycle.{index-below}
 use Rattle.cal_date.specs.Date.{IsYear, IsOrdinal, IsDayOfMonth}
 use Rattle.cal_date.specs.PackedDate.{ordinal_number}
 use Rattle.cal_date.proofs.Dates.{IsDate-ordinal_number}
@@ -16,10 +16,10 @@ no_year : (c : goal.After-unconditional) → ¬ IsYear c.args.year
 no_year c year = let is = rw (to_z-of_z w32 _ c.ranges.year) at c.is_year.ensures in false≢true (sym c.if-not-is_year.true ∙ is.1 year)
 
 pub returns-then-not-is_year-clause-every : goal.returns-then-not-is_year-clause-every
-returns-then-not-is_year-clause-every c = λ n h has. absurd (no_year c (calendar_in_range n _ (place c.args.month) _ h has).year)
+returns-then-not-is_year-clause-every c = λ n h has. absurd (no_year c (calendar_in_range n _ (index c.args.month) _ h has).year)
 
 pub returns-then-not-is_year-clause-refused : goal.returns-then-not-is_year-clause-refused
-returns-then-not-is_year-clause-refused c = (λ e. NoDate-calendar_date _ (place c.args.month) _ (λ h. no_year c h.0), λ none. refl)
+returns-then-not-is_year-clause-refused c = (λ e. NoDate-calendar_date _ (index c.args.month) _ (λ h. no_year c h.0), λ none. refl)
 
 no_day : (c : goal.After-conditional) → ¬ IsDayOfMonth c.args.year (number c.args.month) c.args.day
 no_day c day =
@@ -28,10 +28,10 @@ no_day c day =
     false≢true (sym c.if-not-has_day.true ∙ is.1 day)
 
 pub returns-then-not-has_day-clause-every : goal.returns-then-not-has_day-clause-every
-returns-then-not-has_day-clause-every c = λ n h has. absurd (no_day c (calendar_in_range n _ (place c.args.month) _ h has).day)
+returns-then-not-has_day-clause-every c = λ n h has. absurd (no_day c (calendar_in_range n _ (index c.args.month) _ h has).day)
 
 pub returns-then-not-has_day-clause-refused : goal.returns-then-not-has_day-clause-refused
-returns-then-not-has_day-clause-refused c = (λ e. NoDate-calendar_date _ (place c.args.month) _ (λ h. no_day c h.1), λ none. refl)
+returns-then-not-has_day-clause-refused c = (λ e. NoDate-calendar_date _ (index c.args.month) _ (λ h. no_day c h.1), λ none. refl)
 
 -- past both tests the year and the day are in their ranges
 record Fits (c : After-from) : Type 0 where
@@ -39,14 +39,14 @@ record Fits (c : After-from) : Type 0 where
   leap : c.is_leap_year-leap.result ≡ is_leap_year c.args.year
   year : IsYear c.args.year
   day : IsDayOfMonth c.args.year (number c.args.month) c.args.day
-  ordinal_is : c.days_before_month.result + c.from.result ≡ ordinal_in c.args.year (place c.args.month) c.args.day
-  ordinal : IsOrdinal c.args.year (ordinal_in c.args.year (place c.args.month) c.args.day)
+  ordinal_is : c.days_before_month.result + c.from.result ≡ ordinal_in c.args.year (index c.args.month) c.args.day
+  ordinal : IsOrdinal c.args.year (ordinal_in c.args.year (index c.args.month) c.args.day)
 
 fits : (c : After-from) → Fits c
 fits c =
     let same : to_z w32 (of_z w32 c.args.year) ≡ c.args.year = to_z-of_z w32 _ c.ranges.year in
     let leap = rw same at c.is_leap_year-leap.ensures in
-    let before = rw c.place.ensures at (c.days_before_month.ensures.value c.args.year leap) in
+    let before = rw c.index.ensures at (c.days_before_month.ensures.value c.args.year leap) in
     let year = rw same at (c.is_year.ensures.0 c.if-not-is_year.false) in
     let is = c.has_day.ensures c.args.year leap in
     let day = is.0 c.if-not-has_day.false in
@@ -56,7 +56,7 @@ fits c =
       year = year;
       day = day;
       ordinal_is = omega arith;
-      ordinal = IsOrdinal-ordinal_in c.args.year (place c.args.month) c.args.day year.0 (place-below c.args.month) day;
+      ordinal = IsOrdinal-ordinal_in c.args.year (index c.args.month) c.args.day year.0 (index-below c.args.month) day;
     }
 
 pub overflow_add-ordinal : goal.overflow_add-ordinal
@@ -74,18 +74,18 @@ from_parts-requires-clause-ordinal c = let f = fits c in rw (f.same, f.ordinal_i
 pub from_parts-requires-clause-leap : goal.from_parts-requires-clause-leap
 from_parts-requires-clause-leap c = let f = fits c in rw f.same f.leap
 
-number_is : (c : After-from_parts) → c.from_parts.result ≡ ordinal_number c.args.year (ordinal_in c.args.year (place c.args.month) c.args.day)
+number_is : (c : After-from_parts) → c.from_parts.result ≡ ordinal_number c.args.year (ordinal_in c.args.year (index c.args.month) c.args.day)
 number_is c = let f = fits c.before in rw (f.same, f.ordinal_is) at c.from_parts.ensures.number
 
 pub returns-clause-every : goal.returns-clause-every
-returns-clause-every c = λ n h has. let f = fits c.before in ap Ok (number_is c ∙ sym (calendar_in_range n _ (place c.args.month) _ h has).number_is)
+returns-clause-every c = λ n h has. let f = fits c.before in ap Ok (number_is c ∙ sym (calendar_in_range n _ (index c.args.month) _ h has).number_is)
 
 pub returns-clause-has : goal.returns-clause-has
 returns-clause-has c =
     let f = fits c.before in
-    rw (number_is c) (IsDate-ordinal_number _ _ f.year f.ordinal, (stands_at c.args.year (place c.args.month) c.args.day f.year.0 (place-below c.args.month) f.day).has)
+    rw (number_is c) (IsDate-ordinal_number _ _ f.year f.ordinal, (stands_at c.args.year (index c.args.month) c.args.day f.year.0 (index-below c.args.month) f.day).has)
 
 pub returns-clause-refused : goal.returns-clause-refused
 returns-clause-refused c =
     let f = fits c.before in
-    (λ e. absurd (false≢true e), λ none. absurd (none _ (IsDate-ordinal_number _ _ f.year f.ordinal) (stands_at c.args.year (place c.args.month) c.args.day f.year.0 (place-below c.args.month) f.day).has))
+    (λ e. absurd (false≢true e), λ none. absurd (none _ (IsDate-ordinal_number _ _ f.year f.ordinal) (stands_at c.args.year (index c.args.month) c.args.day f.year.0 (index-below c.args.month) f.day).has))

@@ -1,8 +1,8 @@
 use Rattle.std.proofs.Common.{ap, sym, ◌∙◌, arith, refl, Ok, ◌≡◌, ◌+◌, ◌<◌, ℕ, ℤ, to_z, of_z, w32, FitsSigned, rules}
 use Rattle.std.proofs.lemmas.Int.{ints, to_z-of_z}
 use Rattle.std.proofs.lemmas.Bool.{false≢true}
-use Rattle.cal_units.specs.Weekday.{place}
-use Rattle.cal_units.specs.WeekdayCycle.{place-below}
+use Rattle.cal_units.specs.Weekday.{index}
+use Rattle.cal_units.specs.WeekdayCycle.{index-below}
 use Rattle.cal_date.specs.Date.{IsYear, IsOrdinal, NoDate}
 use Rattle.cal_date.specs.IsoWeekDate.{IsWeek, HasIsoWeekDate}
 use Rattle.cal_date.specs.ClosedForms.{IsDayByForm, year_of_week, ordinal_of_week}
@@ -42,28 +42,28 @@ record Fits (y : ℤ) (w p : ℕ) (z : ℤ) (o : ℕ) : Type 0 where
   ordinal_is : o ≡ ordinal_of_week y w (p + 1)
 
 fits : (y : ℤ) (w : ℕ) (weekday : Weekday) (z : ℤ) (o : ℕ) → IsYear y → IsWeek (to_z w32 (of_z w32 y)) w
-    → z ≡ year_of_week (to_z w32 (of_z w32 y)) w (place weekday + 1) → o ≡ ordinal_of_week (to_z w32 (of_z w32 y)) w (place weekday + 1) → Fits y w (place weekday) z o
+    → z ≡ year_of_week (to_z w32 (of_z w32 y)) w (index weekday + 1) → o ≡ ordinal_of_week (to_z w32 (of_z w32 y)) w (index weekday + 1) → Fits y w (index weekday) z o
 fits y w weekday z o year week year_is ordinal_is =
     let same = IsYear-i32 y year in
     record {
       year = year;
       week = rw same at week;
-      below = place-below weekday;
+      below = index-below weekday;
       year_is = rw same at year_is;
       ordinal_is = rw same at ordinal_is;
     }
 
 -- where the year of the day comes after the last, no day has the week date
-after : (c : goal.After-conditional-then-calendar_year-gt-MAX_YEAR) → Fits c.args.year c.args.week (place c.args.weekday) c.ordinal_date_of-calendar_year.result.0 c.ordinal_date_of-calendar_year.result.1
+after : (c : goal.After-conditional-then-calendar_year-gt-MAX_YEAR) → Fits c.args.year c.args.week (index c.args.weekday) c.ordinal_date_of-calendar_year.result.0 c.ordinal_date_of-calendar_year.result.1
 after c =
     let found = c.ordinal_date_of-calendar_year.ensures in
     fits c.args.year c.args.week c.args.weekday _ _ (rw (to_z-of_z w32 _ c.ranges.year) at (c.is_year.ensures.0 c.if-not-is_year.false)) (c.has_week.ensures.0 c.if-not-has_week.false) found.year found.ordinal
 
-no_day : (c : goal.After-conditional-then-calendar_year-gt-MAX_YEAR) → NoDate (HasIsoWeekDate c.args.year c.args.week (place c.args.weekday))
+no_day : (c : goal.After-conditional-then-calendar_year-gt-MAX_YEAR) → NoDate (HasIsoWeekDate c.args.year c.args.week (index c.args.weekday))
 no_day c =
     let f = after c in
     let small : FitsSigned w32 c.ordinal_date_of-calendar_year.result.0 = search rules in
-    NoDate-week_date c.args.year c.args.week (place c.args.weekday) f.year f.week f.below (let is = f.year_is in omega (arith, ints))
+    NoDate-week_date c.args.year c.args.week (index c.args.weekday) f.year f.week f.below (let is = f.year_is in omega (arith, ints))
 
 pub returns-then-calendar_year-gt-MAX_YEAR-clause-every : goal.returns-then-calendar_year-gt-MAX_YEAR-clause-every
 returns-then-calendar_year-gt-MAX_YEAR-clause-every c = λ n h has. absurd (no_day c n h has)
@@ -87,7 +87,7 @@ found c =
     let made = c.ordinal_date_of-calendar_year.ensures in
     let f = fits c.args.year c.args.week c.args.weekday _ _ (rw (to_z-of_z w32 _ c.ranges.year) at (c.is_year.ensures.0 c.if-not-is_year.false)) (c.has_week.ensures.0 c.if-not-has_week.false) made.year made.ordinal in
     let small : FitsSigned w32 c.ordinal_date_of-calendar_year.result.0 = search rules in
-    let is = day_of_week c.args.year c.args.week (place c.args.weekday) f.year.0 f.week f.below in
+    let is = day_of_week c.args.year c.args.week (index c.args.weekday) f.year.0 f.week f.below in
     let late = is.late in
     let year = f.year_is in
     record {
@@ -115,7 +115,7 @@ unfolding IsDayByForm
 returns-clause-has c =
     let made = c.ordinal_date_of-calendar_year.ensures in
     let f = fits c.args.year c.args.week c.args.weekday _ _ (rw (to_z-of_z w32 _ c.ranges.year) at (c.is_year.ensures.0 c.if-not-is_year.false)) (c.has_week.ensures.0 c.if-not-has_week.false) made.year made.ordinal in
-    (c.at_ordinal.ensures.in_range, week_date_of_day c.args.year c.args.week (place c.args.weekday) _ f.year f.week f.below (returns-clause-closed_form c))
+    (c.at_ordinal.ensures.in_range, week_date_of_day c.args.year c.args.week (index c.args.weekday) _ f.year f.week f.below (returns-clause-closed_form c))
 
 pub returns-clause-every : goal.returns-clause-every
 returns-clause-every c = λ n h has.

@@ -2,7 +2,7 @@ use Rattle.std.proofs.Common.{◌≡◌, ◌∙◌, ◌+ℤ◌, refl, ap, pos, a
 use Rattle.std.proofs.lemmas.Int.{ints, to_z-of_z}
 use Rattle.cal_date.specs.Date.{year_at, ordinal_at}
 use Rattle.cal_date.proofs.Dates.{stands, year-most, ordinal-most}
-use Rattle.cal_date.proofs.SameYear.{place-added, near, moved_by_number}
+use Rattle.cal_date.proofs.SameYear.{index-added, near, moved_by_number}
 use Rattle.cal_date.proofs.date.Date.moved.Goals as goal
 
 pub returns-in-Some-clause-day : goal.returns-in-Some-clause-day
@@ -13,7 +13,7 @@ returns-in-Some-clause-day c =
     let cast : c.cast_unsigned-days.result ≡ of_z w64 c.args.days = c.cast_unsigned-days.ensures ∙ ap (of_z w64) (to_z-of_z w64 _ days) in
     let from : c.from.result ≡ ordinal_at n = c.from.ensures ∙ c.ordinal.ensures.counted in
     let found = rw (cast, from) at c.in-Some.ensures.day in
-    let ordinal = place-added c.args.days (ordinal_at n) days at.ordinal.0 (ordinal-most n) (omega (arith, found.0, year-most (year_at n))) in
+    let ordinal = index-added c.args.days (ordinal_at n) days at.ordinal.0 (ordinal-most n) (omega (arith, found.0, year-most (year_at n))) in
     let moved = near n c.in-Some.date _ (pos n +ℤ c.args.days) _ c.in-Some.ensures.in_range found.0 found.1 ordinal (omega (arith, ints)) in
     moved.day
 

@@ -7,8 +7,8 @@ use Rattle.cal_date.proofs.Dates.{ordinal-most, stands, year-most}
 use Rattle.cal_date.proofs.Neighbours.{year_length}
 use Rattle.cal_date.proofs.date.Date.of_same_year.Goals as goal
 
-pub returns-then-place-length-clause-day : goal.returns-then-place-length-clause-day
-returns-then-place-length-clause-day c =
+pub returns-then-index-length-clause-day : goal.returns-then-index-length-clause-day
+returns-then-index-length-clause-day c =
     let days : 365 + c.from-length.result ≡ days_in_year (year_at c.args.self) =
     ap (λ i. 365 + i) c.from-length.ensures ∙ ap (λ l. 365 + bool_byte l) c.is_in_leap_year.ensures.leap ∙ year_length (year_at c.args.self) in
     let most = year-most (year_at c.args.self) in

@@ -4,12 +4,12 @@ use Rattle.std.proofs.lemmas.Int.{ints}
 use Rattle.cal_schedule.proofs.Rules.{first_day-month, no_month}
 use Rattle.cal_schedule.proofs.rule.search.first_of_month.Goals as goal
 
-pub returns-then-place-lt-MONTHS : goal.returns-then-place-lt-MONTHS
-returns-then-place-lt-MONTHS c =
+pub returns-then-index-lt-MONTHS : goal.returns-then-index-lt-MONTHS
+returns-then-index-lt-MONTHS c =
     let first = c.day_in_month.ensures in
-    first_day-month c.args.first c.args.place c.day_in_month.result (omega (arith, ints, first.month)) first.in_range first.day
+    first_day-month c.args.first c.args.index c.day_in_month.result (omega (arith, ints, first.month)) first.in_range first.day
 
-pub returns-else-place-lt-MONTHS : goal.returns-else-place-lt-MONTHS
-returns-else-place-lt-MONTHS c =
-    let past : 23999988 ≤ c.args.place = grind (arith, nat_tests) in
-    no_month c.args.first c.args.place past
+pub returns-else-index-lt-MONTHS : goal.returns-else-index-lt-MONTHS
+returns-else-index-lt-MONTHS c =
+    let past : 23999988 ≤ c.args.index = grind (arith, nat_tests) in
+    no_month c.args.first c.args.index past

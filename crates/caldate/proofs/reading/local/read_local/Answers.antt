@@ -33,7 +33,7 @@ returns-in-Ok-clause-component c why =
 pub returns-in-Err-clause-form : goal.returns-in-Err-clause-form
 returns-in-Err-clause-form c =
     let is = full_is c.args.offset c.args.text.now _ c.if-text-gt-LONGEST.false c.with_offset-full.ensures in
-    let same = c.at_place.ensures in (
+    let same = c.at_position.ensures in (
       λ e has. c.in-Err.ensures.form.0 (sym same ∙ e) (subst (λ d. IsSomeAnd d HasAnyForm) is has),
       λ none. same ∙ c.in-Err.ensures.form.1 (λ h. none (subst (λ d. IsSomeAnd d HasAnyForm) (sym is) h)),
     )
@@ -41,7 +41,7 @@ returns-in-Err-clause-form c =
 pub returns-in-Err-clause-component : goal.returns-in-Err-clause-component
 returns-in-Err-clause-component c why =
     let is = full_is c.args.offset c.args.text.now _ c.if-text-gt-LONGEST.false c.with_offset-full.ensures in
-    let same = c.at_place.ensures in
+    let same = c.at_position.ensures in
     let component = c.in-Err.ensures.component why in (
       λ e. subst (λ d. IsSomeAnd d (λ text. IsFault text why)) (sym is) (component.0 (sym same ∙ e)),
       λ fault. same ∙ component.1 (subst (λ d. IsSomeAnd d (λ text. IsFault text why)) is fault),

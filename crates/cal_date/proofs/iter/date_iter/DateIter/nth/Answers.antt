@@ -1,27 +1,27 @@
 use Rattle.std.proofs.Common.{◌≡◌, Some, sym, arith}
 use Rattle.cal_date.specs.DateIter.{walk}
-use Rattle.cal_date.proofs.DateIters.{item-one_year, place_in, slice_get-days_of}
+use Rattle.cal_date.proofs.DateIters.{item-one_year, index_in, slice_get-days_of}
 use Rattle.cal_date.proofs.iter.date_iter.DateIter.nth.Goals as goal
 
 pub overflow_cast-n : goal.overflow_cast-n
 overflow_cast-n c =
-    let at = place_in (walk c.self.inside.front c.self.inside.back) _ _ _ _ c.self.view_is c.self.invariant c.in_ok-back.was c.len.ensures.count c.if-n-len.false in
+    let at = index_in (walk c.self.inside.front c.self.inside.back) _ _ _ _ c.self.view_is c.self.invariant c.in_ok-back.was c.len.ensures.count c.if-n-len.false in
     omega arith
 
 pub days_later-item-requires : goal.days_later-item-requires
 days_later-item-requires c =
-    let at = place_in (walk c.self.inside.front c.self.inside.back) _ _ _ _ c.self.view_is c.self.invariant c.in_ok-back.was c.len.ensures.count c.if-n-len.false in
+    let at = index_in (walk c.self.inside.front c.self.inside.back) _ _ _ _ c.self.view_is c.self.invariant c.in_ok-back.was c.len.ensures.count c.if-n-len.false in
     omega arith
 
 pub leave_after-requires-clause-to_back : goal.leave_after-requires-clause-to_back
 leave_after-requires-clause-to_back c =
-    let at = place_in (walk c.self.inside.front c.self.inside.back) _ _ _ _ c.self.view_is c.self.invariant c.in_ok-back.was c.len.ensures.count c.if-n-len.false in
+    let at = index_in (walk c.self.inside.front c.self.inside.back) _ _ _ _ c.self.view_is c.self.invariant c.in_ok-back.was c.len.ensures.count c.if-n-len.false in
     omega arith
 
 pub returns-clause-item : goal.returns-clause-item
 returns-clause-item c =
     let back : c.self.inside.back ≡ Some c.in_ok-back.back = c.in_ok-back.was in
-    let at = place_in (walk c.self.inside.front c.self.inside.back) _ _ _ _ c.self.view_is c.self.invariant back c.len.ensures.count c.if-n-len.false in
+    let at = index_in (walk c.self.inside.front c.self.inside.back) _ _ _ _ c.self.view_is c.self.invariant back c.len.ensures.count c.if-n-len.false in
     rw (← c.self.view_is, c.days_later-item.ensures) (sym (slice_get-days_of (walk c.self.inside.front c.self.inside.back) _ c.args.n back at.within))
 
 pub returns-clause-same_year : goal.returns-clause-same_year

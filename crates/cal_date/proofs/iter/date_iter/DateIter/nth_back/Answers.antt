@@ -1,33 +1,33 @@
 use Rattle.std.proofs.Common.{◌≡◌, ◌+◌, ◌-◌, Some, ◌∙◌, ap, sym, arith}
 use Rattle.cal_date.specs.DateIter.{walk, without_last}
-use Rattle.cal_date.proofs.DateIters.{item_back-one_year, IsPlace, place_in, slice_get-days_of_back}
+use Rattle.cal_date.proofs.DateIters.{item_back-one_year, IsPlace, index_in, slice_get-days_of_back}
 use Rattle.cal_date.proofs.iter.date_iter.DateIter.nth_back.Goals as goal
 
 at : (c : goal.Else-len-n) → IsPlace c.self.inside.front c.in_ok-back.back c.args.n
-at c = place_in (walk c.self.inside.front c.self.inside.back) _ _ _ _ c.self.view_is c.self.invariant c.in_ok-back.was c.len.ensures.count c.if-len-n.false
+at c = index_in (walk c.self.inside.front c.self.inside.back) _ _ _ _ c.self.view_is c.self.invariant c.in_ok-back.was c.len.ensures.count c.if-len-n.false
 
 pub overflow_cast-n : goal.overflow_cast-n
 overflow_cast-n c = omega (arith, at c)
 
 pub days_earlier-item-requires : goal.days_earlier-item-requires
 days_earlier-item-requires c =
-    let at = place_in (walk c.self.inside.front c.self.inside.back) _ _ _ _ c.self.view_is c.self.invariant c.in_ok-back.was c.len.ensures.count c.if-len-n.false in
+    let at = index_in (walk c.self.inside.front c.self.inside.back) _ _ _ _ c.self.view_is c.self.invariant c.in_ok-back.was c.len.ensures.count c.if-len-n.false in
     omega arith
 
 pub leave_before-requires-clause-from_front : goal.leave_before-requires-clause-from_front
 leave_before-requires-clause-from_front c =
-    let at = place_in (walk c.self.inside.front c.self.inside.back) _ _ _ _ c.self.view_is c.self.invariant c.in_ok-back.was c.len.ensures.count c.if-len-n.false in
+    let at = index_in (walk c.self.inside.front c.self.inside.back) _ _ _ _ c.self.view_is c.self.invariant c.in_ok-back.was c.len.ensures.count c.if-len-n.false in
     rw (← c.self.view_is) (omega arith)
 
 pub returns-clause-item : goal.returns-clause-item
 returns-clause-item c =
     let back : c.self.inside.back ≡ Some c.in_ok-back.back = c.in_ok-back.was in
-    let at = place_in (walk c.self.inside.front c.self.inside.back) _ _ _ _ c.self.view_is c.self.invariant back c.len.ensures.count c.if-len-n.false in
+    let at = index_in (walk c.self.inside.front c.self.inside.back) _ _ _ _ c.self.view_is c.self.invariant back c.len.ensures.count c.if-len-n.false in
     rw (← c.self.view_is, c.days_earlier-item.ensures) (sym (slice_get-days_of_back (walk c.self.inside.front c.self.inside.back) _ c.args.n back at.within))
 
 pub returns-clause-left : goal.returns-clause-left
 returns-clause-left c =
-    let at = place_in (walk c.self.inside.front c.self.inside.back) _ _ _ _ c.self.view_is c.self.invariant c.in_ok-back.was c.len.ensures.count c.if-len-n.false in
+    let at = index_in (walk c.self.inside.front c.self.inside.back) _ _ _ _ c.self.view_is c.self.invariant c.in_ok-back.was c.len.ensures.count c.if-len-n.false in
     let count : c.in_ok-back.back + 1 - c.days_earlier-item.result ≡ c.args.n + 1 = omega arith in
     c.leave_before.ensures ∙ ap (λ k. without_last k c.args.self.now) count
 

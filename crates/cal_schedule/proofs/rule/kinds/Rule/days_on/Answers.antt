@@ -8,10 +8,10 @@ pub loop-days-preserved : goal.loop-days-preserved
 loop-days-preserved c =
     let rule = c.args.self.now in
     let days = c.loop-days.days in
-    let at : weekday_at c.args.day ≡ c.place.result = omega (arith, c.weekday.ensures.counted, c.place.ensures) in
+    let at : weekday_at c.args.day ≡ c.index.result = omega (arith, c.weekday.ensures.counted, c.index.ensures) in
     record {
       least = omega arith;
       most = omega (arith, c.loop-days-test.true);
       none = takes-further rule c.args.day days c.loop-days.invariant.none
-          (ap (λ place. takes_weekday rule ((place + days) % 7)) at ∙ sym c.takes_weekday.ensures ∙ c.if-takes_weekday.false);
+          (ap (λ index. takes_weekday rule ((index + days) % 7)) at ∙ sym c.takes_weekday.ensures ∙ c.if-takes_weekday.false);
     }

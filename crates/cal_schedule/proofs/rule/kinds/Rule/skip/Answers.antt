@@ -22,4 +22,4 @@ pub returns : goal.returns
 returns c =
     let rule = c.args.self.now in
     let off : is_in_months rule c.args.day ≡ false = sym c.is_in_months.ensures ∙ c.if-is_in_months.false in
-    skip-month rule rule.week_start c.args.day _ c.first_of_month.result off (omega (arith, ints, pos-months rule.week_start c.args.day, c.place_and_day-place.ensures.place)) c.first_of_month.ensures
+    skip-month rule rule.week_start c.args.day _ c.first_of_month.result off (omega (arith, ints, pos-months rule.week_start c.args.day, c.index_and_day-index.ensures.index)) c.first_of_month.ensures

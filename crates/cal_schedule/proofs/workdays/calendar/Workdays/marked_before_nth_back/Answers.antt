@@ -18,29 +18,29 @@ returns-then-marked_before-before-clause-day c = λ x on e.
     let w = c.args.self.now in
     let end = c.holidays_before-end.ensures in
     let r = rises w.holidays end.rising in
-    let loop = c.loop-place in
+    let loop = c.loop-index in
     let after = ap (λ day. count_before (is_marked w) (day + 1)) c.holiday-holiday.ensures.number in
-    found-back w r _ loop.place c.args.to c.args.n loop.before x end.split loop.invariant.within loop.invariant.number loop.invariant.most loop.invariant.passed
-    (λ j h. passed-back w r (loop.place - 1) x (omega (arith, end.split.most)) (omega (arith, after)) on j (omega arith)) on e
+    found-back w r _ loop.index c.args.to c.args.n loop.before x end.split loop.invariant.within loop.invariant.number loop.invariant.most loop.invariant.passed
+    (λ j h. passed-back w r (loop.index - 1) x (omega (arith, end.split.most)) (omega (arith, after)) on j (omega arith)) on e
 
 pub returns-then-before-eq0-clause-day : goal.returns-then-before-eq0-clause-day
 returns-then-before-eq0-clause-day c =
     let w = c.args.self.now in
     let end = c.holidays_before-end.ensures in
-    let loop = c.loop-place in
-    let one : loop.place - 1 + 1 ≡ loop.place = omega arith in
-    let on : is_marked w (get_or w.holidays (loop.place - 1) 0) ≡ true =
+    let loop = c.loop-index in
+    let one : loop.index - 1 + 1 ≡ loop.index = omega arith in
+    let on : is_marked w (get_or w.holidays (loop.index - 1) 0) ≡ true =
     ap (is_marked w) (sym c.holiday-holiday.ensures.number) ∙ sym c.is_marked.ensures ∙ c.if-is_marked.true in
-    none-back_held w (rises w.holidays end.rising) _ (loop.place - 1) c.args.to c.args.n end.split (omega (arith, end.split.most))
+    none-back_held w (rises w.holidays end.rising) _ (loop.index - 1) c.args.to c.args.n end.split (omega (arith, end.split.most))
     (omega (arith, ap (marked_count w) one)) on
 
-pub loop-place-preserved : goal.loop-place-preserved
-loop-place-preserved c =
+pub loop-index-preserved : goal.loop-index-preserved
+loop-index-preserved c =
     let w = c.args.self.now in
     let end = c.holidays_before-end.ensures in
-    let loop = c.loop-place in
-    let i = loop.place - 1 in
-    let one : i + 1 ≡ loop.place = omega arith in
+    let loop = c.loop-index in
+    let i = loop.index - 1 in
+    let one : i + 1 ≡ loop.index = omega arith in
     let all = ap (marked_count w) one in
     let low : i < length w.holidays = omega (arith, end.split.most) in
     let number = c.holiday-holiday.ensures.number in
@@ -74,6 +74,6 @@ returns-clause-day c = λ x on e.
     let w = c.args.self.now in
     let end = c.holidays_before-end.ensures in
     let r = rises w.holidays end.rising in
-    let loop = c.loop-place in
-    found-back w r _ loop.place c.args.to c.args.n loop.before x end.split loop.invariant.within loop.invariant.number loop.invariant.most loop.invariant.passed
+    let loop = c.loop-index in
+    found-back w r _ loop.index c.args.to c.args.n loop.before x end.split loop.invariant.within loop.invariant.number loop.invariant.most loop.invariant.passed
     (λ j h. absurd (omega arith)) on e

@@ -7,14 +7,14 @@ use Rattle.cal_c.specs.declared.schedule.recurrences.parts.RuleWeekday.{RuleWeek
 use Rattle.cal_c.proofs.Recurring.{mapped_more}
 use Rattle.cal_c.proofs.schedule.recurrences.weekdays.Weekdays.of.Goals as goal
 
-pub loop-place-preserved : goal.loop-place-preserved
-loop-place-preserved c =
-    let kept = c.loop-place.invariant in
+pub loop-index-preserved : goal.loop-index-preserved
+loop-index-preserved c =
+    let kept = c.loop-index.invariant in
     let parts = c.args.parts.now in
-    let place = c.loop-place.place in
+    let index = c.loop-index.index in
     let has = c.in_ok-weekdays.ensures in
     record {
       room = grind (arith, common_steps);
-      weekdays = mapped_more weekday_in parts c.loop-place.weekdays place _ c.in_ok-weekdays.field-0 (omega arith) (omega arith) kept.weekdays has.1;
-      read = All-more (λ (w : RuleWeekday). IsWeekday w.weekday) parts place _ (omega arith) kept.read has.0;
+      weekdays = mapped_more weekday_in parts c.loop-index.weekdays index _ c.in_ok-weekdays.field-0 (omega arith) (omega arith) kept.weekdays has.1;
+      read = All-more (λ (w : RuleWeekday). IsWeekday w.weekday) parts index _ (omega arith) kept.read has.0;
     }

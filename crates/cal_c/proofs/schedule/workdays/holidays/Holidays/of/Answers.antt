@@ -4,13 +4,13 @@ use Rattle.std.proofs.lemmas.Grind.{common_steps}
 use Rattle.cal_c.proofs.Holidays.{days_more, dates_more}
 use Rattle.cal_c.proofs.schedule.workdays.holidays.Holidays.of.Goals as goal
 
-pub loop-place-preserved : goal.loop-place-preserved
-loop-place-preserved c =
-    let kept = c.loop-place.invariant in
-    let f : FitsSigned w32 (get_or c.args.julian_days.now c.loop-place.place (pos 0)) = search rules in
+pub loop-index-preserved : goal.loop-index-preserved
+loop-index-preserved c =
+    let kept = c.loop-index.invariant in
+    let f : FitsSigned w32 (get_or c.args.julian_days.now c.loop-index.index (pos 0)) = search rules in
     let at = simp to_z-of_z at c.in-Some.ensures in
     record {
       count = grind (arith, common_steps);
-      days = c.push.ensures ∙ days_more c.args.julian_days.now c.loop-place.place c.loop-place.holidays c.in-Some.date (omega arith) kept.days at.1;
-      dates = dates_more c.args.julian_days.now c.loop-place.place (omega arith) kept.dates at.0;
+      days = c.push.ensures ∙ days_more c.args.julian_days.now c.loop-index.index c.loop-index.holidays c.in-Some.date (omega arith) kept.days at.1;
+      dates = dates_more c.args.julian_days.now c.loop-index.index (omega arith) kept.dates at.0;
     }

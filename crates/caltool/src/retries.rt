@@ -7,32 +7,32 @@ use std::marker::Model;
 /// How many interrupted reads a run takes again, and how many interrupted writes. The next interruption is a failure.
 const INTERRUPTIONS: u16 = 4096;
 
-/// How many interruptions are still borne.
+/// How often an interrupted call may still be taken again.
 #[derive(Drop)]
-pub struct Patience {
+pub struct Retries {
     left: u16,
 }
 
-impl Model for Patience {
+impl Model for Retries {
     ghost use Rattle.std.specs.Prelude.{ℕ};
 
     ghost Value = { ℕ };
 
-    ghost view = { λ patience. patience.left };
+    ghost view = { λ retries. retries.left };
 }
 
-impl Patience {
+impl Retries {
     /// That of a run which was not interrupted yet.
     pub fn new() -> Self
         ensures { result ≡ 4096 }
     {
-        Patience {
+        Retries {
             left: INTERRUPTIONS,
         }
     }
 
     /// Whether a call that failed like this is taken again: it was interrupted, and not for too many times.
-    pub fn bears(&mut self, error: &io::Error) -> bool
+    pub fn allows(&mut self, error: &io::Error) -> bool
         ensures { self.old ≡ (if result then self.new + 1 else self.new) }
     {
         if error.kind() != ErrorKind::Interrupted || self.left == 0 {

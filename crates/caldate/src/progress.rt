@@ -6,7 +6,7 @@ use crate::shown::ShownText;
 
 /// Where a run is.
 #[derive(Clone, Copy)]
-pub struct Place {
+pub struct Progress {
     /// How many lines were answered, and no more than a `u64` counts.
     pub number: u64,
     /// Whether a front of the line that comes next was let go, as it is too long.
@@ -15,7 +15,7 @@ pub struct Place {
     pub front: ShownText,
 }
 
-impl Place {
+impl Progress {
     /// What is shown of a line, of which this has come but for what was let go.
     pub fn shown(&self, text: &[u8]) -> ShownText
         ensures whole { self.now.is_long ≡ false → words_shown result ≡ shown text.now }

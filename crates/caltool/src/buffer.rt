@@ -12,29 +12,29 @@ const LONGEST_REPLY: usize = 128;
 
 /// Bytes gathered for one write.
 #[derive(Drop)]
-pub struct Gathered {
-    buffer: [u8; CAPACITY],
+pub struct Buffer {
+    bytes: [u8; CAPACITY],
     filled: usize,
 }
 
-impl Model for Gathered {
+impl Model for Buffer {
     ghost use Rattle.std.specs.Prelude.{ℕ, ◌≤◌, List, take};
     ghost use Rattle.caltool.specs.Room.{capacity};
 
     ghost Value = { List ℕ };
 
-    ghost view = { λ gathered. take gathered.filled gathered.buffer };
+    ghost view = { λ buffer. take buffer.filled buffer.bytes };
 
-    ghost invariant = { λ gathered. gathered.filled ≤ capacity };
+    ghost invariant = { λ buffer. buffer.filled ≤ capacity };
 }
 
-impl Gathered {
+impl Buffer {
     /// No bytes.
     pub fn new() -> Self
         ensures { result ≡ [] }
     {
-        Gathered {
-            buffer: [0; CAPACITY],
+        Buffer {
+            bytes: [0; CAPACITY],
             filled: 0,
         }
     }
@@ -43,7 +43,7 @@ impl Gathered {
     pub fn as_bytes(&self) -> &[u8]
         ensures { result.now ≡ self.now }
     {
-        &self.buffer[..self.filled]
+        &self.bytes[..self.filled]
     }
 
     /// Whether there is room for a reply.
@@ -60,7 +60,7 @@ impl Gathered {
         ensures longer { length self.new ≡ length self.old + length bytes.now }
     {
         let end = self.filled + bytes.len();
-        self.buffer[self.filled..end].copy_from_slice(bytes);
+        self.bytes[self.filled..end].copy_from_slice(bytes);
         self.filled = end;
     }
 

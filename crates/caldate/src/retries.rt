@@ -5,36 +5,36 @@ ghost use Rattle.std.specs.IoError.{error_kind};
 use std::io::{self, ErrorKind};
 use std::marker::Model;
 
-/// How many interruptions are borne. The next one is a failure.
+/// How often an interrupted call is taken again. The next interruption is a failure.
 const INTERRUPTIONS: u16 = 4096;
 
-/// How many interruptions are still borne.
+/// How often an interrupted call may still be taken again.
 #[derive(Drop)]
-pub struct Patience {
+pub struct Retries {
     left: u16,
 }
 
-impl Model for Patience {
+impl Model for Retries {
     ghost use Rattle.std.specs.Prelude.{ℕ};
 
     ghost Value = { ℕ };
 
-    ghost view = { λ patience. patience.left };
+    ghost view = { λ retries. retries.left };
 }
 
-impl Patience {
+impl Retries {
     /// That of a call which was not interrupted yet.
     pub fn new() -> Self
         ensures { result ≡ 4096 }
     {
-        Patience {
+        Retries {
             left: INTERRUPTIONS,
         }
     }
 
     /// Whether a call that failed like this is taken again: it was interrupted, and not for too many times.
-    pub fn bears(&mut self, error: &io::Error) -> bool
-        ensures borne { IsTrue result ↔ (error_kind error.now ≡ ErrorKind.Interrupted) × (0 < self.old) }
+    pub fn allows(&mut self, error: &io::Error) -> bool
+        ensures allowed { IsTrue result ↔ (error_kind error.now ≡ ErrorKind.Interrupted) × (0 < self.old) }
         ensures left { self.old ≡ (if result then self.new + 1 else self.new) }
     {
         if error.kind() != ErrorKind::Interrupted || self.left == 0 {

@@ -13,29 +13,29 @@ const LONGEST_REPLY: usize = 4352;
 
 /// Replies gathered for one write.
 #[derive(Drop)]
-pub struct Gathered {
-    buffer: [u8; CAPACITY],
+pub struct Buffer {
+    bytes: [u8; CAPACITY],
     filled: usize,
 }
 
-impl Model for Gathered {
+impl Model for Buffer {
     ghost use Rattle.std.specs.Prelude.{ℕ, ◌≤◌, List, take};
     ghost use Rattle.caldate.specs.Room.{capacity};
 
     ghost Value = { List ℕ };
 
-    ghost view = { λ gathered. take gathered.filled gathered.buffer };
+    ghost view = { λ buffer. take buffer.filled buffer.bytes };
 
-    ghost invariant = { λ gathered. gathered.filled ≤ capacity };
+    ghost invariant = { λ buffer. buffer.filled ≤ capacity };
 }
 
-impl Gathered {
+impl Buffer {
     /// No bytes.
     pub fn new() -> Self
         ensures { result ≡ [] }
     {
-        Gathered {
-            buffer: [0; CAPACITY],
+        Buffer {
+            bytes: [0; CAPACITY],
             filled: 0,
         }
     }
@@ -44,7 +44,7 @@ impl Gathered {
     pub fn as_bytes(&self) -> &[u8]
         ensures { result.now ≡ self.now }
     {
-        &self.buffer[..self.filled]
+        &self.bytes[..self.filled]
     }
 
     /// How many they are.
@@ -59,7 +59,7 @@ impl Gathered {
         requires { count ≤ length self.now }
         ensures { result.now ≡ drop count self.now }
     {
-        &self.buffer[count..self.filled]
+        &self.bytes[count..self.filled]
     }
 
     /// Whether there is room for a reply.
@@ -76,7 +76,7 @@ impl Gathered {
         ensures longer { length self.new ≡ length self.old + length bytes.now }
     {
         let end = self.filled + bytes.len();
-        self.buffer[self.filled..end].copy_from_slice(bytes);
+        self.bytes[self.filled..end].copy_from_slice(bytes);
         self.filled = end;
     }
 

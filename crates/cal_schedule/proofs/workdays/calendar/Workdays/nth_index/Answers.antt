@@ -2,8 +2,8 @@ use Rattle.std.proofs.Common.{◌≡◌, ◌+◌, arith, refl}
 use Rattle.cal_time.specs.IsoWeekDate.{count_before}
 use Rattle.cal_schedule.specs.Workdays.{is_marked}
 use Rattle.cal_schedule.specs.Ranks.{count-none, count-next}
-use Rattle.cal_schedule.proofs.workdays.calendar.Workdays.nth_place.Goals as goal
-use Rattle.cal_schedule.proofs.workdays.calendar.Workdays.nth_place.Goals.{then-is_marked+else-left-eq0, else-is_marked}
+use Rattle.cal_schedule.proofs.workdays.calendar.Workdays.nth_index.Goals as goal
+use Rattle.cal_schedule.proofs.workdays.calendar.Workdays.nth_index.Goals.{then-is_marked+else-left-eq0, else-is_marked}
 
 pub loop-day-init : goal.loop-day-init
 loop-day-init c =

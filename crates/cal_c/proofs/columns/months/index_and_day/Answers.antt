@@ -3,14 +3,14 @@ use Rattle.std.proofs.lemmas.Int.{ints, to_z-of_z}
 use Rattle.cal_time.specs.CalendarDay.{CalendarDay}
 use Rattle.cal_time.specs.Days.{month_at-range}
 use Rattle.cal_schedule.specs.Months.{month_number_at}
-use Rattle.cal_schedule.proofs.MonthMoves.{has_place}
-use Rattle.cal_c.proofs.columns.months.place_and_day.Goals as goal
+use Rattle.cal_schedule.proofs.MonthMoves.{has_index}
+use Rattle.cal_c.proofs.columns.months.index_and_day.Goals as goal
 
-pub returns-in-Some-clause-place : goal.returns-in-Some-clause-place
-returns-in-Some-clause-place c = λ h.
+pub returns-in-Some-clause-index : goal.returns-in-Some-clause-index
+returns-in-Some-clause-index c = λ h.
     let f = c.ranges.date in
     let at = simp to_z-of_z at c.in-Some.ensures in
-    has_place _ _ _ _ _ c.to_calendar_date-year.ensures.date (omega (arith, ints, c.to_calendar_date-year.ensures.range.0)) ∙ ap (λ n. month_number_at n +ℤ pos 11999988) at.1
+    has_index _ _ _ _ _ c.to_calendar_date-year.ensures.date (omega (arith, ints, c.to_calendar_date-year.ensures.range.0)) ∙ ap (λ n. month_number_at n +ℤ pos 11999988) at.1
 
 pub returns-in-Some-clause-most : goal.returns-in-Some-clause-most
 returns-in-Some-clause-most c =
