@@ -284,8 +284,8 @@ typedef struct fots_text_result {
 typedef struct fots_read_date_result {
     int32_t status;
     fots_date date; /* or {FOTS_NOTHING} */
-    size_t position; /* where the status is FOTS_UNREADABLE, the position from 0 of the first byte that no such text has there, or the
-                   * length of a text that ends too early; else SIZE_MAX */
+    size_t position; /* where the status is FOTS_UNREADABLE, that from 0 of the first byte that no such text has there, or the length
+                      * of a text that ends too early; else SIZE_MAX */
 } fots_read_date_result;
 
 /* A date, a time of day and an offset that were read. */
