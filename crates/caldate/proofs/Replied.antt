@@ -1,6 +1,6 @@
 -- The reply to a line, from the words for its text.
 use Rattle.std.proofs.Common.{◌≡◌, ℕ, ◌+◌, ◌-◌, ◌<◌, ◌≤◌, Bool, true, false, cond, eqb, List, [], ◌∷◌, ◌++◌, length, take, get_or, codes, refl, sym, ap, ◌∙◌, subst, arith, length-append, length-take, append_assoc}
-use Rattle.std.proofs.Math.Seq.{take-append-add}
+use Rattle.std.proofs.Math.Seq.{take-append-add, take-append_seam}
 use Rattle.std.proofs.lemmas.List.{get_or-append-add}
 use Rattle.caldate.specs.Answers.{IsTooLong}
 use Rattle.caldate.specs.Lines.{has_return, text_of, end_of}
@@ -45,6 +45,10 @@ replied Says b kept line old mid new end h a e f = (
   f ∙ ap (λ l. l ++ end) a.1 ∙ append_assoc old a.0 end ∙ ap (λ l. old ++ (a.0 ++ l)) (e ∙ sym (same_end b kept line h)),
   (a.0, a.2, refl),
 )
+
+-- ---- what was gathered for a line is taken back
+pub taken_back : (old mid rest new : List ℕ) (before : ℕ) → before ≡ length old → mid ≡ old ++ rest → new ≡ take before mid → new ≡ old
+taken_back old mid rest new before at e f = f ∙ ap (λ k. take k mid) at ∙ ap (λ l. take (length old) l) e ∙ take-append_seam old rest
 
 -- ---- what is shown of the text of a line
 shown_cut : (kept line : List ℕ) → 80 ≤ length kept → 0 < length line → shown (take (length (kept ++ line) - 1) (kept ++ line)) ≡ shown kept

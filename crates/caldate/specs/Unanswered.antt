@@ -1,5 +1,5 @@
 -- What is told of the line at which a strict run ends.
-use Rattle.std.specs.Prelude.{◌≡◌, ◌⊎◌, ℕ, ◌+◌, ◌≤◌, List, codes, length, Option, Some, None}
+use Rattle.std.specs.Prelude.{◌≡◌, ◌⊎◌, ℕ, ◌+◌, ◌≤◌, true, List, ◌++◌, codes, length, Option, Some, None}
 use Rattle.caldate.specs.Answers.{IsTooLong, LacksAnswer}
 use Rattle.caldate.specs.Fields.{asked_text}
 use Rattle.caldate.specs.Lines.{text_of}
@@ -19,6 +19,10 @@ IsWhy filter (Some asked) words = LacksAnswer filter asked words
 abbrev pub IsReason : Filter → ℕ → List ℕ → List ℕ → Type 0
 IsReason filter before text words =
     IsTooLong text words ⊎ (length text ≤ longest_text) × (filter.skip ≤ before) × IsWhy filter (asked_text filter.field text) words
+
+-- a strict run stops: after what was gathered come further bytes, and the reason begins within them, or at their end
+abbrev pub Stopped : Filter → List ℕ → List ℕ → ℕ → Type 0
+Stopped filter old new start = (filter.is_strict ≡ true) × (start ≤ length new) × ((rest : List ℕ) × (new ≡ old ++ rest))
 
 -- what is shown is words of this kind
 abbrev pub Shows : ShownText → (List ℕ → Type 0) → Type 0

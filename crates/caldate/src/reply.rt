@@ -1,5 +1,5 @@
 //! The reply to a line.
-ghost use Rattle.std.specs.Prelude.{◌≡◌, ◌+◌, ◌≤◌, ◌++◌, ℕ, List, Some, false, true, codes, length, IfErr, OnOk};
+ghost use Rattle.std.specs.Prelude.{◌≡◌, ◌+◌, ◌≤◌, ◌++◌, ℕ, List, Some, false, true, codes, drop, length, take, IfErr, OnOk};
 ghost use Rattle.caldate.specs.Answers.{LacksAnswer};
 ghost use Rattle.caldate.specs.Fields.{asked_text};
 ghost use Rattle.caldate.specs.Lines.{text_of, end_of};
@@ -7,7 +7,7 @@ ghost use Rattle.caldate.specs.Room.{HasRoom, longest_answer, longest_reply, lon
 ghost use Rattle.caldate.specs.Runs.{Allowed, AllowedFor, AppendsThat, IsAllowed};
 ghost use Rattle.caldate.specs.Shown.{shown, words_shown};
 ghost use Rattle.caldate.specs.Standing.{IsHeld, IsReply, IsShown, counted};
-ghost use Rattle.caldate.specs.Unanswered.{IsReason, IsUnanswered, IsWhy, Shows};
+ghost use Rattle.caldate.specs.Unanswered.{IsReason, IsUnanswered, IsWhy, Stopped};
 
 use crate::answer::{LONGEST_TEXT, push_answer};
 use crate::buffer::Buffer;
@@ -31,9 +31,11 @@ pub fn push_reply(
         → AppendsThat (IsReply (IsAllowed filter.now before) (kept ++ line.now)) buffer.old buffer.new) }
     ensures strict { IfErr result (λ told. (filter.now.is_strict ≡ true) × (buffer.new ≡ buffer.old)) }
     ensures told { IfErr result (λ told. (kept : List ℕ) (before : ℕ) → IsHeld progress.now.is_long kept line.now
-        → IsShown progress.now.is_long progress.now.front kept → progress.now.number ≡ counted before → IsUnanswered filter.now before (kept ++ line.now) told) }
+        → IsShown progress.now.is_long progress.now.front kept → progress.now.number ≡ counted before
+        → IsUnanswered filter.now before (kept ++ line.now) told) }
 {
     let (text, end) = text_and_end(line);
+    let before = buffer.len();
     let said = if progress.is_long {
         push_too_long(buffer, filter)
     } else {
@@ -44,41 +46,60 @@ pub fn push_reply(
             buffer.push(end);
             Ok(())
         }
-        Err(reason) => Err(UnansweredLine {
-            number: progress.number.saturating_add(1),
-            reason,
-            text: progress.shown(text),
-        }),
+        Err(start) => Err(take_back(buffer, before, start, progress, text)),
     }
 }
 
-/// Gathers that a line is too long. In a strict run it gathers nothing, and returns this as the reason.
-fn push_too_long(buffer: &mut Buffer, filter: &Filter) -> Result<(), ShownText>
+/// Takes back what was gathered after so many bytes, and tells the line: the reason begins at `start`.
+#[cold]
+fn take_back(
+    buffer: &mut Buffer,
+    before: usize,
+    start: usize,
+    progress: &Progress,
+    text: &[u8],
+) -> UnansweredLine
+    requires before { before ≤ length buffer.old }
+    requires start { start ≤ length buffer.old }
+    ensures kept { buffer.new ≡ take before buffer.old }
+    ensures number { result.number ≡ counted (progress.now.number + 1) }
+    ensures reason { words_shown result.reason ≡ shown (drop start buffer.old) }
+    ensures whole { progress.now.is_long ≡ false → words_shown result.text ≡ shown text.now }
+    ensures long { progress.now.is_long ≡ true → result.text ≡ progress.now.front }
+{
+    let reason = ShownText::new(buffer.after(start));
+    buffer.truncate(before);
+    UnansweredLine {
+        number: progress.number.saturating_add(1),
+        reason,
+        text: progress.shown(text),
+    }
+}
+
+/// Gathers that a line is too long. In a strict run this is the reason, and it returns where that begins.
+fn push_too_long(buffer: &mut Buffer, filter: &Filter) -> Result<(), usize>
     requires { HasRoom longest_answer buffer.old }
-    ensures ok { OnOk result ((filter.now.is_strict ≡ false) × (buffer.new ≡ buffer.old ++ codes "line too long")) }
-    ensures strict { IfErr result (λ reason. (filter.now.is_strict ≡ true) × (buffer.new ≡ buffer.old)) }
-    ensures reason { IfErr result (λ reason. words_shown reason ≡ shown (codes "line too long")) }
+    ensures ok { OnOk result (filter.now.is_strict ≡ false) }
+    ensures strict { IfErr result (Stopped filter.now buffer.old buffer.new) }
+    ensures reason { IfErr result (λ start. drop start buffer.new ≡ codes "line too long") }
+    ensures text { buffer.new ≡ buffer.old ++ codes "line too long" }
     ensures short { length buffer.new ≤ length buffer.old + longest_answer }
 {
-    if filter.is_strict {
-        return Err(ShownText::new(b"line too long"));
-    }
+    let start = buffer.len();
     buffer.push(b"line too long");
+    if filter.is_strict {
+        return Err(start);
+    }
     Ok(())
 }
 
-/// Gathers what is written for the text of a line, after so many lines. In a strict run it gathers nothing for one without an answer, and
-/// returns the reason.
-fn push_text(
-    buffer: &mut Buffer,
-    filter: &Filter,
-    number: u64,
-    text: &[u8],
-) -> Result<(), ShownText>
+/// Gathers what is written for the text of a line, after so many lines. In a strict run it gathers the reason for one without an answer,
+/// and returns where that begins.
+fn push_text(buffer: &mut Buffer, filter: &Filter, number: u64, text: &[u8]) -> Result<(), usize>
     requires { HasRoom longest_reply buffer.old }
     ensures ok { OnOk result ((before : ℕ) → number ≡ counted before → AppendsThat (IsAllowed filter.now before text.now) buffer.old buffer.new) }
-    ensures strict { IfErr result (λ reason. (filter.now.is_strict ≡ true) × (buffer.new ≡ buffer.old)) }
-    ensures reason { IfErr result (λ reason. (before : ℕ) → number ≡ counted before → Shows reason (IsReason filter.now before text.now)) }
+    ensures strict { IfErr result (Stopped filter.now buffer.old buffer.new) }
+    ensures reason { IfErr result (λ start. (before : ℕ) → number ≡ counted before → IsReason filter.now before text.now (drop start buffer.new)) }
     ensures short { length buffer.new ≤ length buffer.old + longest_text + longest_answer }
 {
     if text.len() > LONGEST_TEXT {
@@ -94,69 +115,57 @@ fn push_text(
     }
 }
 
-/// Gathers a text with what is written for its field in the field's place. In a strict run it gathers nothing where there is no answer or
-/// no such field, and returns the reason.
-fn push_field(
-    buffer: &mut Buffer,
-    filter: &Filter,
-    field: Field,
-    text: &[u8],
-) -> Result<(), ShownText>
+/// Gathers a text with what is written for its field in the field's place. In a strict run it gathers the reason where there is no answer
+/// or no such field, and returns where that begins.
+fn push_field(buffer: &mut Buffer, filter: &Filter, field: Field, text: &[u8]) -> Result<(), usize>
     requires room { HasRoom longest_reply buffer.old }
     requires fits { length text.now ≤ longest_text }
     requires field { filter.now.field ≡ Some field }
     ensures ok { OnOk result (AppendsThat (AllowedFor filter.now text.now (asked_text (Some field) text.now)) buffer.old buffer.new) }
-    ensures strict { IfErr result (λ reason. (filter.now.is_strict ≡ true) × (buffer.new ≡ buffer.old)) }
-    ensures reason { IfErr result (λ reason. Shows reason (IsWhy filter.now (asked_text (Some field) text.now))) }
+    ensures strict { IfErr result (Stopped filter.now buffer.old buffer.new) }
+    ensures reason { IfErr result (λ start. IsWhy filter.now (asked_text (Some field) text.now) (drop start buffer.new)) }
     ensures short { length buffer.new ≤ length buffer.old + longest_text + longest_answer }
 {
     let Some((front, asked, rest)) = cut_field(field, text) else {
         return push_without_field(buffer, filter, text);
     };
-    let before = buffer.len();
     buffer.push(front);
-    match push_asked(buffer, filter, asked) {
-        Ok(()) => {
-            buffer.push(rest);
-            Ok(())
-        }
-        Err(reason) => {
-            buffer.truncate(before);
-            Err(reason)
-        }
-    }
+    push_asked(buffer, filter, asked)?;
+    buffer.push(rest);
+    Ok(())
 }
 
-/// Gathers a text that has no such field as it is. In a strict run it gathers nothing, and returns the reason.
-fn push_without_field(buffer: &mut Buffer, filter: &Filter, text: &[u8]) -> Result<(), ShownText>
-    requires { HasRoom (length text.now) buffer.old }
+/// Gathers a text that has no such field as it is. In a strict run it gathers the reason, and returns where that begins.
+fn push_without_field(buffer: &mut Buffer, filter: &Filter, text: &[u8]) -> Result<(), usize>
+    requires room { HasRoom longest_reply buffer.old }
+    requires fits { length text.now ≤ longest_text }
     ensures ok { OnOk result ((filter.now.is_strict ≡ false) × (buffer.new ≡ buffer.old ++ text.now)) }
-    ensures strict { IfErr result (λ reason. (filter.now.is_strict ≡ true) × (buffer.new ≡ buffer.old)) }
-    ensures reason { IfErr result (λ reason. words_shown reason ≡ shown (codes "no such field")) }
-    ensures short { length buffer.new ≤ length buffer.old + length text.now }
+    ensures strict { IfErr result (Stopped filter.now buffer.old buffer.new) }
+    ensures reason { IfErr result (λ start. drop start buffer.new ≡ codes "no such field") }
+    ensures short { length buffer.new ≤ length buffer.old + longest_text + longest_answer }
 {
     if filter.is_strict {
-        return Err(ShownText::new(b"no such field"));
+        let start = buffer.len();
+        buffer.push(b"no such field");
+        return Err(start);
     }
     buffer.push(text);
     Ok(())
 }
 
-/// Gathers what is written for a text that is asked about. In a strict run it gathers nothing where there is no answer, and returns the
-/// reason.
-fn push_asked(buffer: &mut Buffer, filter: &Filter, text: &[u8]) -> Result<(), ShownText>
+/// Gathers what is written for a text that is asked about. In a strict run that may be the reason why it has no answer; then it returns
+/// where that begins.
+fn push_asked(buffer: &mut Buffer, filter: &Filter, text: &[u8]) -> Result<(), usize>
     requires { HasRoom longest_answer buffer.old }
     ensures ok { OnOk result (AppendsThat (Allowed filter.now.is_strict filter.now text.now) buffer.old buffer.new) }
-    ensures strict { IfErr result (λ reason. (filter.now.is_strict ≡ true) × (buffer.new ≡ buffer.old)) }
-    ensures reason { IfErr result (λ reason. Shows reason (LacksAnswer filter.now text.now)) }
+    ensures strict { IfErr result (Stopped filter.now buffer.old buffer.new) }
+    ensures reason { IfErr result (λ start. LacksAnswer filter.now text.now (drop start buffer.new)) }
     ensures short { length buffer.new ≤ length buffer.old + longest_answer }
 {
-    let before = buffer.len();
+    let start = buffer.len();
     let has_answer = push_answer(buffer, filter, text);
     if filter.is_strict && !has_answer {
-        let reason = ShownText::new(buffer.after(before));
-        buffer.truncate(before);
-        return Err(reason);
+        return Err(start);
     }
     Ok(())
 }
