@@ -2,13 +2,13 @@ use Rattle.std.proofs.Common.{ap, arith, inl, inr, subst, sym, w32}
 use Rattle.std.proofs.lemmas.Int.{to_z-of_z}
 use Rattle.cal_time.specs.Date.{IsYear}
 use Rattle.cal_time.specs.CalendarDay.{CalendarDay}
-use Rattle.cal_time.specs.MonthCycle.{position-below}
+use Rattle.cal_time.specs.MonthCycle.{index-below}
 use Rattle.cal_text.proofs.Ranges.{month_at-range}
 use Rattle.cal_text.proofs.date.of_form.calendar_date.Goals as goal
 
 pub returns-in-Ok-clause-year : goal.returns-in-Ok-clause-year
 returns-in-Ok-clause-year c =
-    let below = position-below c.in-Ok.month in
+    let below = index-below c.in-Ok.month in
     let year = to_z-of_z w32 c.args.year c.ranges.year in (
       λ r. ((omega (arith, c.in-Ok.ensures), omega (arith, c.in-Ok.ensures)), subst (λ y. IsYear y → ⊥) year (c.from_calendar_date.ensures.year.0 r)),
       λ h. c.from_calendar_date.ensures.year.1 (subst (λ y. IsYear y → ⊥) (sym year) h.1),

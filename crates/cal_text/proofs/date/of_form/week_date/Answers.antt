@@ -5,12 +5,12 @@ use Rattle.cal_time.specs.Date.{IsDate, IsYear, NoDate}
 use Rattle.cal_time.specs.IsoWeekDate.{IsWeek, HasIsoWeekDate}
 use Rattle.cal_time.specs.Refusal.{IsRefused}
 use Rattle.cal_time.specs.Refusals.{year_out_of_range, weekday_out_of_range}
-use Rattle.cal_time.specs.Weekday.{position}
-use Rattle.cal_time.specs.WeekdayCycle.{position-weekday_at}
+use Rattle.cal_time.specs.Weekday.{index}
+use Rattle.cal_time.specs.WeekdayCycle.{index-weekday_at}
 use Rattle.cal_text.proofs.date.of_form.week_date.Goals as goal
 
-weekday_is : (c : goal.After-from_iso_week_date) → position c.at.result ≡ c.args.weekday - 1
-weekday_is c = ap position c.at.ensures ∙ position-weekday_at (c.args.weekday - 1) (omega (arith, c.requires.0, c.requires.1))
+weekday_is : (c : goal.After-from_iso_week_date) → index c.at.result ≡ c.args.weekday - 1
+weekday_is c = ap index c.at.ensures ∙ index-weekday_at (c.args.weekday - 1) (omega (arith, c.requires.0, c.requires.1))
 
 year_is : (c : goal.After-from_iso_week_date) → to_z w32 (of_z w32 c.args.year) ≡ c.args.year
 year_is c = to_z-of_z w32 c.args.year c.ranges.year
