@@ -84,7 +84,7 @@ moment-begins : (bytes : List ℕ) (m : Numbers) (q : ℕ) → HasMomentForm byt
 moment-begins bytes m q h few =
     let ds = date_digits m.year m.month m.day in
     let long = date_digits-long bytes m h in
-    let front : take q bytes ≡ take q ds = ap (take q) h.bytes_are ∙ take-append-le q ds (h.separator ∷ (clock_digits m.hour m.minute m.second ++ (h.fraction ++ h.zone))) (omega (arith, long, few)) in
+    let front : take q bytes ≡ take q ds = ap (take q) h.bytes_are ∙ take-append-le q ds (h.separator ∷ (clock_digits m.hour m.minute m.second ++ (h.fraction ++ h.offset))) (omega (arith, long, few)) in
     let form = date-text m.year m.month m.day h.numbers.year h.numbers.month h.numbers.day in
     record { more = drop q ds; text = (Calendar (pos m.year) m.month m.day, subst (λ all. HasForm all (Calendar (pos m.year) m.month m.day)) (sym (ap (λ xs. xs ++ drop q ds) front ∙ take-append-drop q ds)) form) }
 

@@ -100,9 +100,6 @@ pub record AreRead (old mid : List ℕ) (count unit next before now : ℕ) : Typ
   pub bytes_are : old ≡ digits ++ mid
   pub value : (more : List ℕ) → before + decimals_value unit (digits ++ more) ≡ now + decimals_value next more
 
-pub none_read : (old : List ℕ) (unit before : ℕ) → AreRead old old 0 unit unit before before
-none_read old unit before = record { digits = []; all = tt; count_is = refl; bytes_are = refl; value = λ more. refl }
-
 pub one_read : (old mid new : List ℕ) (count unit next before now d : ℕ) → AreRead old mid count unit next before now → (d < 10) × (mid ≡ (48 + d) ∷ new)
     → AreRead old new (count + 1) unit (next / 10) before (now + d * next)
 one_read old mid new count unit next before now d h digit = record {

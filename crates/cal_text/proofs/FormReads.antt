@@ -7,7 +7,7 @@ use Rattle.std.proofs.lemmas.Str.{digit_value_digit}
 use Rattle.cal_time.specs.DateText.{digits_at_least}
 use Rattle.cal_text.specs.declared.form.Form.{Form}
 use Rattle.cal_text.specs.declared.form.Form.TheVariants.{Calendar, Ordinal, Week}
-use Rattle.cal_text.specs.DateForms.{year_text, year_of, rest_of, IsWrittenYear, IsForm, HasForm}
+use Rattle.cal_text.specs.DateForms.{year_text, year_of, rest_of, IsWrittenYear, DigitsFit, HasForm}
 use Rattle.cal_text.specs.Shape.{ReadsDigits}
 use Rattle.cal_text.proofs.DigitTexts.{digits-printed, digits_at_least-digits, digits_at_least-length, digits_at_least-value}
 use Rattle.cal_text.proofs.NumberTexts.{one_digit}
@@ -33,7 +33,7 @@ pub pair : (front back old rest : List ℕ) → old ≡ front ++ rest → rest �
 pair front back old rest e f = e ∙ ap (λ r. front ++ r) f ∙ sym (append_assoc front (45 ∷ []) back)
 
 pub put_week : (y : ℤ) (w b : ℕ) (old a c e : List ℕ) → IsWrittenYear y → ReadsDigits old a 2 w → a ≡ 45 ∷ c → (49 ≤ b) × (b ≤ 55) × (c ≡ b ∷ e) → e ≡ []
-    → IsForm (Week y w (b - 48)) × (87 ∷ old ≡ rest_of (Week y w (b - 48)))
+    → DigitsFit (Week y w (b - 48)) × (87 ∷ old ≡ rest_of (Week y w (b - 48)))
 put_week y w b old a c e written h hyphen weekday end =
     let two = printed old a 2 w (lit≤ tt) (lit≤ tt) h in
     let same : b ≡ 48 + (b - 48) = omega (arith, weekday.0) in
@@ -44,7 +44,7 @@ put_week y w b old a c e written h hyphen weekday end =
     )
 
 pub put_calendar : (y : ℤ) (m d : ℕ) (old a c e : List ℕ) → IsWrittenYear y → ReadsDigits old a 2 m → a ≡ 45 ∷ c → ReadsDigits c e 2 d → e ≡ []
-    → IsForm (Calendar y m d) × (old ≡ rest_of (Calendar y m d))
+    → DigitsFit (Calendar y m d) × (old ≡ rest_of (Calendar y m d))
 put_calendar y m d old a c e written h hyphen k end =
     let first = printed old a 2 m (lit≤ tt) (lit≤ tt) h in
     let second = printed c e 2 d (lit≤ tt) (lit≤ tt) k in (
@@ -53,12 +53,12 @@ put_calendar y m d old a c e written h hyphen k end =
     )
 
 pub put_ordinal : (y : ℤ) (m d : ℕ) (old a c : List ℕ) → IsWrittenYear y → ReadsDigits old a 2 m → (d < 10) × (a ≡ (48 + d) ∷ c) → c ≡ []
-    → IsForm (Ordinal y (m * 10 + d)) × (old ≡ rest_of (Ordinal y (m * 10 + d)))
+    → DigitsFit (Ordinal y (m * 10 + d)) × (old ≡ rest_of (Ordinal y (m * 10 + d)))
 put_ordinal y m d old a c written h last end =
     let three = printed old c 3 (m * 10 + d) (lit≤ tt) (lit≤ tt) (one_more m d 2 old a c h last.0 last.1) in
     ((written, omega (arith, three.0)), at_end old (digits_at_least 3 (m * 10 + d)) c three.1 end)
 
-pub put_form : (y : ℤ) (f : Form) (old mid : List ℕ) → old ≡ year_text y ++ 45 ∷ mid → IsForm f → year_of f ≡ y → mid ≡ rest_of f → HasForm old f
+pub put_form : (y : ℤ) (f : Form) (old mid : List ℕ) → old ≡ year_text y ++ 45 ∷ mid → DigitsFit f → year_of f ≡ y → mid ≡ rest_of f → HasForm old f
 put_form y f old mid e is same rest = record {
   form = is;
   bytes_are = e ∙ ap (λ r. year_text y ++ 45 ∷ r) rest ∙ sym (append_assoc (year_text y) (45 ∷ []) (rest_of f)) ∙ ap (λ z. (year_text z ++ 45 ∷ []) ++ rest_of f) (sym same);

@@ -1,11 +1,11 @@
 -- The shapes of a moment, and what a scanner read of one.
-use Rattle.std.proofs.Common.{◌≡◌, ℕ, zero, suc, ◌+◌, ◌<◌, ◌≤◌, ◌^◌, ◌⊎◌, inl, inr, List, [], ◌∷◌, ◌++◌, length, refl, sym, ap, subst, ◌∙◌, arith, lit≤}
+use Rattle.std.proofs.Common.{true, false, ◌≡◌, ℕ, zero, suc, ◌+◌, ◌<◌, ◌≤◌, ◌^◌, ◌⊎◌, inl, inr, List, [], ◌∷◌, ◌++◌, length, refl, sym, ap, subst, ◌∙◌, arith, lit≤}
 use Rattle.std.proofs.lemmas.List.{append_assoc, length-append}
 use Rattle.cal_time.specs.DateText.{digits_at_least, date_digits}
 use Rattle.cal_text.specs.declared.rfc3339.numbers.Numbers.{Numbers}
-use Rattle.cal_text.specs.declared.rfc3339.numbers.Zone.{Zone}
-use Rattle.cal_text.specs.declared.rfc3339.numbers.Zone.TheVariants.{Utc, East, West}
-use Rattle.cal_text.specs.Rfc3339Form.{IsSeparator, IsZone, HasMomentForm, HasFractionBefore, clock_digits}
+use Rattle.cal_text.specs.declared.rfc3339.numbers.TimeOffset.{TimeOffset}
+use Rattle.cal_text.specs.declared.rfc3339.numbers.TimeOffset.TheVariants.{Utc, Signed}
+use Rattle.cal_text.specs.Rfc3339Form.{IsSeparator, IsTimeOffset, HasMomentForm, HasFractionBefore, clock_digits}
 use Rattle.cal_text.specs.Shape.{Shape, Done, left, Branch, Byte, Digits, UpTo, Fraction, Separator, TwoNumbers, ToSeconds, offset_digits, signed_offset, time_offset, moment, ReadsDigits}
 use Rattle.cal_text.proofs.Decimals.{fraction-below}
 use Rattle.cal_text.proofs.DigitParts.{number_part}
@@ -88,16 +88,16 @@ pair_shape = last _ _ _ (both _ _ _ _ _ _ two_digits (both _ _ _ _ _ _ (byte_par
 abbrev IsWest : List ℕ → Unit {0} × Pair → Type 0
 IsWest = HasAfter (λ u. Unit {0}) (λ u. 45 ∷ []) IsPair
 
-abbrev Signed : Type 0
-Signed = (ℕ × Pair) ⊎ (Unit {0} × Pair)
+abbrev SignedPair : Type 0
+SignedPair = (ℕ × Pair) ⊎ (Unit {0} × Pair)
 
-abbrev IsSigned : List ℕ → Signed → Type 0
+abbrev IsSigned : List ℕ → SignedPair → Type 0
 IsSigned = HasEither 43 0 IsPair IsWest
 
 west-first : (x : ℕ) (xs : List ℕ) (v : Unit {0} × Pair) → IsWest (x ∷ xs) v → x ≡ 45
 west-first x xs v h = let e = h.bytes_are in cc
 
-signed-first : (x : ℕ) (xs : List ℕ) (v : Signed) → IsSigned (x ∷ xs) v → (43 ≤ x) × (x ≤ 45)
+signed-first : (x : ℕ) (xs : List ℕ) (v : SignedPair) → IsSigned (x ∷ xs) v → (43 ≤ x) × (x ≤ 45)
 signed-first x xs (inl v) h = let e = h.bytes_are in let first : x ≡ 43 + v.0 = cc in (omega (arith, first), omega (arith, first, h.valid))
 signed-first x xs (inr v) h = let first = west-first x xs v h in (omega (arith, first), omega (arith, first))
 
@@ -107,12 +107,12 @@ signed_shape =
     (λ x xs v here h. omega (arith, here.1, west-first x xs v h))
 
 abbrev Offset : Type 0
-Offset = (ℕ × Unit {0}) ⊎ ((ℕ × Unit {0}) ⊎ Signed)
+Offset = (ℕ × Unit {0}) ⊎ ((ℕ × Unit {0}) ⊎ SignedPair)
 
-abbrev IsLowerOr : List ℕ → (ℕ × Unit {0}) ⊎ Signed → Type 0
+abbrev IsLowerOr : List ℕ → (ℕ × Unit {0}) ⊎ SignedPair → Type 0
 IsLowerOr = HasEither 122 0 IsEnd IsSigned
 
-lower-first : (x : ℕ) (xs : List ℕ) (v : (ℕ × Unit {0}) ⊎ Signed) → IsIn 90 0 x → ¬ IsLowerOr (x ∷ xs) v
+lower-first : (x : ℕ) (xs : List ℕ) (v : (ℕ × Unit {0}) ⊎ SignedPair) → IsIn 90 0 x → ¬ IsLowerOr (x ∷ xs) v
 lower-first x xs (inl v) here h = let e = h.bytes_are in let first : x ≡ 122 + v.0 = cc in omega (arith, here.1, first)
 lower-first x xs (inr v) here h = omega (arith, here.0, (signed-first x xs v h).1)
 
@@ -124,17 +124,17 @@ offset_shape =
     either 90 0 IsEnd Done IsLowerOr _ end_shape
     (either 122 0 IsEnd Done IsSigned _ end_shape signed_shape (λ x xs v here h. omega (arith, here.0, (signed-first x xs v h).1))) lower-first
 
-zone_of : Offset → Zone
-zone_of (inl v) = Utc
-zone_of (inr (inl v)) = Utc
-zone_of (inr (inr (inl v))) = East v.1.0 v.1.1.1
-zone_of (inr (inr (inr v))) = West v.1.0 v.1.1.1
+time_offset_of : Offset → TimeOffset
+time_offset_of (inl v) = Utc
+time_offset_of (inr (inl v)) = Utc
+time_offset_of (inr (inr (inl v))) = Signed false v.1.0 v.1.1.1
+time_offset_of (inr (inr (inr v))) = Signed true v.1.0 v.1.1.1
 
 one_byte : (b d : ℕ) (bytes rest : List ℕ) → d ≤ 0 → bytes ≡ (b + d) ∷ rest → bytes ≡ b ∷ rest
 one_byte b d bytes rest none e = let same : b + d ≡ b = omega arith in e ∙ ap (λ x. x ∷ rest) same
 
-there : (bytes : List ℕ) (v : Offset) → IsOffset bytes v → IsZone bytes (zone_of v)
-unfolding zone_of
+there : (bytes : List ℕ) (v : Offset) → IsOffset bytes v → IsTimeOffset bytes (time_offset_of v)
+unfolding time_offset_of
 there bytes (inl v) h = inl (one_byte 90 v.0 bytes h.rest h.valid h.bytes_are ∙ ap (λ r. 90 ∷ r) h.has)
 there bytes (inr (inl v)) h = inr (one_byte 122 v.0 bytes h.rest h.valid h.bytes_are ∙ ap (λ r. 122 ∷ r) h.has)
 there bytes (inr (inr (inl v))) h =
@@ -144,30 +144,30 @@ there bytes (inr (inr (inr v))) h = (h.has.0.0.0, h.has.0.1.1.0, h.bytes_are ∙
 as_pair : (h m : ℕ) → h < 100 → m < 100 → IsPair (digits_at_least 2 h ++ 58 ∷ digits_at_least 2 m) (h, (tt, m))
 as_pair h m few low = (((few, omega arith), (tt, (low, omega arith))), refl)
 
-here : (bytes : List ℕ) (z : Zone) → IsZone bytes z → (v : Offset) × IsOffset bytes v × (zone_of v ≡ z)
-unfolding zone_of
+here : (bytes : List ℕ) (z : TimeOffset) → IsTimeOffset bytes z → (v : Offset) × IsOffset bytes v × (time_offset_of v ≡ z)
+unfolding time_offset_of
 here bytes Utc (inl e) = (inl (0, tt), record { rest = []; valid = lit≤ tt; bytes_are = e; has = refl }, refl)
 here bytes Utc (inr e) = (inr (inl (0, tt)), record { rest = []; valid = lit≤ tt; bytes_are = e; has = refl }, refl)
-here bytes (East h m) is = (
+here bytes (Signed false h m) is = (
   inr (inr (inl (0, (h, (tt, m))))),
   record { rest = digits_at_least 2 h ++ 58 ∷ digits_at_least 2 m; valid = lit≤ tt; bytes_are = is.2; has = as_pair h m is.0 is.1 },
   refl,
 )
-here bytes (West h m) is = (
+here bytes (Signed true h m) is = (
   inr (inr (inr (tt, (h, (tt, m))))),
   record { rest = digits_at_least 2 h ++ 58 ∷ digits_at_least 2 m; valid = tt; bytes_are = is.2; has = as_pair h m is.0 is.1 },
   refl,
 )
 
-zone_shape : IsShapeOf IsZone time_offset
-zone_shape = retold IsOffset time_offset IsZone offset_shape zone_of there here
+time_offset_shape : IsShapeOf IsTimeOffset time_offset
+time_offset_shape = retold IsOffset time_offset IsTimeOffset offset_shape time_offset_of there here
 
 -- no offset begins with what a fraction has
-pub zone-first : (x : ℕ) (xs : List ℕ) (z : Zone) → IsIn 46 11 x → ¬ IsZone (x ∷ xs) z
-zone-first x xs Utc digit (inl e) = let first : x ≡ 90 = cc in omega (arith, digit.1, first)
-zone-first x xs Utc digit (inr e) = let first : x ≡ 122 = cc in omega (arith, digit.1, first)
-zone-first x xs (East h m) digit is = let e = is.2 in let first : x ≡ 43 = cc in omega (arith, digit.0, first)
-zone-first x xs (West h m) digit is = let e = is.2 in let first : x ≡ 45 = cc in omega (arith, digit.0, first)
+pub offset-first : (x : ℕ) (xs : List ℕ) (z : TimeOffset) → IsIn 46 11 x → ¬ IsTimeOffset (x ∷ xs) z
+offset-first x xs Utc digit (inl e) = let first : x ≡ 90 = cc in omega (arith, digit.1, first)
+offset-first x xs Utc digit (inr e) = let first : x ≡ 122 = cc in omega (arith, digit.1, first)
+offset-first x xs (Signed false h m) digit is = let e = is.2 in let first : x ≡ 43 = cc in omega (arith, digit.0, first)
+offset-first x xs (Signed true h m) digit is = let e = is.2 in let first : x ≡ 45 = cc in omega (arith, digit.0, first)
 
 -- ---- up to the seconds
 abbrev IsFour : ℕ → Type 0
@@ -210,10 +210,10 @@ pub record HasMomentUpTo (more : ℕ) (bytes : List ℕ) (m : Numbers) : Type 0 
   pub short : length form.fraction ≤ more + 2
 
 abbrev Parts : Type 0
-Parts = Front × (ℕ × Zone)
+Parts = Front × (ℕ × TimeOffset)
 
 abbrev IsWhole : ℕ → List ℕ → Parts → Type 0
-IsWhole more = HasAfter IsFront front_text (HasFraction more IsZone)
+IsWhole more = HasAfter IsFront front_text (HasFraction more IsTimeOffset)
 
 numbers : Parts → Numbers
 numbers v =
@@ -225,7 +225,7 @@ numbers v =
       minute = v.0.1.1.1.1.1.0;
       second = v.0.1.1.1.1.1.1.1;
       nanosecond = v.1.0;
-      zone = v.1.1;
+      offset = v.1.1;
     }
 
 numbers-there : (more : ℕ) (bytes : List ℕ) (v : Parts) → IsWhole more bytes v → HasMomentUpTo more bytes (numbers v)
@@ -243,10 +243,10 @@ numbers-there more bytes v h = record {
     };
     separator = v.0.1.1.0;
     fraction = h.has.fraction;
-    zone = h.has.rest;
+    offset = h.has.rest;
     is_separator = h.valid.1.1.0;
     is_fraction = h.has.is_fraction;
-    is_zone = h.has.has;
+    is_offset = h.has.has;
     bytes_are = h.bytes_are ∙ ap (λ r. front_text v.0 ++ r) h.has.bytes_are
         ∙ joined (digits_at_least 4 v.0.0) (digits_at_least 2 v.0.1.0.1.0) (digits_at_least 2 v.0.1.0.1.1.1) (digits_at_least 2 v.0.1.1.1.0)
         (digits_at_least 2 v.0.1.1.1.1.1.0) (digits_at_least 2 v.0.1.1.1.1.1.1.1) (h.has.fraction ++ h.has.rest) v.0.1.1.0;
@@ -262,21 +262,21 @@ unfolding numbers
 numbers-here more bytes m h =
     let n = h.form.numbers in
     let s = h.form.separator in (
-      ((m.year, ((tt, (m.month, (tt, m.day))), (s, (m.hour, (tt, (m.minute, (tt, m.second))))))), (m.nanosecond, m.zone)),
+      ((m.year, ((tt, (m.month, (tt, m.day))), (s, (m.hour, (tt, (m.minute, (tt, m.second))))))), (m.nanosecond, m.offset)),
       record {
-        rest = h.form.fraction ++ h.form.zone;
+        rest = h.form.fraction ++ h.form.offset;
         valid = ((n.year, omega (arith, n.year)), ((tt, (two m.month n.month, (tt, two m.day n.day))), (h.form.is_separator, (two m.hour n.hour, (tt, (two m.minute n.minute, (tt, two m.second n.second)))))));
         bytes_are = h.form.bytes_are
             ∙ sym (joined (digits_at_least 4 m.year) (digits_at_least 2 m.month) (digits_at_least 2 m.day) (digits_at_least 2 m.hour) (digits_at_least 2 m.minute)
-            (digits_at_least 2 m.second) (h.form.fraction ++ h.form.zone) s);
-        has = record { fraction = h.form.fraction; rest = h.form.zone; is_fraction = h.form.is_fraction; short = h.short; bytes_are = refl; has = h.form.is_zone };
+            (digits_at_least 2 m.second) (h.form.fraction ++ h.form.offset) s);
+        has = record { fraction = h.form.fraction; rest = h.form.offset; is_fraction = h.form.is_fraction; short = h.short; bytes_are = refl; has = h.form.is_offset };
       },
       refl,
     )
 
 moment_up_to : (more : ℕ) → IsShapeOf (HasMomentUpTo more) (moment more)
 moment_up_to more =
-    retold (IsWhole more) (moment more) (HasMomentUpTo more) (after IsFront front_text ToSeconds (HasFraction more IsZone) _ front_part (fraction_then more IsZone time_offset zone_shape zone-first))
+    retold (IsWhole more) (moment more) (HasMomentUpTo more) (after IsFront front_text ToSeconds (HasFraction more IsTimeOffset) _ front_part (fraction_then more IsTimeOffset time_offset time_offset_shape offset-first))
     numbers (numbers-there more) (numbers-here more)
 
 fits : (k : ℕ) (bytes : List ℕ) (m : Numbers) → length bytes ≤ k → HasMomentForm bytes m → HasMomentUpTo k bytes m
@@ -287,9 +287,9 @@ fits k bytes m few h =
       short = omega (
         arith,
         ap length h.bytes_are,
-        length-append (date_digits m.year m.month m.day) (h.separator ∷ (clock ++ (h.fraction ++ h.zone))),
-        length-append clock (h.fraction ++ h.zone),
-        length-append h.fraction h.zone,
+        length-append (date_digits m.year m.month m.day) (h.separator ∷ (clock ++ (h.fraction ++ h.offset))),
+        length-append clock (h.fraction ++ h.offset),
+        length-append h.fraction h.offset,
         few,
       );
     }
@@ -386,16 +386,16 @@ pub rest-short : (old rest : List ℕ) (y m d h n s : ℕ) → IsToSeconds old r
 rest-short old rest y m d h n s is =
     omega (arith, ap length is.bytes_are, length-append (date_digits y m d) (is.separator ∷ (clock_digits h n s ++ rest)), length-append (clock_digits h n s) rest)
 
-pub put_moment : (old rest zone : List ℕ) (y m d h n s v more : ℕ) (z : Zone) → IsToSeconds old rest y m d h n s → m < 100 → d < 100 → n < 100 → s < 100
-    → HasFractionBefore zone more rest v → IsZone zone z
-    → HasMomentForm old (record { year = y; month = m; day = d; hour = h; minute = n; second = s; nanosecond = v; zone = z })
-put_moment old rest zone y m d h n s v more z is month day minute second fraction is_zone = record {
+pub put_moment : (old rest offset : List ℕ) (y m d h n s v more : ℕ) (z : TimeOffset) → IsToSeconds old rest y m d h n s → m < 100 → d < 100 → n < 100 → s < 100
+    → HasFractionBefore offset more rest v → IsTimeOffset offset z
+    → HasMomentForm old (record { year = y; month = m; day = d; hour = h; minute = n; second = s; nanosecond = v; offset = z })
+put_moment old rest offset y m d h n s v more z is month day minute second fraction is_offset = record {
   numbers = record { year = is.year; month = month; day = day; hour = is.hour; minute = minute; second = second; nanosecond = fraction-below fraction.fraction v fraction.is_fraction };
   separator = is.separator;
   fraction = fraction.fraction;
-  zone = zone;
+  offset = offset;
   is_separator = is.is_separator;
   is_fraction = fraction.is_fraction;
-  is_zone = is_zone;
+  is_offset = is_offset;
   bytes_are = is.bytes_are ∙ ap (λ r. date_digits y m d ++ is.separator ∷ (clock_digits h n s ++ r)) fraction.bytes_are;
 }

@@ -1,5 +1,5 @@
 -- The text of a moment is one that reads as that moment.
-use Rattle.std.proofs.Common.{◌≡◌, ℕ, zero, suc, ◌-◌, ◌*◌, ◌/◌, ◌%◌, ◌<◌, ◌≤◌, ◌^◌, ℤ, pos, negsuc, ◌≤ℤ◌, unsigned_abs, List, [], ◌∷◌, ◌++◌, length, refl, sym, ap, ◌∙◌, arith, inl, inr, false}
+use Rattle.std.proofs.Common.{true, false, ◌≡◌, ℕ, zero, suc, ◌-◌, ◌*◌, ◌/◌, ◌%◌, ◌<◌, ◌≤◌, ◌^◌, ℤ, pos, negsuc, ◌≤ℤ◌, unsigned_abs, List, [], ◌∷◌, ◌++◌, length, refl, sym, ap, ◌∙◌, arith, inl, inr, false}
 use Rattle.std.specs.Prelude.{◌==◌}
 use Rattle.std.proofs.lemmas.Bool.Decides.{nat_tests}
 use Rattle.std.proofs.lemmas.Int.{ints}
@@ -14,10 +14,10 @@ use Rattle.cal_datetime.specs.DateTime.{IsDateTime, date_at, time_at}
 use Rattle.cal_datetime.specs.DateTimeLaws.{IsTime-time_at}
 use Rattle.cal_datetime.specs.OffsetDateTime.{Shown}
 use Rattle.cal_text.specs.DateForms.{year_text}
-use Rattle.cal_text.specs.declared.rfc3339.numbers.Zone.{Zone}
-use Rattle.cal_text.specs.declared.rfc3339.numbers.Zone.TheVariants.{Utc, East, West}
+use Rattle.cal_text.specs.declared.rfc3339.numbers.TimeOffset.{TimeOffset}
+use Rattle.cal_text.specs.declared.rfc3339.numbers.TimeOffset.TheVariants.{Utc, Signed}
 use Rattle.cal_text.specs.Rfc3339.{fraction_text, offset_text, moment_text, HasMomentText}
-use Rattle.cal_text.specs.Rfc3339Form.{IsFraction, IsZone, IsOffsetOf, IsMomentText}
+use Rattle.cal_text.specs.Rfc3339Form.{IsFraction, IsTimeOffset, IsOffsetOf, IsMomentText}
 use Rattle.cal_text.proofs.Ranges.{month_at-below, day_of_month_at-below}
 use Rattle.cal_text.proofs.Stripped.{stripped, nine}
 use Rattle.cal_text.proofs.YearTexts.{year-plain}
@@ -56,20 +56,20 @@ fraction-long zero h = omega arith
 fraction-long (suc k) h = rw (not_zero k) (omega (arith, (stripped (nine_digits (suc k)) 9 (omega arith) (nine (suc k) h).0).long))
 
 -- the offset
-abbrev pub zone_at : ℤ → Zone
-zone_at (pos zero) = Utc
-zone_at (pos (suc k)) = East (suc k / 3600) (suc k / 60 % 60)
-zone_at (negsuc k) = West (suc k / 3600) (suc k / 60 % 60)
+abbrev pub time_offset_at : ℤ → TimeOffset
+time_offset_at (pos zero) = Utc
+time_offset_at (pos (suc k)) = Signed false (suc k / 3600) (suc k / 60 % 60)
+time_offset_at (negsuc k) = Signed true (suc k / 3600) (suc k / 60 % 60)
 
 signed : (sign : ℕ) (xs ys : List ℕ) → sign ∷ [] ++ xs ++ 58 ∷ [] ++ ys ≡ sign ∷ (xs ++ 58 ∷ ys)
 signed sign xs ys = simp append_assoc
 
-pub zone : (o : ℤ) → unsigned_abs o < 86400 → IsZone (offset_text o) (zone_at o)
-zone (pos zero) h = inl refl
-zone (pos (suc k)) h = rw (not_zero k) (omega arith, omega arith, signed 43 (digits_at_least 2 (suc k / 3600)) (digits_at_least 2 (suc k / 60 % 60)))
-zone (negsuc k) h = rw (not_zero k) (omega arith, omega arith, signed 45 (digits_at_least 2 (suc k / 3600)) (digits_at_least 2 (suc k / 60 % 60)))
+pub offset-printed : (o : ℤ) → unsigned_abs o < 86400 → IsTimeOffset (offset_text o) (time_offset_at o)
+offset-printed (pos zero) h = inl refl
+offset-printed (pos (suc k)) h = rw (not_zero k) (omega arith, omega arith, signed 43 (digits_at_least 2 (suc k / 3600)) (digits_at_least 2 (suc k / 60 % 60)))
+offset-printed (negsuc k) h = rw (not_zero k) (omega arith, omega arith, signed 45 (digits_at_least 2 (suc k / 3600)) (digits_at_least 2 (suc k / 60 % 60)))
 
-pub offset : (o : ℤ) → unsigned_abs o < 86400 → unsigned_abs o % 60 ≡ 0 → IsOffsetOf (zone_at o) o
+pub offset : (o : ℤ) → unsigned_abs o < 86400 → unsigned_abs o % 60 ≡ 0 → IsOffsetOf (time_offset_at o) o
 offset (pos zero) h whole = refl
 offset (pos (suc k)) h whole = (omega arith, omega arith, omega (arith, ints, whole))
 offset (negsuc k) h whole = (omega arith, omega arith, omega (arith, ints, whole))
@@ -104,7 +104,7 @@ printed m in_range has =
         minute = minute_of t;
         second = second_of t;
         nanosecond = nanosecond_of t;
-        zone = zone_at o;
+        offset = time_offset_at o;
       },
       record {
         numbers = record {
@@ -118,10 +118,10 @@ printed m in_range has =
         };
         separator = 84;
         fraction = fraction_text (nanosecond_of t);
-        zone = offset_text o;
+        offset = offset_text o;
         is_separator = inl refl;
         is_fraction = fraction (nanosecond_of t) ns;
-        is_zone = zone o has.below_day;
+        is_offset = offset-printed o has.below_day;
         bytes_are = ap (λ ys. ys ++ 45 ∷ [] ++ digits_at_least 2 (month_at n) ++ 45 ∷ [] ++ digits_at_least 2 (day_of_month_at n) ++ 84 ∷ [] ++ digits_at_least 2 (hour_of t)
             ++ 58 ∷ [] ++ digits_at_least 2 (minute_of t) ++ 58 ∷ [] ++ digits_at_least 2 (second_of t) ++ fraction_text (nanosecond_of t) ++ offset_text o)
             (year-digits (year_at n) has.from_year_0 has.to_year_9999)

@@ -9,7 +9,7 @@ use Rattle.cal_time.specs.DateText.{digits_at_least, date_digits}
 use Rattle.cal_text.specs.declared.form.Form.{Form}
 use Rattle.cal_text.specs.declared.form.Form.TheVariants.{Calendar, Ordinal, Week}
 use Rattle.cal_text.specs.declared.rfc3339.numbers.Numbers.{Numbers}
-use Rattle.cal_text.specs.DateForms.{year_text, form_text, rest_of, year_of, IsWrittenYear, IsForm, HasForm, IsDateText}
+use Rattle.cal_text.specs.DateForms.{year_text, form_text, rest_of, year_of, IsWrittenYear, DigitsFit, HasForm, IsDateText}
 use Rattle.cal_text.specs.JulianForm.{IsJulianForm}
 use Rattle.cal_text.specs.Rfc3339Form.{IsSeparator, HasMomentForm, clock_digits}
 use Rattle.cal_text.specs.UnixText.{HasUnixForm}
@@ -56,12 +56,12 @@ year-date (pos n) small =
     ]
 year-date (negsuc k) small = more-date 45 _ (inr (inl (omega arith, omega arith))) (number-date 4 (suc k) small)
 
-written : (f : Form) → IsForm f → IsWrittenYear (year_of f)
+written : (f : Form) → DigitsFit f → IsWrittenYear (year_of f)
 written (Calendar y m d) h = h.0
 written (Ordinal y o) h = h.0
 written (Week y w d) h = h.0
 
-rest-date : (f : Form) → IsForm f → AreDateBytes (rest_of f)
+rest-date : (f : Form) → DigitsFit f → AreDateBytes (rest_of f)
 rest-date (Calendar y m d) h =
     both-date (digits_at_least 2 m ++ 45 ∷ []) (digits_at_least 2 d)
     (both-date (digits_at_least 2 m) (45 ∷ []) (number-date 2 m (omega (arith, h.1))) hyphen-date)
@@ -74,7 +74,7 @@ rest-date (Week y w d) h =
     hyphen-date)
     (number-date 1 d (omega (arith, h.3)))
 
-form-date : (f : Form) → IsForm f → AreDateBytes (form_text f)
+form-date : (f : Form) → DigitsFit f → AreDateBytes (form_text f)
 form-date f h =
     both-date (year_text (year_of f) ++ 45 ∷ []) (rest_of f) (both-date (year_text (year_of f)) (45 ∷ []) (year-date (year_of f) (written f h)) hyphen-date) (rest-date f h)
 
@@ -138,7 +138,7 @@ moment-shape bytes m h =
     let ys = digits_at_least 4 m.year in
     let small : m.year < 10 ^ 9 = omega (arith, h.numbers.year) in
     let long : length ys ≡ 4 = digits_at_least-length 4 m.year (lit< tt) h.numbers.year small in
-    let rest = h.separator ∷ (clock_digits m.hour m.minute m.second ++ (h.fraction ++ h.zone)) in
+    let rest = h.separator ∷ (clock_digits m.hour m.minute m.second ++ (h.fraction ++ h.offset)) in
     let first : get_or bytes 0 0 ≡ get_or ys 0 0 =
     ap (λ all. get_or all 0 0) (h.bytes_are ∙ year-first ys (digits_at_least 2 m.month) (digits_at_least 2 m.day) rest) ∙ get_or_append_left ys _ 0 0 (omega (arith, long)) in
     record {

@@ -50,12 +50,12 @@ abbrev pub form_text : Form → List ℕ
 form_text f = year_text (year_of f) ++ codes "-" ++ rest_of f
 
 -- its numbers have no more digits than the form has, and its weekday is one
-abbrev pub IsForm : Form → Type 0
-IsForm (Calendar y m d) = IsWrittenYear y × (m < 100) × (d < 100)
-IsForm (Ordinal y o) = IsWrittenYear y × (o < 1000)
-IsForm (Week y w d) = IsWrittenYear y × (w < 100) × (1 ≤ d) × (d ≤ 7)
+abbrev pub DigitsFit : Form → Type 0
+DigitsFit (Calendar y m d) = IsWrittenYear y × (m < 100) × (d < 100)
+DigitsFit (Ordinal y o) = IsWrittenYear y × (o < 1000)
+DigitsFit (Week y w d) = IsWrittenYear y × (w < 100) × (1 ≤ d) × (d ≤ 7)
 
 -- the bytes have this form
 pub record HasForm (bytes : List ℕ) (f : Form) : Type 0 where
-  pub form : IsForm f
+  pub form : DigitsFit f
   pub bytes_are : bytes ≡ form_text f

@@ -1,5 +1,5 @@
 -- What a text of a form reads as: the day that has its numbers, or why there is none.
-use Rattle.std.specs.Prelude.{◌≡◌, ◌⊎◌, ℕ, ◌-◌, ◌≤◌, List, Option, Some, None, Result, Ok, Err, IsErrAnd}
+use Rattle.std.specs.Prelude.{◌≡◌, ◌⊎◌, ℕ, ◌-◌, ◌≤◌, List, Option, Some, None, Result, IsErrAnd}
 use Rattle.cal_time.specs.Date.{IsYear, IsDayOfMonth, IsOrdinal, HasCalendarDate, HasOrdinalDate, NoDate}
 use Rattle.cal_time.specs.IsoWeekDate.{IsWeek, HasIsoWeekDate}
 use Rattle.cal_time.specs.Month.{month_out_of_range}
@@ -24,13 +24,6 @@ IsRefusedFor why r = IsErrAnd r (λ e. component_of e ≡ Some why)
 -- the text was refused for its form
 abbrev pub IsRefusedForForm : {V : Type 0} → Result V Unreadable → Type 0
 IsRefusedForForm r = IsErrAnd r (λ e. component_of e ≡ None)
-
--- two answers that say the same, but for the position of a wrong byte
-abbrev pub AreAlikeButForPlace : {V : Type 0} → Result V Unreadable → Result V Unreadable → Type 0
-AreAlikeButForPlace (Ok v) (Ok w) = v ≡ w
-AreAlikeButForPlace (Ok v) (Err f) = ⊥
-AreAlikeButForPlace (Err e) (Ok w) = ⊥
-AreAlikeButForPlace (Err e) (Err f) = component_of e ≡ component_of f
 
 -- why dates are refused
 abbrev pub IsDateReason : Option ComponentRange → Type 0

@@ -1,5 +1,5 @@
 -- The forms of a moment in text (RFC 3339, internet date and time format), whose numbers need not be those of a moment.
-use Rattle.std.specs.Prelude.{◌≡◌, ◌⊎◌, ℕ, ◌+◌, ◌-◌, ◌*◌, ◌^◌, ◌<◌, ◌≤◌, ◌∷◌, ℤ, pos, neg_ℤ, List, [], ◌++◌, codes, length, take, Option, Some, None}
+use Rattle.std.specs.Prelude.{◌≡◌, ◌⊎◌, ℕ, ◌+◌, ◌-◌, ◌*◌, ◌^◌, ◌<◌, ◌≤◌, ◌∷◌, ℤ, pos, neg_ℤ, Bool, if◌then◌else◌, List, [], ◌++◌, codes, length, take, Option, Some, None}
 use Rattle.std.specs.Str.Parse.{AllDigits, digits_value}
 use Rattle.cal_time.specs.Date.{IsDayOfMonth, HasCalendarDate}
 use Rattle.cal_time.specs.DateText.{digits_at_least, date_digits}
@@ -11,8 +11,8 @@ use Rattle.cal_time.specs.UtcOffset.{offset_hour_out_of_range, offset_minute_out
 use Rattle.cal_datetime.specs.DateTime.{IsDateTime, date_at, time_at}
 use Rattle.cal_datetime.specs.OffsetDateTime.{Shown}
 use Rattle.cal_text.specs.declared.rfc3339.numbers.Numbers.{Numbers}
-use Rattle.cal_text.specs.declared.rfc3339.numbers.Zone.{Zone}
-use Rattle.cal_text.specs.declared.rfc3339.numbers.Zone.TheVariants.{Utc, East, West}
+use Rattle.cal_text.specs.declared.rfc3339.numbers.TimeOffset.{TimeOffset}
+use Rattle.cal_text.specs.declared.rfc3339.numbers.TimeOffset.TheVariants.{Utc, Signed}
 use Rattle.cal_text.specs.Reading.{IsMonth}
 
 -- ---- parts
@@ -46,14 +46,18 @@ pub record HasFractionBefore (others : List ℕ) (more : ℕ) (bytes : List ℕ)
   pub bytes_are : bytes ≡ fraction ++ others
 
 -- the offset: Z or z, or a sign and two digits each of the hours and the minutes
-abbrev pub IsZone : List ℕ → Zone → Type 0
-IsZone zone Utc = (zone ≡ codes "Z") ⊎ (zone ≡ codes "z")
-IsZone zone (East h m) = (h < 100) × (m < 100) × (zone ≡ 43 ∷ (digits_at_least 2 h ++ 58 ∷ digits_at_least 2 m))
-IsZone zone (West h m) = (h < 100) × (m < 100) × (zone ≡ 45 ∷ (digits_at_least 2 h ++ 58 ∷ digits_at_least 2 m))
+-- plus, or minus west of UTC
+abbrev pub sign_byte : Bool → ℕ
+sign_byte is_west = if is_west then 45 else 43
+
+abbrev pub IsTimeOffset : List ℕ → TimeOffset → Type 0
+IsTimeOffset offset Utc = (offset ≡ codes "Z") ⊎ (offset ≡ codes "z")
+IsTimeOffset offset (Signed is_west h m) =
+    (h < 100) × (m < 100) × (offset ≡ sign_byte is_west ∷ (digits_at_least 2 h ++ 58 ∷ digits_at_least 2 m))
 
 -- ---- the whole
 -- its numbers have no more digits than the form has
-pub record IsMomentForm (m : Numbers) : Type 0 where
+pub record NumbersFit (m : Numbers) : Type 0 where
   pub year : m.year < 10000
   pub month : m.month < 100
   pub day : m.day < 100
@@ -64,20 +68,20 @@ pub record IsMomentForm (m : Numbers) : Type 0 where
 
 -- the bytes have the form, with these numbers
 pub record HasMomentForm (bytes : List ℕ) (m : Numbers) : Type 0 where
-  pub numbers : IsMomentForm m
+  pub numbers : NumbersFit m
   pub separator : ℕ
   pub fraction : List ℕ
-  pub zone : List ℕ
+  pub offset : List ℕ
   pub is_separator : IsSeparator separator
   pub is_fraction : IsFraction fraction m.nanosecond
-  pub is_zone : IsZone zone m.zone
-  pub bytes_are : bytes ≡ date_digits m.year m.month m.day ++ separator ∷ (clock_digits m.hour m.minute m.second ++ (fraction ++ zone))
+  pub is_offset : IsTimeOffset offset m.offset
+  pub bytes_are : bytes ≡ date_digits m.year m.month m.day ++ separator ∷ (clock_digits m.hour m.minute m.second ++ (fraction ++ offset))
 
 -- ---- the moment that has the numbers
-abbrev pub IsOffsetOf : Zone → ℤ → Type 0
+abbrev pub IsOffsetOf : TimeOffset → ℤ → Type 0
 IsOffsetOf Utc o = o ≡ pos 0
-IsOffsetOf (East h m) o = (h ≤ 23) × (m ≤ 59) × (o ≡ pos (3600 * h + 60 * m))
-IsOffsetOf (West h m) o = (h ≤ 23) × (m ≤ 59) × (o ≡ neg_ℤ (pos (3600 * h + 60 * m)))
+IsOffsetOf (Signed is_west h m) o =
+    (h ≤ 23) × (m ≤ 59) × (o ≡ if is_west then neg_ℤ (pos (3600 * h + 60 * m)) else pos (3600 * h + 60 * m))
 
 pub record IsAt (m : Numbers) (at : Shown) : Type 0 where
   pub in_range : IsDateTime at.local
@@ -86,7 +90,7 @@ pub record IsAt (m : Numbers) (at : Shown) : Type 0 where
   pub minute : m.minute ≤ 59
   pub second : m.second ≤ 59
   pub time : time_at at.local ≡ time_of m.hour m.minute m.second m.nanosecond
-  pub offset : IsOffsetOf m.zone at.offset
+  pub offset : IsOffsetOf m.offset at.offset
 
 -- the bytes are a text of this moment
 abbrev pub IsMomentText : List ℕ → Shown → Type 0
@@ -114,21 +118,19 @@ LacksSecond m = HasDay m × (m.hour ≤ 23) × (m.minute ≤ 59) × (59 < m.seco
 abbrev pub HasClock : Numbers → Type 0
 HasClock m = HasDay m × (m.hour ≤ 23) × (m.minute ≤ 59) × (m.second ≤ 59)
 
-abbrev pub IsPastHours : Zone → Type 0
+abbrev pub IsPastHours : TimeOffset → Type 0
 IsPastHours Utc = ⊥
-IsPastHours (East h m) = 23 < h
-IsPastHours (West h m) = 23 < h
+IsPastHours (Signed is_west h m) = 23 < h
 
-abbrev pub IsPastMinutes : Zone → Type 0
+abbrev pub IsPastMinutes : TimeOffset → Type 0
 IsPastMinutes Utc = ⊥
-IsPastMinutes (East h m) = (h ≤ 23) × (59 < m)
-IsPastMinutes (West h m) = (h ≤ 23) × (59 < m)
+IsPastMinutes (Signed is_west h m) = (h ≤ 23) × (59 < m)
 
 abbrev pub LacksOffsetHour : Numbers → Type 0
-LacksOffsetHour m = HasClock m × IsPastHours m.zone
+LacksOffsetHour m = HasClock m × IsPastHours m.offset
 
 abbrev pub LacksOffsetMinute : Numbers → Type 0
-LacksOffsetMinute m = HasClock m × IsPastMinutes m.zone
+LacksOffsetMinute m = HasClock m × IsPastMinutes m.offset
 
 -- the bytes have the form of a moment that lacks this
 abbrev pub HasMomentThat : (Numbers → Type 0) → List ℕ → Type 0

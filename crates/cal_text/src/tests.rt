@@ -198,29 +198,6 @@ fn texts_of_errors(rt: HostRuntime) -> Result<(), Fail> {
     )
 }
 
-/// A wrong byte is found at its position whatever comes after it, and none is found there before it.
-#[test]
-fn each_byte_replaced(rt: HostRuntime) {
-    for text in [*b"+12024-02-29", *b"-0024-W09-4x", *b"2024-060xxxx"] {
-        for i in 0..12 {
-            for byte in 0..=255 {
-                let mut changed = text;
-                changed[i] = byte;
-                let Err(Unreadable::UnexpectedByte(position)) = read(&changed) else {
-                    continue;
-                };
-                assert!(rt; position >= i || text[position] == b'x');
-                if position < 12 {
-                    let wrong = Err(Unreadable::UnexpectedByte(position));
-                    reads(&rt, (i, byte), &read(&changed[..position + 1]), &wrong);
-                    changed[position] = b'!';
-                    reads(&rt, (i, byte), &read(&changed), &wrong);
-                }
-            }
-        }
-    }
-}
-
 #[test]
 fn texts_of_dates(rt: HostRuntime) -> Result<(), Fail> {
     for (julian_day, calendar, ordinal, week) in [

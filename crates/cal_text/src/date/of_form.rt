@@ -5,7 +5,7 @@ ghost use Rattle.cal_time.specs.IsoWeekDate.{IsWeek, HasIsoWeekDate};
 ghost use Rattle.cal_time.specs.Month.{month_out_of_range};
 ghost use Rattle.cal_time.specs.Refusal.{IsRefused};
 ghost use Rattle.cal_time.specs.Refusals.{year_out_of_range, day_out_of_range, ordinal_out_of_range, week_out_of_range, weekday_out_of_range};
-ghost use Rattle.cal_text.specs.DateForms.{IsForm};
+ghost use Rattle.cal_text.specs.DateForms.{DigitsFit};
 ghost use Rattle.cal_text.specs.Reading.{IsOnDay, IsMonth, IsDateReason, LacksMonth, LacksYear, LacksDay, LacksOrdinal, LacksWeek, LacksWeekday};
 
 use crate::form::Form;
@@ -14,7 +14,7 @@ use cal_time::{Cycle, Date, Month, Weekday};
 
 /// The day that has the numbers of the form, or the first component at fault.
 pub(super) fn date_of(form: Form) -> Result<Date, ComponentRange>
-    requires { IsForm form }
+    requires { DigitsFit form }
     ensures every { (n : ℕ) → IsDate n → IsOnDay form n → result ≡ Ok n }
     ensures has { IfOk result (λ n. IsDate n × IsOnDay form n) }
     ensures reason { IfErr result (λ e. IsDateReason (Some e)) }

@@ -1,7 +1,7 @@
 //! The form that a text has.
 ghost use Rattle.std.specs.Prelude.{◌≡◌, ◌-◌, ◌≤◌, ◌∷◌, length, IfSome, IfNone, Some};
 ghost use Rattle.cal_text.specs.declared.form.Form.{Form};
-ghost use Rattle.cal_text.specs.DateForms.{IsWrittenYear, year_of, rest_of, IsForm, HasForm};
+ghost use Rattle.cal_text.specs.DateForms.{IsWrittenYear, year_of, rest_of, DigitsFit, HasForm};
 ghost use Rattle.cal_text.specs.Position.{HasSome, IsPosition};
 ghost use Rattle.cal_text.specs.Shape.{ScansWhole, week, month_or_ordinal, after_year, date};
 
@@ -31,7 +31,7 @@ fn date(scanner: &mut Scanner) -> Option<Form>
 fn after_year(scanner: &mut Scanner, year: i32) -> Option<Form>
     requires { IsWrittenYear year }
     ensures scans { ScansWhole after_year scanner.old.rest.now scanner.new.rest.now result }
-    ensures has { IfSome result (λ form. IsForm form × (year_of form ≡ year) × (scanner.old.rest.now ≡ rest_of form)) }
+    ensures has { IfSome result (λ form. DigitsFit form × (year_of form ≡ year) × (scanner.old.rest.now ≡ rest_of form)) }
 {
     match scanner.byte(b'W') {
         Some(()) => week(scanner, year),
@@ -43,7 +43,7 @@ fn after_year(scanner: &mut Scanner, year: i32) -> Option<Form>
 fn week(scanner: &mut Scanner, year: i32) -> Option<Form>
     requires { IsWrittenYear year }
     ensures scans { ScansWhole week scanner.old.rest.now scanner.new.rest.now result }
-    ensures has { IfSome result (λ form. IsForm form × (year_of form ≡ year) × (87 ∷ scanner.old.rest.now ≡ rest_of form)) }
+    ensures has { IfSome result (λ form. DigitsFit form × (year_of form ≡ year) × (87 ∷ scanner.old.rest.now ≡ rest_of form)) }
 {
     let week = scanner.two_digits()?;
     scanner.byte(b'-')?;
@@ -56,7 +56,7 @@ fn week(scanner: &mut Scanner, year: i32) -> Option<Form>
 fn month_or_ordinal(scanner: &mut Scanner, year: i32) -> Option<Form>
     requires { IsWrittenYear year }
     ensures scans { ScansWhole month_or_ordinal scanner.old.rest.now scanner.new.rest.now result }
-    ensures has { IfSome result (λ form. IsForm form × (year_of form ≡ year) × (scanner.old.rest.now ≡ rest_of form)) }
+    ensures has { IfSome result (λ form. DigitsFit form × (year_of form ≡ year) × (scanner.old.rest.now ≡ rest_of form)) }
 {
     let front = scanner.two_digits()?;
     match scanner.byte(b'-') {

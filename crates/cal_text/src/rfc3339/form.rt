@@ -2,13 +2,13 @@
 ghost use Rattle.std.specs.Prelude.{◌≡◌, ◌⊎◌, ℕ, List, ◌-◌, ◌<◌, ◌≤◌, ◌∷◌, ◌++◌, length, IfSome, IfNone, IsTrue, ◌↔◌, Some};
 ghost use Rattle.cal_time.specs.DateText.{digits_at_least};
 ghost use Rattle.cal_text.specs.declared.rfc3339.numbers.Numbers.{Numbers};
-ghost use Rattle.cal_text.specs.declared.rfc3339.numbers.Zone.{Zone};
+ghost use Rattle.cal_text.specs.declared.rfc3339.numbers.TimeOffset.{TimeOffset};
 ghost use Rattle.cal_text.specs.Position.{HasSome, IsPosition};
-ghost use Rattle.cal_text.specs.Rfc3339Form.{IsSeparator, IsZone, HasFractionBefore, HasMomentForm};
+ghost use Rattle.cal_text.specs.Rfc3339Form.{IsSeparator, IsTimeOffset, HasFractionBefore, HasMomentForm};
 ghost use Rattle.cal_text.specs.Shape.{Scans, ScansWhole, ScansLarge, Separator, TwoNumbers, Fraction, offset_digits, signed_offset, time_offset, moment};
 
 use crate::fraction::fraction;
-use crate::rfc3339::numbers::{Numbers, Zone};
+use crate::rfc3339::numbers::{Numbers, TimeOffset};
 use crate::scanner::Scanner;
 
 /// The numbers of the moment whose form the rest of a text has, or `None` in front of the byte where it stops being of one.
@@ -30,7 +30,7 @@ fn moment(scanner: &mut Scanner) -> Option<Numbers>
     separator(scanner)?;
     let hour = scanner.two_digits()?;
     let (minute, second) = two_numbers(scanner, b':')?;
-    let (nanosecond, zone) = fraction_and_zone(scanner)?;
+    let (nanosecond, offset) = fraction_and_offset(scanner)?;
     Some(Numbers {
         year: year as u16,
         month,
@@ -39,7 +39,7 @@ fn moment(scanner: &mut Scanner) -> Option<Numbers>
         minute,
         second,
         nanosecond,
-        zone,
+        offset,
     })
 }
 
@@ -80,50 +80,50 @@ pub(crate) fn is_separator(byte: u8) -> bool
 }
 
 /// The fraction of a second, of any length, and the offset.
-fn fraction_and_zone(scanner: &mut Scanner) -> Option<(u32, Zone)>
+fn fraction_and_offset(scanner: &mut Scanner) -> Option<(u32, TimeOffset)>
     ensures scans { ScansLarge (λ more. Fraction more time_offset) scanner.old.rest.now scanner.new.rest.now result }
-    ensures has { IfSome result (λ found. (zone : List ℕ) × HasFractionBefore zone (length scanner.old.rest.now) scanner.old.rest.now found.0 × IsZone zone found.1) }
+    ensures has { IfSome result (λ found. (offset : List ℕ) × HasFractionBefore offset (length scanner.old.rest.now) scanner.old.rest.now found.0 × IsTimeOffset offset found.1) }
 {
     let most = scanner.rest.len();
     let nanosecond = fraction(scanner, most)?;
-    let zone = zone(scanner)?;
-    Some((nanosecond, zone))
+    let offset = time_offset(scanner)?;
+    Some((nanosecond, offset))
 }
 
 /// The offset that the rest of a text is.
-fn zone(scanner: &mut Scanner) -> Option<Zone>
+fn time_offset(scanner: &mut Scanner) -> Option<TimeOffset>
     ensures scans { ScansWhole time_offset scanner.old.rest.now scanner.new.rest.now result }
-    ensures has { IfSome result (IsZone scanner.old.rest.now) }
+    ensures has { IfSome result (IsTimeOffset scanner.old.rest.now) }
 {
     match scanner.byte(b'Z') {
         Some(()) => {
             scanner.end()?;
-            Some(Zone::Utc)
+            Some(TimeOffset::Utc)
         }
         None => match scanner.byte(b'z') {
             Some(()) => {
                 scanner.end()?;
-                Some(Zone::Utc)
+                Some(TimeOffset::Utc)
             }
-            None => signed_zone(scanner),
+            None => signed_offset(scanner),
         },
     }
 }
 
 /// The offset after its sign.
-fn signed_zone(scanner: &mut Scanner) -> Option<Zone>
+fn signed_offset(scanner: &mut Scanner) -> Option<TimeOffset>
     ensures scans { ScansWhole signed_offset scanner.old.rest.now scanner.new.rest.now result }
-    ensures has { IfSome result (IsZone scanner.old.rest.now) }
+    ensures has { IfSome result (IsTimeOffset scanner.old.rest.now) }
 {
     match scanner.byte(b'+') {
         Some(()) => {
             let (hours, minutes) = hours_and_minutes(scanner)?;
-            Some(Zone::East(hours, minutes))
+            Some(TimeOffset::Signed(false, hours, minutes))
         }
         None => {
             scanner.byte(b'-')?;
             let (hours, minutes) = hours_and_minutes(scanner)?;
-            Some(Zone::West(hours, minutes))
+            Some(TimeOffset::Signed(true, hours, minutes))
         }
     }
 }

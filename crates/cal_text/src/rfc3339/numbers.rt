@@ -10,16 +10,14 @@ pub(crate) struct Numbers {
     pub(crate) minute: u8,
     pub(crate) second: u8,
     pub(crate) nanosecond: u32,
-    pub(crate) zone: Zone,
+    pub(crate) offset: TimeOffset,
 }
 
 /// The offset of a moment in text.
 #[derive(Clone, Copy)]
-pub(crate) enum Zone {
+pub(crate) enum TimeOffset {
     /// The letter Z.
     Utc,
-    /// The hours and the minutes after a plus sign.
-    East(u8, u8),
-    /// The hours and the minutes after a minus sign.
-    West(u8, u8),
+    /// Whether the sign is minus, and the hours and the minutes after it.
+    Signed(bool, u8, u8),
 }

@@ -6,10 +6,10 @@ ghost use Rattle.cal_time.specs.Refusals.{day_out_of_range};
 ghost use Rattle.cal_time.specs.Time.{hour_out_of_range, minute_out_of_range, second_out_of_range};
 ghost use Rattle.cal_time.specs.UtcOffset.{offset_hour_out_of_range, offset_minute_out_of_range};
 ghost use Rattle.cal_datetime.specs.OffsetDateTime.{Shown};
-ghost use Rattle.cal_text.specs.Rfc3339Form.{IsMomentForm, IsAt, IsOffsetOf, IsMomentReason, LacksMonth, LacksDay, LacksHour, LacksMinute, LacksSecond, LacksOffsetHour, LacksOffsetMinute, IsPastHours, IsPastMinutes};
+ghost use Rattle.cal_text.specs.Rfc3339Form.{NumbersFit, IsAt, IsOffsetOf, IsMomentReason, LacksMonth, LacksDay, LacksHour, LacksMinute, LacksSecond, LacksOffsetHour, LacksOffsetMinute, IsPastHours, IsPastMinutes};
 
 use crate::date::of_form::calendar_date;
-use crate::rfc3339::numbers::{Numbers, Zone};
+use crate::rfc3339::numbers::{Numbers, TimeOffset};
 use cal_datetime::OffsetDateTime;
 use cal_time::error::{Component, ComponentRange};
 use cal_time::{Time, UtcOffset};
@@ -17,7 +17,7 @@ use cal_time::{Time, UtcOffset};
 /// The moment that has the numbers, or the first component at fault.
 #[tactic(auto, using(crate::proofs::Moments::parts))]
 pub(super) fn moment_of(numbers: Numbers) -> Result<OffsetDateTime, ComponentRange>
-    requires { IsMomentForm numbers }
+    requires { NumbersFit numbers }
     ensures every { (m : Shown) → IsAt numbers m → result ≡ Ok m }
     ensures has { IfOk result (IsAt numbers) }
     ensures reason { IfErr result (λ e. IsMomentReason (Some e)) }
@@ -42,24 +42,23 @@ pub(super) fn moment_of(numbers: Numbers) -> Result<OffsetDateTime, ComponentRan
         Ok(time) => time,
         Err(error) => return Err(error),
     };
-    match offset_of(numbers.zone) {
+    match offset_of(numbers.offset) {
         Ok(offset) => Ok(OffsetDateTime::new_in_offset(date, time, offset)),
         Err(error) => Err(error),
     }
 }
 
 /// The offset of these hours and minutes, of which it has less than a day.
-fn offset_of(zone: Zone) -> Result<UtcOffset, ComponentRange>
-    ensures every { (o : ℤ) → IsOffsetOf zone o → result ≡ Ok o }
-    ensures has { IfOk result (IsOffsetOf zone) }
+fn offset_of(offset: TimeOffset) -> Result<UtcOffset, ComponentRange>
+    ensures every { (o : ℤ) → IsOffsetOf offset o → result ≡ Ok o }
+    ensures has { IfOk result (IsOffsetOf offset) }
     ensures reason { IfErr result (λ e. (e ≡ offset_hour_out_of_range) ⊎ (e ≡ offset_minute_out_of_range)) }
-    ensures hour { IsRefused offset_hour_out_of_range result ↔ IsPastHours zone }
-    ensures minute { IsRefused offset_minute_out_of_range result ↔ IsPastMinutes zone }
+    ensures hour { IsRefused offset_hour_out_of_range result ↔ IsPastHours offset }
+    ensures minute { IsRefused offset_minute_out_of_range result ↔ IsPastMinutes offset }
 {
-    match zone {
-        Zone::Utc => Ok(UtcOffset::UTC),
-        Zone::East(hours, minutes) => offset_at(hours, minutes, false),
-        Zone::West(hours, minutes) => offset_at(hours, minutes, true),
+    match offset {
+        TimeOffset::Utc => Ok(UtcOffset::UTC),
+        TimeOffset::Signed(is_west, hours, minutes) => offset_at(hours, minutes, is_west),
     }
 }
 

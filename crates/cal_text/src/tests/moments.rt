@@ -137,32 +137,6 @@ fn first_wrong_bytes_of_moments(rt: HostRuntime) {
     }
 }
 
-/// A wrong byte is found at its position whatever comes after it, and none is found there before it.
-#[test]
-fn each_byte_of_a_moment_replaced(rt: HostRuntime) {
-    for text in [
-        *b"2024-02-29T23:59:59.25+01:00",
-        *b"2024-02-29 23:59:59.2512345Z",
-    ] {
-        for i in 0..28 {
-            for byte in 0..=255 {
-                let mut changed = text;
-                changed[i] = byte;
-                let Err(Unreadable::UnexpectedByte(position)) = read(&changed) else {
-                    continue;
-                };
-                assert!(rt; position >= i);
-                if position < 28 {
-                    let wrong = Err(Unreadable::UnexpectedByte(position));
-                    reads(&rt, (i, byte), &read(&changed[..position + 1]), &wrong);
-                    changed[position] = b'!';
-                    reads(&rt, (i, byte), &read(&changed), &wrong);
-                }
-            }
-        }
-    }
-}
-
 #[test]
 fn moments_printed(rt: HostRuntime) -> Result<(), Fail> {
     for (numbers, text) in [

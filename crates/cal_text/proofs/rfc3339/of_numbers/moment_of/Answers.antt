@@ -48,7 +48,7 @@ returns-in-Ok-offset_of-clause-has c =
       minute = minute;
       second = second;
       time = at.time ∙ time;
-      offset = subst (IsOffsetOf m.zone) (sym (ap (λ (s : Shown). s.offset) at.value)) c.in-Ok-offset_of.ensures.has;
+      offset = subst (IsOffsetOf m.offset) (sym (ap (λ (s : Shown). s.offset) at.value)) c.in-Ok-offset_of.ensures.has;
     }
 
 one : {A E : Type 0} (a b : A) → ◌≡◌ {A = Result A E} (Ok a) (Ok b) → a ≡ b
