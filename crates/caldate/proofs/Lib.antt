@@ -17,3 +17,4 @@ pub mod Listed
 pub mod ReadNumbers
 pub mod PartTexts
 pub mod LastBytes
+pub mod FrontDays

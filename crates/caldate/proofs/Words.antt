@@ -6,14 +6,13 @@ use Rattle.std.specs.Option.{option_map_or, option_zip}
 use Rattle.std.proofs.lemmas.List.Splits.{length-slice_split}
 use Rattle.cal_text.specs.declared.any.DateOrMoment.{DateOrMoment}
 use Rattle.cal_time.specs.SignedDuration.{second}
-use Rattle.caldate.specs.Requests.{arguments_of, cut_options, date_of, filter_of, last_of, list_of, listing, meaning_of, no_options, request_after, request_of, request_with, seconds_in, takes_strict, target_of, unit_of, verb_of, with_strict, with_value, lacking}
+use Rattle.caldate.specs.Requests.{arguments_of, cut_options, date_of, filter_of, last_of, list_of, meaning_of, no_options, request_after, request_of, request_with, seconds_in, span_of, takes_strict, target_of, unit_of, verb_of, with_strict, with_value, lacking}
 use Rattle.caldate.specs.declared.options.Options.{Options}
 use Rattle.caldate.proofs.Numbers.{fits, guard_yes}
 use Rattle.caldate.specs.Senseless.{senseless_at, senseless_end}
 use Rattle.caldate.specs.declared.senseless.Wanted.TheVariants as wanted
 use Rattle.caldate.specs.declared.request.Asked.{Asked}
-use Rattle.caldate.specs.declared.request.Asked.TheVariants.{Dates}
-use Rattle.caldate.specs.declared.request.Step.{Step}
+use Rattle.caldate.specs.declared.request.Pace.{Pace}
 use Rattle.caldate.specs.declared.request.TimeUnit.{TimeUnit}
 use Rattle.caldate.specs.declared.request.Verb.{Verb}
 use Rattle.caldate.specs.declared.request.Verb.TheVariants.{To, Add, Next, Last, Until, Since, Start, End, OnOrAfter, OnOrBefore, At}
@@ -74,14 +73,14 @@ no_request options = either (is_some (lacking options)) None
 -- ---- two words and more
 abbrev chosen : (List ℕ → Option DateOrMoment) → List ℕ → List ℕ → List (List ℕ) → Bool → Option Asked
 chosen reading first second words list =
-    cond list (option_map Dates (list_of reading (second ∷ words))) (request_with reading (cut_options no_options (first ∷ second ∷ words)))
+    cond list (list_of reading (second ∷ words)) (request_with reading (cut_options no_options (first ∷ second ∷ words)))
 
 pub listed : (reading : List ℕ → Option DateOrMoment) (first : List ℕ) (words : List (List ℕ)) (rest : List ℕ) → words ≡ first ∷ arguments_of rest
-    → bytes_eq first (codes "list") ≡ true → meaning_of reading words ≡ option_map Dates (list_of reading (arguments_of rest))
+    → bytes_eq first (codes "list") ≡ true → meaning_of reading words ≡ list_of reading (arguments_of rest)
 listed reading first words rest e f =
     let second = some_word rest in
     ap (meaning_of reading) (e ∙ ap (λ more. first ∷ more) second.2) ∙ ap (chosen reading first second.0 second.1) f
-    ∙ sym (ap (λ more. option_map Dates (list_of reading more)) second.2)
+    ∙ sym (ap (list_of reading) second.2)
 
 pub two_words : (reading : List ℕ → Option DateOrMoment) (first : List ℕ) (words : List (List ℕ)) (rest : List ℕ) → words ≡ first ∷ arguments_of rest
     → bytes_eq first (codes "list") ≡ false → meaning_of reading words ≡ request_with reading (cut_options no_options words)
@@ -105,14 +104,13 @@ with_unit reading text word name all found unit e same f g =
     sym (ap (target_of reading) e ∙ ap (λ b. cond b (option_zip (reading text) (option_map Some (unit_of name))) None) same
     ∙ ap (λ r. option_zip r (option_map Some (unit_of name))) (sym f) ∙ ap (λ r. option_zip (Some found) (option_map Some r)) (sym g))
 
--- ---- two dates, and a step
-pub with_dates : (reading : List ℕ → Option DateOrMoment) (from first to : List ℕ) (words all : List (List ℕ)) (a : ℕ) (end : ℕ × Step)
-    → all ≡ from ∷ first ∷ to ∷ words → bytes_eq from (codes "from") ≡ true → bytes_eq to (codes "to") ≡ true → Some a ≡ date_of reading first
-    → Some end ≡ last_of reading words → Some (listing (a, end)) ≡ list_of reading all
-with_dates reading from first to words all a end e f g h i =
-    let both : (bytes_eq from (codes "from") && bytes_eq to (codes "to")) ≡ true = ap (λ b. b && bytes_eq to (codes "to")) f ∙ ap (λ b. true && b) g in
-    sym (ap (list_of reading) e ∙ ap (λ b. cond b (option_map listing (option_zip (date_of reading first) (last_of reading words))) None) both
-    ∙ ap (λ d. option_map listing (option_zip d (last_of reading words))) (sym h) ∙ ap (λ l. option_map listing (option_zip (Some a) l)) (sym i))
+-- ---- two dates, and a pace
+pub with_dates : (reading : List ℕ → Option DateOrMoment) (from first to : List ℕ) (words all : List (List ℕ)) (a : ℕ) (end : ℕ × Pace)
+    → all ≡ from ∷ first ∷ to ∷ words → (bytes_eq from (codes "from") && bytes_eq to (codes "to")) ≡ true → Some a ≡ date_of reading first
+    → Some end ≡ last_of reading words → Some (a, end) ≡ span_of reading all
+with_dates reading from first to words all a end e both h i =
+    sym (ap (span_of reading) e ∙ ap (λ b. cond b (option_zip (date_of reading first) (last_of reading words)) None) both
+    ∙ ap (λ d. option_zip d (last_of reading words)) (sym h) ∙ ap (λ l. option_zip (Some a) l) (sym i))
 
 -- ---- an amount of time
 pub seconds_are : (unit : ℕ) (amount seconds : ℤ) → FitsSigned w64 (amount *ℤ pos unit) → seconds ≡ amount *ℤ pos unit → seconds_in unit amount ≡ Some (seconds *ℤ pos second)

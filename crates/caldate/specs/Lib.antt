@@ -9,6 +9,7 @@ pub mod Moves
 pub mod Offsets
 pub mod Program
 pub mod Readings
+pub mod Recurring
 pub mod Requests
 pub mod Room
 pub mod Runs

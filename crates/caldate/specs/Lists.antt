@@ -11,6 +11,8 @@ use Rattle.caldate.specs.declared.fault.Fault.{Fault}
 use Rattle.caldate.specs.declared.request.Asked.{Asked}
 use Rattle.caldate.specs.declared.request.Asked.TheVariants.{Dates}
 use Rattle.caldate.specs.declared.request.Listing.{Listing}
+use Rattle.caldate.specs.declared.request.Pace.{Pace}
+use Rattle.caldate.specs.declared.request.Pace.TheVariants.{Steps, Rule}
 use Rattle.caldate.specs.declared.request.Step.{Step}
 use Rattle.caldate.specs.declared.request.StepUnit.{StepUnit}
 use Rattle.caldate.specs.declared.request.StepUnit.TheVariants.{Days, Months}
@@ -19,7 +21,11 @@ use Rattle.caldate.specs.declared.request.StepUnit.TheVariants.{Days, Months}
 abbrev pub IsStep : Step → Type 0
 IsStep step = (1 ≤ step.every) × (step.every ≤ 51539607540)
 
--- what is asked for has such a step, where it is a list
+abbrev pub IsPace : Pace → Type 0
+IsPace (Steps step) = IsStep step
+IsPace (Rule recurrence) = ⊤
+
+-- what is asked for has such a step, where it is a list of steps
 abbrev pub IsAsked : Asked → Type 0
 IsAsked (Dates listing) = IsStep listing.step
 IsAsked other = ⊤

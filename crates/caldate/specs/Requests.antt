@@ -3,6 +3,7 @@ use denote.Ref.{Bor}
 use Rattle.std.specs.Prelude.{ℕ, nat_lt, not, ◌&&◌, ◌||◌, Bool, true, false, is_none, is_some, unwrap_or, ℤ, pos, neg_ℤ, ◌*ℤ◌, int_le, nat_abs, List, [], ◌∷◌, ◌==◌, length, take, Option, Some, None, MatchOption, option_map, option_and_then, bytes_eq, codes, if◌then◌else◌, ◌*◌}
 use Rattle.std.specs.List.{slice_split}
 use Rattle.std.specs.Option.{option_map_or, option_zip}
+use Rattle.std.specs.Result.{result_ok}
 use Rattle.std.specs.Str.{all_ascii_digits, str_eq_ignore_ascii_case}
 use Rattle.std.specs.Str.Parse.{signed_digits_value, without_leading_sign}
 use Rattle.cal_time.specs.SignedDuration.{second}
@@ -13,6 +14,7 @@ use Rattle.cal_text.specs.declared.any.DateForm.TheVariants.{Calendar, Ordinal, 
 use Rattle.cal_text.specs.declared.any.DateOrMoment.{DateOrMoment}
 use Rattle.cal_text.specs.declared.any.DateOrMoment.TheVariants as dated
 use Rattle.cal_text.specs.declared.any.MomentForm.TheVariants.{Rfc3339, Unix}
+use Rattle.cal_recurrence.specs.Text.{recurrence_of}
 use Rattle.caldate.specs.Offsets.{offset_of}
 use Rattle.caldate.specs.declared.options.Options.{Options}
 use Rattle.caldate.specs.declared.reading.Reading.{Reading}
@@ -24,7 +26,8 @@ use Rattle.caldate.specs.declared.request.DayMove.{DayMove}
 use Rattle.caldate.specs.declared.request.DayMove.TheVariants as move
 use Rattle.caldate.specs.declared.request.Period.{Period}
 use Rattle.caldate.specs.declared.request.Period.TheVariants as period
-use Rattle.caldate.specs.declared.request.Listing.{Listing}
+use Rattle.caldate.specs.declared.request.Pace.{Pace}
+use Rattle.caldate.specs.declared.request.Pace.TheVariants.{Steps, Rule}
 use Rattle.caldate.specs.declared.request.Step.{Step}
 use Rattle.caldate.specs.declared.request.StepUnit.TheVariants as steps
 use Rattle.caldate.specs.declared.request.TimeUnit.{TimeUnit}
@@ -35,7 +38,7 @@ use Rattle.caldate.specs.declared.request.Verb.TheVariants as verb
 use Rattle.caldate.specs.declared.request.Request.{Request}
 use Rattle.caldate.specs.declared.request.Request.TheVariants.{To, Add, Move, Until, Since, At}
 use Rattle.caldate.specs.declared.request.Asked.{Asked}
-use Rattle.caldate.specs.declared.request.Asked.TheVariants.{Help, Version, Lines, Dates}
+use Rattle.caldate.specs.declared.request.Asked.TheVariants.{Help, Version, Lines, Dates, Recurring}
 use Rattle.caldate.specs.declared.senseless.Wanted.{Wanted}
 use Rattle.caldate.specs.declared.senseless.Wanted.TheVariants as wanted
 
@@ -350,25 +353,33 @@ step_in n other = None
 abbrev pub step_unit : List ℕ → Option TimeUnit → Option Step
 step_unit number found = option_and_then (λ n. option_and_then (step_in n) found) (many_of number)
 
--- `by N UNIT`, or each day
-abbrev pub step_of : List (List ℕ) → Option Step
-step_of [] = Some (record { every = 1; unit = steps.Days })
-step_of (by ∷ number ∷ unit ∷ []) = if bytes_eq by (codes "by") then step_unit number (unit_of unit) else None
-step_of words = None
+-- `by N UNIT`, `by RULE`, or each day
+abbrev pub pace_of : List (List ℕ) → Option Pace
+pace_of [] = Some (Steps (record { every = 1; unit = steps.Days }))
+pace_of (by ∷ rule ∷ []) = if bytes_eq by (codes "by") then option_map Rule (result_ok (recurrence_of rule)) else None
+pace_of (by ∷ number ∷ unit ∷ []) = if bytes_eq by (codes "by") then option_map Steps (step_unit number (unit_of unit)) else None
+pace_of words = None
 
--- the last date, and the step
-abbrev pub last_of : (List ℕ → Option DateOrMoment) → List (List ℕ) → Option (ℕ × Step)
+-- the last date, and the pace
+abbrev pub last_of : (List ℕ → Option DateOrMoment) → List (List ℕ) → Option (ℕ × Pace)
 last_of reading [] = None
-last_of reading (last ∷ words) = option_zip (date_of reading last) (step_of words)
+last_of reading (last ∷ words) = option_zip (date_of reading last) (pace_of words)
 
--- `from A to B`, and the step
-abbrev pub listing : ℕ × (ℕ × Step) → Listing
-listing days = record { first = days.0; last = days.1.0; step = days.1.1 }
+-- `from A to B`, and the pace
+abbrev pub paced : ℕ → ℕ → Pace → Asked
+paced a b (Steps step) = Dates (record { first = a; last = b; step = step })
+paced a b (Rule recurrence) = Recurring (record { first = a; last = b; recurrence = recurrence })
 
-abbrev pub list_of : (List ℕ → Option DateOrMoment) → List (List ℕ) → Option Listing
-list_of reading (from ∷ first ∷ to ∷ words) =
-    if bytes_eq from (codes "from") && bytes_eq to (codes "to") then option_map listing (option_zip (date_of reading first) (last_of reading words)) else None
-list_of reading words = None
+abbrev pub listing : ℕ × (ℕ × Pace) → Asked
+listing days = paced days.0 days.1.0 days.1.1
+
+abbrev pub span_of : (List ℕ → Option DateOrMoment) → List (List ℕ) → Option (ℕ × (ℕ × Pace))
+span_of reading (from ∷ first ∷ to ∷ words) =
+    if bytes_eq from (codes "from") && bytes_eq to (codes "to") then option_zip (date_of reading first) (last_of reading words) else None
+span_of reading words = None
+
+abbrev pub list_of : (List ℕ → Option DateOrMoment) → List (List ℕ) → Option Asked
+list_of reading words = option_map listing (span_of reading words)
 
 -- ---- the whole: `--help`, `--version`, a list, or a request, perhaps after options
 abbrev pub asks_for_help : List ℕ → Bool
@@ -421,5 +432,5 @@ meaning_of reading (first ∷ []) =
     if bytes_eq first (codes "--version") then Some Version else
     None
 meaning_of reading (first ∷ second ∷ words) =
-    if bytes_eq first (codes "list") then option_map Dates (list_of reading (second ∷ words))
+    if bytes_eq first (codes "list") then list_of reading (second ∷ words)
     else request_with reading (cut_options no_options (first ∷ second ∷ words))

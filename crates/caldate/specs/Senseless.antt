@@ -1,7 +1,9 @@
 -- What is said of arguments that make no sense: the first word that makes none, and what may stand there.
-use Rattle.std.specs.Prelude.{ℕ, ◌+◌, ◌==◌, Bool, true, false, List, [], ◌∷◌, ◌++◌, Option, Some, None, is_some, ok_or, Result, bytes_eq, codes, slice_get, if◌then◌else◌, option_and_then, unwrap_or}
+use Rattle.std.specs.Prelude.{ℕ, ◌+◌, ◌==◌, Bool, true, false, List, [], ◌∷◌, ◌++◌, Option, Some, None, is_some, ok_or, Result, bytes_eq, codes, slice_get, take, ◌||◌, if◌then◌else◌, option_and_then, unwrap_or}
 use Rattle.std.specs.Option.{option_map_or}
+use Rattle.std.specs.Result.{is_ok}
 use Rattle.cal_text.specs.declared.any.DateOrMoment.{DateOrMoment}
+use Rattle.cal_recurrence.specs.Text.{recurrence_of}
 use Rattle.caldate.specs.Offsets.{offset_of}
 use Rattle.caldate.specs.Requests.{count_of, cut_options, form_of, is_number, meaning_of, no_options, period_of, stands_alone, takes_field, takes_separator, takes_skip, unit_of, verb_of, weekday_of, arguments_of, date_of, many_of, step_in, lacking, takes_offset, takes_reading}
 use Rattle.caldate.specs.Shown.{shown}
@@ -59,7 +61,7 @@ is_wanted reading word wanted.From = bytes_eq word (codes "from")
 is_wanted reading word wanted.Date = is_some (date_of reading word)
 is_wanted reading word wanted.UpTo = bytes_eq word (codes "to")
 is_wanted reading word wanted.By = bytes_eq word (codes "by")
-is_wanted reading word wanted.Many = is_some (many_of word)
+is_wanted reading word wanted.Many = is_some (many_of word) || is_ok (recurrence_of word)
 is_wanted reading word wanted.UnitOfDays = is_some (option_and_then (step_in 1) (unit_of word))
 is_wanted reading word what = false
 
@@ -126,9 +128,15 @@ senseless_front reading options [] = senseless_at (words_in options) (verb_after
 senseless_front reading options (word ∷ words) =
     option_map_or (senseless_at (words_in options + 1)) (value_of options word) (senseless_verb reading options (word ∷ words))
 
--- after `list`: the first that is not what is wanted at its index, or is missing, or is one too many
-abbrev pub list_words : List Wanted
-list_words = wanted.From ∷ wanted.Date ∷ wanted.UpTo ∷ wanted.Date ∷ wanted.By ∷ wanted.Many ∷ wanted.UnitOfDays ∷ []
+-- after `list`: the first that is not what is wanted at its index, or is missing, or is one too many; after a recurrence comes no unit
+abbrev pub steps_words : List Wanted
+steps_words = wanted.From ∷ wanted.Date ∷ wanted.UpTo ∷ wanted.Date ∷ wanted.By ∷ wanted.Many ∷ wanted.UnitOfDays ∷ []
+
+abbrev pub is_by_rule : List (List ℕ) → Bool
+is_by_rule words = option_map_or (λ word. is_ok (recurrence_of word)) (slice_get words 5) false
+
+abbrev pub list_words : List (List ℕ) → List Wanted
+list_words words = if is_by_rule words then take 6 steps_words else steps_words
 
 abbrev pub senseless_among : (List ℕ → Option DateOrMoment) → ℕ → List Wanted → List (List ℕ) → Senseless
 senseless_among reading at [] words = senseless_at at wanted.End
@@ -146,7 +154,7 @@ senseless_of reading [] = senseless_at 0 wanted.Something
 senseless_of reading ([] ∷ []) = senseless_at 0 wanted.Something
 senseless_of reading (word ∷ words) =
     if stands_alone word then senseless_at 1 wanted.End else
-    if bytes_eq word (codes "list") then senseless_among reading 1 list_words words else
+    if bytes_eq word (codes "list") then senseless_among reading 1 (list_words words) words else
     senseless_lines reading (word ∷ words)
 
 -- what the arguments ask for, or else that word
@@ -179,7 +187,7 @@ wanted_words wanted.From = codes "no 'from'"
 wanted_words wanted.Date = codes "no date (as 2024-02-29, 2024-060, 2024-W09-4, J2460370)"
 wanted_words wanted.UpTo = codes "no 'to'"
 wanted_words wanted.By = codes "no 'by'"
-wanted_words wanted.Many = codes "no number from 1 to 4294967295"
+wanted_words wanted.Many = codes "no number from 1 to 4294967295 and no recurrence (as FREQ=MONTHLY;BYDAY=-1FR)"
 wanted_words wanted.UnitOfDays = codes "no unit of dates (days, weeks, months, years)"
 wanted_words wanted.End = codes "one word too many"
 

@@ -41,7 +41,7 @@ fn meaning_of(arguments: &[u8]) -> Option<Asked>
         return only_option(arguments);
     };
     if first == b"list".as_slice() {
-        Some(Asked::Dates(list_of(rest)?))
+        list_of(rest)
     } else {
         lines_of(arguments)
     }

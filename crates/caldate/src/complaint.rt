@@ -98,7 +98,9 @@ fn wanted_words(wanted: Wanted) -> &'static [u8]
         Wanted::Date => b"no date (as 2024-02-29, 2024-060, 2024-W09-4, J2460370)".as_slice(),
         Wanted::UpTo => b"no 'to'".as_slice(),
         Wanted::By => b"no 'by'".as_slice(),
-        Wanted::Many => b"no number from 1 to 4294967295".as_slice(),
+        Wanted::Many => {
+            b"no number from 1 to 4294967295 and no recurrence (as FREQ=MONTHLY;BYDAY=-1FR)".as_slice()
+        }
         Wanted::UnitOfDays => b"no unit of dates (days, weeks, months, years)".as_slice(),
         Wanted::In | Wanted::End => b"one word too many".as_slice(),
     }

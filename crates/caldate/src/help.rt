@@ -18,7 +18,8 @@ pub const HELP: &[u8] = b"caldate answers each line of its input, a date or a mo
   caldate until DATE [in UNIT]    the days to that date, the duration to that moment, or the whole units
   caldate since DATE [in UNIT]    the same from there to it
   caldate at OFFSET               the moment as a clock at that offset shows it
-  caldate list from A to B        no input: all dates from A to B; with by N UNIT each so many days, weeks, months or years
+  caldate list from A to B        no input: all dates from A to B; with by N UNIT each so many days, weeks, months or years,
+                                  with by RULE those of a recurrence, as FREQ=MONTHLY;BYDAY=-1FR
   caldate --strict ...            the same, but it ends at the first line without an answer, with status 1
   caldate --field N ...           the same for the N-th field of each line, in its place; fields end at a tab
   caldate --separator C ...       with --field: they end at the byte C

@@ -73,7 +73,7 @@ fn months_after(date: Date, months: u64) -> Option<Date>
 }
 
 /// Gathers the line of a day.
-fn push_line(buffer: &mut Buffer, day: Date)
+pub fn push_line(buffer: &mut Buffer, day: Date)
     requires { HasRoom longest_reply buffer.old }
     ensures { buffer.new ≡ buffer.old ++ line_of day }
 {

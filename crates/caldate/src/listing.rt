@@ -1,43 +1,73 @@
 //! What `list` asks for.
-ghost use Rattle.std.specs.Prelude.{◌≡◌, ◌≤◌, ℕ, List, Option, IfSome};
+ghost use Rattle.std.specs.Prelude.{◌≡◌, ◌≤◌, ◌&&◌, ℕ, List, Option, IfSome, bytes_eq, codes};
+ghost use Rattle.std.specs.Result.{result_ok};
+ghost use Rattle.cal_recurrence.specs.Text.{recurrence_of};
 ghost use Rattle.cal_text.specs.declared.any.DateOrMoment.{DateOrMoment};
-ghost use Rattle.caldate.specs.Lists.{IsStep};
-ghost use Rattle.caldate.specs.Requests.{IsReading, arguments_of, date_in, date_of, last_of, list_of, step_in, step_of};
+ghost use Rattle.caldate.specs.Lists.{IsAsked, IsPace, IsStep};
+ghost use Rattle.caldate.specs.Requests.{IsReading, arguments_of, date_in, date_of, last_of, list_of, pace_of, paced, span_of, step_in};
 
 use crate::asked::found_in;
-use crate::request::{Listing, Step, StepUnit, TimeUnit};
+use crate::request::{Asked, Listing, Occurrences, Pace, Step, StepUnit, TimeUnit};
 use crate::spelling::{first_word, many_of, only_word, unit_of};
+use cal_recurrence::{Recurrence, parse};
 use cal_text::DateOrMoment;
 use cal_time::Date;
 
-/// The list of `from A to B` and `from A to B by N UNIT`.
-pub fn list_of(words: &[u8]) -> Option<Listing>
-    ensures steps { IfSome result (λ listing. IsStep listing.step) }
+/// The list of `from A to B`, `from A to B by N UNIT` and `from A to B by RULE`.
+pub fn list_of(words: &[u8]) -> Option<Asked>
+    ensures steps { IfSome result IsAsked }
     ensures list { (reading : List ℕ → Option DateOrMoment) → IsReading reading → result ≡ list_of reading (arguments_of words.now) }
+{
+    let (first, (last, pace)) = span_of(words)?;
+    Some(paced(first, last, pace))
+}
+
+/// The first date, and the last one with the pace.
+fn span_of(words: &[u8]) -> Option<(Date, (Date, Pace))>
+    ensures steps { IfSome result (λ span. IsPace span.1.1) }
+    ensures span { (reading : List ℕ → Option DateOrMoment) → IsReading reading → result ≡ span_of reading (arguments_of words.now) }
 {
     let (from, rest) = first_word(words)?;
     let (first, rest) = first_word(rest)?;
     let (to, rest) = first_word(rest)?;
-    if from != b"from".as_slice() {
+    if !are_from_to(from, to) {
         return None;
     }
-    if to != b"to".as_slice() {
-        return None;
-    }
-    let first = date_of(first)?;
-    let (last, step) = last_of(rest)?;
-    Some(Listing { first, last, step })
+    Some((date_of(first)?, last_of(rest)?))
 }
 
-/// The last date, and the step.
-fn last_of(words: &[u8]) -> Option<(Date, Step)>
-    ensures steps { IfSome result (λ end. IsStep end.1) }
+/// Whether the words before the two dates are `from` and `to`.
+fn are_from_to(from: &[u8], to: &[u8]) -> bool
+    ensures { result ≡ (bytes_eq from.now (codes "from") && bytes_eq to.now (codes "to")) }
+{
+    from == b"from".as_slice() && to == b"to".as_slice()
+}
+
+/// The dates between the two that the pace leads to.
+fn paced(first: Date, last: Date, pace: Pace) -> Asked
+    requires { IsPace pace }
+    ensures steps { IsAsked result }
+    ensures list { result ≡ paced first last pace }
+{
+    match pace {
+        Pace::Steps(step) => Asked::Dates(Listing { first, last, step }),
+        Pace::Rule(recurrence) => Asked::Recurring(Occurrences {
+            first,
+            last,
+            recurrence,
+        }),
+    }
+}
+
+/// The last date, and the pace.
+fn last_of(words: &[u8]) -> Option<(Date, Pace)>
+    ensures steps { IfSome result (λ end. IsPace end.1) }
     ensures end { (reading : List ℕ → Option DateOrMoment) → IsReading reading → result ≡ last_of reading (arguments_of words.now) }
 {
     let Some((last, by)) = first_word(words) else {
-        return Some((date_of(words)?, EVERY_DAY));
+        return Some((date_of(words)?, Pace::Steps(EVERY_DAY)));
     };
-    Some((date_of(last)?, step_of(by)?))
+    Some((date_of(last)?, pace_of(by)?))
 }
 
 /// The step where none is named.
@@ -46,17 +76,28 @@ const EVERY_DAY: Step = Step {
     unit: StepUnit::Days,
 };
 
-/// The step of `by N UNIT`.
-fn step_of(words: &[u8]) -> Option<Step>
-    ensures steps { IfSome result IsStep }
-    ensures step { result ≡ step_of (arguments_of words.now) }
+/// The pace of `by N UNIT` and `by RULE`.
+fn pace_of(words: &[u8]) -> Option<Pace>
+    ensures steps { IfSome result IsPace }
+    ensures pace { result ≡ pace_of (arguments_of words.now) }
 {
     let (by, rest) = first_word(words)?;
     if by != b"by".as_slice() {
         return None;
     }
-    let (number, unit) = first_word(rest)?;
-    step_in(many_of(number)?, unit_of(only_word(unit)?)?)
+    let Some((number, unit)) = first_word(rest) else {
+        return Some(Pace::Rule(recurrence_in(rest)?));
+    };
+    let unit = only_word(unit)?;
+    let step = step_in(many_of(number)?, unit_of(unit)?)?;
+    Some(Pace::Steps(step))
+}
+
+/// The recurrence that the text says, if it is one.
+pub fn recurrence_in(text: &[u8]) -> Option<Recurrence>
+    ensures { result ≡ result_ok (recurrence_of text.now) }
+{
+    parse(text).ok()
 }
 
 /// That many days, weeks, months or years. A step counts no other units.

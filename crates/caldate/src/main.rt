@@ -24,6 +24,7 @@ mod output;
 mod program;
 mod progress;
 mod reading;
+mod recurring;
 mod reply;
 mod request;
 mod retries;

@@ -4,11 +4,13 @@ ghost use Rattle.cal_text.specs.declared.any.DateOrMoment.{DateOrMoment};
 ghost use Rattle.caldate.specs.Ending.{Tells};
 ghost use Rattle.caldate.specs.Lists.{Lists};
 ghost use Rattle.caldate.specs.Program.{Asks, HasComplaint};
+ghost use Rattle.caldate.specs.Recurring.{ListsOccurrences};
 ghost use Rattle.caldate.specs.Requests.{IsReading};
 ghost use Rattle.caldate.specs.Runs.{Ended, Shown};
 ghost use Rattle.caldate.specs.declared.fault.Fault.{Fault};
 ghost use Rattle.caldate.specs.declared.request.Filter.{Filter};
 ghost use Rattle.caldate.specs.declared.request.Listing.{Listing};
+ghost use Rattle.caldate.specs.declared.request.Occurrences.{Occurrences};
 ghost use Rattle.caldate.specs.declared.senseless.Senseless.{Senseless};
 
 use crate::asked::asked_of;
@@ -17,6 +19,7 @@ use crate::ending::{Ending, end};
 use crate::help::{HELP, VERSION};
 use crate::list::list;
 use crate::output::write_all;
+use crate::recurring::list_occurrences;
 use crate::request::Asked;
 use crate::run::run;
 use std::io::{Read, Write};
@@ -40,6 +43,9 @@ pub fn perform<R: Read, W: Write, E: Write>(
     ensures list { (reading : List ℕ → Option DateOrMoment) (listing : Listing) → IsReading reading → Asks reading arguments.entry (Asked.Dates listing)
         → (reader.new ≡ reader.old) × ((outcome : Result Unit Fault)
         × Lists listing outcome (W.contents writer.old) (W.contents writer.new) × Tells outcome result (E.contents errors.old) (E.contents errors.new)) }
+    ensures recurring { (reading : List ℕ → Option DateOrMoment) (dates : Occurrences) → IsReading reading → Asks reading arguments.entry (Asked.Recurring dates)
+        → (reader.new ≡ reader.old) × ((outcome : Result Unit Fault)
+        × ListsOccurrences dates outcome (W.contents writer.old) (W.contents writer.new) × Tells outcome result (E.contents errors.old) (E.contents errors.new)) }
     ensures help { (reading : List ℕ → Option DateOrMoment) → IsReading reading → Asks reading arguments.entry Asked.Help
         → (reader.new ≡ reader.old) × ((outcome : Result Unit Fault)
         × Shown HELP.now outcome (W.contents writer.old) (W.contents writer.new) × Tells outcome result (E.contents errors.old) (E.contents errors.new)) }
@@ -63,6 +69,10 @@ pub fn perform<R: Read, W: Write, E: Write>(
         }
         Ok(Asked::Dates(listing)) => {
             let outcome = list(&listing, writer);
+            end(outcome, errors)
+        }
+        Ok(Asked::Recurring(dates)) => {
+            let outcome = list_occurrences(&dates, writer);
             end(outcome, errors)
         }
         Ok(Asked::Help) => {

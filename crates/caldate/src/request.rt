@@ -1,5 +1,6 @@
 //! What is asked of the lines.
 use crate::reading::Reading;
+use cal_recurrence::Recurrence;
 use cal_text::{DateForm, DateOrMoment, MomentForm};
 use cal_time::{Date, SignedDuration, UtcOffset, Weekday};
 
@@ -169,8 +170,25 @@ pub struct Listing {
     pub step: Step,
 }
 
+/// The dates of a recurrence that starts with the first date, up to the last.
+#[derive(Drop)]
+pub struct Occurrences {
+    pub first: Date,
+    pub last: Date,
+    pub recurrence: Recurrence,
+}
+
+/// What leads from the first date of a list to the others.
+#[derive(Drop)]
+pub enum Pace {
+    /// `by N UNIT`: steps of one length.
+    Steps(Step),
+    /// `by RULE`: a recurrence.
+    Rule(Recurrence),
+}
+
 /// What the arguments ask for.
-#[derive(Clone, Copy)]
+#[derive(Drop)]
 pub enum Asked {
     /// `--help`, `-h` or `help`: the page of examples.
     Help,
@@ -180,4 +198,6 @@ pub enum Asked {
     Lines(Filter),
     /// `list from A to B`, `list from A to B by N UNIT`: the dates from the one to the other.
     Dates(Listing),
+    /// `list from A to B by RULE`: those of the recurrence.
+    Recurring(Occurrences),
 }

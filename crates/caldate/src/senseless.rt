@@ -1,8 +1,10 @@
 //! The first word of the arguments that makes no sense.
 ghost use Rattle.std.specs.Prelude.{◌≡◌, ◌+◌, ◌≤◌, ℕ, List, [], ◌∷◌, Option, MatchOption, is_some, length, option_and_then, slice_get};
+ghost use Rattle.std.specs.Result.{is_ok};
+ghost use Rattle.cal_recurrence.specs.Text.{recurrence_of};
 ghost use Rattle.cal_text.specs.declared.any.DateOrMoment.{DateOrMoment};
 ghost use Rattle.caldate.specs.Requests.{IsReading, arguments_of, stands_alone, words_left, step_in, unit_of};
-ghost use Rattle.caldate.specs.Senseless.{further_to, is_wanted, needed_by, senseless_after, senseless_at, senseless_end, senseless_front, senseless_further, senseless_last, senseless_lines, senseless_of, senseless_request, senseless_unit, senseless_verb, senseless_among};
+ghost use Rattle.caldate.specs.Senseless.{further_to, is_by_rule, is_wanted, list_words, needed_by, senseless_after, senseless_at, senseless_end, senseless_front, senseless_further, senseless_last, senseless_lines, senseless_of, senseless_request, senseless_unit, senseless_verb, senseless_among};
 
 use crate::listing::{date_of, step_in};
 use crate::offset::offset_of;
@@ -12,6 +14,7 @@ use crate::spelling::{
     asks_for_help, count_of, cut, first_word, form_of, many_of, number_of, period_of, unit_of,
     verb_of, weekday_of,
 };
+use cal_recurrence::parse;
 use cal_text::read_any;
 
 /// What may stand at an index of the arguments.
@@ -65,7 +68,7 @@ pub enum Wanted {
     UpTo,
     /// `by`.
     By,
-    /// A number from 1 to 4294967295.
+    /// A number from 1 to 4294967295, or a recurrence.
     Many,
     /// A unit of a day or more, as `months`.
     UnitOfDays,
@@ -82,8 +85,8 @@ pub struct Senseless {
     pub wanted: Wanted,
 }
 
-/// What may stand at each place after `list`.
-const LIST_WORDS: [Wanted; 7] = [
+/// What may stand at each place after `list`, where its steps have one length.
+const STEPS_WORDS: [Wanted; 7] = [
     Wanted::From,
     Wanted::Date,
     Wanted::UpTo,
@@ -104,7 +107,7 @@ pub fn senseless_of(arguments: &[u8]) -> Senseless
     if stands_alone(first) {
         senseless_at(1, Wanted::End)
     } else if first == b"list".as_slice() {
-        senseless_among(1, &LIST_WORDS, rest)
+        senseless_among(1, list_words(rest), rest)
     } else {
         senseless_lines(arguments)
     }
@@ -156,6 +159,31 @@ pub fn word_at(arguments: &[u8], index: usize) -> Option<&[u8]>
         words = cut(words?).1;
     }
     Some(cut(words?).0)
+}
+
+/// What may stand at each place after `list`: no unit comes after a recurrence.
+fn list_words(words: Option<&[u8]>) -> &'static [Wanted]
+    ensures words { result.now ≡ list_words (words_left words.entry) }
+    ensures short { length result.now ≤ 7 }
+{
+    if is_by_rule(words) {
+        &STEPS_WORDS[..6]
+    } else {
+        &STEPS_WORDS
+    }
+}
+
+/// Whether the word with the place of a rule is a recurrence.
+fn is_by_rule(words: Option<&[u8]>) -> bool
+    ensures { result ≡ is_by_rule (words_left words.entry) }
+{
+    let Some(words) = words else {
+        return false;
+    };
+    match word_at(words, 5) {
+        Some(word) => parse(word).is_ok(),
+        None => false,
+    }
 }
 
 /// Of words from this index on, each of which is wanted so, the first that is not, or is missing, or is one too many.
@@ -312,7 +340,7 @@ fn is_wanted(word: &[u8], wanted: Wanted) -> bool
         Wanted::Date => date_of(word).is_some(),
         Wanted::UpTo => word == b"to".as_slice(),
         Wanted::By => word == b"by".as_slice(),
-        Wanted::Many => many_of(word).is_some(),
+        Wanted::Many => many_of(word).is_some() || parse(word).is_ok(),
         Wanted::UnitOfDays => is_unit_of_days(word),
         _ => false,
     }

@@ -113,7 +113,7 @@ fn complaint(alloc: Global, arguments: Option<&[u8]>) -> Option<Vec<u8>> {
 
 #[test]
 fn lists_that_make_no_sense(rt: HostRuntime) {
-    let cases: [(&[u8], &[u8]); 19] = [
+    let cases: [(&[u8], &[u8]); 23] = [
         (b"list", b"there is no 'from'"),
         (b"list\02024-02-29", b"'2024-02-29' is no 'from'"),
         (
@@ -147,19 +147,35 @@ fn lists_that_make_no_sense(rt: HostRuntime) {
         ),
         (
             b"list\0from\02024-02-29\0to\02024-03-01\0by",
-            b"there is no number from 1 to 4294967295",
+            b"there is no number from 1 to 4294967295 and no recurrence (as FREQ=MONTHLY;BYDAY=-1FR)",
         ),
         (
             b"list\0from\02024-02-29\0to\02024-03-01\0by\00\0days",
-            b"'0' is no number from 1 to 4294967295",
+            b"'0' is no number from 1 to 4294967295 and no recurrence (as FREQ=MONTHLY;BYDAY=-1FR)",
         ),
         (
             b"list\0from\02024-02-29\0to\02024-03-01\0by\0-1\0days",
-            b"'-1' is no number from 1 to 4294967295",
+            b"'-1' is no number from 1 to 4294967295 and no recurrence (as FREQ=MONTHLY;BYDAY=-1FR)",
         ),
         (
             b"list\0from\02024-02-29\0to\02024-03-01\0by\04294967296\0days",
-            b"'4294967296' is no number from 1 to 4294967295",
+            b"'4294967296' is no number from 1 to 4294967295 and no recurrence (as FREQ=MONTHLY;BYDAY=-1FR)",
+        ),
+        (
+            b"list\0from\02024-02-29\0to\02024-03-01\0by\0FREQ=HOURLY",
+            b"'FREQ=HOURLY' is no number from 1 to 4294967295 and no recurrence (as FREQ=MONTHLY;BYDAY=-1FR)",
+        ),
+        (
+            b"list\0from\02024-02-29\0to\02024-03-01\0by\0BYDAY=-1FR",
+            b"'BYDAY=-1FR' is no number from 1 to 4294967295 and no recurrence (as FREQ=MONTHLY;BYDAY=-1FR)",
+        ),
+        (
+            b"list\0from\02024-02-29\0to\02024-03-01\0by\0FREQ=DAILY\0days",
+            b"'days' is one word too many",
+        ),
+        (
+            b"list\0from\02024-02-30\0to\02024-03-01\0by\0FREQ=DAILY",
+            b"'2024-02-30' is no date (as 2024-02-29, 2024-060, 2024-W09-4, J2460370)",
         ),
         (
             b"list\0from\02024-02-29\0to\02024-03-01\0by\01",

@@ -4,6 +4,7 @@ use crate::ending::Ending;
 use crate::fault::Fault;
 use crate::list::list;
 use crate::program::perform;
+use crate::recurring::list_occurrences;
 use crate::request::Asked;
 use crate::tests::failing::{Failing, Sipping};
 use std::alloc::Global;
@@ -13,6 +14,7 @@ use std::io::{ErrorKind, Write};
 fn list_by<W: Write>(arguments: &[u8], writer: &mut W) -> Result<(), Fault> {
     match asked_of(arguments) {
         Ok(Asked::Dates(listing)) => list(&listing, writer),
+        Ok(Asked::Recurring(dates)) => list_occurrences(&dates, writer),
         _ => Err(Fault::Read),
     }
 }
@@ -78,6 +80,52 @@ fn by_each_unit(rt: HostRuntime) {
         (
             b"list\0from\0+999999-12-29\0to\0+999999-12-31\0by\02\0day",
             b"+999999-12-29\n+999999-12-31\n",
+        ),
+    ];
+    for (arguments, wanted) in cases {
+        assert!(rt; lists(rt.alloc(), arguments, wanted), "{arguments:?}");
+    }
+}
+
+// The days of the recurrence alone: the first date is one only where the recurrence has it.
+#[test]
+fn by_a_rule(rt: HostRuntime) {
+    let cases: [(&[u8], &[u8]); 9] = [
+        (
+            b"list\0from\02024-01-01\0to\02024-02-13\0by\0FREQ=WEEKLY;INTERVAL=2;BYDAY=TU",
+            b"2024-01-02\n2024-01-16\n2024-01-30\n2024-02-13\n",
+        ),
+        (
+            b"list\0from\02024-01-01\0to\02024-03-29\0by\0FREQ=MONTHLY;BYDAY=-1FR",
+            b"2024-01-26\n2024-02-23\n2024-03-29\n",
+        ),
+        (
+            b"list\0from\02024-01-01\0to\02024-03-28\0by\0freq=monthly;byday=-1fr",
+            b"2024-01-26\n2024-02-23\n",
+        ),
+        (
+            b"list\0from\02024-01-31\0to\02024-12-31\0by\0FREQ=MONTHLY;BYMONTH=3,6,9,12;BYMONTHDAY=-1",
+            b"2024-03-31\n2024-06-30\n2024-09-30\n2024-12-31\n",
+        ),
+        (
+            b"list\0from\02024-02-27\0to\02024-12-31\0by\0FREQ=DAILY;COUNT=3",
+            b"2024-02-27\n2024-02-28\n2024-02-29\n",
+        ),
+        (
+            b"list\0from\02024-02-28\0to\02024-12-31\0by\0FREQ=DAILY;UNTIL=20240301",
+            b"2024-02-28\n2024-02-29\n2024-03-01\n",
+        ),
+        (
+            b"list\0from\02024-02-28\0to\02024-12-31\0by\0FREQ=DAILY;UNTIL=20240227",
+            b"",
+        ),
+        (
+            b"list\0from\02024-03-01\0to\02024-02-29\0by\0FREQ=DAILY",
+            b"",
+        ),
+        (
+            b"list\0from\0+999999-12-30\0to\0+999999-12-31\0by\0FREQ=DAILY",
+            b"+999999-12-30\n+999999-12-31\n",
         ),
     ];
     for (arguments, wanted) in cases {

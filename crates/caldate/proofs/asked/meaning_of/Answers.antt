@@ -1,25 +1,16 @@
-use Rattle.std.proofs.Common.{rules, ◌≡◌, ◌∙◌, None, true, false, ap, sym, codes}
-use Rattle.std.specs.Prelude.{bytes_eq, option_map}
-use Rattle.caldate.specs.Requests.{arguments_of, list_of, meaning_of}
-use Rattle.caldate.specs.declared.request.Asked.TheVariants.{Dates}
+use Rattle.std.proofs.Common.{rules, ◌≡◌, ◌∙◌, true, false, ap, sym, codes}
+use Rattle.std.specs.Prelude.{bytes_eq}
+use Rattle.caldate.specs.Requests.{arguments_of, meaning_of}
 use Rattle.caldate.proofs.Words.{listed, two_words}
 use Rattle.caldate.proofs.asked.meaning_of.Goals as goal
 
 pub returns-in_default-clause-asked : goal.returns-in_default-clause-asked
 returns-in_default-clause-asked c = λ reading h. c.only_option.ensures.asked reading ∙ ap (meaning_of reading) (sym c.in_default.ensures)
 
-pub returns-in_err-list_of-clause-asked : goal.returns-in_err-list_of-clause-asked
-returns-in_err-list_of-clause-asked c = λ reading h.
+pub returns-then-eq-clause-asked : goal.returns-then-eq-clause-asked
+returns-then-eq-clause-asked c = λ reading h.
     let list : bytes_eq c.in-Some.first.now (codes "list") ≡ true = search rules in
-    let nothing : c.from_residual.result ≡ None = search rules in
-    nothing ∙ ap (option_map Dates) (c.in_err-list_of.ensures.list reading h)
-    ∙ sym (listed reading _ (arguments_of c.args.arguments.now) c.in-Some.rest.now c.in-Some.ensures list)
-
-pub returns-in_ok-list_of-clause-asked : goal.returns-in_ok-list_of-clause-asked
-returns-in_ok-list_of-clause-asked c = λ reading h.
-    let list : bytes_eq c.in-Some.first.now (codes "list") ≡ true = search rules in
-    ap (option_map Dates) (c.in_ok-list_of.ensures.list reading h)
-    ∙ sym (listed reading _ (arguments_of c.args.arguments.now) c.in-Some.rest.now c.in-Some.ensures list)
+    c.list_of.ensures.list reading h ∙ sym (listed reading _ (arguments_of c.args.arguments.now) c.in-Some.rest.now c.in-Some.ensures list)
 
 pub returns-else-eq-clause-asked : goal.returns-else-eq-clause-asked
 returns-else-eq-clause-asked c = λ reading h.

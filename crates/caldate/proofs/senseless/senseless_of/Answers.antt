@@ -24,7 +24,7 @@ other : {A : Type 0} (a b : Bool) (x y z : A) → a ≡ false → b ≡ true →
 other a b x y z e f = ap (λ d. cond d x (cond b y z)) e ∙ ap (λ d. cond d y z) f
 
 from_list : (reading : List ℕ → Option DateOrMoment) (word : List ℕ) (words : List (List ℕ)) → stands_alone word ≡ false
-    → bytes_eq word (codes "list") ≡ true → senseless_of reading (word ∷ words) ≡ senseless_among reading 1 list_words words
+    → bytes_eq word (codes "list") ≡ true → senseless_of reading (word ∷ words) ≡ senseless_among reading 1 (list_words words) words
 from_list reading [] words e f = absurd (false≢true f)
 from_list reading (c ∷ cs) [] e f = other {A = Senseless} _ _ _ _ _ e f
 from_list reading (c ∷ cs) (second ∷ words) e f = other {A = Senseless} _ _ _ _ _ e f
@@ -50,4 +50,5 @@ returns-then-eq c = λ reading h.
     let parts = c.cut.ensures.parts in
     let alone : stands_alone first ≡ false = search rules in
     let list : bytes_eq first (codes "list") ≡ true = search rules in
-    c.senseless_among.ensures reading h ∙ sym (ap (senseless_of reading) parts ∙ from_list reading first (words_left c.cut.result.1) alone list)
+    c.senseless_among.ensures reading h ∙ ap (λ l. senseless_among reading 1 l (words_left c.cut.result.1)) c.list_words.ensures.words
+    ∙ sym (ap (senseless_of reading) parts ∙ from_list reading first (words_left c.cut.result.1) alone list)

@@ -1,0 +1,14 @@
+use Rattle.std.proofs.Common.{rules, ◌≡◌, ◌∙◌, ◌∷◌, true, ap, codes}
+use Rattle.std.specs.Prelude.{bytes_eq, ◌&&◌}
+use Rattle.caldate.proofs.Words.{with_dates}
+use Rattle.caldate.proofs.listing.span_of.Goals as goal
+
+pub returns-clause-span : goal.returns-clause-span
+returns-clause-span c = λ reading h.
+    let from = c.in_ok-from.from.now in
+    let first = c.in_ok-first.first.now in
+    let to = c.in_ok-to.to.now in
+    let all = c.in_ok-from.ensures ∙ ap (λ words. from ∷ words) (c.in_ok-first.ensures ∙ ap (λ words. first ∷ words) c.in_ok-to.ensures) in
+    let both : (bytes_eq from (codes "from") && bytes_eq to (codes "to")) ≡ true = search rules in
+    with_dates reading from first to _ _ c.in_ok-date_of.field-0 c.in_ok-last_of.field-0 all both
+    (c.in_ok-date_of.ensures reading h) (c.in_ok-last_of.ensures.end reading h)
