@@ -2,3 +2,5 @@ pub mod Values
 pub mod Words
 pub mod Text
 pub mod Days
+pub mod RecurrenceText
+pub mod Written

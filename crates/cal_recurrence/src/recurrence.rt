@@ -7,7 +7,7 @@ use cal_schedule::{ByDay, Frequency, Rule, RuleDays};
 use cal_time::{Date, Month, Weekday};
 
 /// Where a recurrence ends.
-#[derive(Clone, Copy, Debug)]
+#[derive(Clone, Copy, Debug, PartialEq, Eq)]
 pub enum RuleEnd {
     /// Nowhere before the end of the range.
     Never,
@@ -20,7 +20,7 @@ pub enum RuleEnd {
 /// A recurrence as RFC 5545 writes it in a `RRULE`: a rule but for its start, and where it ends.
 ///
 /// A part without values leaves out no day.
-#[derive(Drop)]
+#[derive(Clone, Debug, PartialEq, Eq, Drop)]
 pub struct Recurrence {
     /// What the interval counts.
     pub frequency: Frequency,

@@ -1,4 +1,6 @@
 //! Worked values: the examples of RFC 5545 and of published calendars, and texts that are refused.
 
+mod one_answer;
 mod rules;
 mod texts;
+mod written;

@@ -1,7 +1,10 @@
 //! The values of a part of a rule, in place.
-ghost use Rattle.std.specs.Prelude.{◌≡◌, ◌<◌, ◌++◌, [], ◌∷◌, length, nat_le};
+ghost use Rattle.std.specs.Prelude.{⊤, ◌≡◌, ◌<◌, ◌≤◌, ◌++◌, [], ◌∷◌, length, nat_le};
+ghost use Rattle.std.specs.Cmp.Lexicographic.{pointwise, lists_equiv, lists_per};
 ghost use Rattle.cal_recurrence.specs.Values.{most_values};
 
+use std::alloc::AllocError;
+use std::fmt;
 use std::marker::Model;
 
 /// The most values of a part. A month has at most 31 days, counted from either end.
@@ -25,6 +28,16 @@ impl<T> Model for Values<T> {
     ghost invariant = { λ values. values.filled ≤ most_values };
 }
 
+impl<T> Values<T> {
+    /// The values.
+    pub fn as_slice(&self) -> &[T]
+        ensures values { result.now ≡ self.now }
+        ensures few { length result.now ≤ most_values }
+    {
+        &self.items[..self.filled]
+    }
+}
+
 impl<T: Copy> Values<T> {
     /// No values. What is passed stands at the indexes that are free, where no call sees it.
     pub fn none(filler: T) -> Self
@@ -34,13 +47,6 @@ impl<T: Copy> Values<T> {
             items: [filler; MOST],
             filled: 0,
         }
-    }
-
-    /// The values.
-    pub fn as_slice(&self) -> &[T]
-        ensures { result.now ≡ self.now }
-    {
-        &self.items[..self.filled]
     }
 
     /// Whether there is no room for another one.
@@ -57,5 +63,40 @@ impl<T: Copy> Values<T> {
     {
         self.items[self.filled] = value;
         self.filled += 1;
+    }
+}
+
+impl<T: Copy> Clone for Values<T> {
+    ghost is_clone = { λ values clone. clone ≡ values };
+
+    ghost is_infallible = { λ _. ⊤ };
+
+    fn clone(&self) -> Result<Self, AllocError> {
+        Ok(Values {
+            items: self.items,
+            filled: self.filled,
+        })
+    }
+}
+
+/// Two are equal where their values are, one by one.
+impl<T: PartialEq> PartialEq for Values<T> {
+    ghost eq = { pointwise T.eq };
+
+    ghost laws = { lists_per T.laws };
+
+    fn eq(&self, other: &Self) -> bool {
+        self.as_slice() == other.as_slice()
+    }
+}
+
+impl<T: Eq> Eq for Values<T> {
+    ghost laws = { lists_equiv T.Eq.laws };
+}
+
+/// Prints as the list of the values.
+impl<T: fmt::Debug> fmt::Debug for Values<T> {
+    fn fmt<W: fmt::Write>(&self, f: &mut fmt::Formatter<W>) -> fmt::Result {
+        f.debug_list().entries(self.as_slice()).finish()
     }
 }

@@ -1,7 +1,11 @@
-//! Days that come back.
-ghost use Rattle.std.specs.Prelude.{◌≡◌, ◌<◌, IfSome, true};
+//! Days that come back, by a rule and by its text.
+ghost use Rattle.std.specs.Prelude.{◌≡◌, ◌<◌, IfOk, IfSome, Ok, true};
+ghost use Rattle.cal_recurrence.specs.declared.recurrence.Recurrence.{Recurrence};
+ghost use Rattle.cal_recurrence.specs.Text.{recurrence_of};
+ghost use Rattle.cal_recurrence.specs.Written.{text_of};
 ghost use Rattle.cal_schedule.specs.Rule.{is_on};
 
+use cal_recurrence::{RecurrenceText, RuleFault, parse};
 use cal_schedule::{ByDay, Frequency, Rule};
 use cal_time::{Date, Month, Weekday};
 use std::io;
@@ -14,6 +18,27 @@ fn next_two(rule: &Rule<'_>, date: Date) -> Option<(Date, Date)>
     let first = rule.next_after(date)?;
     let second = rule.next_after(first)?;
     Some((first, second))
+}
+
+/// The text of a recurrence in the order and the spelling in which each is written, or the fault of the text.
+fn respelled(text: &[u8]) -> Result<RecurrenceText, RuleFault>
+    ensures { IfOk result (λ written. (r : Recurrence) × (recurrence_of text.now ≡ Ok r) × (written ≡ text_of r)) }
+{
+    let recurrence = parse(text)?;
+    Ok(recurrence.text())
+}
+
+/// Writes the days that the text says from a start on, or where it is at fault and why.
+fn show_days(rt: &impl Print, text: &str, start: Date) -> io::Result<()> {
+    match parse(text.as_bytes()) {
+        Ok(recurrence) => {
+            for day in recurrence.days(start) {
+                println!(rt; "{day}")?;
+            }
+            Ok(())
+        }
+        Err(fault) => println!(rt; "byte {}: {:?}", fault.position, fault.reason),
+    }
 }
 
 pub fn show(rt: &impl Print) -> io::Result<()> {
@@ -29,6 +54,11 @@ pub fn show(rt: &impl Print) -> io::Result<()> {
     }
     if let Some((first, second)) = next_two(&last_fridays, start) {
         println!(rt; "{first} {second}")?;
+    }
+    show_days(rt, "FREQ=MONTHLY;BYDAY=-1FR;COUNT=3", start)?;
+    show_days(rt, "FREQ=MONTHLY;BYDAY=-1FR;BYSETPOS=1", start)?;
+    if let Ok(text) = respelled(b"byday=-01fr;count=3;freq=monthly") {
+        println!(rt; "{}", text.as_str())?;
     }
     Ok(())
 }

@@ -1,0 +1,39 @@
+-- The days of a recurrence are one list, wherever the lists of its rule stand.
+use Rattle.std.proofs.Common.{◌≡◌, ℕ, List, refl, sym, ap, ◌∙◌}
+use Rattle.cal_schedule.specs.Rule.{days_of, is_on, turns_past, is_in_months, is_on_days}
+use Rattle.cal_schedule.specs.declared.rule.kinds.Rule.{Rule}
+use Rattle.cal_recurrence.specs.Days.{AreDays, IsRuleOf, up_to_end}
+use Rattle.cal_recurrence.specs.declared.recurrence.Recurrence.{Recurrence}
+
+-- the rule b, whose lists stand where those of the rule a do
+abbrev moved : Rule → Rule → Rule
+moved a b = record {
+  start = b.start;
+  frequency = b.frequency;
+  interval = b.interval;
+  week_start = b.week_start;
+  months = record { ref_ptr = a.months.ref_ptr; now = b.months.now };
+  month_days = record { ref_ptr = a.month_days.ref_ptr; now = b.month_days.now };
+  weekdays = record { ref_ptr = a.weekdays.ref_ptr; now = b.weekdays.now };
+  until = b.until;
+}
+
+moved-days : (a b : Rule) → days_of (moved a b) ≡ days_of b
+unfolding is_on turns_past is_in_months is_on_days
+moved-days a b = refl
+
+moved-same : (r : Recurrence) (first : ℕ) (a b : Rule) → IsRuleOf r first a → IsRuleOf r first b → a ≡ moved a b
+moved-same r first a b p q = λ i. record {
+  start = (p.start ∙ sym q.start) i;
+  frequency = (p.frequency ∙ sym q.frequency) i;
+  interval = (p.interval ∙ sym q.interval) i;
+  week_start = (p.week_start ∙ sym q.week_start) i;
+  months = record { ref_ptr = a.months.ref_ptr; now = (p.months ∙ sym q.months) i };
+  month_days = record { ref_ptr = a.month_days.ref_ptr; now = (p.month_days ∙ sym q.month_days) i };
+  weekdays = record { ref_ptr = a.weekdays.ref_ptr; now = (p.weekdays ∙ sym q.weekdays) i };
+  until = (p.until ∙ sym q.until) i;
+}
+
+pub days-one : (r : Recurrence) (first : ℕ) (xs ys : List ℕ) → AreDays r first xs → AreDays r first ys → xs ≡ ys
+days-one r first xs ys (a, p, e) (b, q, f) =
+    e ∙ ap (λ rule. up_to_end r.end (days_of rule)) (moved-same r first a b p q) ∙ ap (up_to_end r.end) (moved-days a b) ∙ sym f

@@ -1,0 +1,71 @@
+-- How a recurrence is written: its parts in one order, but for those that a text says by leaving them out.
+use Rattle.std.specs.Prelude.{ℕ, ◌==◌, ◌++◌, List, [], ◌∷◌, ℤ, codes, decimal, if◌then◌else◌}
+use Rattle.std.specs.Fmt.{signed_decimal}
+use Rattle.cal_time.specs.Date.{year_at, month_at, day_of_month_at}
+use Rattle.cal_time.specs.DateText.{digits_at_least, year_text}
+use Rattle.cal_time.specs.Month.{number}
+use Rattle.cal_time.specs.declared.Month.{Month}
+use Rattle.cal_time.specs.declared.Weekday.{Weekday}
+use Rattle.cal_time.specs.declared.Weekday.TheVariants as weekday
+use Rattle.cal_schedule.specs.declared.rule.kinds.Frequency.{Frequency}
+use Rattle.cal_schedule.specs.declared.rule.kinds.Frequency.TheVariants as frequency
+use Rattle.cal_schedule.specs.declared.rule.kinds.ByDay.{ByDay}
+use Rattle.cal_schedule.specs.declared.rule.kinds.ByDay.TheVariants.{Every, Nth}
+use Rattle.cal_recurrence.specs.declared.recurrence.Recurrence.{Recurrence}
+use Rattle.cal_recurrence.specs.declared.recurrence.RuleEnd.{RuleEnd}
+use Rattle.cal_recurrence.specs.declared.recurrence.RuleEnd.TheVariants.{Never, Until, Count}
+
+-- ---- words
+abbrev pub frequency_text : Frequency → List ℕ
+frequency_text frequency.Daily = codes "DAILY"
+frequency_text frequency.Weekly = codes "WEEKLY"
+frequency_text frequency.Monthly = codes "MONTHLY"
+frequency_text frequency.Yearly = codes "YEARLY"
+
+abbrev pub weekday_text : Weekday → List ℕ
+weekday_text weekday.Monday = codes "MO"
+weekday_text weekday.Tuesday = codes "TU"
+weekday_text weekday.Wednesday = codes "WE"
+weekday_text weekday.Thursday = codes "TH"
+weekday_text weekday.Friday = codes "FR"
+weekday_text weekday.Saturday = codes "SA"
+weekday_text weekday.Sunday = codes "SU"
+
+abbrev pub month_text : Month → List ℕ
+month_text month = decimal (number month)
+
+abbrev pub month_day_text : ℤ → List ℕ
+month_day_text day = signed_decimal day
+
+abbrev pub by_day_text : ByDay → List ℕ
+by_day_text (Every weekday) = weekday_text weekday
+by_day_text (Nth index weekday) = signed_decimal index ++ weekday_text weekday
+
+-- the year, the month and the day of the month
+abbrev pub day_text : ℕ → List ℕ
+day_text n = year_text (year_at n) ++ digits_at_least 2 (month_at n) ++ digits_at_least 2 (day_of_month_at n)
+
+-- ---- parts
+abbrev pub interval_text : ℕ → List ℕ
+interval_text n = if n == 1 then [] else codes ";INTERVAL=" ++ decimal n
+
+abbrev pub end_text : RuleEnd → List ℕ
+end_text Never = []
+end_text (Until day) = codes ";UNTIL=" ++ day_text day
+end_text (Count n) = codes ";COUNT=" ++ decimal n
+
+-- each word after a mark, of which that of the first is the name of the part
+abbrev pub list_text : {X : Type 0} → List ℕ → (X → List ℕ) → List X → List ℕ
+list_text mark text [] = []
+list_text mark text (x ∷ xs) = mark ++ text x ++ list_text (codes ",") text xs
+
+abbrev pub week_start_text : Weekday → List ℕ
+week_start_text weekday.Monday = []
+week_start_text weekday = codes ";WKST=" ++ weekday_text weekday
+
+-- ---- the whole
+abbrev pub text_of : Recurrence → List ℕ
+text_of r =
+    codes "FREQ=" ++ frequency_text r.frequency ++ interval_text r.interval ++ end_text r.end
+    ++ list_text (codes ";BYMONTH=") month_text r.months ++ list_text (codes ";BYMONTHDAY=") month_day_text r.month_days
+    ++ list_text (codes ";BYDAY=") by_day_text r.weekdays ++ week_start_text r.week_start

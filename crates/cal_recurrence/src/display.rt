@@ -1,0 +1,41 @@
+//! The text of a recurrence.
+ghost use Rattle.std.specs.Prelude.{◌≡◌, Some};
+ghost use Rattle.std.specs.Fmt.{padded};
+ghost use Rattle.cal_recurrence.specs.Written.{text_of};
+
+use crate::recurrence::Recurrence;
+use crate::text::RecurrenceText;
+use crate::writing::{frequency_text, push_end, push_interval, push_list, push_week_start};
+use std::fmt;
+
+impl Recurrence {
+    /// The text, as the recurrence prints it: `FREQ=MONTHLY;COUNT=12;BYDAY=-1FR`.
+    ///
+    /// Its parts are in one order: `FREQ`, `INTERVAL`, `UNTIL` or `COUNT`, `BYMONTH`, `BYMONTHDAY`, `BYDAY`, `WKST`. An interval of 1,
+    /// a week that begins with Monday, a list of no values and an end that is not given are left out.
+    pub fn text(&self) -> RecurrenceText
+        ensures { result ≡ text_of self.now }
+    {
+        let mut text = RecurrenceText::new();
+        text.push("FREQ=");
+        text.push(frequency_text(self.frequency));
+        push_interval(&mut text, self.interval);
+        push_end(&mut text, self.end);
+        push_list(&mut text, ";BYMONTH=", self.months.as_slice());
+        push_list(&mut text, ";BYMONTHDAY=", self.month_days.as_slice());
+        push_list(&mut text, ";BYDAY=", self.weekdays.as_slice());
+        push_week_start(&mut text, self.week_start);
+        text
+    }
+}
+
+/// Under a width the whole text is padded.
+impl fmt::Display for Recurrence {
+    ghost output = { λ r. Some (text_of r) };
+
+    ghost styled_output = { λ r spec. Some (padded spec (text_of r)) };
+
+    fn fmt<W: fmt::Write>(&self, f: &mut fmt::Formatter<W>) -> fmt::Result {
+        f.pad(self.text().as_str())
+    }
+}

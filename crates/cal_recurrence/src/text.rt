@@ -1,0 +1,88 @@
+//! The text of a recurrence, in place.
+ghost use Rattle.std.specs.Prelude.{◌≡◌, ◌+◌, ◌≤◌, ◌++◌, [], length, decimal};
+ghost use Rattle.cal_recurrence.specs.RecurrenceText.{capacity, HasRoom};
+
+use cal_time::ShortText;
+use std::marker::Model;
+use std::str::from_utf8_unchecked;
+
+/// The most bytes that a text has. A recurrence with 62 values in each of its lists has fewer.
+const CAPACITY: usize = 1400;
+
+/// What a recurrence prints, in place and without a formatter: a text of at most 1400 bytes.
+#[derive(Drop)]
+pub struct RecurrenceText {
+    bytes: [u8; CAPACITY],
+    filled: usize,
+}
+
+impl Model for RecurrenceText {
+    ghost use Rattle.std.specs.Prelude.{ℕ, ◌≤◌, List, take, IsUtf8};
+    ghost use Rattle.cal_recurrence.specs.RecurrenceText.{capacity};
+
+    ghost Value = { List ℕ };
+
+    ghost view = { λ text. take text.filled text.bytes };
+
+    ghost invariant = { λ text. (text.filled ≤ capacity) × IsUtf8 (take text.filled text.bytes) };
+}
+
+impl RecurrenceText {
+    /// No bytes.
+    pub(crate) fn new() -> Self
+        ensures { result ≡ [] }
+    {
+        RecurrenceText {
+            bytes: [0; CAPACITY],
+            filled: 0,
+        }
+    }
+
+    /// The text.
+    pub fn as_str(&self) -> &str
+        ensures text { result.now ≡ self.now }
+        ensures short { length result.now ≤ capacity }
+    {
+        // Only text was appended, as the invariant says.
+        unsafe { from_utf8_unchecked(&self.bytes[..self.filled]) }
+    }
+
+    /// The bytes of the text, which is UTF-8.
+    pub fn as_bytes(&self) -> &[u8]
+        ensures bytes { result.now ≡ self.now }
+        ensures short { length result.now ≤ capacity }
+    {
+        &self.bytes[..self.filled]
+    }
+
+    /// The number of bytes, at most 1400.
+    pub fn len(&self) -> usize
+        ensures bytes { result ≡ length self.now }
+        ensures short { result ≤ capacity }
+    {
+        self.filled
+    }
+
+    /// Appends the text.
+    pub(crate) fn push(&mut self, text: &str)
+        requires { HasRoom (length text.now) self.old }
+        ensures appended { self.new ≡ self.old ++ text.now }
+        ensures longer { length self.new ≡ length self.old + length text.now }
+    {
+        let end = self.filled + text.len();
+        self.bytes[self.filled..end].copy_from_slice(text.as_bytes());
+        self.filled = end;
+    }
+
+    /// Appends the digits of a number.
+    #[tactic(auto, using(crate::proofs::Digits::few_digits))]
+    pub(crate) fn push_number(&mut self, number: u32)
+        requires { HasRoom 10 self.old }
+        ensures appended { self.new ≡ self.old ++ decimal number }
+        ensures short { length self.new ≤ length self.old + 10 }
+    {
+        let mut digits = ShortText::new();
+        digits.push_number(u64::from(number));
+        self.push(digits.as_str());
+    }
+}

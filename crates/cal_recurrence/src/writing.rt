@@ -1,0 +1,173 @@
+//! The parts of the text of a recurrence, written.
+ghost use Rattle.std.specs.Prelude.{◌≡◌, ◌+◌, ◌*◌, ◌≤◌, ◌++◌, List, ℕ, length};
+ghost use Rattle.std.specs.Fmt.{signed_decimal};
+ghost use Rattle.cal_recurrence.specs.RecurrenceText.{HasRoom};
+ghost use Rattle.cal_recurrence.specs.Values.{most_values};
+ghost use Rattle.cal_recurrence.specs.Written.{by_day_text, day_text, end_text, frequency_text, interval_text, list_text, month_day_text, month_text, week_start_text, weekday_text};
+
+use crate::recurrence::RuleEnd;
+use crate::text::RecurrenceText;
+use cal_schedule::{ByDay, Frequency};
+use cal_time::{Cycle, Date, Month, ShortText, Weekday};
+
+/// A value of a list.
+pub trait Word: Copy {
+    ghost text_of: { Self → List ℕ };
+
+    /// The text of the value, as `-1FR`.
+    fn word(self) -> ShortText
+        ensures text { result ≡ text_of self }
+        ensures short { length result ≤ 6 };
+}
+
+impl Word for Month {
+    ghost text_of = { month_text };
+
+    #[tactic(auto, using(crate::proofs::Digits::three_digits))]
+    fn word(self) -> ShortText {
+        let mut text = ShortText::new();
+        text.push_number(u64::from(self.index()) + 1);
+        text
+    }
+}
+
+impl Word for i8 {
+    ghost text_of = { month_day_text };
+
+    fn word(self) -> ShortText {
+        index_text(self)
+    }
+}
+
+impl Word for ByDay {
+    ghost text_of = { by_day_text };
+
+    fn word(self) -> ShortText {
+        match self {
+            ByDay::Every(weekday) => {
+                let mut text = ShortText::new();
+                text.push(weekday_text(weekday));
+                text
+            }
+            ByDay::Nth(index, weekday) => {
+                let mut text = index_text(index);
+                text.push(weekday_text(weekday));
+                text
+            }
+        }
+    }
+}
+
+/// The digits of the number, after a minus sign below 0.
+#[tactic(auto, using(crate::proofs::Digits::index_digits))]
+fn index_text(index: i8) -> ShortText
+    ensures text { result ≡ signed_decimal index }
+    ensures short { length result ≤ 4 }
+{
+    let mut text = ShortText::new();
+    text.push_signed(i32::from(index));
+    text
+}
+
+/// The name of the frequency.
+pub fn frequency_text(frequency: Frequency) -> &'static str
+    ensures text { result.now ≡ frequency_text frequency }
+    ensures short { length result.now ≤ 7 }
+{
+    match frequency {
+        Frequency::Daily => "DAILY",
+        Frequency::Weekly => "WEEKLY",
+        Frequency::Monthly => "MONTHLY",
+        Frequency::Yearly => "YEARLY",
+    }
+}
+
+/// The two letters of the weekday.
+fn weekday_text(weekday: Weekday) -> &'static str
+    ensures text { result.now ≡ weekday_text weekday }
+    ensures short { length result.now ≡ 2 }
+{
+    match weekday {
+        Weekday::Monday => "MO",
+        Weekday::Tuesday => "TU",
+        Weekday::Wednesday => "WE",
+        Weekday::Thursday => "TH",
+        Weekday::Friday => "FR",
+        Weekday::Saturday => "SA",
+        Weekday::Sunday => "SU",
+    }
+}
+
+/// The day in digits, as `20241231`.
+fn day_text(date: Date) -> ShortText
+    ensures text { result ≡ day_text date }
+    ensures short { length result ≤ 11 }
+{
+    let (year, month, day) = date.to_calendar_date();
+    let mut text = ShortText::new();
+    text.push_year(year);
+    text.push_two_digits(u32::from(month.index()) + 1);
+    text.push_two_digits(u32::from(day));
+    text
+}
+
+/// Appends the interval, where it is not 1.
+pub fn push_interval(text: &mut RecurrenceText, interval: u32)
+    requires { HasRoom 20 text.old }
+    ensures appended { text.new ≡ text.old ++ interval_text interval }
+    ensures short { length text.new ≤ length text.old + 20 }
+{
+    if interval == 1 {
+        return;
+    }
+    text.push(";INTERVAL=");
+    text.push_number(interval);
+}
+
+/// Appends the end, if there is one.
+pub fn push_end(text: &mut RecurrenceText, end: RuleEnd)
+    requires { HasRoom 18 text.old }
+    ensures appended { text.new ≡ text.old ++ end_text end }
+    ensures short { length text.new ≤ length text.old + 18 }
+{
+    match end {
+        RuleEnd::Never => {}
+        RuleEnd::Until(day) => {
+            text.push(";UNTIL=");
+            text.push(day_text(day).as_str());
+        }
+        RuleEnd::Count(count) => {
+            text.push(";COUNT=");
+            text.push_number(count);
+        }
+    }
+}
+
+/// Appends each of the values after a mark, of which that of the first is the name of the part.
+pub fn push_list<T: Word>(text: &mut RecurrenceText, name: &str, values: &[T])
+    requires named { 1 ≤ length name.now }
+    requires few { length values.now ≤ most_values }
+    requires room { HasRoom (length name.now + 7 * most_values) text.old }
+    ensures appended { text.new ≡ text.old ++ list_text name.now T.text_of values.now }
+    ensures short { length text.new ≤ length text.old + length name.now + 7 * most_values }
+{
+    let mut mark = name;
+    for value in values {
+        text.push(mark);
+        text.push(value.word().as_str());
+        mark = ",";
+    }
+}
+
+/// Appends the weekday that a week begins with, where it is not Monday.
+pub fn push_week_start(text: &mut RecurrenceText, weekday: Weekday)
+    requires { HasRoom 8 text.old }
+    ensures appended { text.new ≡ text.old ++ week_start_text weekday }
+    ensures short { length text.new ≤ length text.old + 8 }
+{
+    if weekday == Weekday::Monday {
+        return;
+    }
+    text.push(";WKST=");
+    text.push(weekday_text(weekday));
+}
