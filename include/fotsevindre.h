@@ -305,13 +305,13 @@ typedef struct fots_period_result {
     int32_t days;
 } fots_period_result;
 
-/* A fraction of a year: what was counted, over what a year counts. */
 /* How many dates were written. */
 typedef struct fots_days_result {
     int32_t status;
     size_t length; /* or 0 */
 } fots_days_result;
 
+/* A fraction of a year: what was counted, over what a year counts. */
 typedef struct fots_year_fraction_result {
     int32_t status;
     uint32_t denominator; /* or 0 */

@@ -219,6 +219,79 @@ static void dates(int32_t julian_day, uint32_t number, fots_duration duration)
         number));
 }
 
+static void months(int32_t julian_day, uint32_t number, int32_t count)
+{
+    fots_date date = date_at(julian_day), other = date_at((int32_t)number);
+    int32_t wrong = of_date(date), with_other = first_of(wrong, of_date(other));
+    int32_t no_weekday = is_weekday(number) ? FOTS_DONE : FOTS_BAD_WEEKDAY;
+    fots_period_result period = fots_date_period_until(date, other);
+    fots_year_fraction_result fraction = fots_date_day_count(date, other, (uint32_t)count);
+    status_is(with_other, period.status, period.days != FOTS_NOTHING, "period_until", julian_day, period.days);
+    status_is(first_of(with_other, count >= 1 && count <= 5 ? FOTS_DONE : FOTS_BAD_CONVENTION), fraction.status,
+        fraction.denominator != 0, "day_count", julian_day, count);
+    NUMBER(with_other, fots_date_months_until(date, other), julian_day);
+    NUMBER(with_other, fots_date_years_until(date, other), julian_day);
+    DATE(wrong, fots_date_add_months(date, count));
+    DATE(wrong, fots_date_saturating_add_months(date, count));
+    DATE(wrong, fots_date_add_years(date, count));
+    DATE(wrong, fots_date_first_of_month(date));
+    DATE(wrong, fots_date_last_of_month(date));
+    DATE(wrong, fots_date_first_of_quarter(date));
+    DATE(wrong, fots_date_last_of_quarter(date));
+    DATE(wrong, fots_date_first_of_year(date));
+    DATE(wrong, fots_date_last_of_year(date));
+    DATE(wrong, fots_date_first_of_iso_week(date));
+    DATE(wrong, fots_date_last_of_iso_week(date));
+    PART(wrong, fots_date_quarter(date), julian_day);
+    DATE(first_of(wrong, no_weekday), fots_date_on_or_after(date, number));
+    DATE(first_of(wrong, no_weekday), fots_date_on_or_before(date, number));
+    DATE(is_month((uint32_t)count) ? no_weekday : FOTS_MONTH, fots_date_last_weekday_of_month(julian_day, (uint32_t)count, number));
+    DATE(is_month((uint32_t)count) ? no_weekday : FOTS_MONTH,
+        fots_date_nth_weekday_of_month(julian_day, (uint32_t)count, number, (uint32_t)julian_day));
+}
+
+static void workdays(int32_t julian_day, uint32_t number, int32_t count)
+{
+    static const fots_date rising[] = {{2451545}, {2451604}}, falling[] = {{2451604}, {2451545}};
+    fots_date date = date_at(julian_day), other = date_at(count);
+    int32_t no_week = number < 128 ? FOTS_DONE : FOTS_BAD_WEEK, wrong = first_of(of_date(date), no_week);
+    int32_t no_convention = (uint32_t)count <= 4 ? FOTS_DONE : FOTS_BAD_CONVENTION;
+    PART(wrong, fots_date_is_workday(date, number, rising, 2), julian_day);
+    DATE(wrong, fots_date_next_workday(date, number, rising, 2));
+    DATE(wrong, fots_date_previous_workday(date, number, rising, 2));
+    DATE(wrong, fots_date_add_workdays(date, count, number, rising, 2));
+    NUMBER(first_of(first_of(of_date(date), of_date(other)), no_week), fots_date_workdays_between(date, other, number, rising, 2),
+        julian_day);
+    DATE(first_of(first_of(of_date(date), no_convention), no_week), fots_date_adjusted(date, (uint32_t)count, number, rising, 2));
+    DATE(first_of(wrong, FOTS_BAD_HOLIDAYS), fots_date_next_workday(date, number, falling, 2));
+    DATE(first_of(wrong, FOTS_MANY_HOLIDAYS), fots_date_next_workday(date, number, rising, FOTS_MOST_HOLIDAYS + 1));
+}
+
+static void rules(int32_t julian_day, uint32_t number, int32_t count)
+{
+    fots_date date = date_at(julian_day), other = date_at(count), days[3];
+    uint8_t month = (uint8_t)number;
+    fots_rule rule = fots_rule_of(date, number & 7);
+    fots_days_result written;
+    int32_t no_frequency = (number & 7) >= 1 && (number & 7) <= 4 ? FOTS_DONE : FOTS_BAD_FREQUENCY, wrong, with_other;
+    rule.interval = number;
+    rule.week_start = (number >> 3) & 7;
+    rule.months = &month;
+    rule.months_length = (number >> 6) & 1;
+    wrong = first_of(first_of(of_date(date), no_frequency), is_weekday(rule.week_start) ? FOTS_DONE : FOTS_BAD_WEEKDAY);
+    wrong = first_of(wrong, rule.months_length == 0 || is_month(month) ? FOTS_DONE : FOTS_MONTH);
+    with_other = first_of(wrong, of_date(other));
+    DATE(wrong, fots_rule_first(&rule));
+    DATE(with_other, fots_rule_next_after(&rule, other));
+    PART(with_other, fots_rule_contains(&rule, other), julian_day);
+    written = fots_rule_days_after(&rule, other, days, 3);
+    check(written.status == with_other && written.length <= (with_other == FOTS_DONE ? 3 : 0), "days_after", julian_day,
+        (long long)written.length);
+    rule.months_length = FOTS_MOST_MONTHS + 1;
+    wrong = first_of(first_of(of_date(date), no_frequency), is_weekday(rule.week_start) ? FOTS_DONE : FOTS_BAD_WEEKDAY);
+    DATE(first_of(wrong, FOTS_MANY_PARTS), fots_rule_first(&rule));
+}
+
 static void times(fots_time time, uint32_t number, fots_duration duration)
 {
     int32_t wrong = of_time(time), with_duration = first_of(wrong, of_duration(duration));
@@ -591,6 +664,8 @@ static void everything(void)
                 int32_t julian_day = drawn_date(date);
                 uint32_t drawn_with = drawn_number(number);
                 dates(julian_day, drawn_with, duration);
+                months(julian_day, drawn_with, duration.nanoseconds);
+                workdays(julian_day, drawn_with, duration.nanoseconds);
             }
         }
         for (int time = 0; time < 20; time++) {
@@ -617,9 +692,10 @@ static void everything(void)
     for (int number = 0; number < 2000; number++) {
         for (int other = 0; other < 80; other++) {
             uint32_t drawn_first = drawn_number(number), drawn_with = drawn_number(other);
-            int32_t seconds = drawn_date(number);
+            int32_t seconds = drawn_date(number), day = drawn_date(other);
             cycles(drawn_first, drawn_with);
             offsets(seconds, (int32_t)drawn_with);
+            rules(day, drawn_first, seconds);
         }
     }
     nearly_texts();
