@@ -23,6 +23,7 @@ pub mod FormShapes
 pub mod Stops
 pub mod Positions
 pub mod Parts
+mod Faults
 mod Components
 mod OneAnswer
 mod AnyForms
