@@ -1,39 +1,35 @@
 -- What a reader is refused for: from one clause for each component to one for all of them, and from the form to its text.
-use Rattle.std.proofs.Common.{◌≡◌, ◌⊎◌, ◌↔◌, Option, Some, None, List, ℕ, Result, Ok, Err, IfErr, sym, ap, subst, ◌∙◌, inl, inr}
+use Rattle.std.proofs.Common.{◌≡◌, ◌⊎◌, ◌↔◌, Option, Some, None, List, ℕ, Result, Ok, Err, IfErr, sym, ap, subst, inl, inr}
 use Rattle.std.proofs.lemmas.Option.{none-some}
 use Rattle.cal_time.specs.Refusal.{IsRefused}
 use Rattle.cal_time.specs.declared.error.ComponentRange.{ComponentRange}
 use Rattle.cal_text.specs.Reading.{HasFault}
 
 -- ---- one of several components
-abbrev For : ComponentRange → ComponentRange → Type 0 → Type 0
-For why a A = (why ≡ a) × A
+abbrev For : ComponentRange → Type 0 → ComponentRange → Type 0
+For a A why = (why ≡ a) × A
 
-told : (found why a : ComponentRange) (A : Type 0) → found ≡ why → (found ≡ a → A) → found ≡ a → For why a A
-told found why a A e to is = (sym e ∙ is, to is)
+-- what is refused for one of these is refused for a fault, and the other way round
+pub record AreFaults {V : Type 0} (r : Result V ComponentRange) (Reason Fault : ComponentRange → Type 0) : Type 0 where
+  pub found : (why : ComponentRange) → IsRefused why r → Reason why → Fault why
+  pub back : (why : ComponentRange) → Fault why → IsRefused why r
 
-pub two : {V : Type 0} (r : Result V ComponentRange) (a b : ComponentRange) (A B : Type 0) → IfErr r (λ e. (e ≡ a) ⊎ (e ≡ b))
-    → IsRefused a r ↔ A → IsRefused b r ↔ B → (why : ComponentRange) → IsRefused why r ↔ (For why a A ⊎ For why b B)
-two (Ok v) a b A B reason first second why = (λ e. absurd e, λ is. elim is [ inl x ↦ first.1 x.1 | inr y ↦ second.1 y.1 ])
-two (Err e) a b A B reason first second why = (
-  λ h. elim reason as (λ _. For why a A ⊎ For why b B) [ inl x ↦ inl (told e why a A h first.0 x) | inr y ↦ inr (told e why b B h second.0 y) ],
-  λ is. elim is as (λ _. e ≡ why) [ inl x ↦ first.1 x.1 ∙ sym x.0 | inr y ↦ second.1 y.1 ∙ sym y.0 ],
-)
+pub last : {V : Type 0} (r : Result V ComponentRange) (a : ComponentRange) (A : Type 0) → IsRefused a r ↔ A → AreFaults r (λ why. why ≡ a) (For a A)
+last r a A is = record {
+  found = λ why h e. (e, is.0 (subst (λ w. IsRefused w r) e h));
+  back = λ why fault. subst (λ w. IsRefused w r) (sym fault.0) (is.1 fault.1);
+}
 
-pub three : {V : Type 0} (r : Result V ComponentRange) (a b c : ComponentRange) (A B C : Type 0) → IfErr r (λ e. (e ≡ a) ⊎ (e ≡ b) ⊎ (e ≡ c))
-    → IsRefused a r ↔ A → IsRefused b r ↔ B → IsRefused c r ↔ C → (why : ComponentRange) → IsRefused why r ↔ (For why a A ⊎ For why b B ⊎ For why c C)
-three (Ok v) a b c A B C reason first second third why =
-    (λ e. absurd e, λ is. elim is [ inl x ↦ first.1 x.1 | inr is ↦ elim is [ inl y ↦ second.1 y.1 | inr z ↦ third.1 z.1 ] ])
-three (Err e) a b c A B C reason first second third why = (
-  λ h. elim reason as (λ _. For why a A ⊎ For why b B ⊎ For why c C) [
-    | inl x ↦ inl (told e why a A h first.0 x)
-    | inr is ↦ elim is as (λ _. For why a A ⊎ For why b B ⊎ For why c C) [ inl y ↦ inr (inl (told e why b B h second.0 y)) | inr z ↦ inr (inr (told e why c C h third.0 z)) ]
-  ],
-  λ is. elim is as (λ _. e ≡ why) [
-    | inl x ↦ first.1 x.1 ∙ sym x.0
-    | inr is ↦ elim is as (λ _. e ≡ why) [ inl y ↦ second.1 y.1 ∙ sym y.0 | inr z ↦ third.1 z.1 ∙ sym z.0 ]
-  ],
-)
+pub more : {V : Type 0} {R P : ComponentRange → Type 0} (r : Result V ComponentRange) (a : ComponentRange) (A : Type 0) → IsRefused a r ↔ A
+    → AreFaults r R P → AreFaults r (λ why. (why ≡ a) ⊎ R why) (λ why. For a A why ⊎ P why)
+more {V} {R} {P} r a A is others = record {
+  found = λ why h reason. elim reason as (λ _. For a A why ⊎ P why) [ inl e ↦ inl ((last r a A is).found why h e) | inr e ↦ inr (others.found why h e) ];
+  back = λ why fault. elim fault as (λ _. IsRefused why r) [ inl x ↦ (last r a A is).back why x | inr x ↦ others.back why x ];
+}
+
+pub all : {V : Type 0} {R P : ComponentRange → Type 0} (r : Result V ComponentRange) → AreFaults r R P → IfErr r R → (why : ComponentRange) → IsRefused why r ↔ P why
+all (Ok v) faults reason why = (λ h. absurd h, λ fault. faults.back why fault)
+all {V} {R} (Err e) faults reason why = (λ h. faults.found why h (subst R h reason), λ fault. faults.back why fault)
 
 -- ---- a text has one form at most, so its fault is that of the one
 pub one : {A : Type 0} (a b : A) → Some a ≡ Some b → a ≡ b

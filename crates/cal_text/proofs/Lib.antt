@@ -24,7 +24,6 @@ pub mod Stops
 pub mod Positions
 pub mod Parts
 mod Faults
-mod Components
 mod OneAnswer
 mod AnyForms
 mod AnyPositions

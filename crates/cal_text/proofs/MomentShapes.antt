@@ -1,5 +1,5 @@
 -- The shapes of a moment, and what a scanner read of one.
-use Rattle.std.proofs.Common.{◌≡◌, ℕ, zero, suc, ◌+◌, ◌<◌, ◌≤◌, ◌^◌, ◌⊎◌, inl, inr, List, [], ◌∷◌, ◌++◌, length, refl, sym, ap, subst, ◌∙◌, arith, lit≤}
+use Rattle.std.proofs.Common.{true, false, ◌≡◌, ℕ, zero, suc, ◌+◌, ◌<◌, ◌≤◌, ◌^◌, ◌⊎◌, inl, inr, List, [], ◌∷◌, ◌++◌, length, refl, sym, ap, subst, ◌∙◌, arith, lit≤}
 use Rattle.std.proofs.lemmas.List.{append_assoc, length-append}
 use Rattle.cal_time.specs.DateText.{digits_at_least, date_digits}
 use Rattle.cal_text.specs.declared.rfc3339.numbers.Numbers.{Numbers}
@@ -88,16 +88,16 @@ pair_shape = last _ _ _ (both _ _ _ _ _ _ two_digits (both _ _ _ _ _ _ (byte_par
 abbrev IsWest : List ℕ → Unit {0} × Pair → Type 0
 IsWest = HasAfter (λ u. Unit {0}) (λ u. 45 ∷ []) IsPair
 
-abbrev Signed : Type 0
-Signed = (ℕ × Pair) ⊎ (Unit {0} × Pair)
+abbrev SignedPair : Type 0
+SignedPair = (ℕ × Pair) ⊎ (Unit {0} × Pair)
 
-abbrev IsSigned : List ℕ → Signed → Type 0
+abbrev IsSigned : List ℕ → SignedPair → Type 0
 IsSigned = HasEither 43 0 IsPair IsWest
 
 west-first : (x : ℕ) (xs : List ℕ) (v : Unit {0} × Pair) → IsWest (x ∷ xs) v → x ≡ 45
 west-first x xs v h = let e = h.bytes_are in cc
 
-signed-first : (x : ℕ) (xs : List ℕ) (v : Signed) → IsSigned (x ∷ xs) v → (43 ≤ x) × (x ≤ 45)
+signed-first : (x : ℕ) (xs : List ℕ) (v : SignedPair) → IsSigned (x ∷ xs) v → (43 ≤ x) × (x ≤ 45)
 signed-first x xs (inl v) h = let e = h.bytes_are in let first : x ≡ 43 + v.0 = cc in (omega (arith, first), omega (arith, first, h.valid))
 signed-first x xs (inr v) h = let first = west-first x xs v h in (omega (arith, first), omega (arith, first))
 
@@ -107,12 +107,12 @@ signed_shape =
     (λ x xs v here h. omega (arith, here.1, west-first x xs v h))
 
 abbrev Offset : Type 0
-Offset = (ℕ × Unit {0}) ⊎ ((ℕ × Unit {0}) ⊎ Signed)
+Offset = (ℕ × Unit {0}) ⊎ ((ℕ × Unit {0}) ⊎ SignedPair)
 
-abbrev IsLowerOr : List ℕ → (ℕ × Unit {0}) ⊎ Signed → Type 0
+abbrev IsLowerOr : List ℕ → (ℕ × Unit {0}) ⊎ SignedPair → Type 0
 IsLowerOr = HasEither 122 0 IsEnd IsSigned
 
-lower-first : (x : ℕ) (xs : List ℕ) (v : (ℕ × Unit {0}) ⊎ Signed) → IsIn 90 0 x → ¬ IsLowerOr (x ∷ xs) v
+lower-first : (x : ℕ) (xs : List ℕ) (v : (ℕ × Unit {0}) ⊎ SignedPair) → IsIn 90 0 x → ¬ IsLowerOr (x ∷ xs) v
 lower-first x xs (inl v) here h = let e = h.bytes_are in let first : x ≡ 122 + v.0 = cc in omega (arith, here.1, first)
 lower-first x xs (inr v) here h = omega (arith, here.0, (signed-first x xs v h).1)
 

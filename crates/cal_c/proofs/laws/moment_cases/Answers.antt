@@ -1,8 +1,8 @@
-use Rattle.cal_c.proofs.Cases.{of_moment}
+use Rattle.std.proofs.Math.Logic.{⊎_map}
+use Rattle.cal_c.proofs.Cases.{cases}
 use Rattle.cal_c.proofs.laws.moment_cases.Goals as goal
 
 pub returns : goal.returns
 returns c =
     let read = c.read.ensures in
-    of_moment c.read.result read.has read.reason (λ why has. read.form.0 why has.0 has.1) read.month.0 read.day.0 read.hour.0 read.minute.0
-    read.second.0 read.offset_hour.0 read.offset_minute.0
+    ⊎_map (λ found. found) (λ other. ⊎_map (λ none h. none h.0 h.1) (λ fault. fault) other) (cases c.read.result read.has read.form read.component)
