@@ -8,7 +8,7 @@ use Rattle.caldate.proofs.Steps.{front_more}
 use Rattle.caldate.proofs.list.list.Goals as goal
 
 pub loop-day-init : goal.loop-day-init
-loop-day-init g c = (([], [], λ k less. absurd (omega (arith, less)), omega arith, sym c.new-gathered.ensures, Appends-nil _), omega arith)
+loop-day-init g c = (([], [], λ k less. absurd (omega (arith, less)), omega arith, sym c.new-buffer.ensures, Appends-nil _), omega arith)
 
 pub returns-in_err-make_room : goal.returns-in_err-make_room
 returns-in_err-make_room g c =

@@ -20,7 +20,7 @@ loop-reads-init g c =
     let start = g.W.Write.contents c.args.writer.now in (
       ([], Consumes-nil _, subst (λ (p : List ℕ). Stands (IsAllowed c.args.filter) [] start start [] p progress) (sym c.new-input.ensures) (begun (IsAllowed c.args.filter) start progress refl refl)),
       subst NoEnd (sym c.new-input.ensures) (λ k d l. absurd (omega arith)),
-      c.new-gathered.ensures,
+      c.new-buffer.ensures,
       omega (arith, ap length c.new-input.ensures),
     )
 
