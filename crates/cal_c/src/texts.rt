@@ -1,9 +1,9 @@
 //! What crosses of texts: the bytes of one, and what one reads as.
 ghost use Rattle.std.specs.Prelude.{◌≡◌, ◌≤◌, length, None, Some};
 ghost use Rattle.cal_text.specs.Reading.{component_of};
-ghost use Rattle.cal_c.specs.Texts.{IsUnreadableDate, IsUnreadableMoment, nowhere, read_date_done, read_date_refused, read_moment_done, read_moment_refused, text_done, text_refused};
+ghost use Rattle.cal_c.specs.Texts.{nowhere, read_date_done, read_date_refused, read_date_unreadable, read_moment_done, read_moment_refused, read_moment_unreadable, text_done, text_refused};
 ghost use Rattle.cal_time.specs.declared.error.ComponentRange.{ComponentRange};
-ghost use Rattle.cal_c.specs.Unread.{IsStatusOf};
+ghost use Rattle.cal_c.specs.Unread.{IsStatusOf, position_in};
 
 use crate::status::{
     DAY, DONE, HOUR, JULIAN_DAY, MINUTE, MONTH, OFFSET_HOUR, OFFSET_MINUTE, ORDINAL, SECOND,
@@ -87,7 +87,7 @@ impl ReadDateResult {
     }
 
     pub fn refused(error: Unreadable) -> Self
-        ensures form { component_of error ≡ None → IsUnreadableDate result }
+        ensures form { component_of error ≡ None → result ≡ read_date_unreadable (position_in error) }
         ensures component { (why : ComponentRange) → component_of error ≡ Some why → result ≡ read_date_refused result.status }
         ensures status { IsStatusOf (component_of error) result.status }
     {
@@ -113,7 +113,7 @@ impl ReadMomentResult {
     }
 
     pub fn refused(error: Unreadable) -> Self
-        ensures form { component_of error ≡ None → IsUnreadableMoment result }
+        ensures form { component_of error ≡ None → result ≡ read_moment_unreadable (position_in error) }
         ensures component { (why : ComponentRange) → component_of error ≡ Some why → result ≡ read_moment_refused result.status }
         ensures status { IsStatusOf (component_of error) result.status }
     {
@@ -129,7 +129,8 @@ impl ReadMomentResult {
 
 /// The position of the first byte that is wrong, or the greatest number where none is.
 fn position_of(error: Unreadable) -> usize
-    ensures { (why : ComponentRange) → component_of error ≡ Some why → result ≡ nowhere }
+    ensures form { result ≡ position_in error }
+    ensures component { (why : ComponentRange) → component_of error ≡ Some why → result ≡ nowhere }
 {
     match error {
         Unreadable::UnexpectedByte(position) => position,

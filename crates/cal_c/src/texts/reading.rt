@@ -1,5 +1,5 @@
 //! What texts read as.
-ghost use Rattle.std.specs.Prelude.{◌≡◌, ◌+ℤ◌, ℕ, ℤ};
+ghost use Rattle.std.specs.Prelude.{◌≡◌, ◌+ℤ◌, ℕ};
 ghost use Rattle.cal_time.specs.Date.{IsDate};
 ghost use Rattle.cal_time.specs.Time.{IsTime};
 ghost use Rattle.cal_time.specs.UtcOffset.{IsOffset};
@@ -7,6 +7,7 @@ ghost use Rattle.cal_datetime.specs.DateTime.{IsDateTime};
 ghost use Rattle.cal_datetime.specs.OffsetDateTime.{Shown, instant, local_at, unix_epoch, unix_nanoseconds};
 ghost use Rattle.cal_text.specs.DateForms.{IsDateText};
 ghost use Rattle.cal_text.specs.JulianForm.{julian_text, IsJulianForm, IsJulianFormOfNone};
+ghost use Rattle.cal_text.specs.Position.{HasSome};
 ghost use Rattle.cal_text.specs.Reading.{HasFormThat, LacksMonth, LacksYear, LacksDay, LacksOrdinal, LacksWeek, LacksWeekday};
 ghost use Rattle.cal_text.specs.Rfc3339Form as moments;
 ghost use Rattle.cal_text.specs.Rfc3339Form.{HasMomentThat, IsMomentText, LacksHour, LacksMinute, LacksSecond, LacksOffsetHour, LacksOffsetMinute};
@@ -28,7 +29,7 @@ use cal_time::UtcOffset;
 #[unsafe(no_mangle)]
 pub extern "C" fn fots_date_read(text: &[u8]) -> ReadDateResult
     ensures date { (n : ℕ) → IsDate n → IsDateText text.now n → result ≡ read_date_done n }
-    ensures form { ¬ HasDateForm text.now → IsUnreadableDate result }
+    ensures form { ¬ HasDateForm text.now → IsUnreadableDate HasDateForm text.now result }
     ensures month { HasFormThat LacksMonth text.now → result ≡ read_date_refused month_refused }
     ensures year { HasFormThat LacksYear text.now → result ≡ read_date_refused year_refused }
     ensures day { HasFormThat LacksDay text.now → result ≡ read_date_refused day_refused }
@@ -46,7 +47,7 @@ pub extern "C" fn fots_date_read(text: &[u8]) -> ReadDateResult
 #[unsafe(no_mangle)]
 pub extern "C" fn fots_julian_day_read(text: &[u8]) -> ReadDateResult
     ensures date { (n : ℕ) → IsDate n → text.now ≡ julian_text n → result ≡ read_date_done n }
-    ensures form { ((j : ℤ) → ¬ IsJulianForm text.now j) → IsUnreadableDate result }
+    ensures form { ¬ HasSome IsJulianForm text.now → IsUnreadableDate (HasSome IsJulianForm) text.now result }
     ensures julian_day { IsJulianFormOfNone text.now → result ≡ read_date_refused julian_day_refused }
 {
     match julian_day::read(text) {
@@ -59,7 +60,7 @@ pub extern "C" fn fots_julian_day_read(text: &[u8]) -> ReadDateResult
 #[unsafe(no_mangle)]
 pub extern "C" fn fots_moment_read(text: &[u8]) -> ReadMomentResult
     ensures moment { (m : Shown) → IsMomentText text.now m → result ≡ read_moment_done m }
-    ensures form { ¬ HasFormOfMoment text.now → IsUnreadableMoment result }
+    ensures form { ¬ HasFormOfMoment text.now → IsUnreadableMoment HasFormOfMoment text.now result }
     ensures month { HasMomentThat moments.LacksMonth text.now → result ≡ read_moment_refused month_refused }
     ensures day { HasMomentThat moments.LacksDay text.now → result ≡ read_moment_refused day_refused }
     ensures hour { HasMomentThat LacksHour text.now → result ≡ read_moment_refused hour_refused }
@@ -78,7 +79,7 @@ pub extern "C" fn fots_moment_read(text: &[u8]) -> ReadMomentResult
 #[unsafe(no_mangle)]
 pub extern "C" fn fots_unix_read(text: &[u8]) -> ReadMomentResult
     ensures moment { (m : Shown) → IsUnixText text.now m → result ≡ read_moment_done m }
-    ensures form { ((v : ℤ) → ¬ HasUnixForm text.now v) → IsUnreadableMoment result }
+    ensures form { ¬ HasSome HasUnixForm text.now → IsUnreadableMoment (HasSome HasUnixForm) text.now result }
     ensures timestamp { IsUnixFormOfNone text.now → result ≡ read_moment_refused timestamp_refused }
 {
     match unix::read(text) {

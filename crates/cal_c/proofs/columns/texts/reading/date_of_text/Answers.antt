@@ -13,7 +13,7 @@ returns c =
     let fits : FitsSigned w32 r.date = search rules in
     record {
       date = λ n is has. date_of_done r b n fits byte (its.date n is has);
-      form = λ no. date_of_unreadable r b fits byte (its.form no);
+      form = λ no. date_of_unreadable _ _ r b fits byte (its.form no);
       month = λ h. date_of_refused r b _ fits byte (omega (arith, ints), omega (arith, ints)) (its.month h);
       year = λ h. date_of_refused r b _ fits byte (omega (arith, ints), omega (arith, ints)) (its.year h);
       day = λ h. date_of_refused r b _ fits byte (omega (arith, ints), omega (arith, ints)) (its.day h);

@@ -14,7 +14,7 @@ returns c =
     let fits_o : FitsSigned w32 r.offset = search rules in
     record {
       moment = λ m has. moment_of_done r b m fits fits_o byte (its.moment m has);
-      form = λ no. moment_of_unreadable r b fits fits_o byte (its.form no);
+      form = λ no. moment_of_unreadable _ _ r b fits fits_o byte (its.form no);
       month = λ h. moment_of_refused r b _ fits fits_o byte (omega (arith, ints), omega (arith, ints)) (its.month h);
       day = λ h. moment_of_refused r b _ fits fits_o byte (omega (arith, ints), omega (arith, ints)) (its.day h);
       hour = λ h. moment_of_refused r b _ fits fits_o byte (omega (arith, ints), omega (arith, ints)) (its.hour h);
