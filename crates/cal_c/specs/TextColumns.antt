@@ -3,17 +3,16 @@ use Rattle.std.specs.Prelude.{◌≡◌, ℕ, ◌+◌, ◌*◌, ◌≤◌, ◌<�
 use Rattle.std.specs.List.{between}
 use Rattle.cal_time.specs.Date.{IsDate, julian_day_at}
 use Rattle.cal_time.specs.DateText.{text}
-use Rattle.cal_time.specs.Month.{month_out_of_range}
-use Rattle.cal_time.specs.Refusals.{year_out_of_range, day_out_of_range, ordinal_out_of_range, week_out_of_range, weekday_out_of_range}
-use Rattle.cal_time.specs.Time.{IsTime, hour_out_of_range, minute_out_of_range, second_out_of_range}
-use Rattle.cal_time.specs.UtcOffset.{IsOffset, offset_hour_out_of_range, offset_minute_out_of_range}
+use Rattle.cal_time.specs.Time.{IsTime}
+use Rattle.cal_time.specs.UtcOffset.{IsOffset}
+use Rattle.cal_time.specs.declared.error.ComponentRange.{ComponentRange}
 use Rattle.cal_datetime.specs.OffsetDateTime.{Shown}
 use Rattle.cal_text.specs.DateForms.{IsDateText}
 use Rattle.cal_text.specs.Rfc3339.{HasMomentText, moment_text}
 use Rattle.cal_text.specs.Rfc3339Form.{IsMomentText}
 use Rattle.cal_c.specs.Moments.{moment_done, moment_refused}
 use Rattle.cal_c.specs.Results.{date_done, date_refused}
-use Rattle.cal_c.specs.Statuses.{done, past_range, bad_date, bad_time, bad_offset, bounds_refused, unreadable, year_refused, month_refused, day_refused, ordinal_refused, week_refused, weekday_refused, hour_refused, minute_refused, second_refused, offset_hour_refused, offset_minute_refused}
+use Rattle.cal_c.specs.Statuses.{done, past_range, bad_date, bad_time, bad_offset, bounds_refused, unreadable, component_status}
 use Rattle.cal_c.specs.Texts.{HasDateForm, HasFormOfMoment, HasDateFault, HasMomentFault}
 use Rattle.cal_c.specs.Values.{IsJulianDay, day_of, moment_of}
 use Rattle.cal_c.specs.declared.results.DateResult.{DateResult}
@@ -52,12 +51,7 @@ moment_row date time offset status = record { status = pos status; moment = reco
 pub record IsDateOfText (bytes : List ℕ) (r : DateResult) : Type 0 where
   pub date : (n : ℕ) → IsDate n → IsDateText bytes n → r ≡ date_done (julian_day_at n)
   pub form : (HasDateForm bytes → ⊥) → r ≡ date_refused unreadable
-  pub month : HasDateFault bytes month_out_of_range → r ≡ date_refused month_refused
-  pub year : HasDateFault bytes year_out_of_range → r ≡ date_refused year_refused
-  pub day : HasDateFault bytes day_out_of_range → r ≡ date_refused day_refused
-  pub ordinal : HasDateFault bytes ordinal_out_of_range → r ≡ date_refused ordinal_refused
-  pub week : HasDateFault bytes week_out_of_range → r ≡ date_refused week_refused
-  pub weekday : HasDateFault bytes weekday_out_of_range → r ≡ date_refused weekday_refused
+  pub component : (why : ComponentRange) → HasDateFault bytes why → r ≡ date_refused (component_status why.component)
 
 pub record IsDateOfPart (bytes : List ℕ) (from to : ℤ) (r : DateResult) : Type 0 where
   pub bounds : (ArePartOf bytes from to → ⊥) → r ≡ date_refused bounds_refused
@@ -67,13 +61,7 @@ pub record IsDateOfPart (bytes : List ℕ) (from to : ℤ) (r : DateResult) : Ty
 pub record IsMomentOfText (bytes : List ℕ) (r : MomentResult) : Type 0 where
   pub moment : (m : Shown) → IsMomentText bytes m → r ≡ moment_done m
   pub form : (HasFormOfMoment bytes → ⊥) → r ≡ moment_refused unreadable
-  pub month : HasMomentFault bytes month_out_of_range → r ≡ moment_refused month_refused
-  pub day : HasMomentFault bytes day_out_of_range → r ≡ moment_refused day_refused
-  pub hour : HasMomentFault bytes hour_out_of_range → r ≡ moment_refused hour_refused
-  pub minute : HasMomentFault bytes minute_out_of_range → r ≡ moment_refused minute_refused
-  pub second : HasMomentFault bytes second_out_of_range → r ≡ moment_refused second_refused
-  pub offset_hour : HasMomentFault bytes offset_hour_out_of_range → r ≡ moment_refused offset_hour_refused
-  pub offset_minute : HasMomentFault bytes offset_minute_out_of_range → r ≡ moment_refused offset_minute_refused
+  pub component : (why : ComponentRange) → HasMomentFault bytes why → r ≡ moment_refused (component_status why.component)
 
 pub record IsMomentOfPart (bytes : List ℕ) (from to : ℤ) (r : MomentResult) : Type 0 where
   pub bounds : (ArePartOf bytes from to → ⊥) → r ≡ moment_refused bounds_refused

@@ -3,11 +3,11 @@ use Rattle.std.specs.Prelude.{◌≡◌, ℕ, ◌-◌, ℤ, List, ◌++◌, leng
 use Rattle.cal_time.specs.Date.{julian_day_at}
 use Rattle.cal_time.specs.Month.{month_at, name}
 use Rattle.cal_time.specs.Weekday as weekdays
+use Rattle.cal_time.specs.declared.error.ComponentRange.{ComponentRange}
 use Rattle.cal_datetime.specs.DateTime.{date_at, time_at}
 use Rattle.cal_datetime.specs.OffsetDateTime.{Shown}
-use Rattle.cal_time.specs.declared.error.ComponentRange.{ComponentRange}
 use Rattle.cal_text.specs.DateForms.{HasForm}
-use Rattle.cal_text.specs.Position.{HasSome}
+use Rattle.cal_text.specs.Position.{HasSome, IsPosition}
 use Rattle.cal_text.specs.Reading.{HasFault, IsFaultOf}
 use Rattle.cal_text.specs.Rfc3339Form.{HasMomentForm, IsMomentFault}
 use Rattle.cal_c.specs.Results.{nothing}
@@ -56,9 +56,12 @@ read_date_done n = record { status = done; date = julian_day_at n; position = no
 abbrev pub read_date_refused : ℤ → ReadDateResult
 read_date_refused s = record { status = s; date = nothing; position = nowhere }
 
--- some byte is wrong
-abbrev pub IsUnreadableDate : ReadDateResult → Type 0
-IsUnreadableDate r = (at : ℕ) × (r ≡ record { status = unreadable; date = nothing; position = at })
+abbrev pub read_date_unreadable : ℕ → ReadDateResult
+read_date_unreadable at = record { status = unreadable; date = nothing; position = at }
+
+-- at the position the bytes stop being of the form
+abbrev pub IsUnreadableDate : (List ℕ → Type 0) → List ℕ → ReadDateResult → Type 0
+IsUnreadableDate IsText bytes r = (at : ℕ) × IsPosition IsText bytes at × (r ≡ read_date_unreadable at)
 
 abbrev pub read_moment_done : Shown → ReadMomentResult
 read_moment_done m =
@@ -67,6 +70,9 @@ read_moment_done m =
 abbrev pub read_moment_refused : ℤ → ReadMomentResult
 read_moment_refused s = record { status = s; date = nothing; time = 18_446_744_073_709_551_615; offset = nothing; position = nowhere }
 
-abbrev pub IsUnreadableMoment : ReadMomentResult → Type 0
-IsUnreadableMoment r =
-    (at : ℕ) × (r ≡ record { status = unreadable; date = nothing; time = 18_446_744_073_709_551_615; offset = nothing; position = at })
+abbrev pub read_moment_unreadable : ℕ → ReadMomentResult
+read_moment_unreadable at =
+    record { status = unreadable; date = nothing; time = 18_446_744_073_709_551_615; offset = nothing; position = at }
+
+abbrev pub IsUnreadableMoment : (List ℕ → Type 0) → List ℕ → ReadMomentResult → Type 0
+IsUnreadableMoment IsText bytes r = (at : ℕ) × IsPosition IsText bytes at × (r ≡ read_moment_unreadable at)

@@ -1,11 +1,11 @@
-//! Laws: the cases in which texts are read are all that there are, so the clauses of the readers leave one answer, but for the position of
-//! a wrong byte.
-ghost use Rattle.std.specs.Prelude.{◌≡◌, ◌⊎◌, ℕ, ℤ};
+//! Laws: the cases in which texts are read are all that there are, so the clauses of the readers leave one answer.
+ghost use Rattle.std.specs.Prelude.{◌≡◌, ◌⊎◌, ℕ};
 ghost use Rattle.cal_time.specs.Date.{IsDate};
 ghost use Rattle.cal_time.specs.declared.error.ComponentRange.{ComponentRange};
 ghost use Rattle.cal_datetime.specs.OffsetDateTime.{Shown};
 ghost use Rattle.cal_text.specs.DateForms.{IsDateText};
 ghost use Rattle.cal_text.specs.JulianForm.{julian_text, IsJulianForm, IsJulianFault};
+ghost use Rattle.cal_text.specs.Position.{HasSome};
 ghost use Rattle.cal_text.specs.Reading.{HasFault};
 ghost use Rattle.cal_text.specs.Rfc3339Form.{IsMomentText};
 ghost use Rattle.cal_text.specs.UnixText.{HasUnixForm, IsUnixText, IsUnixFault};
@@ -22,7 +22,8 @@ pub fn date_cases(text: &[u8])
 
 /// A text is that of a day by its Julian day, has no such form, or says a number of no day.
 pub fn julian_day_cases(text: &[u8])
-    ensures { ((n : ℕ) × IsDate n × (text.now ≡ julian_text n)) ⊎ ((j : ℤ) → ¬ IsJulianForm text.now j) ⊎ ((why : ComponentRange) × HasFault IsJulianForm IsJulianFault text.now why) }
+    ensures { ((n : ℕ) × IsDate n × (text.now ≡ julian_text n)) ⊎ (¬ HasSome IsJulianForm text.now)
+        ⊎ ((why : ComponentRange) × HasFault IsJulianForm IsJulianFault text.now why) }
 {
     let _ = julian_day::read(text);
 }
@@ -36,7 +37,8 @@ pub fn moment_cases(text: &[u8])
 
 /// A text is that of a Unix time of the range, has no such form, or says a time of no moment.
 pub fn unix_cases(text: &[u8])
-    ensures { ((m : Shown) × IsUnixText text.now m) ⊎ ((v : ℤ) → ¬ HasUnixForm text.now v) ⊎ ((why : ComponentRange) × HasFault HasUnixForm IsUnixFault text.now why) }
+    ensures { ((m : Shown) × IsUnixText text.now m) ⊎ (¬ HasSome HasUnixForm text.now)
+        ⊎ ((why : ComponentRange) × HasFault HasUnixForm IsUnixFault text.now why) }
 {
     let _ = unix::read(text);
 }

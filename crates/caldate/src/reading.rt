@@ -1,9 +1,12 @@
 //! What the text of a line is read as, where a reading is named.
-ghost use Rattle.std.specs.Prelude.{◌≡◌, ◌↔◌, ◌≤◌, IfOk, Ok, length};
+ghost use Rattle.std.specs.Prelude.{◌≡◌, ◌↔◌, ◌≤◌, IfOk, IfErr, Ok, length};
 ghost use Rattle.cal_time.specs.declared.error.ComponentRange.{ComponentRange};
+ghost use Rattle.cal_text.specs.AnyForm.{HasAnyForm};
+ghost use Rattle.cal_text.specs.Position.{IsAtStop};
 ghost use Rattle.cal_text.specs.Reading.{IsRefusedFor, IsRefusedForForm};
 ghost use Rattle.cal_text.specs.declared.any.DateOrMoment.{DateOrMoment};
 ghost use Rattle.caldate.specs.Readings.{HasFormIn, IsFaultIn, IsTextIn};
+ghost use Rattle.caldate.specs.declared.reading.Reading.TheVariants.{Any};
 
 mod local;
 mod number;
@@ -41,6 +44,7 @@ pub fn read_in(reading: Reading, text: &[u8]) -> Result<DateOrMoment, Unreadable
     ensures every { (found : DateOrMoment) → IsTextIn reading text.now found → result ≡ Ok found }
     ensures has { IfOk result (IsTextIn reading text.now) }
     ensures form { IsRefusedForForm result ↔ ¬ HasFormIn reading text.now }
+    ensures position { reading ≡ Any → IfErr result (IsAtStop HasAnyForm text.now) }
     ensures component { (why : ComponentRange) → IsRefusedFor why result ↔ IsFaultIn reading text.now why }
 {
     match reading {

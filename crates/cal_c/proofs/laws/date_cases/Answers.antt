@@ -5,5 +5,4 @@ use Rattle.cal_c.proofs.laws.date_cases.Goals as goal
 pub returns : goal.returns
 returns c =
     let read = c.read.ensures in
-    ⊎_map (λ found. (found.0, found.1.0, found.1.1)) (λ other. ⊎_map (λ none h. none h.0 h.1) (λ fault. fault) other)
-    (cases c.read.result read.has read.form read.component)
+    ⊎_map (λ found. (found.0, found.1.0, found.1.1)) (λ other. other) (cases c.read.result read.has read.form read.component)
