@@ -1,5 +1,5 @@
 -- What the error of a text that is not read says: the component at fault, or where the text stops being of the form.
-use Rattle.std.proofs.Common.{◌≡◌, ℕ, List, None, Some, ap, refl, ◌∙◌}
+use Rattle.std.proofs.Common.{◌≡◌, ℕ, List, None, Some, ap}
 use Rattle.cal_time.specs.declared.error.ComponentRange.{ComponentRange}
 use Rattle.cal_text.specs.Position.{IsAtStop}
 use Rattle.cal_text.specs.Reading.{component_of}
