@@ -12,4 +12,5 @@ pub mod Schedules
 pub mod Holidays
 pub mod PrintedRows
 pub mod TextRows
+pub mod Unreads
 pub mod Recurring

@@ -1,12 +1,14 @@
 -- What a text reads as, as a row of columns.
-use Rattle.std.proofs.Common.{◌≡◌, ℕ, ℤ, pos, ap, sym, subst, ◌∙◌, arith, FitsSigned, w32, to_z, of_z}
+use Rattle.std.proofs.Common.{◌≡◌, ℕ, ℤ, pos, List, ap, sym, subst, ◌∙◌, arith, FitsSigned, w32, to_z, of_z}
 use Rattle.std.proofs.lemmas.Int.{ints, to_z-of_z}
 use Rattle.cal_datetime.specs.OffsetDateTime.{Shown}
 use Rattle.cal_time.specs.Date.{julian_day_at}
+use Rattle.cal_time.specs.declared.error.Component.{Component}
+use Rattle.cal_time.specs.declared.error.Component.TheVariants.{Year, Month, JulianDay, Hour, Minute, Second, Millisecond, Microsecond, Nanosecond, OffsetHour, OffsetMinute, OffsetSecond, Seconds, Timestamp, Day, Ordinal, Week, Weekday}
 use Rattle.cal_c.specs.Columns.{IsByte, date_row}
 use Rattle.cal_c.specs.Moments.{moment_done, moment_refused}
 use Rattle.cal_c.specs.Results.{date_done, date_refused, nothing}
-use Rattle.cal_c.specs.Statuses.{done, unreadable}
+use Rattle.cal_c.specs.Statuses.{done, unreadable, component_status}
 use Rattle.cal_c.specs.TextColumns.{moment_row}
 use Rattle.cal_c.specs.Texts.{IsUnreadableDate, IsUnreadableMoment, read_date_done, read_date_refused, read_moment_done, read_moment_refused}
 use Rattle.cal_c.specs.declared.results.DateResult.{DateResult}
@@ -20,6 +22,26 @@ IsByteOf b s = IsByte s → pos b ≡ s
 
 a_byte : (b : ℕ) (s t : ℤ) → IsByteOf b s → s ≡ t → IsByte t → pos b ≡ t
 a_byte b s t byte e is = byte (subst IsByte (sym e) is) ∙ e
+
+pub is_byte : (c : Component) → IsByte (component_status c)
+is_byte Year = (omega (arith, ints), omega (arith, ints))
+is_byte Month = (omega (arith, ints), omega (arith, ints))
+is_byte JulianDay = (omega (arith, ints), omega (arith, ints))
+is_byte Hour = (omega (arith, ints), omega (arith, ints))
+is_byte Minute = (omega (arith, ints), omega (arith, ints))
+is_byte Second = (omega (arith, ints), omega (arith, ints))
+is_byte Millisecond = (omega (arith, ints), omega (arith, ints))
+is_byte Microsecond = (omega (arith, ints), omega (arith, ints))
+is_byte Nanosecond = (omega (arith, ints), omega (arith, ints))
+is_byte OffsetHour = (omega (arith, ints), omega (arith, ints))
+is_byte OffsetMinute = (omega (arith, ints), omega (arith, ints))
+is_byte OffsetSecond = (omega (arith, ints), omega (arith, ints))
+is_byte Seconds = (omega (arith, ints), omega (arith, ints))
+is_byte Timestamp = (omega (arith, ints), omega (arith, ints))
+is_byte Day = (omega (arith, ints), omega (arith, ints))
+is_byte Ordinal = (omega (arith, ints), omega (arith, ints))
+is_byte Week = (omega (arith, ints), omega (arith, ints))
+is_byte Weekday = (omega (arith, ints), omega (arith, ints))
 
 -- ---- dates
 date-row : (r : ReadDateResult) (b : ℕ) (s d : ℤ) → FitsSigned w32 r.date → IsByteOf b r.status → IsByte s → r.status ≡ s → r.date ≡ d
@@ -36,10 +58,10 @@ pub date_of_refused : (r : ReadDateResult) (b : ℕ) (s : ℤ) → FitsSigned w3
     → date_row (to_z w32 (of_z w32 r.date)) b ≡ date_refused s
 date_of_refused r b s fits byte is e = date-row r b s nothing fits byte is (ap (λ x. x.status) e) (ap (λ x. x.date) e)
 
-pub date_of_unreadable : (r : ReadDateResult) (b : ℕ) → FitsSigned w32 r.date → IsByteOf b r.status → IsUnreadableDate r
-    → date_row (to_z w32 (of_z w32 r.date)) b ≡ date_refused unreadable
-date_of_unreadable r b fits byte its =
-    date-row r b unreadable nothing fits byte (omega (arith, ints), omega (arith, ints)) (ap (λ x. x.status) its.1) (ap (λ x. x.date) its.1)
+pub date_of_unreadable : (IsText : List ℕ → Type 0) (bytes : List ℕ) (r : ReadDateResult) (b : ℕ) → FitsSigned w32 r.date → IsByteOf b r.status
+    → IsUnreadableDate IsText bytes r → date_row (to_z w32 (of_z w32 r.date)) b ≡ date_refused unreadable
+date_of_unreadable IsText bytes r b fits byte its =
+    date-row r b unreadable nothing fits byte (omega (arith, ints), omega (arith, ints)) (ap (λ x. x.status) its.2) (ap (λ x. x.date) its.2)
 
 -- ---- moments
 moment-row : (r : ReadMomentResult) (b : ℕ) (s d : ℤ) (t : ℕ) (o : ℤ) → FitsSigned w32 r.date → FitsSigned w32 r.offset → IsByteOf b r.status → IsByte s
@@ -61,8 +83,9 @@ pub moment_of_refused : (r : ReadMomentResult) (b : ℕ) (s : ℤ) → FitsSigne
 moment_of_refused r b s fits fits_o byte is e =
     moment-row r b s _ _ _ fits fits_o byte is (ap (λ x. x.status) e) (ap (λ x. x.date) e) (ap (λ x. x.time) e) (ap (λ x. x.offset) e)
 
-pub moment_of_unreadable : (r : ReadMomentResult) (b : ℕ) → FitsSigned w32 r.date → FitsSigned w32 r.offset → IsByteOf b r.status → IsUnreadableMoment r
+pub moment_of_unreadable : (IsText : List ℕ → Type 0) (bytes : List ℕ) (r : ReadMomentResult) (b : ℕ) → FitsSigned w32 r.date → FitsSigned w32 r.offset
+    → IsByteOf b r.status → IsUnreadableMoment IsText bytes r
     → moment_row (to_z w32 (of_z w32 r.date)) r.time (to_z w32 (of_z w32 r.offset)) b ≡ moment_refused unreadable
-moment_of_unreadable r b fits fits_o byte its =
+moment_of_unreadable IsText bytes r b fits fits_o byte its =
     moment-row r b unreadable _ _ _ fits fits_o byte (omega (arith, ints), omega (arith, ints))
-    (ap (λ x. x.status) its.1) (ap (λ x. x.date) its.1) (ap (λ x. x.time) its.1) (ap (λ x. x.offset) its.1)
+    (ap (λ x. x.status) its.2) (ap (λ x. x.date) its.2) (ap (λ x. x.time) its.2) (ap (λ x. x.offset) its.2)

@@ -1,5 +1,7 @@
 -- The status of a call, as a number.
 use Rattle.std.specs.Prelude.{ℤ, pos}
+use Rattle.cal_time.specs.declared.error.Component.{Component}
+use Rattle.cal_time.specs.declared.error.Component.TheVariants.{Year, Month, JulianDay, Hour, Minute, Second, Millisecond, Microsecond, Nanosecond, OffsetHour, OffsetMinute, OffsetSecond, Seconds, Timestamp, Day, Ordinal, Week, Weekday}
 
 -- there is an answer
 abbrev pub done : ℤ
@@ -119,3 +121,24 @@ week_refused = pos 66
 
 abbrev pub weekday_refused : ℤ
 weekday_refused = pos 67
+
+-- the status of a refusal by this component
+abbrev pub component_status : Component → ℤ
+component_status Year = year_refused
+component_status Month = month_refused
+component_status JulianDay = julian_day_refused
+component_status Hour = hour_refused
+component_status Minute = minute_refused
+component_status Second = second_refused
+component_status Millisecond = millisecond_refused
+component_status Microsecond = microsecond_refused
+component_status Nanosecond = nanosecond_refused
+component_status OffsetHour = offset_hour_refused
+component_status OffsetMinute = offset_minute_refused
+component_status OffsetSecond = offset_second_refused
+component_status Seconds = seconds_refused
+component_status Timestamp = timestamp_refused
+component_status Day = day_refused
+component_status Ordinal = ordinal_refused
+component_status Week = week_refused
+component_status Weekday = weekday_refused

@@ -5,16 +5,15 @@ use Rattle.cal_time.specs.Date.{IsDate, julian_day_at}
 use Rattle.cal_time.specs.DateText.{text}
 use Rattle.cal_time.specs.Time.{IsTime}
 use Rattle.cal_time.specs.UtcOffset.{IsOffset}
+use Rattle.cal_time.specs.declared.error.ComponentRange.{ComponentRange}
 use Rattle.cal_datetime.specs.OffsetDateTime.{Shown}
 use Rattle.cal_text.specs.DateForms.{IsDateText}
-use Rattle.cal_text.specs.Reading.{HasFormThat, LacksMonth, LacksYear, LacksDay, LacksOrdinal, LacksWeek, LacksWeekday}
 use Rattle.cal_text.specs.Rfc3339.{HasMomentText, moment_text}
-use Rattle.cal_text.specs.Rfc3339Form as moments
-use Rattle.cal_text.specs.Rfc3339Form.{HasMomentThat, IsMomentText, LacksHour, LacksMinute, LacksSecond, LacksOffsetHour, LacksOffsetMinute}
+use Rattle.cal_text.specs.Rfc3339Form.{IsMomentText}
 use Rattle.cal_c.specs.Moments.{moment_done, moment_refused}
 use Rattle.cal_c.specs.Results.{date_done, date_refused}
-use Rattle.cal_c.specs.Statuses.{done, past_range, bad_date, bad_time, bad_offset, bounds_refused, unreadable, year_refused, month_refused, day_refused, ordinal_refused, week_refused, weekday_refused, hour_refused, minute_refused, second_refused, offset_hour_refused, offset_minute_refused}
-use Rattle.cal_c.specs.Texts.{HasDateForm, HasFormOfMoment}
+use Rattle.cal_c.specs.Statuses.{done, past_range, bad_date, bad_time, bad_offset, bounds_refused, unreadable, component_status}
+use Rattle.cal_c.specs.Texts.{HasDateForm, HasFormOfMoment, HasDateFault, HasMomentFault}
 use Rattle.cal_c.specs.Values.{IsJulianDay, day_of, moment_of}
 use Rattle.cal_c.specs.declared.results.DateResult.{DateResult}
 use Rattle.cal_c.specs.declared.results.MomentResult.{MomentResult}
@@ -52,12 +51,7 @@ moment_row date time offset status = record { status = pos status; moment = reco
 pub record IsDateOfText (bytes : List ℕ) (r : DateResult) : Type 0 where
   pub date : (n : ℕ) → IsDate n → IsDateText bytes n → r ≡ date_done (julian_day_at n)
   pub form : (HasDateForm bytes → ⊥) → r ≡ date_refused unreadable
-  pub month : HasFormThat LacksMonth bytes → r ≡ date_refused month_refused
-  pub year : HasFormThat LacksYear bytes → r ≡ date_refused year_refused
-  pub day : HasFormThat LacksDay bytes → r ≡ date_refused day_refused
-  pub ordinal : HasFormThat LacksOrdinal bytes → r ≡ date_refused ordinal_refused
-  pub week : HasFormThat LacksWeek bytes → r ≡ date_refused week_refused
-  pub weekday : HasFormThat LacksWeekday bytes → r ≡ date_refused weekday_refused
+  pub component : (why : ComponentRange) → HasDateFault bytes why → r ≡ date_refused (component_status why.component)
 
 pub record IsDateOfPart (bytes : List ℕ) (from to : ℤ) (r : DateResult) : Type 0 where
   pub bounds : (ArePartOf bytes from to → ⊥) → r ≡ date_refused bounds_refused
@@ -67,13 +61,7 @@ pub record IsDateOfPart (bytes : List ℕ) (from to : ℤ) (r : DateResult) : Ty
 pub record IsMomentOfText (bytes : List ℕ) (r : MomentResult) : Type 0 where
   pub moment : (m : Shown) → IsMomentText bytes m → r ≡ moment_done m
   pub form : (HasFormOfMoment bytes → ⊥) → r ≡ moment_refused unreadable
-  pub month : HasMomentThat moments.LacksMonth bytes → r ≡ moment_refused month_refused
-  pub day : HasMomentThat moments.LacksDay bytes → r ≡ moment_refused day_refused
-  pub hour : HasMomentThat LacksHour bytes → r ≡ moment_refused hour_refused
-  pub minute : HasMomentThat LacksMinute bytes → r ≡ moment_refused minute_refused
-  pub second : HasMomentThat LacksSecond bytes → r ≡ moment_refused second_refused
-  pub offset_hour : HasMomentThat LacksOffsetHour bytes → r ≡ moment_refused offset_hour_refused
-  pub offset_minute : HasMomentThat LacksOffsetMinute bytes → r ≡ moment_refused offset_minute_refused
+  pub component : (why : ComponentRange) → HasMomentFault bytes why → r ≡ moment_refused (component_status why.component)
 
 pub record IsMomentOfPart (bytes : List ℕ) (from to : ℤ) (r : MomentResult) : Type 0 where
   pub bounds : (ArePartOf bytes from to → ⊥) → r ≡ moment_refused bounds_refused

@@ -1,12 +1,15 @@
 -- Texts, as they cross, and what a text reads as.
-use Rattle.std.specs.Prelude.{◌≡◌, ℕ, ◌-◌, ℤ, List, ◌++◌, length, replicate, ⊤}
+use Rattle.std.specs.Prelude.{◌≡◌, ℕ, ◌-◌, ℤ, List, ◌++◌, length, replicate}
 use Rattle.cal_time.specs.Date.{julian_day_at}
 use Rattle.cal_time.specs.Month.{month_at, name}
 use Rattle.cal_time.specs.Weekday as weekdays
+use Rattle.cal_time.specs.declared.error.ComponentRange.{ComponentRange}
 use Rattle.cal_datetime.specs.DateTime.{date_at, time_at}
 use Rattle.cal_datetime.specs.OffsetDateTime.{Shown}
-use Rattle.cal_text.specs.Reading.{HasFormThat}
-use Rattle.cal_text.specs.Rfc3339Form.{HasMomentThat}
+use Rattle.cal_text.specs.DateForms.{HasForm}
+use Rattle.cal_text.specs.Position.{HasSome, IsPosition}
+use Rattle.cal_text.specs.Reading.{HasFault, IsFaultOf}
+use Rattle.cal_text.specs.Rfc3339Form.{HasMomentForm, IsMomentFault}
 use Rattle.cal_c.specs.Results.{nothing}
 use Rattle.cal_c.specs.Statuses.{done, unreadable}
 use Rattle.cal_c.specs.declared.texts.TextResult.{TextResult}
@@ -31,10 +34,17 @@ weekday_name w = weekdays.name (weekdays.weekday_at (w - 1))
 -- ---- forms
 -- the bytes have one of the forms of a date, or that of a moment, whatever the numbers
 abbrev pub HasDateForm : List ℕ → Type 0
-HasDateForm bytes = HasFormThat (λ form. ⊤) bytes
+HasDateForm bytes = HasSome HasForm bytes
 
 abbrev pub HasFormOfMoment : List ℕ → Type 0
-HasFormOfMoment bytes = HasMomentThat (λ form. ⊤) bytes
+HasFormOfMoment bytes = HasSome HasMomentForm bytes
+
+-- and this component of it is at fault
+abbrev pub HasDateFault : List ℕ → ComponentRange → Type 0
+HasDateFault bytes why = HasFault HasForm IsFaultOf bytes why
+
+abbrev pub HasMomentFault : List ℕ → ComponentRange → Type 0
+HasMomentFault bytes why = HasFault HasMomentForm IsMomentFault bytes why
 
 -- ---- what is read: a position is the greatest number where no byte is wrong
 abbrev pub nowhere : ℕ
@@ -46,9 +56,12 @@ read_date_done n = record { status = done; date = julian_day_at n; position = no
 abbrev pub read_date_refused : ℤ → ReadDateResult
 read_date_refused s = record { status = s; date = nothing; position = nowhere }
 
--- some byte is wrong
-abbrev pub IsUnreadableDate : ReadDateResult → Type 0
-IsUnreadableDate r = (at : ℕ) × (r ≡ record { status = unreadable; date = nothing; position = at })
+abbrev pub read_date_unreadable : ℕ → ReadDateResult
+read_date_unreadable at = record { status = unreadable; date = nothing; position = at }
+
+-- at the position the bytes stop being of the form
+abbrev pub IsUnreadableDate : (List ℕ → Type 0) → List ℕ → ReadDateResult → Type 0
+IsUnreadableDate IsText bytes r = (at : ℕ) × IsPosition IsText bytes at × (r ≡ read_date_unreadable at)
 
 abbrev pub read_moment_done : Shown → ReadMomentResult
 read_moment_done m =
@@ -57,6 +70,9 @@ read_moment_done m =
 abbrev pub read_moment_refused : ℤ → ReadMomentResult
 read_moment_refused s = record { status = s; date = nothing; time = 18_446_744_073_709_551_615; offset = nothing; position = nowhere }
 
-abbrev pub IsUnreadableMoment : ReadMomentResult → Type 0
-IsUnreadableMoment r =
-    (at : ℕ) × (r ≡ record { status = unreadable; date = nothing; time = 18_446_744_073_709_551_615; offset = nothing; position = at })
+abbrev pub read_moment_unreadable : ℕ → ReadMomentResult
+read_moment_unreadable at =
+    record { status = unreadable; date = nothing; time = 18_446_744_073_709_551_615; offset = nothing; position = at }
+
+abbrev pub IsUnreadableMoment : (List ℕ → Type 0) → List ℕ → ReadMomentResult → Type 0
+IsUnreadableMoment IsText bytes r = (at : ℕ) × IsPosition IsText bytes at × (r ≡ read_moment_unreadable at)

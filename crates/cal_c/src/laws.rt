@@ -1,45 +1,44 @@
-//! Laws: the cases in which texts are read are all that there are, so the clauses of the readers leave one answer, but for the position of
-//! a wrong byte.
-ghost use Rattle.std.specs.Prelude.{◌≡◌, ◌⊎◌, ℕ, ℤ};
+//! Laws: the cases in which texts are read are all that there are, so the clauses of the readers leave one answer.
+ghost use Rattle.std.specs.Prelude.{◌≡◌, ◌⊎◌, ℕ};
 ghost use Rattle.cal_time.specs.Date.{IsDate};
+ghost use Rattle.cal_time.specs.declared.error.ComponentRange.{ComponentRange};
 ghost use Rattle.cal_datetime.specs.OffsetDateTime.{Shown};
 ghost use Rattle.cal_text.specs.DateForms.{IsDateText};
-ghost use Rattle.cal_text.specs.JulianForm.{julian_text, IsJulianForm, IsJulianFormOfNone};
-ghost use Rattle.cal_text.specs.Reading.{HasFormThat, LacksMonth, LacksYear, LacksDay, LacksOrdinal, LacksWeek, LacksWeekday};
-ghost use Rattle.cal_text.specs.Rfc3339Form as moments;
-ghost use Rattle.cal_text.specs.Rfc3339Form.{HasMomentThat, IsMomentText, LacksHour, LacksMinute, LacksSecond, LacksOffsetHour, LacksOffsetMinute};
-ghost use Rattle.cal_text.specs.UnixText.{HasUnixForm, IsUnixText, IsUnixFormOfNone};
-ghost use Rattle.cal_c.specs.Texts.{HasDateForm, HasFormOfMoment};
+ghost use Rattle.cal_text.specs.JulianForm.{julian_text, IsJulianForm, IsJulianFault};
+ghost use Rattle.cal_text.specs.Position.{HasSome};
+ghost use Rattle.cal_text.specs.Reading.{HasFault};
+ghost use Rattle.cal_text.specs.Rfc3339Form.{IsMomentText};
+ghost use Rattle.cal_text.specs.UnixText.{HasUnixForm, IsUnixText, IsUnixFault};
+ghost use Rattle.cal_c.specs.Texts.{HasDateForm, HasFormOfMoment, HasDateFault, HasMomentFault};
 
 use cal_text::{date, julian_day, rfc3339, unix};
 
 /// A text is one of a day, has no form of a date, or has one with a component at fault.
 pub fn date_cases(text: &[u8])
-    ensures { ((n : ℕ) × IsDate n × IsDateText text.now n) ⊎ (¬ HasDateForm text.now) ⊎ HasFormThat LacksMonth text.now ⊎ HasFormThat LacksYear text.now
-        ⊎ HasFormThat LacksDay text.now ⊎ HasFormThat LacksOrdinal text.now ⊎ HasFormThat LacksWeek text.now ⊎ HasFormThat LacksWeekday text.now }
+    ensures { ((n : ℕ) × IsDate n × IsDateText text.now n) ⊎ (¬ HasDateForm text.now) ⊎ ((why : ComponentRange) × HasDateFault text.now why) }
 {
     let _ = date::read(text);
 }
 
 /// A text is that of a day by its Julian day, has no such form, or says a number of no day.
 pub fn julian_day_cases(text: &[u8])
-    ensures { ((n : ℕ) × IsDate n × (text.now ≡ julian_text n)) ⊎ ((j : ℤ) → ¬ IsJulianForm text.now j) ⊎ IsJulianFormOfNone text.now }
+    ensures { ((n : ℕ) × IsDate n × (text.now ≡ julian_text n)) ⊎ (¬ HasSome IsJulianForm text.now)
+        ⊎ ((why : ComponentRange) × HasFault IsJulianForm IsJulianFault text.now why) }
 {
     let _ = julian_day::read(text);
 }
 
 /// A text is one of a moment, has no such form, or has one with a component at fault.
 pub fn moment_cases(text: &[u8])
-    ensures { ((m : Shown) × IsMomentText text.now m) ⊎ (¬ HasFormOfMoment text.now) ⊎ HasMomentThat moments.LacksMonth text.now
-        ⊎ HasMomentThat moments.LacksDay text.now ⊎ HasMomentThat LacksHour text.now ⊎ HasMomentThat LacksMinute text.now
-        ⊎ HasMomentThat LacksSecond text.now ⊎ HasMomentThat LacksOffsetHour text.now ⊎ HasMomentThat LacksOffsetMinute text.now }
+    ensures { ((m : Shown) × IsMomentText text.now m) ⊎ (¬ HasFormOfMoment text.now) ⊎ ((why : ComponentRange) × HasMomentFault text.now why) }
 {
     let _ = rfc3339::read(text);
 }
 
 /// A text is that of a Unix time of the range, has no such form, or says a time of no moment.
 pub fn unix_cases(text: &[u8])
-    ensures { ((m : Shown) × IsUnixText text.now m) ⊎ ((v : ℤ) → ¬ HasUnixForm text.now v) ⊎ IsUnixFormOfNone text.now }
+    ensures { ((m : Shown) × IsUnixText text.now m) ⊎ (¬ HasSome HasUnixForm text.now)
+        ⊎ ((why : ComponentRange) × HasFault HasUnixForm IsUnixFault text.now why) }
 {
     let _ = unix::read(text);
 }

@@ -3,7 +3,7 @@ ghost use Rattle.std.specs.Prelude.{◌≡◌};
 ghost use Rattle.cal_time.specs.Refusals.{year_out_of_range, day_out_of_range, ordinal_out_of_range, week_out_of_range, weekday_out_of_range};
 ghost use Rattle.cal_time.specs.Time.{hour_out_of_range, minute_out_of_range, second_out_of_range, millisecond_out_of_range, microsecond_out_of_range, nanosecond_out_of_range};
 ghost use Rattle.cal_time.specs.UtcOffset.{offset_hour_out_of_range, offset_minute_out_of_range, offset_second_out_of_range};
-ghost use Rattle.cal_c.specs.Statuses.{hour_refused, minute_refused, second_refused, millisecond_refused, microsecond_refused, nanosecond_refused, offset_hour_refused, offset_minute_refused, offset_second_refused, year_refused, day_refused, ordinal_refused, week_refused, weekday_refused};
+ghost use Rattle.cal_c.specs.Statuses.{hour_refused, minute_refused, second_refused, millisecond_refused, microsecond_refused, nanosecond_refused, offset_hour_refused, offset_minute_refused, offset_second_refused, year_refused, day_refused, ordinal_refused, week_refused, weekday_refused, component_status};
 
 use cal_time::error::{Component, ComponentRange};
 
@@ -132,5 +132,31 @@ pub fn offset_status(error: ComponentRange) -> i32
         Component::OffsetHour => OFFSET_HOUR,
         Component::OffsetMinute => OFFSET_MINUTE,
         _ => OFFSET_SECOND,
+    }
+}
+
+/// The status of a refusal by this component.
+pub fn component_status(component: Component) -> i32
+    ensures { result ≡ component_status component }
+{
+    match component {
+        Component::Year => YEAR,
+        Component::Month => MONTH,
+        Component::JulianDay => JULIAN_DAY,
+        Component::Hour => HOUR,
+        Component::Minute => MINUTE,
+        Component::Second => SECOND,
+        Component::Millisecond => MILLISECOND,
+        Component::Microsecond => MICROSECOND,
+        Component::Nanosecond => NANOSECOND,
+        Component::OffsetHour => OFFSET_HOUR,
+        Component::OffsetMinute => OFFSET_MINUTE,
+        Component::OffsetSecond => OFFSET_SECOND,
+        Component::Seconds => SECONDS,
+        Component::Timestamp => TIMESTAMP,
+        Component::Day => DAY,
+        Component::Ordinal => ORDINAL,
+        Component::Week => WEEK,
+        Component::Weekday => WEEKDAY,
     }
 }

@@ -1,19 +1,13 @@
 //! What crosses of texts: the bytes of one, and what one reads as.
-ghost use Rattle.std.specs.Prelude.{◌≡◌, ◌≤◌, length, None, Some};
-ghost use Rattle.cal_text.specs.Reading.{component_of};
-ghost use Rattle.cal_c.specs.Texts.{IsUnreadableDate, IsUnreadableMoment, nowhere, read_date_done, read_date_refused, read_moment_done, read_moment_refused, text_done, text_refused};
-ghost use Rattle.cal_time.specs.declared.error.ComponentRange.{ComponentRange};
-ghost use Rattle.cal_c.specs.Unread.{IsStatusOf};
+ghost use Rattle.std.specs.Prelude.{◌≡◌, ◌≤◌, length};
+ghost use Rattle.cal_c.specs.Texts.{read_date_done, read_moment_done, text_done, text_refused};
+ghost use Rattle.cal_c.specs.Unread.{unread_date, unread_moment};
 
-use crate::status::{
-    DAY, DONE, HOUR, JULIAN_DAY, MINUTE, MONTH, OFFSET_HOUR, OFFSET_MINUTE, ORDINAL, SECOND,
-    TIMESTAMP, UNREADABLE, WEEK, WEEKDAY, YEAR,
-};
+use crate::status::{DONE, UNREADABLE, component_status};
 use crate::values::nanoseconds_of;
 use cal_datetime::OffsetDateTime;
 use cal_text::Unreadable;
 use cal_time::Date;
-use cal_time::error::{Component, ComponentRange};
 
 mod making;
 pub mod reading;
@@ -87,14 +81,19 @@ impl ReadDateResult {
     }
 
     pub fn refused(error: Unreadable) -> Self
-        ensures form { component_of error ≡ None → IsUnreadableDate result }
-        ensures component { (why : ComponentRange) → component_of error ≡ Some why → result ≡ read_date_refused result.status }
-        ensures status { IsStatusOf (component_of error) result.status }
+        ensures { result ≡ unread_date error }
     {
-        ReadDateResult {
-            status: status_of(error),
-            date: i32::MIN,
-            position: position_of(error),
+        match error {
+            Unreadable::UnexpectedByte(position) => ReadDateResult {
+                status: UNREADABLE,
+                date: i32::MIN,
+                position,
+            },
+            Unreadable::OutOfRange(error) => ReadDateResult {
+                status: component_status(error.component()),
+                date: i32::MIN,
+                position: usize::MAX,
+            },
         }
     }
 }
@@ -113,57 +112,23 @@ impl ReadMomentResult {
     }
 
     pub fn refused(error: Unreadable) -> Self
-        ensures form { component_of error ≡ None → IsUnreadableMoment result }
-        ensures component { (why : ComponentRange) → component_of error ≡ Some why → result ≡ read_moment_refused result.status }
-        ensures status { IsStatusOf (component_of error) result.status }
+        ensures { result ≡ unread_moment error }
     {
-        ReadMomentResult {
-            status: status_of(error),
-            date: i32::MIN,
-            time: u64::MAX,
-            offset: i32::MIN,
-            position: position_of(error),
+        match error {
+            Unreadable::UnexpectedByte(position) => ReadMomentResult {
+                status: UNREADABLE,
+                date: i32::MIN,
+                time: u64::MAX,
+                offset: i32::MIN,
+                position,
+            },
+            Unreadable::OutOfRange(error) => ReadMomentResult {
+                status: component_status(error.component()),
+                date: i32::MIN,
+                time: u64::MAX,
+                offset: i32::MIN,
+                position: usize::MAX,
+            },
         }
-    }
-}
-
-/// The position of the first byte that is wrong, or the greatest number where none is.
-fn position_of(error: Unreadable) -> usize
-    ensures { (why : ComponentRange) → component_of error ≡ Some why → result ≡ nowhere }
-{
-    match error {
-        Unreadable::UnexpectedByte(position) => position,
-        Unreadable::OutOfRange(_) => usize::MAX,
-    }
-}
-
-/// The status of a text that is not read.
-fn status_of(error: Unreadable) -> i32
-    ensures { IsStatusOf (component_of error) result }
-{
-    match error {
-        Unreadable::UnexpectedByte(_) => UNREADABLE,
-        Unreadable::OutOfRange(error) => component_status(error),
-    }
-}
-
-/// The status of a refusal by a component of a text.
-fn component_status(error: ComponentRange) -> i32
-    ensures { IsStatusOf (Some error) result }
-{
-    match error.component() {
-        Component::Year => YEAR,
-        Component::Month => MONTH,
-        Component::JulianDay => JULIAN_DAY,
-        Component::Day => DAY,
-        Component::Ordinal => ORDINAL,
-        Component::Week => WEEK,
-        Component::Weekday => WEEKDAY,
-        Component::Hour => HOUR,
-        Component::Minute => MINUTE,
-        Component::Second => SECOND,
-        Component::OffsetHour => OFFSET_HOUR,
-        Component::OffsetMinute => OFFSET_MINUTE,
-        _ => TIMESTAMP,
     }
 }

@@ -1,8 +1,7 @@
 -- What a text of one shape is, and why it is refused: only the form of this shape is left.
-use Rattle.std.proofs.Common.{◌≡◌, ℕ, ℤ, Option, Some, List, get_or, ap, inl, inr, arith}
+use Rattle.std.proofs.Common.{◌≡◌, ℕ, ℤ, List, get_or, ap, inl, inr, arith}
 use Rattle.cal_time.specs.Date.{IsDate}
 use Rattle.cal_time.specs.declared.error.ComponentRange.{ComponentRange}
-use Rattle.cal_time.specs.Refusals.{julian_day_out_of_range}
 use Rattle.cal_datetime.specs.OffsetDateTime.{Shown}
 use Rattle.cal_text.specs.declared.any.DateOrMoment.{DateOrMoment}
 use Rattle.cal_text.specs.declared.any.DateOrMoment.TheVariants.{Date, Moment}
@@ -10,22 +9,16 @@ use Rattle.cal_text.specs.declared.any.DateForm.TheVariants.{Calendar, Ordinal, 
 use Rattle.cal_text.specs.declared.any.MomentForm.TheVariants.{Rfc3339, Unix}
 use Rattle.cal_text.specs.declared.form.Form.{Form}
 use Rattle.cal_text.specs.declared.rfc3339.numbers.Numbers.{Numbers}
-use Rattle.cal_text.specs.AnyForm.{IsTextOf, name_of, HasAnyForm, IsDateFault, IsMomentFault, IsFault}
+use Rattle.cal_text.specs.AnyForm.{IsTextOf, name_of, HasAnyForm, IsFault}
 use Rattle.cal_text.specs.DateForms.{HasForm}
-use Rattle.cal_text.specs.JulianForm.{IsJulianForm, julian_text, IsJulianFormOfNone}
-use Rattle.cal_text.specs.Rfc3339Form.{IsSeparator, IsMomentText, HasMomentForm}
-use Rattle.cal_text.specs.UnixText.{IsUnixText, HasUnixForm, IsUnixFormOfNone, timestamp_out_of_range}
+use Rattle.cal_text.specs.Reading.{HasFault, IsFaultOf}
+use Rattle.cal_text.specs.JulianForm.{IsJulianForm, julian_text, IsJulianFault}
+use Rattle.cal_text.specs.Rfc3339Form.{IsSeparator, IsMomentText, HasMomentForm, IsMomentFault}
+use Rattle.cal_text.specs.UnixText.{IsUnixText, HasUnixForm, IsUnixFault}
 use Rattle.cal_text.proofs.DayForms.{HasOnDay, calendar-of, ordinal-of, week-of}
 use Rattle.cal_text.proofs.Shapes.{IsNoOther, date-shape, day-shape, moment-shape, julian-first, unix-first}
 
--- ---- one reason
-pub same_reason : (found : Option ComponentRange) (a why : ComponentRange) → found ≡ Some a → found ≡ Some why → why ≡ a
-same_reason found a why e f = cc
-
-pub reason_of : (found : Option ComponentRange) (a why : ComponentRange) → why ≡ a → found ≡ Some a → found ≡ Some why
-reason_of found a why e f = cc
-
--- ---- the form of a fault
+-- ---- the forms
 abbrev SomeForm : List ℕ → Type 0
 SomeForm bytes = (f : Form) × HasForm bytes f
 
@@ -37,45 +30,6 @@ SomeJulian bytes = (j : ℤ) × IsJulianForm bytes j
 
 abbrev SomeUnix : List ℕ → Type 0
 SomeUnix bytes = (v : ℤ) × HasUnixForm bytes v
-
-abbrev pub IsJulianFault : List ℕ → ComponentRange → Type 0
-IsJulianFault bytes why = (why ≡ julian_day_out_of_range) × IsJulianFormOfNone bytes
-
-abbrev pub IsUnixFault : List ℕ → ComponentRange → Type 0
-IsUnixFault bytes why = (why ≡ timestamp_out_of_range) × IsUnixFormOfNone bytes
-
-fault-date : (bytes : List ℕ) (why : ComponentRange) → IsDateFault bytes why → SomeForm bytes
-fault-date bytes why is = elim is as (λ _. SomeForm bytes) [
-  | inl a ↦ (a.1.0, a.1.1)
-  | inr is ↦ elim is as (λ _. SomeForm bytes) [
-    | inl a ↦ (a.1.0, a.1.1)
-    | inr is ↦ elim is as (λ _. SomeForm bytes) [
-      | inl a ↦ (a.1.0, a.1.1)
-      | inr is ↦ elim is as (λ _. SomeForm bytes) [
-        | inl a ↦ (a.1.0, a.1.1)
-        | inr is ↦ elim is as (λ _. SomeForm bytes) [ inl a ↦ (a.1.0, a.1.1) | inr a ↦ (a.1.0, a.1.1) ]
-      ]
-    ]
-  ]
-]
-
-fault-moment : (bytes : List ℕ) (why : ComponentRange) → IsMomentFault bytes why → SomeMoment bytes
-fault-moment bytes why is = elim is as (λ _. SomeMoment bytes) [
-  | inl a ↦ (a.1.0, a.1.1)
-  | inr is ↦ elim is as (λ _. SomeMoment bytes) [
-    | inl a ↦ (a.1.0, a.1.1)
-    | inr is ↦ elim is as (λ _. SomeMoment bytes) [
-      | inl a ↦ (a.1.0, a.1.1)
-      | inr is ↦ elim is as (λ _. SomeMoment bytes) [
-        | inl a ↦ (a.1.0, a.1.1)
-        | inr is ↦ elim is as (λ _. SomeMoment bytes) [
-          | inl a ↦ (a.1.0, a.1.1)
-          | inr is ↦ elim is as (λ _. SomeMoment bytes) [ inl a ↦ (a.1.0, a.1.1) | inr a ↦ (a.1.0, a.1.1) ]
-        ]
-      ]
-    ]
-  ]
-]
 
 -- ---- a letter J at the front
 julian-date : {R : Type 0} (bytes : List ℕ) → get_or bytes 0 0 ≡ 74 → SomeForm bytes → R
@@ -105,14 +59,14 @@ julian-any bytes first is = elim is as (λ _. SomeJulian bytes) [
   ]
 ]
 
-pub julian-fault : (bytes : List ℕ) (why : ComponentRange) → get_or bytes 0 0 ≡ 74 → IsFault bytes why → IsJulianFault bytes why
-julian-fault bytes why first is = elim is as (λ _. IsJulianFault bytes why) [
-  | inl date ↦ julian-date bytes first (fault-date bytes why date)
-  | inr is ↦ elim is as (λ _. IsJulianFault bytes why) [
+pub julian-fault : (bytes : List ℕ) (why : ComponentRange) → get_or bytes 0 0 ≡ 74 → IsFault bytes why → HasFault IsJulianForm IsJulianFault bytes why
+julian-fault bytes why first is = elim is as (λ _. HasFault IsJulianForm IsJulianFault bytes why) [
+  | inl date ↦ julian-date bytes first (date.0, date.1)
+  | inr is ↦ elim is as (λ _. HasFault IsJulianForm IsJulianFault bytes why) [
     | inl julian ↦ julian
-    | inr is ↦ elim is as (λ _. IsJulianFault bytes why) [
-      | inl moment ↦ julian-moment bytes first (fault-moment bytes why moment)
-      | inr unix ↦ julian-unix bytes unix.1.0 first unix.1.1
+    | inr is ↦ elim is as (λ _. HasFault IsJulianForm IsJulianFault bytes why) [
+      | inl moment ↦ julian-moment bytes first (moment.0, moment.1)
+      | inr unix ↦ julian-unix bytes unix.0 first unix.1
     ]
   ]
 ]
@@ -148,13 +102,13 @@ unix-any bytes first is = elim is as (λ _. SomeUnix bytes) [
   ]
 ]
 
-pub unix-fault : (bytes : List ℕ) (why : ComponentRange) → get_or bytes 0 0 ≡ 64 → IsFault bytes why → IsUnixFault bytes why
-unix-fault bytes why first is = elim is as (λ _. IsUnixFault bytes why) [
-  | inl date ↦ unix-date bytes first (fault-date bytes why date)
-  | inr is ↦ elim is as (λ _. IsUnixFault bytes why) [
-    | inl julian ↦ unix-julian bytes julian.1.0 first julian.1.1
-    | inr is ↦ elim is as (λ _. IsUnixFault bytes why) [
-      | inl moment ↦ unix-moment bytes first (fault-moment bytes why moment)
+pub unix-fault : (bytes : List ℕ) (why : ComponentRange) → get_or bytes 0 0 ≡ 64 → IsFault bytes why → HasFault HasUnixForm IsUnixFault bytes why
+unix-fault bytes why first is = elim is as (λ _. HasFault HasUnixForm IsUnixFault bytes why) [
+  | inl date ↦ unix-date bytes first (date.0, date.1)
+  | inr is ↦ elim is as (λ _. HasFault HasUnixForm IsUnixFault bytes why) [
+    | inl julian ↦ unix-julian bytes julian.0 first julian.1
+    | inr is ↦ elim is as (λ _. HasFault HasUnixForm IsUnixFault bytes why) [
+      | inl moment ↦ unix-moment bytes first (moment.0, moment.1)
       | inr unix ↦ unix
     ]
   ]
@@ -191,14 +145,14 @@ moment-any bytes first sep is = elim is as (λ _. SomeMoment bytes) [
   ]
 ]
 
-pub moment-fault : (bytes : List ℕ) (why : ComponentRange) → IsNoOther bytes → IsSeparator (get_or bytes 10 0) → IsFault bytes why → IsMomentFault bytes why
-moment-fault bytes why first sep is = elim is as (λ _. IsMomentFault bytes why) [
-  | inl date ↦ moment-date bytes sep (fault-date bytes why date)
-  | inr is ↦ elim is as (λ _. IsMomentFault bytes why) [
-    | inl julian ↦ other-julian bytes julian.1.0 first julian.1.1
-    | inr is ↦ elim is as (λ _. IsMomentFault bytes why) [
+pub moment-fault : (bytes : List ℕ) (why : ComponentRange) → IsNoOther bytes → IsSeparator (get_or bytes 10 0) → IsFault bytes why → HasFault HasMomentForm IsMomentFault bytes why
+moment-fault bytes why first sep is = elim is as (λ _. HasFault HasMomentForm IsMomentFault bytes why) [
+  | inl date ↦ moment-date bytes sep (date.0, date.1)
+  | inr is ↦ elim is as (λ _. HasFault HasMomentForm IsMomentFault bytes why) [
+    | inl julian ↦ other-julian bytes julian.0 first julian.1
+    | inr is ↦ elim is as (λ _. HasFault HasMomentForm IsMomentFault bytes why) [
       | inl moment ↦ moment
-      | inr unix ↦ other-unix bytes unix.1.0 first unix.1.1
+      | inr unix ↦ other-unix bytes unix.0 first unix.1
     ]
   ]
 ]
@@ -225,14 +179,14 @@ date-any bytes first none is = elim is as (λ _. SomeForm bytes) [
   ]
 ]
 
-pub date-fault : (bytes : List ℕ) (why : ComponentRange) → IsNoOther bytes → ¬ IsSeparator (get_or bytes 10 0) → IsFault bytes why → IsDateFault bytes why
-date-fault bytes why first none is = elim is as (λ _. IsDateFault bytes why) [
+pub date-fault : (bytes : List ℕ) (why : ComponentRange) → IsNoOther bytes → ¬ IsSeparator (get_or bytes 10 0) → IsFault bytes why → HasFault HasForm IsFaultOf bytes why
+date-fault bytes why first none is = elim is as (λ _. HasFault HasForm IsFaultOf bytes why) [
   | inl date ↦ date
-  | inr is ↦ elim is as (λ _. IsDateFault bytes why) [
-    | inl julian ↦ other-julian bytes julian.1.0 first julian.1.1
-    | inr is ↦ elim is as (λ _. IsDateFault bytes why) [
-      | inl moment ↦ date-moment bytes none (fault-moment bytes why moment)
-      | inr unix ↦ other-unix bytes unix.1.0 first unix.1.1
+  | inr is ↦ elim is as (λ _. HasFault HasForm IsFaultOf bytes why) [
+    | inl julian ↦ other-julian bytes julian.0 first julian.1
+    | inr is ↦ elim is as (λ _. HasFault HasForm IsFaultOf bytes why) [
+      | inl moment ↦ date-moment bytes none (moment.0, moment.1)
+      | inr unix ↦ other-unix bytes unix.0 first unix.1
     ]
   ]
 ]

@@ -23,7 +23,7 @@ pub mod FormShapes
 pub mod Stops
 pub mod Positions
 pub mod Parts
-mod Components
+mod Faults
 mod OneAnswer
 mod AnyForms
 mod AnyPositions

@@ -6,7 +6,7 @@ use Rattle.std.proofs.lemmas.Int.{ints, to_z-of_z}
 use Rattle.cal_time.specs.SignedDuration.{second}
 use Rattle.cal_datetime.specs.DateTime.{IsDateTime, last_date_time}
 use Rattle.cal_datetime.specs.OffsetDateTime.{Shown, instant, unix_epoch, unix_nanoseconds}
-use Rattle.cal_text.specs.UnixText.{HasUnixForm, IsUnixText, IsUnixFormOfNone}
+use Rattle.cal_text.specs.UnixText.{HasUnixForm, IsUnixText}
 
 -- the moment at UTC of a Unix time
 abbrev pub at_utc : ℤ → Shown
@@ -51,10 +51,6 @@ range_of text v m every is =
 
 pub moment_of : (text : List ℕ) (v : ℤ) (m : Shown) → IsOnly text v → IsUnixText text m → at_utc v ≡ m
 moment_of text v m every is = ap at_utc (one v _ (every _ is.form)) ∙ sym (is-at_utc m is.at_utc)
-
--- or there is none
-pub some_at : (text : List ℕ) (v : ℤ) → IsOnly text v → IsDateTime (unix_epoch +ℤ v) → ¬ IsUnixFormOfNone text
-some_at text v every range none = none.2 (subst (λ u. IsDateTime (unix_epoch +ℤ u)) (one v none.0 (every none.0 none.1)) range)
 
 -- what a text says fits into 128 bits
 fits : (v : ℤ) → unsigned_abs v < 10 ^ 28 → FitsSigned w128 v

@@ -2,6 +2,8 @@
 use Rattle.std.specs.Prelude.{◌≡◌, ◌<◌, ◌^◌, ℕ, ℤ, List, ◌++◌, codes, unsigned_abs}
 use Rattle.std.specs.Fmt.{signed_decimal}
 use Rattle.cal_time.specs.Date.{julian_day_at, HasJulianDay, NoDate}
+use Rattle.cal_time.specs.Refusals.{julian_day_out_of_range}
+use Rattle.cal_time.specs.declared.error.ComponentRange.{ComponentRange}
 
 -- a letter J, and a number with its sign
 abbrev pub julian_form : ℤ → List ℕ
@@ -16,6 +18,6 @@ pub record IsJulianForm (bytes : List ℕ) (j : ℤ) : Type 0 where
   pub digits : unsigned_abs j < 10 ^ 9
   pub bytes_are : bytes ≡ julian_form j
 
--- and no day of the range has it
-abbrev pub IsJulianFormOfNone : List ℕ → Type 0
-IsJulianFormOfNone bytes = (j : ℤ) × IsJulianForm bytes j × NoDate (HasJulianDay j)
+-- no day of the range has it
+abbrev pub IsJulianFault : ℤ → ComponentRange → Type 0
+IsJulianFault j why = (why ≡ julian_day_out_of_range) × NoDate (HasJulianDay j)

@@ -9,7 +9,6 @@ use Rattle.cal_text.specs.declared.error.Unreadable.{Unreadable}
 use Rattle.cal_text.specs.declared.error.Unreadable.TheVariants.{UnexpectedByte, OutOfRange}
 use Rattle.cal_text.specs.declared.form.Form.{Form}
 use Rattle.cal_text.specs.declared.form.Form.TheVariants.{Calendar, Ordinal, Week}
-use Rattle.cal_text.specs.DateForms.{HasForm}
 
 -- ---- errors
 -- the refusal of a component, or nothing where the text has no form
@@ -25,11 +24,10 @@ IsRefusedFor why r = IsErrAnd r (λ e. component_of e ≡ Some why)
 abbrev pub IsRefusedForForm : {V : Type 0} → Result V Unreadable → Type 0
 IsRefusedForForm r = IsErrAnd r (λ e. component_of e ≡ None)
 
--- why dates are refused
-abbrev pub IsDateReason : Option ComponentRange → Type 0
-IsDateReason why =
-    (why ≡ None) ⊎ (why ≡ Some month_out_of_range) ⊎ (why ≡ Some year_out_of_range) ⊎ (why ≡ Some day_out_of_range)
-    ⊎ (why ≡ Some ordinal_out_of_range) ⊎ (why ≡ Some week_out_of_range) ⊎ (why ≡ Some weekday_out_of_range)
+-- ---- faults: of a form whose numbers need not be those of a value
+-- the bytes have a form that is refused for this component
+abbrev pub HasFault : {F : Type 0} → (List ℕ → F → Type 0) → (F → ComponentRange → Type 0) → List ℕ → ComponentRange → Type 0
+HasFault {F} Has IsFaultOf bytes why = (form : F) × Has bytes form × IsFaultOf form why
 
 -- ---- days
 -- day n has the numbers of the form; the weekday of the form is 1 on Monday
@@ -41,37 +39,12 @@ IsOnDay (Week y w d) n = HasIsoWeekDate y w (d - 1) n
 abbrev pub IsMonth : ℕ → Type 0
 IsMonth m = (1 ≤ m) × (m ≤ 12)
 
--- ---- the first component at fault: the month, the year, and then what depends on them
-abbrev pub LacksMonth : Form → Type 0
-LacksMonth (Calendar y m d) = ¬ IsMonth m
-LacksMonth (Ordinal y o) = ⊥
-LacksMonth (Week y w d) = ⊥
-
-abbrev pub LacksYear : Form → Type 0
-LacksYear (Calendar y m d) = IsMonth m × ¬ IsYear y
-LacksYear (Ordinal y o) = ¬ IsYear y
-LacksYear (Week y w d) = ¬ IsYear y
-
-abbrev pub LacksDay : Form → Type 0
-LacksDay (Calendar y m d) = IsMonth m × IsYear y × ¬ IsDayOfMonth y m d
-LacksDay (Ordinal y o) = ⊥
-LacksDay (Week y w d) = ⊥
-
-abbrev pub LacksOrdinal : Form → Type 0
-LacksOrdinal (Calendar y m d) = ⊥
-LacksOrdinal (Ordinal y o) = IsYear y × ¬ IsOrdinal y o
-LacksOrdinal (Week y w d) = ⊥
-
-abbrev pub LacksWeek : Form → Type 0
-LacksWeek (Calendar y m d) = ⊥
-LacksWeek (Ordinal y o) = ⊥
-LacksWeek (Week y w d) = IsYear y × ¬ IsWeek y w
-
-abbrev pub LacksWeekday : Form → Type 0
-LacksWeekday (Calendar y m d) = ⊥
-LacksWeekday (Ordinal y o) = ⊥
-LacksWeekday (Week y w d) = IsYear y × IsWeek y w × NoDate (HasIsoWeekDate y w (d - 1))
-
--- the bytes have a form that lacks this
-abbrev pub HasFormThat : (Form → Type 0) → List ℕ → Type 0
-HasFormThat Lacks bytes = (f : Form) × HasForm bytes f × Lacks f
+-- the first component at fault: the month, the year, and then what depends on them
+abbrev pub IsFaultOf : Form → ComponentRange → Type 0
+IsFaultOf (Calendar y m d) why =
+    ((why ≡ month_out_of_range) × ¬ IsMonth m) ⊎ ((why ≡ year_out_of_range) × (IsMonth m × ¬ IsYear y))
+    ⊎ ((why ≡ day_out_of_range) × (IsMonth m × IsYear y × ¬ IsDayOfMonth y m d))
+IsFaultOf (Ordinal y o) why = ((why ≡ year_out_of_range) × ¬ IsYear y) ⊎ ((why ≡ ordinal_out_of_range) × (IsYear y × ¬ IsOrdinal y o))
+IsFaultOf (Week y w d) why =
+    ((why ≡ year_out_of_range) × ¬ IsYear y) ⊎ ((why ≡ week_out_of_range) × (IsYear y × ¬ IsWeek y w))
+    ⊎ ((why ≡ weekday_out_of_range) × (IsYear y × IsWeek y w × NoDate (HasIsoWeekDate y w (d - 1))))

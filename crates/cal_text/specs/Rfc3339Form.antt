@@ -1,5 +1,5 @@
 -- The forms of a moment in text (RFC 3339, internet date and time format), whose numbers need not be those of a moment.
-use Rattle.std.specs.Prelude.{◌≡◌, ◌⊎◌, ℕ, ◌+◌, ◌-◌, ◌*◌, ◌^◌, ◌<◌, ◌≤◌, ◌∷◌, ℤ, pos, neg_ℤ, Bool, if◌then◌else◌, List, [], ◌++◌, codes, length, take, Option, Some, None}
+use Rattle.std.specs.Prelude.{◌≡◌, ◌⊎◌, ℕ, ◌+◌, ◌-◌, ◌*◌, ◌^◌, ◌<◌, ◌≤◌, ◌∷◌, ℤ, pos, neg_ℤ, Bool, if◌then◌else◌, List, [], ◌++◌, codes, length, take}
 use Rattle.std.specs.Str.Parse.{AllDigits, digits_value}
 use Rattle.cal_time.specs.Date.{IsDayOfMonth, HasCalendarDate}
 use Rattle.cal_time.specs.DateText.{digits_at_least, date_digits}
@@ -96,24 +96,9 @@ pub record IsAt (m : Numbers) (at : Shown) : Type 0 where
 abbrev pub IsMomentText : List ℕ → Shown → Type 0
 IsMomentText bytes at = (m : Numbers) × HasMomentForm bytes m × IsAt m at
 
--- ---- the first component at fault
-abbrev pub LacksMonth : Numbers → Type 0
-LacksMonth m = ¬ IsMonth m.month
-
-abbrev pub LacksDay : Numbers → Type 0
-LacksDay m = IsMonth m.month × ¬ IsDayOfMonth (pos m.year) m.month m.day
-
+-- ---- the first component at fault: of the date, the clock and the offset, in this order
 abbrev pub HasDay : Numbers → Type 0
 HasDay m = IsMonth m.month × IsDayOfMonth (pos m.year) m.month m.day
-
-abbrev pub LacksHour : Numbers → Type 0
-LacksHour m = HasDay m × (23 < m.hour)
-
-abbrev pub LacksMinute : Numbers → Type 0
-LacksMinute m = HasDay m × (m.hour ≤ 23) × (59 < m.minute)
-
-abbrev pub LacksSecond : Numbers → Type 0
-LacksSecond m = HasDay m × (m.hour ≤ 23) × (m.minute ≤ 59) × (59 < m.second)
 
 abbrev pub HasClock : Numbers → Type 0
 HasClock m = HasDay m × (m.hour ≤ 23) × (m.minute ≤ 59) × (m.second ≤ 59)
@@ -126,18 +111,12 @@ abbrev pub IsPastMinutes : TimeOffset → Type 0
 IsPastMinutes Utc = ⊥
 IsPastMinutes (Signed is_west h m) = (h ≤ 23) × (59 < m)
 
-abbrev pub LacksOffsetHour : Numbers → Type 0
-LacksOffsetHour m = HasClock m × IsPastHours m.offset
-
-abbrev pub LacksOffsetMinute : Numbers → Type 0
-LacksOffsetMinute m = HasClock m × IsPastMinutes m.offset
-
--- the bytes have the form of a moment that lacks this
-abbrev pub HasMomentThat : (Numbers → Type 0) → List ℕ → Type 0
-HasMomentThat Lacks bytes = (m : Numbers) × HasMomentForm bytes m × Lacks m
-
--- why moments are refused
-abbrev pub IsMomentReason : Option ComponentRange → Type 0
-IsMomentReason why =
-    (why ≡ None) ⊎ (why ≡ Some month_out_of_range) ⊎ (why ≡ Some day_out_of_range) ⊎ (why ≡ Some hour_out_of_range) ⊎ (why ≡ Some minute_out_of_range)
-    ⊎ (why ≡ Some second_out_of_range) ⊎ (why ≡ Some offset_hour_out_of_range) ⊎ (why ≡ Some offset_minute_out_of_range)
+abbrev pub IsMomentFault : Numbers → ComponentRange → Type 0
+IsMomentFault m why =
+    ((why ≡ month_out_of_range) × ¬ IsMonth m.month)
+    ⊎ ((why ≡ day_out_of_range) × (IsMonth m.month × ¬ IsDayOfMonth (pos m.year) m.month m.day))
+    ⊎ ((why ≡ hour_out_of_range) × (HasDay m × (23 < m.hour)))
+    ⊎ ((why ≡ minute_out_of_range) × (HasDay m × (m.hour ≤ 23) × (59 < m.minute)))
+    ⊎ ((why ≡ second_out_of_range) × (HasDay m × (m.hour ≤ 23) × (m.minute ≤ 59) × (59 < m.second)))
+    ⊎ ((why ≡ offset_hour_out_of_range) × (HasClock m × IsPastHours m.offset))
+    ⊎ ((why ≡ offset_minute_out_of_range) × (HasClock m × IsPastMinutes m.offset))

@@ -1,6 +1,7 @@
 -- Unix time in text: an @, a minus sign before a number below 0, the whole seconds, and what is past them as a fraction.
 use Rattle.std.specs.Prelude.{◌≡◌, ℕ, ◌/◌, ◌%◌, ◌≤◌, ◌<◌, ◌^◌, ℤ, pos, negsuc, ◌+ℤ◌, List, [], ◌++◌, codes, length, decimal, unsigned_abs}
 use Rattle.cal_time.specs.SignedDuration.{second}
+use Rattle.cal_time.specs.declared.error.ComponentRange.{ComponentRange}
 use Rattle.cal_datetime.specs.DateTime.{IsDateTime}
 use Rattle.cal_datetime.specs.OffsetDateTime.{Shown, instant, unix_epoch, unix_nanoseconds}
 pub use Rattle.cal_datetime.specs.OffsetDateTime.{timestamp_out_of_range}
@@ -37,6 +38,6 @@ pub record IsUnixText (bytes : List ℕ) (m : Shown) : Type 0 where
   pub at_utc : m.offset ≡ pos 0
   pub form : HasUnixForm bytes (unix_nanoseconds (instant m))
 
--- the bytes say a number that no moment at UTC has
-abbrev pub IsUnixFormOfNone : List ℕ → Type 0
-IsUnixFormOfNone bytes = (v : ℤ) × HasUnixForm bytes v × ¬ IsDateTime (unix_epoch +ℤ v)
+-- no moment at UTC has it
+abbrev pub IsUnixFault : ℤ → ComponentRange → Type 0
+IsUnixFault v why = (why ≡ timestamp_out_of_range) × ¬ IsDateTime (unix_epoch +ℤ v)

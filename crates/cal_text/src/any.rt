@@ -1,5 +1,5 @@
 //! Dates and moments in text, in whichever form they come.
-ghost use Rattle.std.specs.Prelude.{◌≡◌, ◌↔◌, ◌<◌, length, get_or, IsTrue, IfOk, IfErr, IsErr, Ok};
+ghost use Rattle.std.specs.Prelude.{◌≡◌, ◌↔◌, ◌<◌, length, get_or, IsTrue, IfOk, IfErr, Ok};
 ghost use Rattle.cal_time.specs.declared.error.ComponentRange.{ComponentRange};
 ghost use Rattle.cal_text.specs.declared.any.DateOrMoment.{DateOrMoment};
 ghost use Rattle.cal_text.specs.AnyForm.{IsTextOf, IsFault, HasAnyForm};
@@ -58,7 +58,6 @@ pub enum DateOrMoment {
 pub fn read_any(text: &[u8]) -> Result<DateOrMoment, Unreadable>
     ensures every { (found : DateOrMoment) → IsTextOf text.now found → result ≡ Ok found }
     ensures has { IfOk result (IsTextOf text.now) }
-    ensures refused { IsErr result ↔ ((found : DateOrMoment) → ¬ IsTextOf text.now found) }
     ensures form { IsRefusedForForm result ↔ ¬ HasAnyForm text.now }
     ensures position { IfErr result (IsAtStop HasAnyForm text.now) }
     ensures component { (why : ComponentRange) → IsRefusedFor why result ↔ IsFault text.now why }

@@ -1,12 +1,11 @@
 //! Dates in text: the three forms of ISO 8601.
-ghost use Rattle.std.specs.Prelude.{◌≡◌, ◌⊎◌, ℕ, ◌↔◌, IfOk, IfErr, IsErr, Ok};
+ghost use Rattle.std.specs.Prelude.{◌≡◌, ℕ, ◌↔◌, IfOk, IfErr, Ok};
 ghost use Rattle.cal_time.specs.Date.{IsDate};
-ghost use Rattle.cal_time.specs.Month.{month_out_of_range};
-ghost use Rattle.cal_time.specs.Refusals.{year_out_of_range, day_out_of_range, ordinal_out_of_range, week_out_of_range, weekday_out_of_range};
+ghost use Rattle.cal_time.specs.declared.error.ComponentRange.{ComponentRange};
 ghost use Rattle.cal_text.specs.declared.form.Form.{Form};
 ghost use Rattle.cal_text.specs.DateForms.{IsDateText, HasForm};
 ghost use Rattle.cal_text.specs.Position.{HasSome, IsAtStop};
-ghost use Rattle.cal_text.specs.Reading.{component_of, IsOnDay, IsRefusedFor, IsRefusedForForm, IsDateReason, HasFormThat, LacksMonth, LacksYear, LacksDay, LacksOrdinal, LacksWeek, LacksWeekday};
+ghost use Rattle.cal_text.specs.Reading.{IsOnDay, IsFaultOf, HasFault, IsRefusedFor, IsRefusedForForm};
 
 use crate::date::of_form::date_of;
 use crate::error::Unreadable;
@@ -32,17 +31,10 @@ pub fn read(text: &[u8]) -> Result<Date, Unreadable>
     ensures every { (n : ℕ) → IsDate n → IsDateText text.now n → result ≡ Ok n }
     ensures has { IfOk result (λ n. IsDate n × IsDateText text.now n) }
 
-    // It is refused exactly where it is the text of no day: for its form, or for the first component at fault.
-    ensures refused { IsErr result ↔ ((n : ℕ) → IsDate n → ¬ IsDateText text.now n) }
-    ensures reason { IfErr result (λ e. IsDateReason (component_of e)) }
+    // It is refused for its form exactly where it has none, and else for the first component at fault.
     ensures form { IsRefusedForForm result ↔ ((form : Form) → ¬ HasForm text.now form) }
     ensures position { IfErr result (IsAtStop (HasSome HasForm) text.now) }
-    ensures month { IsRefusedFor month_out_of_range result ↔ HasFormThat LacksMonth text.now }
-    ensures year { IsRefusedFor year_out_of_range result ↔ HasFormThat LacksYear text.now }
-    ensures day { IsRefusedFor day_out_of_range result ↔ HasFormThat LacksDay text.now }
-    ensures ordinal { IsRefusedFor ordinal_out_of_range result ↔ HasFormThat LacksOrdinal text.now }
-    ensures week { IsRefusedFor week_out_of_range result ↔ HasFormThat LacksWeek text.now }
-    ensures weekday { IsRefusedFor weekday_out_of_range result ↔ HasFormThat LacksWeekday text.now }
+    ensures component { (why : ComponentRange) → IsRefusedFor why result ↔ HasFault HasForm IsFaultOf text.now why }
 {
     match form_and_date(text) {
         Ok(found) => Ok(found.1),
@@ -54,15 +46,9 @@ pub fn read(text: &[u8]) -> Result<Date, Unreadable>
 pub(crate) fn form_and_date(text: &[u8]) -> Result<(Form, Date), Unreadable>
     ensures every { (form : Form) (n : ℕ) → IsDate n → HasForm text.now form → IsOnDay form n → result ≡ Ok (form, n) }
     ensures has { IfOk result (λ found. IsDate found.1 × HasForm text.now found.0 × IsOnDay found.0 found.1) }
-    ensures reason { IfErr result (λ e. IsDateReason (component_of e)) }
     ensures form { IsRefusedForForm result ↔ ((form : Form) → ¬ HasForm text.now form) }
     ensures position { IfErr result (IsAtStop (HasSome HasForm) text.now) }
-    ensures month { IsRefusedFor month_out_of_range result ↔ HasFormThat LacksMonth text.now }
-    ensures year { IsRefusedFor year_out_of_range result ↔ HasFormThat LacksYear text.now }
-    ensures day { IsRefusedFor day_out_of_range result ↔ HasFormThat LacksDay text.now }
-    ensures ordinal { IsRefusedFor ordinal_out_of_range result ↔ HasFormThat LacksOrdinal text.now }
-    ensures week { IsRefusedFor week_out_of_range result ↔ HasFormThat LacksWeek text.now }
-    ensures weekday { IsRefusedFor weekday_out_of_range result ↔ HasFormThat LacksWeekday text.now }
+    ensures component { (why : ComponentRange) → IsRefusedFor why result ↔ HasFault HasForm IsFaultOf text.now why }
 {
     let mut scanner = Scanner { rest: text };
     match form_of(&mut scanner) {

@@ -1,11 +1,11 @@
 //! Dates in text by their Julian day.
-ghost use Rattle.std.specs.Prelude.{◌≡◌, ◌≢◌, ◌⊎◌, ℕ, ℤ, ◌-◌, ◌<◌, ◌≤◌, ◌^◌, ◌↔◌, length, decimal, IfOk, IfErr, IfSome, IfNone, IsErr, Ok, Some, None};
+ghost use Rattle.std.specs.Prelude.{◌≡◌, ℕ, ℤ, ◌-◌, ◌<◌, ◌≤◌, ◌^◌, ◌↔◌, length, decimal, IfOk, IfErr, IfSome, IfNone, Ok, Some};
 ghost use Rattle.std.specs.Fmt.{padded};
 ghost use Rattle.cal_time.specs.Date.{IsDate};
-ghost use Rattle.cal_time.specs.Refusals.{julian_day_out_of_range};
-ghost use Rattle.cal_text.specs.JulianForm.{julian_text, IsJulianForm, IsJulianFormOfNone};
+ghost use Rattle.cal_time.specs.declared.error.ComponentRange.{ComponentRange};
+ghost use Rattle.cal_text.specs.JulianForm.{julian_text, IsJulianForm, IsJulianFault};
 ghost use Rattle.cal_text.specs.Position.{HasSome, IsPosition, IsAtStop};
-ghost use Rattle.cal_text.specs.Reading.{component_of, IsRefusedFor, IsRefusedForForm};
+ghost use Rattle.cal_text.specs.Reading.{HasFault, IsRefusedFor, IsRefusedForForm};
 ghost use Rattle.cal_text.specs.Shape.{ScansWhole, natural, julian_day};
 
 use crate::digits::number_above_0;
@@ -49,11 +49,9 @@ impl fmt::Display for JulianText {
 pub fn read(text: &[u8]) -> Result<Date, Unreadable>
     ensures every { (n : ℕ) → IsDate n → text.now ≡ julian_text n → result ≡ Ok n }
     ensures has { IfOk result (λ n. IsDate n × (text.now ≡ julian_text n)) }
-    ensures refused { IsErr result ↔ ((n : ℕ) → IsDate n → text.now ≢ julian_text n) }
-    ensures reason { IfErr result (λ e. (component_of e ≡ None) ⊎ (component_of e ≡ Some julian_day_out_of_range)) }
     ensures form { IsRefusedForForm result ↔ ((j : ℤ) → ¬ IsJulianForm text.now j) }
     ensures position { IfErr result (IsAtStop (HasSome IsJulianForm) text.now) }
-    ensures julian_day { IsRefusedFor julian_day_out_of_range result ↔ IsJulianFormOfNone text.now }
+    ensures component { (why : ComponentRange) → IsRefusedFor why result ↔ HasFault IsJulianForm IsJulianFault text.now why }
 {
     let mut scanner = Scanner { rest: text };
     match julian_day_of(&mut scanner) {

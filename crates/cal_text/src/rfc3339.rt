@@ -1,14 +1,11 @@
 //! Moments in text: RFC 3339.
-ghost use Rattle.std.specs.Prelude.{◌≡◌, ◌↔◌, IfOk, IfErr, IsErr, Ok};
-ghost use Rattle.cal_time.specs.Month.{month_out_of_range};
-ghost use Rattle.cal_time.specs.Refusals.{day_out_of_range};
-ghost use Rattle.cal_time.specs.Time.{hour_out_of_range, minute_out_of_range, second_out_of_range};
-ghost use Rattle.cal_time.specs.UtcOffset.{offset_hour_out_of_range, offset_minute_out_of_range};
+ghost use Rattle.std.specs.Prelude.{◌≡◌, ◌↔◌, IfOk, IfErr, Ok};
+ghost use Rattle.cal_time.specs.declared.error.ComponentRange.{ComponentRange};
 ghost use Rattle.cal_datetime.specs.OffsetDateTime.{Shown};
 ghost use Rattle.cal_text.specs.declared.rfc3339.numbers.Numbers.{Numbers};
 ghost use Rattle.cal_text.specs.Position.{HasSome, IsAtStop};
-ghost use Rattle.cal_text.specs.Reading.{component_of, IsRefusedFor, IsRefusedForForm};
-ghost use Rattle.cal_text.specs.Rfc3339Form.{HasMomentForm, HasMomentThat, IsMomentText, IsMomentReason, LacksMonth, LacksDay, LacksHour, LacksMinute, LacksSecond, LacksOffsetHour, LacksOffsetMinute};
+ghost use Rattle.cal_text.specs.Reading.{HasFault, IsRefusedFor, IsRefusedForForm};
+ghost use Rattle.cal_text.specs.Rfc3339Form.{HasMomentForm, IsMomentFault, IsMomentText};
 
 use crate::error::Unreadable;
 use crate::rfc3339::form::numbers_of;
@@ -37,18 +34,10 @@ pub fn read(text: &[u8]) -> Result<OffsetDateTime, Unreadable>
     ensures every { (m : Shown) → IsMomentText text.now m → result ≡ Ok m }
     ensures has { IfOk result (IsMomentText text.now) }
 
-    // It is refused exactly where it is the text of no moment: for its form, or for the first component at fault.
-    ensures refused { IsErr result ↔ ((m : Shown) → ¬ IsMomentText text.now m) }
-    ensures reason { IfErr result (λ e. IsMomentReason (component_of e)) }
+    // It is refused for its form exactly where it has none, and else for the first component at fault.
     ensures form { IsRefusedForForm result ↔ ((m : Numbers) → ¬ HasMomentForm text.now m) }
     ensures position { IfErr result (IsAtStop (HasSome HasMomentForm) text.now) }
-    ensures month { IsRefusedFor month_out_of_range result ↔ HasMomentThat LacksMonth text.now }
-    ensures day { IsRefusedFor day_out_of_range result ↔ HasMomentThat LacksDay text.now }
-    ensures hour { IsRefusedFor hour_out_of_range result ↔ HasMomentThat LacksHour text.now }
-    ensures minute { IsRefusedFor minute_out_of_range result ↔ HasMomentThat LacksMinute text.now }
-    ensures second { IsRefusedFor second_out_of_range result ↔ HasMomentThat LacksSecond text.now }
-    ensures offset_hour { IsRefusedFor offset_hour_out_of_range result ↔ HasMomentThat LacksOffsetHour text.now }
-    ensures offset_minute { IsRefusedFor offset_minute_out_of_range result ↔ HasMomentThat LacksOffsetMinute text.now }
+    ensures component { (why : ComponentRange) → IsRefusedFor why result ↔ HasFault HasMomentForm IsMomentFault text.now why }
 {
     let mut scanner = Scanner { rest: text };
     match numbers_of(&mut scanner) {

@@ -1,9 +1,10 @@
 //! Unix times in text.
-ghost use Rattle.std.specs.Prelude.{◌≡◌, ◌⊎◌, ℤ, ◌↔◌, IfOk, IfErr, IsErr, Ok, None, Some};
+ghost use Rattle.std.specs.Prelude.{◌≡◌, ℤ, ◌↔◌, IfOk, IfErr, Ok};
+ghost use Rattle.cal_time.specs.declared.error.ComponentRange.{ComponentRange};
 ghost use Rattle.cal_datetime.specs.OffsetDateTime.{Shown};
 ghost use Rattle.cal_text.specs.Position.{HasSome, IsAtStop};
-ghost use Rattle.cal_text.specs.Reading.{component_of, IsRefusedFor, IsRefusedForForm};
-ghost use Rattle.cal_text.specs.UnixText.{HasUnixForm, IsUnixText, IsUnixFormOfNone, timestamp_out_of_range};
+ghost use Rattle.cal_text.specs.Reading.{HasFault, IsRefusedFor, IsRefusedForForm};
+ghost use Rattle.cal_text.specs.UnixText.{HasUnixForm, IsUnixText, IsUnixFault};
 
 use crate::error::Unreadable;
 use crate::scanner::Scanner;
@@ -25,11 +26,9 @@ pub use text::Text;
 pub fn read(text: &[u8]) -> Result<OffsetDateTime, Unreadable>
     ensures every { (m : Shown) → IsUnixText text.now m → result ≡ Ok m }
     ensures has { IfOk result (IsUnixText text.now) }
-    ensures refused { IsErr result ↔ ((m : Shown) → ¬ IsUnixText text.now m) }
-    ensures reason { IfErr result (λ e. (component_of e ≡ None) ⊎ (component_of e ≡ Some timestamp_out_of_range)) }
     ensures form { IsRefusedForForm result ↔ ((v : ℤ) → ¬ HasUnixForm text.now v) }
     ensures position { IfErr result (IsAtStop (HasSome HasUnixForm) text.now) }
-    ensures timestamp { IsRefusedFor timestamp_out_of_range result ↔ IsUnixFormOfNone text.now }
+    ensures component { (why : ComponentRange) → IsRefusedFor why result ↔ HasFault HasUnixForm IsUnixFault text.now why }
 {
     let mut scanner = Scanner { rest: text };
     match unix_of(&mut scanner) {

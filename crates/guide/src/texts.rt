@@ -1,10 +1,13 @@
 //! Dates and moments in text.
-ghost use Rattle.std.specs.Prelude.{◌≡◌, IfSome};
+ghost use Rattle.std.specs.Prelude.{◌≡◌, ◌↔◌, IfSome};
 ghost use Rattle.cal_time.specs.DateText.{text};
+ghost use Rattle.cal_time.specs.Month.{month_out_of_range};
+ghost use Rattle.cal_text.specs.DateForms.{HasForm};
+ghost use Rattle.cal_text.specs.Reading.{HasFault, IsFaultOf, IsRefusedFor};
 
 use cal_datetime::OffsetDateTime;
 use cal_text::rfc3339::{self, Text};
-use cal_text::{DateForm, DateOrMoment, MomentForm, date, read_any, unix};
+use cal_text::{DateForm, DateOrMoment, MomentForm, Unreadable, date, read_any, unix};
 use cal_time::Date;
 use std::io;
 
@@ -29,6 +32,13 @@ fn show_moment(rt: &impl Print, text: &str) -> io::Result<()> {
         }
     }
     Ok(())
+}
+
+/// The day of a calendar date, an ordinal date or a week date. The refusal is that of the reader, handed on.
+fn date_in(text: &[u8]) -> Result<Date, Unreadable>
+    ensures month { IsRefusedFor month_out_of_range result ↔ HasFault HasForm IsFaultOf text.now month_out_of_range }
+{
+    date::read(text)
 }
 
 /// The day of a calendar date, and of no other text.
@@ -66,6 +76,7 @@ pub fn show(rt: &impl Print) -> io::Result<()> {
     for text in ["2024-060", "2024-W09-4", "2023-02-29", "2024-02-3"] {
         show_date(rt, text)?;
     }
+    println!(rt; "{:?}", date_in(b"2024-13-01"))?;
     show_moment(rt, "2024-02-29T23:59:59.25+01:00")?;
     show_moment(rt, "1990-12-31T23:59:60Z")?;
     for text in ["2024-02-29T23:59:59.25+01:00", "@1709164800.5", "J2460370"] {

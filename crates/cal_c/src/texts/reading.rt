@@ -1,19 +1,20 @@
 //! What texts read as.
-ghost use Rattle.std.specs.Prelude.{◌≡◌, ◌+ℤ◌, ℕ, ℤ};
+ghost use Rattle.std.specs.Prelude.{◌≡◌, ◌+ℤ◌, ℕ};
 ghost use Rattle.cal_time.specs.Date.{IsDate};
 ghost use Rattle.cal_time.specs.Time.{IsTime};
 ghost use Rattle.cal_time.specs.UtcOffset.{IsOffset};
+ghost use Rattle.cal_time.specs.declared.error.ComponentRange.{ComponentRange};
 ghost use Rattle.cal_datetime.specs.DateTime.{IsDateTime};
 ghost use Rattle.cal_datetime.specs.OffsetDateTime.{Shown, instant, local_at, unix_epoch, unix_nanoseconds};
 ghost use Rattle.cal_text.specs.DateForms.{IsDateText};
-ghost use Rattle.cal_text.specs.JulianForm.{julian_text, IsJulianForm, IsJulianFormOfNone};
-ghost use Rattle.cal_text.specs.Reading.{HasFormThat, LacksMonth, LacksYear, LacksDay, LacksOrdinal, LacksWeek, LacksWeekday};
-ghost use Rattle.cal_text.specs.Rfc3339Form as moments;
-ghost use Rattle.cal_text.specs.Rfc3339Form.{HasMomentThat, IsMomentText, LacksHour, LacksMinute, LacksSecond, LacksOffsetHour, LacksOffsetMinute};
-ghost use Rattle.cal_text.specs.UnixText.{HasUnixForm, IsUnixText, IsUnixFormOfNone};
+ghost use Rattle.cal_text.specs.JulianForm.{julian_text, IsJulianForm, IsJulianFault};
+ghost use Rattle.cal_text.specs.Position.{HasSome};
+ghost use Rattle.cal_text.specs.Reading.{HasFault};
+ghost use Rattle.cal_text.specs.Rfc3339Form.{IsMomentText};
+ghost use Rattle.cal_text.specs.UnixText.{HasUnixForm, IsUnixText, IsUnixFault};
 ghost use Rattle.cal_c.specs.Results.{duration_done, duration_refused, local_done, pair_refused};
-ghost use Rattle.cal_c.specs.Statuses.{bad_date, bad_time, bad_offset, bad_duration, past_range, year_refused, month_refused, julian_day_refused, day_refused, ordinal_refused, week_refused, weekday_refused, hour_refused, minute_refused, second_refused, offset_hour_refused, offset_minute_refused, timestamp_refused};
-ghost use Rattle.cal_c.specs.Texts.{read_date_done, read_date_refused, read_moment_done, read_moment_refused, HasDateForm, HasFormOfMoment, IsUnreadableDate, IsUnreadableMoment};
+ghost use Rattle.cal_c.specs.Statuses.{bad_date, bad_time, bad_offset, bad_duration, past_range, component_status};
+ghost use Rattle.cal_c.specs.Texts.{read_date_done, read_date_refused, read_moment_done, read_moment_refused, HasDateForm, HasFormOfMoment, HasDateFault, HasMomentFault, IsUnreadableDate, IsUnreadableMoment};
 ghost use Rattle.cal_c.specs.Values.{IsDurationPair, IsJulianDay, moment_of, nanoseconds_in};
 
 use crate::results::{Duration, DurationResult, PairResult};
@@ -28,13 +29,9 @@ use cal_time::UtcOffset;
 #[unsafe(no_mangle)]
 pub extern "C" fn fots_date_read(text: &[u8]) -> ReadDateResult
     ensures date { (n : ℕ) → IsDate n → IsDateText text.now n → result ≡ read_date_done n }
-    ensures form { ¬ HasDateForm text.now → IsUnreadableDate result }
-    ensures month { HasFormThat LacksMonth text.now → result ≡ read_date_refused month_refused }
-    ensures year { HasFormThat LacksYear text.now → result ≡ read_date_refused year_refused }
-    ensures day { HasFormThat LacksDay text.now → result ≡ read_date_refused day_refused }
-    ensures ordinal { HasFormThat LacksOrdinal text.now → result ≡ read_date_refused ordinal_refused }
-    ensures week { HasFormThat LacksWeek text.now → result ≡ read_date_refused week_refused }
-    ensures weekday { HasFormThat LacksWeekday text.now → result ≡ read_date_refused weekday_refused }
+    ensures form { ¬ HasDateForm text.now → IsUnreadableDate HasDateForm text.now result }
+    ensures component { (why : ComponentRange) → HasDateFault text.now why
+        → result ≡ read_date_refused (component_status why.component) }
 {
     match date::read(text) {
         Ok(date) => ReadDateResult::of(date),
@@ -46,8 +43,9 @@ pub extern "C" fn fots_date_read(text: &[u8]) -> ReadDateResult
 #[unsafe(no_mangle)]
 pub extern "C" fn fots_julian_day_read(text: &[u8]) -> ReadDateResult
     ensures date { (n : ℕ) → IsDate n → text.now ≡ julian_text n → result ≡ read_date_done n }
-    ensures form { ((j : ℤ) → ¬ IsJulianForm text.now j) → IsUnreadableDate result }
-    ensures julian_day { IsJulianFormOfNone text.now → result ≡ read_date_refused julian_day_refused }
+    ensures form { ¬ HasSome IsJulianForm text.now → IsUnreadableDate (HasSome IsJulianForm) text.now result }
+    ensures component { (why : ComponentRange) → HasFault IsJulianForm IsJulianFault text.now why
+        → result ≡ read_date_refused (component_status why.component) }
 {
     match julian_day::read(text) {
         Ok(date) => ReadDateResult::of(date),
@@ -59,14 +57,9 @@ pub extern "C" fn fots_julian_day_read(text: &[u8]) -> ReadDateResult
 #[unsafe(no_mangle)]
 pub extern "C" fn fots_moment_read(text: &[u8]) -> ReadMomentResult
     ensures moment { (m : Shown) → IsMomentText text.now m → result ≡ read_moment_done m }
-    ensures form { ¬ HasFormOfMoment text.now → IsUnreadableMoment result }
-    ensures month { HasMomentThat moments.LacksMonth text.now → result ≡ read_moment_refused month_refused }
-    ensures day { HasMomentThat moments.LacksDay text.now → result ≡ read_moment_refused day_refused }
-    ensures hour { HasMomentThat LacksHour text.now → result ≡ read_moment_refused hour_refused }
-    ensures minute { HasMomentThat LacksMinute text.now → result ≡ read_moment_refused minute_refused }
-    ensures second { HasMomentThat LacksSecond text.now → result ≡ read_moment_refused second_refused }
-    ensures offset_hour { HasMomentThat LacksOffsetHour text.now → result ≡ read_moment_refused offset_hour_refused }
-    ensures offset_minute { HasMomentThat LacksOffsetMinute text.now → result ≡ read_moment_refused offset_minute_refused }
+    ensures form { ¬ HasFormOfMoment text.now → IsUnreadableMoment HasFormOfMoment text.now result }
+    ensures component { (why : ComponentRange) → HasMomentFault text.now why
+        → result ≡ read_moment_refused (component_status why.component) }
 {
     match rfc3339::read(text) {
         Ok(moment) => ReadMomentResult::of(moment),
@@ -78,8 +71,9 @@ pub extern "C" fn fots_moment_read(text: &[u8]) -> ReadMomentResult
 #[unsafe(no_mangle)]
 pub extern "C" fn fots_unix_read(text: &[u8]) -> ReadMomentResult
     ensures moment { (m : Shown) → IsUnixText text.now m → result ≡ read_moment_done m }
-    ensures form { ((v : ℤ) → ¬ HasUnixForm text.now v) → IsUnreadableMoment result }
-    ensures timestamp { IsUnixFormOfNone text.now → result ≡ read_moment_refused timestamp_refused }
+    ensures form { ¬ HasSome HasUnixForm text.now → IsUnreadableMoment (HasSome HasUnixForm) text.now result }
+    ensures component { (why : ComponentRange) → HasFault HasUnixForm IsUnixFault text.now why
+        → result ≡ read_moment_refused (component_status why.component) }
 {
     match unix::read(text) {
         Ok(moment) => ReadMomentResult::of(moment),

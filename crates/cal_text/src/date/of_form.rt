@@ -4,9 +4,10 @@ ghost use Rattle.cal_time.specs.Date.{IsDate, IsYear, IsDayOfMonth, HasCalendarD
 ghost use Rattle.cal_time.specs.IsoWeekDate.{IsWeek, HasIsoWeekDate};
 ghost use Rattle.cal_time.specs.Month.{month_out_of_range};
 ghost use Rattle.cal_time.specs.Refusal.{IsRefused};
-ghost use Rattle.cal_time.specs.Refusals.{year_out_of_range, day_out_of_range, ordinal_out_of_range, week_out_of_range, weekday_out_of_range};
+ghost use Rattle.cal_time.specs.declared.error.ComponentRange.{ComponentRange};
+ghost use Rattle.cal_time.specs.Refusals.{year_out_of_range, day_out_of_range, week_out_of_range, weekday_out_of_range};
 ghost use Rattle.cal_text.specs.DateForms.{DigitsFit};
-ghost use Rattle.cal_text.specs.Reading.{IsOnDay, IsMonth, IsDateReason, LacksMonth, LacksYear, LacksDay, LacksOrdinal, LacksWeek, LacksWeekday};
+ghost use Rattle.cal_text.specs.Reading.{IsOnDay, IsMonth, IsFaultOf};
 
 use crate::form::Form;
 use cal_time::error::ComponentRange;
@@ -17,13 +18,7 @@ pub(super) fn date_of(form: Form) -> Result<Date, ComponentRange>
     requires { DigitsFit form }
     ensures every { (n : ℕ) → IsDate n → IsOnDay form n → result ≡ Ok n }
     ensures has { IfOk result (λ n. IsDate n × IsOnDay form n) }
-    ensures reason { IfErr result (λ e. IsDateReason (Some e)) }
-    ensures month { IsRefused month_out_of_range result ↔ LacksMonth form }
-    ensures year { IsRefused year_out_of_range result ↔ LacksYear form }
-    ensures day { IsRefused day_out_of_range result ↔ LacksDay form }
-    ensures ordinal { IsRefused ordinal_out_of_range result ↔ LacksOrdinal form }
-    ensures week { IsRefused week_out_of_range result ↔ LacksWeek form }
-    ensures weekday { IsRefused weekday_out_of_range result ↔ LacksWeekday form }
+    ensures component { (why : ComponentRange) → IsRefused why result ↔ IsFaultOf form why }
 {
     match form {
         Form::Calendar(year, month, day) => calendar_date(year, month, day),

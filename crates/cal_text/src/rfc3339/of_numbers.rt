@@ -1,12 +1,14 @@
 //! The moment that has the numbers of one in text.
-ghost use Rattle.std.specs.Prelude.{◌≡◌, ◌⊎◌, ◌+◌, ◌*◌, ℤ, ◌≤◌, ◌<◌, ◌↔◌, pos, neg_ℤ, IfOk, IfErr, Ok, Some, if◌then◌else◌};
+ghost use Rattle.std.specs.Prelude.{◌≡◌, ◌⊎◌, ◌+◌, ◌*◌, ℤ, ◌≤◌, ◌<◌, ◌↔◌, pos, neg_ℤ, IfOk, IfErr, Ok, if◌then◌else◌};
+ghost use Rattle.cal_time.specs.Date.{IsDayOfMonth};
 ghost use Rattle.cal_time.specs.Month.{month_out_of_range};
 ghost use Rattle.cal_time.specs.Refusal.{IsRefused};
 ghost use Rattle.cal_time.specs.Refusals.{day_out_of_range};
 ghost use Rattle.cal_time.specs.Time.{hour_out_of_range, minute_out_of_range, second_out_of_range};
 ghost use Rattle.cal_time.specs.UtcOffset.{offset_hour_out_of_range, offset_minute_out_of_range};
 ghost use Rattle.cal_datetime.specs.OffsetDateTime.{Shown};
-ghost use Rattle.cal_text.specs.Rfc3339Form.{NumbersFit, IsAt, IsOffsetOf, IsMomentReason, LacksMonth, LacksDay, LacksHour, LacksMinute, LacksSecond, LacksOffsetHour, LacksOffsetMinute, IsPastHours, IsPastMinutes};
+ghost use Rattle.cal_text.specs.Reading.{IsMonth};
+ghost use Rattle.cal_text.specs.Rfc3339Form.{NumbersFit, IsAt, IsOffsetOf, HasDay, HasClock, IsPastHours, IsPastMinutes};
 
 use crate::date::of_form::calendar_date;
 use crate::rfc3339::numbers::{Numbers, TimeOffset};
@@ -20,14 +22,16 @@ pub(super) fn moment_of(numbers: Numbers) -> Result<OffsetDateTime, ComponentRan
     requires { NumbersFit numbers }
     ensures every { (m : Shown) → IsAt numbers m → result ≡ Ok m }
     ensures has { IfOk result (IsAt numbers) }
-    ensures reason { IfErr result (λ e. IsMomentReason (Some e)) }
-    ensures month { IsRefused month_out_of_range result ↔ LacksMonth numbers }
-    ensures day { IsRefused day_out_of_range result ↔ LacksDay numbers }
-    ensures hour { IsRefused hour_out_of_range result ↔ LacksHour numbers }
-    ensures minute { IsRefused minute_out_of_range result ↔ LacksMinute numbers }
-    ensures second { IsRefused second_out_of_range result ↔ LacksSecond numbers }
-    ensures offset_hour { IsRefused offset_hour_out_of_range result ↔ LacksOffsetHour numbers }
-    ensures offset_minute { IsRefused offset_minute_out_of_range result ↔ LacksOffsetMinute numbers }
+    ensures reason { IfErr result (λ e. (e ≡ month_out_of_range) ⊎ (e ≡ day_out_of_range) ⊎ (e ≡ hour_out_of_range) ⊎ (e ≡ minute_out_of_range)
+        ⊎ (e ≡ second_out_of_range) ⊎ (e ≡ offset_hour_out_of_range) ⊎ (e ≡ offset_minute_out_of_range)) }
+    ensures month { IsRefused month_out_of_range result ↔ ¬ IsMonth numbers.month }
+    ensures day { IsRefused day_out_of_range result ↔ IsMonth numbers.month × ¬ IsDayOfMonth (pos numbers.year) numbers.month numbers.day }
+    ensures hour { IsRefused hour_out_of_range result ↔ HasDay numbers × (23 < numbers.hour) }
+    ensures minute { IsRefused minute_out_of_range result ↔ HasDay numbers × (numbers.hour ≤ 23) × (59 < numbers.minute) }
+    ensures second { IsRefused second_out_of_range result
+        ↔ HasDay numbers × (numbers.hour ≤ 23) × (numbers.minute ≤ 59) × (59 < numbers.second) }
+    ensures offset_hour { IsRefused offset_hour_out_of_range result ↔ HasClock numbers × IsPastHours numbers.offset }
+    ensures offset_minute { IsRefused offset_minute_out_of_range result ↔ HasClock numbers × IsPastMinutes numbers.offset }
 {
     let date = match calendar_date(i32::from(numbers.year), numbers.month, numbers.day) {
         Ok(date) => date,

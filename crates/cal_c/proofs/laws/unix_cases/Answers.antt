@@ -1,5 +1,5 @@
-use Rattle.cal_c.proofs.Cases.{of_unix}
+use Rattle.cal_c.proofs.Cases.{cases}
 use Rattle.cal_c.proofs.laws.unix_cases.Goals as goal
 
 pub returns : goal.returns
-returns c = let read = c.read.ensures in of_unix c.read.result read.has read.reason read.form.0 read.timestamp.0
+returns c = let read = c.read.ensures in cases c.read.result read.has read.form read.component

@@ -1,4 +1,3 @@
-use Rattle.std.proofs.Common.{refl}
 use Rattle.cal_text.proofs.DayForms.{form-of-day}
 use Rattle.cal_text.proofs.Results.{same_second, not_ok}
 use Rattle.cal_text.proofs.date.read.Goals as goal
@@ -12,11 +11,3 @@ pub returns-in-Err-clause-every : goal.returns-in-Err-clause-every
 returns-in-Err-clause-every c n date t =
     let f = form-of-day c.args.text.now n date t in
     absurd (not_ok _ _ (c.in-Err.ensures.every f.form n date f.has f.on_day))
-
-pub returns-in-Err-clause-refused : goal.returns-in-Err-clause-refused
-returns-in-Err-clause-refused c = (
-  λ e n date t.
-      let f = form-of-day c.args.text.now n date t in
-      not_ok _ _ (c.in-Err.ensures.every f.form n date f.has f.on_day),
-  λ none. refl,
-)

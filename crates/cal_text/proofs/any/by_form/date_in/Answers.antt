@@ -1,11 +1,8 @@
-use Rattle.std.proofs.Common.{◌≡◌, ◌∙◌, ℕ, Some, inl, Ok, Option, ap}
-use Rattle.cal_time.specs.declared.error.ComponentRange.{ComponentRange}
+use Rattle.std.proofs.Common.{◌∙◌, ℕ, inl, Ok, ap}
 use Rattle.cal_text.specs.declared.any.DateOrMoment.TheVariants.{Date}
 use Rattle.cal_text.specs.declared.form.Form.{Form}
 use Rattle.cal_text.specs.AnyForm.{name_of}
-use Rattle.cal_text.specs.Reading.{component_of}
 use Rattle.cal_text.proofs.AnyForms.{date-found, date-any, date-fault}
-use Rattle.cal_text.proofs.Components.{no_date, date_name, date_component}
 use Rattle.cal_text.proofs.DayForms.{text-of-form}
 use Rattle.cal_text.proofs.Results.{not_ok, same_mapped}
 use Rattle.cal_text.proofs.AnyPositions as positions
@@ -23,11 +20,6 @@ returns-in-Ok-clause-has c =
     let has = c.in-Ok.ensures.has in
     rw c.name_of.ensures (has.0, text-of-form c.args.text.now c.in-Ok.found.0 c.in-Ok.found.1 has.1 has.2)
 
-pub returns-in-Ok-clause-component : goal.returns-in-Ok-clause-component
-returns-in-Ok-clause-component c why =
-    let none = date_component (λ _. ⊥) c.args.text.now no_date c.in-Ok.ensures.month c.in-Ok.ensures.year c.in-Ok.ensures.day c.in-Ok.ensures.ordinal c.in-Ok.ensures.week c.in-Ok.ensures.weekday why in
-    (λ e. absurd e, λ is. none.1 (date-fault c.args.text.now why c.requires.first c.requires.separator is))
-
 pub returns-in-Err-clause-every : goal.returns-in-Err-clause-every
 returns-in-Err-clause-every c =
     date-found c.args.text.now _ c.requires.first c.requires.separator (λ f n date is. absurd (not_ok _ _ (c.in-Err.ensures.every f n date is.0 is.1)))
@@ -40,11 +32,12 @@ returns-in-Err-clause-form c = (
   λ none. c.in-Err.ensures.form.1 (λ f h. none (inl (f, h))),
 )
 
-pub returns-in-Err-clause-component : goal.returns-in-Err-clause-component
-returns-in-Err-clause-component c why =
-    let found : Option ComponentRange = component_of c.in-Err.error in
-    let one = date_component (λ w. found ≡ Some w) c.args.text.now (date_name found c.in-Err.ensures.reason) c.in-Err.ensures.month c.in-Err.ensures.year c.in-Err.ensures.day c.in-Err.ensures.ordinal c.in-Err.ensures.week c.in-Err.ensures.weekday why in
-    (λ e. inl (one.0 e), λ is. one.1 (date-fault c.args.text.now why c.requires.first c.requires.separator is))
-
 pub returns-in-Err-clause-position : goal.returns-in-Err-clause-position
 returns-in-Err-clause-position c = positions.date c.args.text.now c.in-Err.error c.requires.first c.requires.separator c.in-Err.ensures.position
+
+pub returns-in-Ok-clause-component : goal.returns-in-Ok-clause-component
+returns-in-Ok-clause-component c why = (λ e. absurd e, λ is. (c.in-Ok.ensures.component why).1 (date-fault c.args.text.now why c.requires.first c.requires.separator is))
+
+pub returns-in-Err-clause-component : goal.returns-in-Err-clause-component
+returns-in-Err-clause-component c why =
+    (λ e. inl ((c.in-Err.ensures.component why).0 e), λ is. (c.in-Err.ensures.component why).1 (date-fault c.args.text.now why c.requires.first c.requires.separator is))

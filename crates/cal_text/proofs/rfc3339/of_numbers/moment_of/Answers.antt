@@ -1,11 +1,12 @@
-use Rattle.std.proofs.Common.{◌≡◌, ◌≤◌, Some, Ok, Result, ap, sym, subst, inl, inr, ◌∙◌, arith, pos, w32, to_z, of_z}
+use Rattle.std.proofs.Common.{◌≡◌, ◌⊎◌, ◌≤◌, Ok, Result, ap, sym, subst, inl, inr, ◌∙◌, arith, pos, w32, to_z, of_z}
 use Rattle.std.proofs.lemmas.Bool.{cases_lt}
 use Rattle.cal_time.specs.Date.{HasCalendarDate}
-use Rattle.cal_time.specs.Time.{time_of}
+use Rattle.cal_time.specs.Time.{time_of, hour_out_of_range, minute_out_of_range, second_out_of_range}
+use Rattle.cal_time.specs.UtcOffset.{offset_hour_out_of_range, offset_minute_out_of_range}
 use Rattle.cal_datetime.specs.DateTime.{date_at}
 use Rattle.cal_datetime.specs.DateTimeLaws.{IsDate-date_at}
 use Rattle.cal_datetime.specs.OffsetDateTime.{Shown}
-use Rattle.cal_text.specs.Rfc3339Form.{IsMomentReason, IsOffsetOf}
+use Rattle.cal_text.specs.Rfc3339Form.{IsOffsetOf}
 use Rattle.cal_text.proofs.Moments.{made}
 use Rattle.cal_text.proofs.YearTexts.{written-cast}
 use Rattle.cal_text.proofs.rfc3339.of_numbers.moment_of.Goals as goal
@@ -14,20 +15,21 @@ pub returns-in-Err-from_hms_nano-clause-reason : goal.returns-in-Err-from_hms_na
 returns-in-Err-from_hms_nano-clause-reason c =
     let m = c.args.numbers in
     let why = c.in-Err-from_hms_nano.ensures in
-    let P = IsMomentReason (Some c.in-Err-from_hms_nano.error) in
-    elim (cases_lt 23 m.hour) as (λ _. P) [
-      | inl hour ↦ inr (inr (inr (inl (ap Some (why.refused.hour.1 hour)))))
-      | inr hour ↦ elim (cases_lt 59 m.minute) as (λ _. P) [
-        | inl minute ↦ inr (inr (inr (inr (inl (ap Some (why.refused.minute.1 (omega (arith, hour), minute)))))))
-        | inr minute ↦ elim (cases_lt 59 m.second) as (λ _. P) [
-          | inl second ↦ inr (inr (inr (inr (inr (inl (ap Some (why.refused.second.1 (omega (arith, hour), omega (arith, minute), second))))))))
+    let e = c.in-Err-from_hms_nano.error in
+    let IsClock = (e ≡ hour_out_of_range) ⊎ (e ≡ minute_out_of_range) ⊎ (e ≡ second_out_of_range) ⊎ (e ≡ offset_hour_out_of_range) ⊎ (e ≡ offset_minute_out_of_range) in
+    inr (inr (elim (cases_lt 23 m.hour) as (λ _. IsClock) [
+      | inl hour ↦ inl (why.refused.hour.1 hour)
+      | inr hour ↦ elim (cases_lt 59 m.minute) as (λ _. IsClock) [
+        | inl minute ↦ inr (inl (why.refused.minute.1 (omega (arith, hour), minute)))
+        | inr minute ↦ elim (cases_lt 59 m.second) as (λ _. IsClock) [
+          | inl second ↦ inr (inr (inl (why.refused.second.1 (omega (arith, hour), omega (arith, minute), second))))
           | inr second ↦
               let made = why.value (omega (arith, hour)) (omega (arith, minute)) (omega (arith, second)) (omega (arith, c.requires.nanosecond)) in
               let never : ⊥ = cc in
               absurd never
         ]
       ]
-    ]
+    ]))
 
 pub returns-in-Ok-offset_of-clause-has : goal.returns-in-Ok-offset_of-clause-has
 returns-in-Ok-offset_of-clause-has c =

@@ -1,6 +1,6 @@
-use Rattle.std.proofs.Common.{arith, rules, FitsSigned, w32}
-use Rattle.std.proofs.lemmas.Int.{ints, to_z-of_z}
-use Rattle.cal_c.proofs.TextRows.{IsByteOf, date_of_done, date_of_refused, date_of_unreadable}
+use Rattle.std.proofs.Common.{rules, FitsSigned, w32}
+use Rattle.std.proofs.lemmas.Int.{to_z-of_z}
+use Rattle.cal_c.proofs.TextRows.{is_byte, IsByteOf, date_of_done, date_of_refused, date_of_unreadable}
 use Rattle.cal_c.proofs.columns.texts.reading.date_of_text.Goals as goal
 
 pub returns : goal.returns
@@ -13,11 +13,6 @@ returns c =
     let fits : FitsSigned w32 r.date = search rules in
     record {
       date = λ n is has. date_of_done r b n fits byte (its.date n is has);
-      form = λ no. date_of_unreadable r b fits byte (its.form no);
-      month = λ h. date_of_refused r b _ fits byte (omega (arith, ints), omega (arith, ints)) (its.month h);
-      year = λ h. date_of_refused r b _ fits byte (omega (arith, ints), omega (arith, ints)) (its.year h);
-      day = λ h. date_of_refused r b _ fits byte (omega (arith, ints), omega (arith, ints)) (its.day h);
-      ordinal = λ h. date_of_refused r b _ fits byte (omega (arith, ints), omega (arith, ints)) (its.ordinal h);
-      week = λ h. date_of_refused r b _ fits byte (omega (arith, ints), omega (arith, ints)) (its.week h);
-      weekday = λ h. date_of_refused r b _ fits byte (omega (arith, ints), omega (arith, ints)) (its.weekday h);
+      form = λ no. date_of_unreadable _ _ r b fits byte (its.form no);
+      component = λ why h. date_of_refused r b _ fits byte (is_byte why.component) (its.component why h);
     }

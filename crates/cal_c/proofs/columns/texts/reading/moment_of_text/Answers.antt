@@ -1,6 +1,6 @@
-use Rattle.std.proofs.Common.{arith, rules, FitsSigned, w32}
-use Rattle.std.proofs.lemmas.Int.{ints, to_z-of_z}
-use Rattle.cal_c.proofs.TextRows.{IsByteOf, moment_of_done, moment_of_refused, moment_of_unreadable}
+use Rattle.std.proofs.Common.{rules, FitsSigned, w32}
+use Rattle.std.proofs.lemmas.Int.{to_z-of_z}
+use Rattle.cal_c.proofs.TextRows.{is_byte, IsByteOf, moment_of_done, moment_of_refused, moment_of_unreadable}
 use Rattle.cal_c.proofs.columns.texts.reading.moment_of_text.Goals as goal
 
 pub returns : goal.returns
@@ -14,12 +14,6 @@ returns c =
     let fits_o : FitsSigned w32 r.offset = search rules in
     record {
       moment = λ m has. moment_of_done r b m fits fits_o byte (its.moment m has);
-      form = λ no. moment_of_unreadable r b fits fits_o byte (its.form no);
-      month = λ h. moment_of_refused r b _ fits fits_o byte (omega (arith, ints), omega (arith, ints)) (its.month h);
-      day = λ h. moment_of_refused r b _ fits fits_o byte (omega (arith, ints), omega (arith, ints)) (its.day h);
-      hour = λ h. moment_of_refused r b _ fits fits_o byte (omega (arith, ints), omega (arith, ints)) (its.hour h);
-      minute = λ h. moment_of_refused r b _ fits fits_o byte (omega (arith, ints), omega (arith, ints)) (its.minute h);
-      second = λ h. moment_of_refused r b _ fits fits_o byte (omega (arith, ints), omega (arith, ints)) (its.second h);
-      offset_hour = λ h. moment_of_refused r b _ fits fits_o byte (omega (arith, ints), omega (arith, ints)) (its.offset_hour h);
-      offset_minute = λ h. moment_of_refused r b _ fits fits_o byte (omega (arith, ints), omega (arith, ints)) (its.offset_minute h);
+      form = λ no. moment_of_unreadable _ _ r b fits fits_o byte (its.form no);
+      component = λ why h. moment_of_refused r b _ fits fits_o byte (is_byte why.component) (its.component why h);
     }

@@ -1,0 +1,8 @@
+use Rattle.std.proofs.Math.Logic.{⊎_map}
+use Rattle.cal_c.proofs.Cases.{cases}
+use Rattle.cal_c.proofs.laws.julian_day_cases.Goals as goal
+
+pub returns : goal.returns
+returns c =
+    let read = c.read.ensures in
+    ⊎_map (λ found. (found.0, found.1.0, found.1.1)) (λ other. other) (cases c.read.result read.has read.form read.component)
