@@ -1,6 +1,6 @@
 -- What is read has a text that says it: each value is of those that its part has.
-use Rattle.std.proofs.Common.{◌≡◌, ℕ, zero, suc, ◌+◌, ◌-◌, ◌/◌, ◌%◌, ◌<◌, ◌≤◌, ◌^◌, Bool, true, false, cond, eqb, List, [], ◌∷◌, length, take, drop, slice_index_or, Option, Some, None, Result, Ok, Err, ℤ, pos, negsuc, refl, sym, ap, ◌∙◌, subst, arith, inl, inr, lit<}
-use Rattle.std.specs.Prelude.{⊤, nat_le, neg_ℤ, slice_index, slice_get, filter, option_map, option_and_then, is_some, unwrap_or, ◌&&◌, IfSome, IfOk, ◌≤ℤ◌}
+use Rattle.std.proofs.Common.{◌≡◌, ℕ, zero, suc, ◌+◌, ◌-◌, ◌/◌, ◌%◌, ◌<◌, ◌≤◌, Bool, true, false, cond, eqb, List, [], ◌∷◌, length, take, drop, slice_index_or, Option, Some, None, Result, Ok, Err, ℤ, pos, refl, sym, ap, subst, arith}
+use Rattle.std.specs.Prelude.{⊤, nat_le, neg_ℤ, slice_index, option_map, option_and_then, is_some, unwrap_or, ◌&&◌, IfSome, IfOk, ◌≤ℤ◌}
 use Rattle.std.specs.List.{All}
 use Rattle.std.specs.Option.{option_map_or, option_zip}
 use Rattle.std.specs.Str.Parse.{digits_value}
@@ -8,17 +8,13 @@ use Rattle.std.proofs.lemmas.Bool.{and_parts, eqb-true}
 use Rattle.std.proofs.lemmas.Bool.Decides.{nat_tests}
 use Rattle.std.proofs.lemmas.Int.{ints}
 use Rattle.std.proofs.lemmas.Str.Parse.{digits_value_short}
-use Rattle.cal_time.specs.Date.{last_day, year_at, IsDate}
+use Rattle.cal_time.specs.Date.{last_day, year_at}
 use Rattle.cal_time.specs.Filters.{IsFirstDay, first_passing}
-use Rattle.cal_time.specs.Occurrence.{days_from}
-use Rattle.cal_time.specs.declared.Month.{Month}
 use Rattle.cal_time.specs.declared.Weekday.{Weekday}
-use Rattle.cal_time.specs.declared.Weekday.TheVariants.{Monday}
 use Rattle.cal_schedule.specs.declared.rule.kinds.Frequency.{Frequency}
-use Rattle.cal_schedule.specs.declared.rule.kinds.ByDay.{ByDay}
 use Rattle.cal_schedule.specs.declared.rule.kinds.ByDay.TheVariants.{Every, Nth}
 use Rattle.cal_recurrence.specs.Spelled.{IsCount, IsIndex, IsMonthDay, IsByDay, IsEnd, IsSpelled}
-use Rattle.cal_recurrence.specs.Text.{fault, each, list_of, has_few_words, fresh, changed, put, put_value, put_part, with_frequency, finished, and_on, read_on, nothing, recurrence_of}
+use Rattle.cal_recurrence.specs.Text.{fault, each, list_of, has_few_words, fresh, changed, put, put_value, put_part, with_frequency, and_on, read_on, nothing, recurrence_of}
 use Rattle.cal_recurrence.specs.Values.{most_values}
 use Rattle.cal_recurrence.specs.Words.{parts_at, front_at, rest_at, part_of, frequency_of, is_number, number_of, from_one_to, count_of, short_count_of, index_of, weekday_of, month_of, month_day_of, by_day_of, has_digits, day_with, date_of}
 use Rattle.cal_recurrence.specs.declared.draft.Draft.{Draft}
@@ -28,7 +24,6 @@ use Rattle.cal_recurrence.specs.declared.fault.RuleReason.TheVariants.{Unknown, 
 use Rattle.cal_recurrence.specs.declared.fault.RulePart.{RulePart}
 use Rattle.cal_recurrence.specs.declared.fault.RulePart.TheVariants as part
 use Rattle.cal_recurrence.specs.declared.recurrence.Recurrence.{Recurrence}
-use Rattle.cal_recurrence.specs.declared.recurrence.RuleEnd.{RuleEnd}
 use Rattle.cal_recurrence.specs.declared.recurrence.RuleEnd.TheVariants.{Never, Until, Count}
 use Rattle.cal_recurrence.proofs.Dates.{has_them}
 use Rattle.cal_recurrence.proofs.Numbers.{digits, is_numeral}
@@ -159,6 +154,7 @@ list-is {X = X} P meaning h value few = fewer (list_of meaning value) (each-is P
   where
     least : length (parts_at 44 value) ≤ most_values
     least = grind (arith, nat_tests, few)
+
     fewer : (o : Option (List X)) → IfSome o (AreValues P (length (parts_at 44 value))) → IfSome o (AreFew P)
     fewer None k = tt
     fewer (Some xs) k = (omega (arith, k.0, least), k.1)

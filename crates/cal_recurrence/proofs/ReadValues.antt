@@ -1,5 +1,5 @@
 -- A list of words with commas between them, read back.
-use Rattle.std.proofs.Common.{◌≡◌, ℕ, ◌≤◌, ◌+◌, Bool, true, cond, List, [], ◌∷◌, ◌++◌, append-nil, map, length, Option, Some, refl, sym, ap, ◌∙◌, arith}
+use Rattle.std.proofs.Common.{◌≡◌, ℕ, ◌≤◌, true, List, [], ◌∷◌, ◌++◌, append-nil, map, length, Option, Some, refl, ap, ◌∙◌, arith}
 use Rattle.std.specs.Prelude.{⊤, codes, nat_le, option_map}
 use Rattle.std.specs.Option.{option_zip}
 use Rattle.std.proofs.lemmas.Bool.Decides.{nat_tests}
@@ -7,7 +7,7 @@ use Rattle.cal_recurrence.specs.Text.{each, list_of, has_few_words}
 use Rattle.cal_recurrence.specs.Values.{most_values}
 use Rattle.cal_recurrence.specs.Words.{parts_at}
 use Rattle.cal_recurrence.specs.Written.{list_text}
-use Rattle.cal_recurrence.proofs.Avoided.{avoids, avoids-append, avoids-cons, cut-here, cut-nowhere}
+use Rattle.cal_recurrence.proofs.Avoided.{avoids, avoids-append, cut-here, cut-nowhere}
 
 -- a word says what it was written for, and has no mark of those between parts and words
 pub record IsWord {X : Type 0} (meaning : List ℕ → Option X) (x : X) (word : List ℕ) : Type 0 where
