@@ -15,16 +15,16 @@ use Rattle.cal_time.specs.declared.error.ComponentRange.{ComponentRange}
 use Rattle.cal_recurrence.specs.Words.{day_with, has_digits}
 
 -- the test of the digits
-same_date : (y : ℤ) (m d k : ℕ) → year_at k ≡ y → month_at k ≡ m → day_of_month_at k ≡ d → HasCalendarDate y m d k
+pub same_date : (y : ℤ) (m d k : ℕ) → year_at k ≡ y → month_at k ≡ m → day_of_month_at k ≡ d → HasCalendarDate y m d k
 same_date y m d k e f g = λ i. calendar_day (e i) (f i) (g i)
 
-has_them : (n m k : ℕ) → m ≡ n / 100 % 100 → has_digits n k ≡ true → HasCalendarDate (pos (n / 10000)) m (n % 100) k
+pub has_them : (n m k : ℕ) → m ≡ n / 100 % 100 → has_digits n k ≡ true → HasCalendarDate (pos (n / 10000)) m (n % 100) k
 has_them n m k e h =
     let parts = and_parts _ _ h in
     let both = and_parts _ _ parts.1 in
     same_date _ _ _ k ((Decides-int_eq _ _).0 parts.0) (eqb-true _ _ both.0 ∙ sym e) (eqb-true _ _ both.1)
 
-passes : (n m k : ℕ) → m ≡ n / 100 % 100 → HasCalendarDate (pos (n / 10000)) m (n % 100) k → has_digits n k ≡ true
+pub passes : (n m k : ℕ) → m ≡ n / 100 % 100 → HasCalendarDate (pos (n / 10000)) m (n % 100) k → has_digits n k ≡ true
 passes n m k e h =
     and_from _ _ ((Decides-int_eq _ _).1 (ap (λ d. d.year) h)) (and_from _ _ (eq-eqb _ _ (ap (λ d. d.month) h ∙ e)) (eq-eqb _ _ (ap (λ d. d.day) h)))
 

@@ -5,3 +5,9 @@ pub mod Digits
 pub mod Listed
 pub mod Marked
 pub mod OneAnswer
+pub mod Avoided
+pub mod ReadValues
+pub mod ReadWords
+pub mod ReadDates
+pub mod ReadParts
+pub mod GivenParts

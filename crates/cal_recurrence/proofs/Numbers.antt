@@ -11,11 +11,11 @@ use Rattle.std.proofs.lemmas.Str.{IsUtf8-from_ascii}
 use Rattle.std.proofs.lemmas.Str.Parse.{IsNumeralModel, numerals_by_value, parse_plain, tells_all_ascii_digits}
 use Rattle.cal_recurrence.specs.Words.{is_number, number_of}
 
-digits : IsNumeralModel (λ ds. all_ascii_digits ds ≡ true) (digits_value 10)
+pub digits : IsNumeralModel (λ ds. all_ascii_digits ds ≡ true) (digits_value 10)
 digits = numerals_by_value _ tells_all_ascii_digits
 
 -- a guarded value
-guard_yes : {A : Type 0} (b : Bool) (x : A) → b ≡ true → cond b (Some x) None ≡ Some x
+pub guard_yes : {A : Type 0} (b : Bool) (x : A) → b ≡ true → cond b (Some x) None ≡ Some x
 guard_yes true x e = refl
 guard_yes false x e = absurd (false≢true e)
 
@@ -30,13 +30,13 @@ Numeral bs = (all_ascii_digits bs ≡ true) × (0 < length bs) × (digits_value 
 less : (m n : ℕ) → Decides (nat_lt m n) (m < n)
 less m n = (λ e. grind (arith, nat_tests), λ h. grind (arith, nat_tests))
 
-is_numeral : (bs : List ℕ) → is_number bs ≡ true → Numeral bs
+pub is_numeral : (bs : List ℕ) → is_number bs ≡ true → Numeral bs
 is_numeral bs e =
     let some = and_parts _ _ e in
     let all = and_parts _ _ some.1 in
     (all.0, (less _ _).0 some.0, (less _ _).0 all.1)
 
-numeral_is : (bs : List ℕ) → Numeral bs → is_number bs ≡ true
+pub numeral_is : (bs : List ℕ) → Numeral bs → is_number bs ≡ true
 numeral_is bs h = and_from _ _ ((less _ _).1 h.1) (and_from _ _ h.0 ((less _ _).1 h.2))
 
 ok_where : {E : Type 0} (r : Result ℕ E) (P : Type 0) (v : ℕ) → OkIff r P v → P → result_ok r ≡ Some v

@@ -4,3 +4,4 @@ pub mod Text
 pub mod Days
 pub mod RecurrenceText
 pub mod Written
+pub mod Spelled

@@ -1,6 +1,8 @@
 //! The text of a recurrence.
-ghost use Rattle.std.specs.Prelude.{◌≡◌, Some};
+ghost use Rattle.std.specs.Prelude.{◌≡◌, Some, Ok};
 ghost use Rattle.std.specs.Fmt.{padded};
+ghost use Rattle.cal_recurrence.specs.Spelled.{IsSpelled};
+ghost use Rattle.cal_recurrence.specs.Text.{recurrence_of};
 ghost use Rattle.cal_recurrence.specs.Written.{text_of};
 
 use crate::recurrence::Recurrence;
@@ -14,7 +16,8 @@ impl Recurrence {
     /// Its parts are in one order: `FREQ`, `INTERVAL`, `UNTIL` or `COUNT`, `BYMONTH`, `BYMONTHDAY`, `BYDAY`, `WKST`. An interval of 1,
     /// a week that begins with Monday, a list of no values and an end that is not given are left out.
     pub fn text(&self) -> RecurrenceText
-        ensures { result ≡ text_of self.now }
+        ensures text { result ≡ text_of self.now }
+        ensures reads_back { IsSpelled self.now → recurrence_of result ≡ Ok self.now }
     {
         let mut text = RecurrenceText::new();
         text.push("FREQ=");

@@ -1,5 +1,6 @@
 //! The text of a recurrence, read.
-ghost use Rattle.std.specs.Prelude.{◌≡◌, ◌+◌, ◌<◌, ◌^◌, length};
+ghost use Rattle.std.specs.Prelude.{◌≡◌, ◌+◌, ◌<◌, ◌^◌, length, IfOk};
+ghost use Rattle.cal_recurrence.specs.Spelled.{IsSpelled};
 ghost use Rattle.cal_recurrence.specs.Text.{read_on, recurrence_of};
 ghost use Rattle.cal_recurrence.specs.Words.{parts_at};
 
@@ -14,8 +15,10 @@ use crate::words::cut;
 /// `COUNT`, in any order and in any case of their letters. Refused are a name that is none of these as `Unknown`, a part that comes
 /// again, or a second end, as `Twice`, a value of more than 62 words as `TooMany`, one that the part does not have as `Value`, and a text
 /// without `FREQ` as `Missing`.
+#[tactic(auto, using(crate::proofs::GivenParts::read_is_spelled))]
 pub fn parse(text: &[u8]) -> Result<Recurrence, RuleFault>
-    ensures { result ≡ recurrence_of text.now }
+    ensures value { result ≡ recurrence_of text.now }
+    ensures spelled { IfOk result IsSpelled }
 {
     read_on(0, Draft::new(), text)
 }

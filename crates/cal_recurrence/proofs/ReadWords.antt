@@ -1,0 +1,187 @@
+-- The numbers and the names of a text, read back.
+use Rattle.std.proofs.Common.{◌≡◌, ℕ, suc, ◌-◌, ◌<◌, ◌≤◌, ◌^◌, true, false, cond, eqb, List, [], ◌∷◌, ◌++◌, length, take, drop, Option, Some, None, ℤ, pos, negsuc, inl, inr, refl, ap, ◌∙◌, arith, lit<}
+use Rattle.std.specs.Prelude.{◌⊎◌, decimal, neg_ℤ, nat_le, slice_index, option_map, option_and_then, ◌&&◌}
+use Rattle.std.specs.Option.{option_zip}
+use Rattle.std.specs.Fmt.{signed_decimal}
+use Rattle.std.specs.Str.{all_ascii_digits}
+use Rattle.std.specs.Str.Parse.{digits_value}
+use Rattle.std.proofs.lemmas.Bool.{and_from, ne_eqb}
+use Rattle.std.proofs.lemmas.Bool.Decides.{nat_tests}
+use Rattle.std.proofs.lemmas.Fmt.{digits_decimal, digits_value-decimal, decimal_nonempty, length-decimal-le, first_decimal}
+use Rattle.std.proofs.lemmas.List.{take-append-le, drop-append-le, take_all, drop_all, length-append}
+use Rattle.std.proofs.lemmas.Str.Parse.{tells_all_ascii_digits}
+use Rattle.cal_time.specs.Month.{number, index, month_at as month_with_index}
+use Rattle.cal_time.specs.MonthCycle.{index-below, month_at-index}
+use Rattle.cal_time.specs.declared.Month.{Month}
+use Rattle.cal_time.specs.declared.Weekday.{Weekday}
+use Rattle.cal_time.specs.declared.Weekday.TheVariants as weekday
+use Rattle.cal_schedule.specs.declared.rule.kinds.Frequency.{Frequency}
+use Rattle.cal_schedule.specs.declared.rule.kinds.Frequency.TheVariants as frequency
+use Rattle.cal_schedule.specs.declared.rule.kinds.ByDay.{ByDay}
+use Rattle.cal_schedule.specs.declared.rule.kinds.ByDay.TheVariants.{Every, Nth}
+use Rattle.cal_recurrence.specs.Spelled.{IsCount, IsIndex, IsByDay}
+use Rattle.cal_recurrence.specs.Words.{is_number, number_of, from_one_to, count_of, short_count_of, index_of, frequency_of, weekday_of, month_of, month_day_of, by_day_of}
+use Rattle.cal_recurrence.specs.Written.{frequency_text, weekday_text, month_text, month_day_text, by_day_text}
+use Rattle.cal_recurrence.proofs.Avoided.{avoids, avoids-append, avoids-cons}
+use Rattle.cal_recurrence.proofs.Numbers.{digits, numeral_is, guard_yes}
+use Rattle.cal_recurrence.proofs.ReadValues.{IsWord}
+
+-- ---- digits
+outside : (c byte : ℕ) → 48 ≤ c → c ≤ 57 → (byte < 48) ⊎ (57 < byte) → eqb c byte ≡ false
+outside c byte low high h = ne_eqb c byte (λ e. omega (arith, e, low, high, h))
+
+pub digits-avoid : (byte : ℕ) (ds : List ℕ) → (byte < 48) ⊎ (57 < byte) → all_ascii_digits ds ≡ true → avoids byte ds ≡ true
+digits-avoid byte [] h all = refl
+digits-avoid byte (c ∷ cs) h all =
+    let both = tells_all_ascii_digits.parts c cs all in
+    avoids-cons byte c cs (outside c byte both.0.0 both.0.1 h) (digits-avoid byte cs h both.1)
+
+decimal-avoids : (byte n : ℕ) → (byte < 48) ⊎ (57 < byte) → n < 2 ^ 32 → avoids byte (decimal n) ≡ true
+decimal-avoids byte n h small = digits-avoid byte (decimal n) h (digits_decimal digits n (omega (arith, small)))
+
+pub number-back : (word : List ℕ) (n : ℕ) → all_ascii_digits word ≡ true → 0 < length word → digits_value 10 word ≡ n → n < 4294967296 → number_of word ≡ Some n
+number-back word n all some value small =
+    guard_yes (is_number word) (digits_value 10 word) (numeral_is word (all, some, omega (arith, value, small))) ∙ ap Some value
+
+decimal-number : (n : ℕ) → n < 2 ^ 32 → number_of (decimal n) ≡ Some n
+decimal-number n small =
+    number-back (decimal n) n (digits_decimal digits n (omega (arith, small))) (decimal_nonempty n (omega (arith, small)))
+    (digits_value-decimal digits n (omega (arith, small))) (omega (arith, small))
+
+in-range : (most n : ℕ) → 1 ≤ n → n ≤ most → from_one_to most n ≡ Some n
+in-range most n low high =
+    guard_yes (nat_le 1 n && nat_le n most) n (and_from (nat_le 1 n) (nat_le n most) (grind (arith, nat_tests, low)) (grind (arith, nat_tests, high)))
+
+count-back : (most n : ℕ) → 1 ≤ n → n ≤ most → n < 2 ^ 32 → count_of most (decimal n) ≡ Some n
+count-back most n low high small = ap (option_and_then (from_one_to most)) (decimal-number n small) ∙ in-range most n low high
+
+pub count-word : (n : ℕ) → IsCount n → IsWord (count_of 4294967295) n (decimal n)
+count-word n h = record {
+  comma = decimal-avoids 44 n (inl (lit< tt)) h.1;
+  semicolon = decimal-avoids 59 n (inr (lit< tt)) h.1;
+  means = count-back 4294967295 n h.0 (omega (arith, h.1)) h.1;
+}
+
+short-back : (most n : ℕ) → 1 ≤ n → n ≤ most → most < 100 → short_count_of most (decimal n) ≡ Some n
+short-back most n low high two =
+    let short : length (decimal n) ≤ 2 = length-decimal-le 2 n (lit< tt) (omega (arith, high, two)) (omega (arith, high, two)) in
+    let test : nat_le (length (decimal n)) 2 ≡ true = grind (arith, nat_tests, short) in
+    ap (λ b. cond b (count_of most (decimal n)) None) test ∙ count-back most n low high (omega (arith, high, two))
+
+-- ---- an index with its sign
+plain-index : (most : ℕ) (word : List ℕ) (n : ℕ) → 48 < slice_index word 0 → short_count_of most word ≡ Some n → index_of most word ≡ Some (pos n)
+plain-index most word n first h =
+    let minus : eqb (slice_index word 0) 45 ≡ false = ne_eqb _ _ (λ e. omega (arith, e, first)) in
+    let plus : eqb (slice_index word 0) 43 ≡ false = ne_eqb _ _ (λ e. omega (arith, e, first)) in
+    ap (λ b. cond b (option_map (λ n. neg_ℤ (pos n)) (short_count_of most (drop 1 word))) (cond (eqb (slice_index word 0) 43) (option_map pos (short_count_of most (drop 1 word))) (option_map pos (short_count_of most word)))) minus
+    ∙ ap (λ b. cond b (option_map pos (short_count_of most (drop 1 word))) (option_map pos (short_count_of most word))) plus
+    ∙ ap (option_map pos) h
+
+pub index-back : (most : ℕ) (z : ℤ) → most < 100 → IsIndex most z → index_of most (signed_decimal z) ≡ Some z
+index-back most (pos n) two h =
+    let low : 1 ≤ n = h.0 in
+    let high : n ≤ most = h.1 in
+    plain-index most (decimal n) n (first_decimal n (omega (arith, low)) (omega (arith, high, two))) (short-back most n low high two)
+index-back most (negsuc n) two h =
+    let low : 1 ≤ suc n = h.0 in
+    let high : suc n ≤ most = h.1 in
+    ap (option_map (λ n. neg_ℤ (pos n))) (short-back most (suc n) low high two)
+
+signed-avoids : (byte most : ℕ) (z : ℤ) → most < 100 → IsIndex most z → eqb 45 byte ≡ false → (byte < 48) ⊎ (57 < byte) → avoids byte (signed_decimal z) ≡ true
+signed-avoids byte most (pos n) two h minus out =
+    let high : n ≤ most = h.1 in
+    decimal-avoids byte n out (omega (arith, high, two))
+signed-avoids byte most (negsuc n) two h minus out =
+    let high : suc n ≤ most = h.1 in
+    avoids-cons byte 45 (decimal (suc n)) minus (decimal-avoids byte (suc n) out (omega (arith, high, two)))
+
+pub month_day-word : (z : ℤ) → IsIndex 31 z → IsWord month_day_of z (month_day_text z)
+month_day-word z h = record {
+  comma = signed-avoids 44 31 z (lit< tt) h refl (inl (lit< tt));
+  semicolon = signed-avoids 59 31 z (lit< tt) h refl (inr (lit< tt));
+  means = index-back 31 z (lit< tt) h;
+}
+
+-- ---- names
+number-most : (m : Month) → number m ≤ 12
+number-most m = omega (arith, index-below m)
+
+number-back_to : (m : Month) → month_with_index (number m - 1) ≡ m
+number-back_to m = let same : number m - 1 ≡ index m = omega arith in ap month_with_index same ∙ month_at-index m
+
+pub month-word : (m : Month) → IsWord month_of m (month_text m)
+month-word m =
+    let most = number-most m in
+    record {
+      comma = decimal-avoids 44 (number m) (inl (lit< tt)) (omega (arith, most));
+      semicolon = decimal-avoids 59 (number m) (inr (lit< tt)) (omega (arith, most));
+      means = ap (option_map (λ n. month_with_index (n - 1))) (short-back 12 (number m) (omega arith) most (lit< tt)) ∙ ap Some (number-back_to m);
+    }
+
+pub frequency-word : (f : Frequency) → IsWord frequency_of f (frequency_text f)
+frequency-word frequency.Daily = record { comma = refl; semicolon = refl; means = refl }
+frequency-word frequency.Weekly = record { comma = refl; semicolon = refl; means = refl }
+frequency-word frequency.Monthly = record { comma = refl; semicolon = refl; means = refl }
+frequency-word frequency.Yearly = record { comma = refl; semicolon = refl; means = refl }
+
+pub weekday-word : (w : Weekday) → IsWord weekday_of w (weekday_text w)
+weekday-word weekday.Monday = record { comma = refl; semicolon = refl; means = refl }
+weekday-word weekday.Tuesday = record { comma = refl; semicolon = refl; means = refl }
+weekday-word weekday.Wednesday = record { comma = refl; semicolon = refl; means = refl }
+weekday-word weekday.Thursday = record { comma = refl; semicolon = refl; means = refl }
+weekday-word weekday.Friday = record { comma = refl; semicolon = refl; means = refl }
+weekday-word weekday.Saturday = record { comma = refl; semicolon = refl; means = refl }
+weekday-word weekday.Sunday = record { comma = refl; semicolon = refl; means = refl }
+
+two-letters : (w : Weekday) → length (weekday_text w) ≡ 2
+two-letters weekday.Monday = refl
+two-letters weekday.Tuesday = refl
+two-letters weekday.Wednesday = refl
+two-letters weekday.Thursday = refl
+two-letters weekday.Friday = refl
+two-letters weekday.Saturday = refl
+two-letters weekday.Sunday = refl
+
+-- ---- a weekday with its number
+abbrev by_day_at : List ℕ → ℕ → Option ByDay
+by_day_at word front =
+    cond (eqb front 0) (option_map Every (weekday_of word))
+    (option_map (λ both. Nth both.0 both.1) (option_zip (index_of 53 (take front word)) (weekday_of (drop front word))))
+
+by_day-cut : (word : List ℕ) (front : ℕ) → length word - 2 ≡ front → by_day_of word ≡ by_day_at word front
+by_day-cut word front e = ap (by_day_at word) e
+
+every-back : (w : Weekday) → by_day_of (weekday_text w) ≡ Some (Every w)
+every-back w =
+    let none : length (weekday_text w) - 2 ≡ 0 = omega (arith, two-letters w) in
+    by_day-cut (weekday_text w) 0 none ∙ ap (option_map Every) (weekday-word w).means
+
+nth-back : (index name : List ℕ) (z : ℤ) (w : Weekday) → 0 < length index → length name ≡ 2 → index_of 53 index ≡ Some z → weekday_of name ≡ Some w
+    → by_day_of (index ++ name) ≡ Some (Nth z w)
+nth-back index name z w some two e f =
+    let front : length (index ++ name) - 2 ≡ length index = omega (arith, length-append index name, two) in
+    let not_none : eqb (length index) 0 ≡ false = ne_eqb _ _ (λ h. omega (arith, h, some)) in
+    let start : take (length index) (index ++ name) ≡ index = take-append-le (length index) index name (omega arith) ∙ take_all _ index (omega arith) in
+    let rest : drop (length index) (index ++ name) ≡ name =
+    drop-append-le (length index) index name (omega arith) ∙ ap (λ bytes. bytes ++ name) (drop_all _ index (omega arith)) in
+    by_day-cut (index ++ name) (length index) front
+    ∙ ap (λ b. cond b (option_map Every (weekday_of (index ++ name)))
+    (option_map (λ both. Nth both.0 both.1) (option_zip (index_of 53 (take (length index) (index ++ name))) (weekday_of (drop (length index) (index ++ name)))))) not_none
+    ∙ ap (λ bytes. option_map (λ both. Nth both.0 both.1) (option_zip (index_of 53 bytes) (weekday_of (drop (length index) (index ++ name))))) start
+    ∙ ap (λ bytes. option_map (λ both. Nth both.0 both.1) (option_zip (index_of 53 index) (weekday_of bytes))) rest
+    ∙ ap (λ o. option_map (λ both. Nth both.0 both.1) (option_zip o (weekday_of name))) e
+    ∙ ap (λ o. option_map (λ both. Nth both.0 both.1) (option_zip (Some z) o)) f
+
+signed-some : (most : ℕ) (z : ℤ) → most < 100 → IsIndex most z → 0 < length (signed_decimal z)
+signed-some most (pos n) two h = let high : n ≤ most = h.1 in decimal_nonempty n (omega (arith, high, two))
+signed-some most (negsuc n) two h = omega arith
+
+pub by_day-word : (d : ByDay) → IsByDay d → IsWord by_day_of d (by_day_text d)
+by_day-word (Every w) h = record { comma = (weekday-word w).comma; semicolon = (weekday-word w).semicolon; means = every-back w }
+by_day-word (Nth z w) h =
+    let name = weekday-word w in
+    record {
+      comma = avoids-append 44 (signed_decimal z) (weekday_text w) (signed-avoids 44 53 z (lit< tt) h refl (inl (lit< tt))) name.comma;
+      semicolon = avoids-append 59 (signed_decimal z) (weekday_text w) (signed-avoids 59 53 z (lit< tt) h refl (inr (lit< tt))) name.semicolon;
+      means = nth-back (signed_decimal z) (weekday_text w) z w (signed-some 53 z (lit< tt) h) (two-letters w) (index-back 53 z (lit< tt) h) name.means;
+    }

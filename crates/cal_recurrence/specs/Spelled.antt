@@ -1,0 +1,39 @@
+-- The recurrences that a text says, of which each is the one that its own text says.
+use Rattle.std.specs.Prelude.{⊤, ℕ, ◌≤◌, ◌<◌, ◌^◌, ℤ, pos, ◌≤ℤ◌, unsigned_abs, length}
+use Rattle.std.specs.List.{All}
+use Rattle.cal_time.specs.Date.{year_at, IsDate}
+use Rattle.cal_schedule.specs.declared.rule.kinds.ByDay.{ByDay}
+use Rattle.cal_schedule.specs.declared.rule.kinds.ByDay.TheVariants.{Every, Nth}
+use Rattle.cal_recurrence.specs.Values.{most_values}
+use Rattle.cal_recurrence.specs.declared.recurrence.Recurrence.{Recurrence}
+use Rattle.cal_recurrence.specs.declared.recurrence.RuleEnd.{RuleEnd}
+use Rattle.cal_recurrence.specs.declared.recurrence.RuleEnd.TheVariants.{Never, Until, Count}
+
+abbrev pub IsCount : ℕ → Type 0
+IsCount n = (1 ≤ n) × (n < 2 ^ 32)
+
+-- from either end, but not 0
+abbrev pub IsIndex : ℕ → ℤ → Type 0
+IsIndex most z = (1 ≤ unsigned_abs z) × (unsigned_abs z ≤ most)
+
+abbrev pub IsMonthDay : ℤ → Type 0
+IsMonthDay day = IsIndex 31 day
+
+abbrev pub IsByDay : ByDay → Type 0
+IsByDay (Every weekday) = ⊤
+IsByDay (Nth index weekday) = IsIndex 53 index
+
+-- a year has four digits
+abbrev pub IsEnd : RuleEnd → Type 0
+IsEnd Never = ⊤
+IsEnd (Until day) = IsDate day × (pos 0 ≤ℤ year_at day) × (year_at day ≤ℤ pos 9999)
+IsEnd (Count n) = IsCount n
+
+pub record IsSpelled (r : Recurrence) : Type 0 where
+  pub interval : IsCount r.interval
+  pub months : length r.months ≤ most_values
+  pub month_days : length r.month_days ≤ most_values
+  pub weekdays : length r.weekdays ≤ most_values
+  pub each_month_day : All IsMonthDay r.month_days
+  pub each_weekday : All IsByDay r.weekdays
+  pub end : IsEnd r.end
