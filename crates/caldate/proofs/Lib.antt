@@ -8,9 +8,11 @@ pub mod Laters
 pub mod Texts
 pub mod Numbers
 pub mod Replied
+pub mod Keeps
 pub mod Steps
 pub mod OneCount
 pub mod OneAnswer
+pub mod OneKept
 pub mod Leads
 pub mod Digits
 pub mod Listed

@@ -16,10 +16,10 @@ use Rattle.cal_text.specs.declared.error.Unreadable.{Unreadable}
 use Rattle.cal_text.specs.declared.error.Unreadable.TheVariants.{UnexpectedByte, OutOfRange}
 use Rattle.caldate.specs.Answers.{IsAnswerTo, IsAnswer, IsBetween, IsTooLong, IsUnreadable, refused_text, moment_of, day_of, form_read, on_day}
 use Rattle.caldate.specs.Forms.{IsInForm}
-use Rattle.caldate.specs.Lines.{lines_of, text_of}
+use Rattle.caldate.specs.Lines.{lines_of}
 use Rattle.caldate.specs.Readings.{HasFormIn, IsFaultIn, IsTextIn}
-use Rattle.caldate.specs.Runs.{Ended, IsAllowed}
-use Rattle.caldate.specs.Standing.{AreReplies, Words}
+use Rattle.caldate.specs.Runs.{Ended, IsReplyTo}
+use Rattle.caldate.specs.Standing.{AreReplies, Writes}
 use Rattle.caldate.specs.declared.fault.Fault.{Fault}
 use Rattle.caldate.specs.declared.reading.Reading.{Reading}
 use Rattle.caldate.specs.declared.reading.Reading.TheVariants.{Any, DayFirst, MonthFirst, Local}
@@ -29,7 +29,7 @@ use Rattle.caldate.specs.declared.request.Form.{Form}
 use Rattle.caldate.specs.declared.request.Form.TheVariants.{Date, Weekday, Moment, ShortWeekday, Month, Quarter, Basic}
 use Rattle.caldate.specs.declared.request.Form.TheVariants as form
 use Rattle.caldate.specs.declared.request.Request.{Request}
-use Rattle.caldate.specs.declared.request.Request.TheVariants.{To, Add, Move, Until, Since, At}
+use Rattle.caldate.specs.declared.request.Request.TheVariants.{To, Add, Move, Until, Since, At, Keep}
 use Rattle.caldate.specs.declared.request.TimeUnit.{TimeUnit}
 use Rattle.caldate.proofs.Laters.{one_later}
 use Rattle.caldate.proofs.OneCount.{one_count}
@@ -50,7 +50,7 @@ in_form (form.Unix unit) m a b h k = h ∙ sym k
 in_form_at : (form : Form) (m n : Shown) (a b : List ℕ) → m ≡ n → IsInForm form m a → IsInForm form n b → a ≡ b
 in_form_at form m n a b e h k = in_form form n a b (subst (λ m. IsInForm form m a) e h) k
 
-some_one : {A : Type 0} (a b : A) → Some a ≡ Some b → a ≡ b
+pub some_one : {A : Type 0} (a b : A) → Some a ≡ Some b → a ≡ b
 some_one a b e = cc
 
 between : (unit : Option TimeUnit) (from to : DateOrMoment) (a b : List ℕ) → IsBetween unit from to a → IsBetween unit from to b → a ≡ b
@@ -65,6 +65,7 @@ one_answer_to (Move by) found a b h k =
 one_answer_to (Until target unit) found a b h k = between unit found target a b h k
 one_answer_to (Since target unit) found a b h k = between unit target found a b h k
 one_answer_to (At offset) found a b h k = in_form_at (Moment Rfc3339) _ _ a b (h.1.shown ∙ sym k.1.shown) h.2 k.2
+one_answer_to (Keep bounds) found a b h k = h.1 ∙ sym k.1
 
 -- ---- the words for what a reader says of the text
 abbrev Told : Filter → List ℕ → Result DateOrMoment Unreadable → List ℕ → Type 0
@@ -101,7 +102,7 @@ one_told filter text (Ok found) a b (inr h) (inr k) = inl (h.0 ∙ sym k.0)
 one_told filter text (Err (OutOfRange e)) a b h k = inl (h ∙ sym k)
 one_told filter text (Err (UnexpectedByte at)) a b h k = one_unreadable filter text a b h k
 
-none_some : {A : Type 0} (a : A) → None ≡ Some a → ⊥
+pub none_some : {A : Type 0} (a : A) → None ≡ Some a → ⊥
 none_some a e = cc
 
 refused_told : (filter : Filter) (text : List ℕ) (r : Result DateOrMoment Unreadable) (why : ComponentRange) (words : List ℕ)
@@ -153,11 +154,11 @@ one_answer filter text r a b every form component h k =
     one_of filter text r a b (told filter text r a every form component h) (told filter text r b every form component k)
 
 -- ---- the answers to all lines
-replies-one : (Allowed : Words) → ((before : ℕ) (text a b : List ℕ) → Allowed before text a → Allowed before text b → a ≡ b)
+replies-one : (Allowed : Writes) → ((before : ℕ) (line a b : List ℕ) → Allowed before line a → Allowed before line b → a ≡ b)
     → (before : ℕ) (lines : List (List ℕ)) (a b : List ℕ) → AreReplies Allowed before lines a → AreReplies Allowed before lines b → a ≡ b
 replies-one Allowed one before [] a b h k = h ∙ sym k
-replies-one Allowed one before (line ∷ lines) a b (reply, rest, (words, is, said), whole, more) (other, left, (others, is', said'), whole', more') =
-    let same = one before (text_of line) words others is is' in
+replies-one Allowed one before (line ∷ lines) a b (reply, rest, is, whole, more) (other, left, is', whole', more') =
+    let same = one before line reply other is is' in
     let after = replies-one Allowed one (before + 1) lines rest left more more' in
     cc
 
@@ -171,12 +172,12 @@ took-one held a b None v first second same = absurd first
 took-one held a b (Some x) None first second same = absurd second
 took-one held a b (Some x) (Some y) first second same = ap Some (first ∙ ap (λ more. held ++ more) same ∙ sym second)
 
-pub ended-one : (filter : Filter) → ((before : ℕ) (text a b : List ℕ) → IsAllowed filter before text a → IsAllowed filter before text b → a ≡ b)
+pub ended-one : (filter : Filter) → ((before : ℕ) (line a b : List ℕ) → IsReplyTo filter before line a → IsReplyTo filter before line b → a ≡ b)
     → (input held : List ℕ) (r s : Result Unit Fault) (left rest w v : Option (List ℕ)) → IsOk r → IsOk s
     → Ended filter r (Some input) left (Some held) w → Ended filter s (Some input) rest (Some held) v → w ≡ v
 ended-one filter one input held (Err e) s left rest w v ok too first second = absurd (false≢true ok)
 ended-one filter one input held (Ok done) (Err e) left rest w v ok too first second = absurd (false≢true too)
 ended-one filter one input held (Ok done) (Ok end) left rest w v ok too (end_left, (bytes, given, answers)) (end_rest, (others, taken, replies)) =
     let lines = ap lines_of (all_given input bytes left given end_left ∙ sym (all_given input others rest taken end_rest)) in
-    let there = subst (λ l. AreReplies (IsAllowed filter) 0 l answers.out) lines answers.replies in
-    took-one held answers.out replies.out w v answers.taken replies.taken (replies-one (IsAllowed filter) one 0 _ _ _ there replies.replies)
+    let there = subst (λ l. AreReplies (IsReplyTo filter) 0 l answers.out) lines answers.replies in
+    took-one held answers.out replies.out w v answers.taken replies.taken (replies-one (IsReplyTo filter) one 0 _ _ _ there replies.replies)

@@ -10,8 +10,8 @@ use Rattle.std.proofs.lemmas.List.Elements.{All-append, All-head, All-take, All-
 use Rattle.std.proofs.lemmas.List.Splits.{slice_split_at, slice_split_none, length-slice_split}
 use Rattle.std.proofs.lemmas.Bool.{false≢true}
 use Rattle.caldate.specs.Lines.{ended_lines, is_end, lines_of, without_empty_last, without_last}
-use Rattle.caldate.specs.Runs.{AnswersAll, AnswersFront, AppendsFront, AppendsThat, IsAllowed, StopsAt}
-use Rattle.caldate.specs.Standing.{AreReplies, IsReply, IsHeld, IsShown, NoEnd, Stands, Words, counted}
+use Rattle.caldate.specs.Runs.{AnswersAll, AnswersFront, AppendsFront, AppendsThat, IsReplyTo, StopsAt}
+use Rattle.caldate.specs.Standing.{AreReplies, IsHeld, IsShown, NoEnd, Stands, Writes, counted}
 use Rattle.caldate.specs.Shown.{printed, shown, words_shown}
 use Rattle.caldate.specs.Unanswered.{IsUnanswered}
 use Rattle.caldate.specs.declared.progress.Progress.{Progress}
@@ -20,17 +20,17 @@ use Rattle.caldate.specs.declared.shown.ShownText.{ShownText}
 use Rattle.caldate.specs.declared.unanswered.UnansweredLine.{UnansweredLine}
 
 -- ---- replies
-pub one_reply : (Allowed : Words) (before n : ℕ) (lines : List (List ℕ)) (line out reply : List ℕ) → n ≡ before + length lines
-    → AreReplies Allowed before lines out → IsReply (Allowed n) line reply → AreReplies Allowed before (lines ++ line ∷ []) (out ++ reply)
+pub one_reply : (Allowed : Writes) (before n : ℕ) (lines : List (List ℕ)) (line out reply : List ℕ) → n ≡ before + length lines
+    → AreReplies Allowed before lines out → Allowed n line reply → AreReplies Allowed before (lines ++ line ∷ []) (out ++ reply)
 one_reply Allowed before n [] line out reply e h r =
-    (reply, [], subst (λ k. IsReply (Allowed k) line reply) (omega (arith, e)) r, ap (λ l. l ++ reply) h ∙ sym (append-nil reply), refl)
+    (reply, [], subst (λ k. Allowed k line reply) (omega (arith, e)) r, ap (λ l. l ++ reply) h ∙ sym (append-nil reply), refl)
 one_reply Allowed before n (l ∷ lines) line out reply e h r =
     (h.0, h.1 ++ reply, h.2, ap (λ o. o ++ reply) h.3 ∙ append_assoc h.0 h.1 reply, one_reply Allowed (before + 1) n lines line h.1 reply (omega (arith, e)) h.4 r)
 
 -- what is gathered for a line is its reply, whatever was let go of it
-abbrev pub Replies : Words → Progress → List ℕ → List ℕ → List ℕ → Type 0
+abbrev pub Replies : Writes → Progress → List ℕ → List ℕ → List ℕ → Type 0
 Replies Allowed progress line old new =
-    (kept : List ℕ) (before : ℕ) → IsHeld progress.is_long kept line → progress.number ≡ counted before → AppendsThat (IsReply (Allowed before) (kept ++ line)) old new
+    (kept : List ℕ) (before : ℕ) → IsHeld progress.is_long kept line → progress.number ≡ counted before → AppendsThat (Allowed before (kept ++ line)) old new
 
 -- ---- the line that was held
 kept_no_end : (b : Bool) (kept pending : List ℕ) → IsHeld b kept pending → NoEnd kept
@@ -71,7 +71,7 @@ cut_line kept line after more pending h n e =
 counted_more : (n m : ℕ) → m ≡ counted n → counted (m + 1) ≡ counted (n + 1)
 counted_more n m e = omega (arith, e)
 
-pub answered : (Allowed : Words) (input : List ℕ) (start now : Option (List ℕ)) (gathered gathered_now pending line after : List ℕ) (progress progress_now : Progress)
+pub answered : (Allowed : Writes) (input : List ℕ) (start now : Option (List ℕ)) (gathered gathered_now pending line after : List ℕ) (progress progress_now : Progress)
     → NoEnd line → pending ≡ line ++ 10 ∷ after
     → Replies Allowed progress line gathered gathered_now
     → progress_now.is_long ≡ false → progress_now.number ≡ counted (progress.number + 1)
@@ -94,7 +94,7 @@ answered Allowed input start now gathered gathered_now pending line after progre
     }
 
 -- ---- what was gathered goes out, all of it or a front of it
-pub gone : (Allowed : Words) (input : List ℕ) (start now new : Option (List ℕ)) (gathered left written pending : List ℕ) (progress : Progress)
+pub gone : (Allowed : Writes) (input : List ℕ) (start now new : Option (List ℕ)) (gathered left written pending : List ℕ) (progress : Progress)
     → gathered ≡ written ++ left → Appends now new written
     → Stands Allowed input start now gathered pending progress → Stands Allowed input start new left pending progress
 gone Allowed input start now new gathered left written pending progress e a s = record {
@@ -176,7 +176,7 @@ front_more start now new written gathered out e a f = record {
 
 pub failed : (filter : Filter) (input : List ℕ) (start now new : Option (List ℕ)) (gathered pending : List ℕ) (progress : Progress)
     → AppendsFront now new gathered
-    → Stands (IsAllowed filter) input start now gathered pending progress → AnswersFront filter (ended_lines input) start new
+    → Stands (IsReplyTo filter) input start now gathered pending progress → AnswersFront filter (ended_lines input) start new
 failed filter input start now new gathered pending progress f s = record {
   lines = s.lines;
   more = ended_lines (s.kept ++ pending);
@@ -197,7 +197,7 @@ all_more start now new written gathered out e a f = subst (Appends start new) (s
 
 pub stopped : (filter : Filter) (input : List ℕ) (start now new : Option (List ℕ)) (gathered pending line after : List ℕ) (progress : Progress) (told : UnansweredLine)
     → NoEnd line → pending ≡ line ++ 10 ∷ after → filter.is_strict ≡ true → Tells filter progress line told → Appends now new gathered
-    → Stands (IsAllowed filter) input start now gathered pending progress → StopsAt filter told (ended_lines input) start new
+    → Stands (IsReplyTo filter) input start now gathered pending progress → StopsAt filter told (ended_lines input) start new
 stopped filter input start now new gathered pending line after progress told n e strict tells f s =
     let held = kept_no_end progress.is_long s.kept pending s.held in
     let parts = cut_line s.kept line after [] pending held n e in
@@ -224,20 +224,20 @@ held_some : (b : Bool) (kept pending : List ℕ) → IsHeld b kept pending → 0
 held_some b kept pending h l = omega (arith, l, length-append kept pending)
 
 pub all_answered : (filter : Filter) (input : List ℕ) (start now : Option (List ℕ)) (progress : Progress)
-    → Stands (IsAllowed filter) input start now [] [] progress → AnswersAll filter (lines_of input) start now
+    → Stands (IsReplyTo filter) input start now [] [] progress → AnswersAll filter (lines_of input) start now
 all_answered filter input start now progress s =
     let none = kept_none progress.is_long s.kept s.held in
     let lines : lines_of input ≡ s.lines =
     lines_of_are input s.kept [] s.lines s.cut ∙ ap (λ k. s.lines ++ lines_of (k ++ [])) none ∙ append-nil s.lines in
     record {
       out = s.out;
-      replies = subst (λ ls. AreReplies (IsAllowed filter) 0 ls s.out) (sym lines) s.replies;
+      replies = subst (λ ls. AreReplies (IsReplyTo filter) 0 ls s.out) (sym lines) s.replies;
       taken = subst (Appends start now) (sym (s.whole ∙ append-nil s.written)) s.taken;
     }
 
 -- the lines, and the last one, which has no end
 with_last : (filter : Filter) (input : List ℕ) (start now : Option (List ℕ)) (gathered line : List ℕ) (progress : Progress)
-    → NoEnd line → 0 < length line → (s : Stands (IsAllowed filter) input start now gathered line progress)
+    → NoEnd line → 0 < length line → (s : Stands (IsReplyTo filter) input start now gathered line progress)
     → lines_of input ≡ s.lines ++ (s.kept ++ line) ∷ []
 with_last filter input start now gathered line progress n l s =
     lines_of_are input s.kept line s.lines s.cut
@@ -245,23 +245,23 @@ with_last filter input start now gathered line progress n l s =
 
 pub last_answered : (filter : Filter) (input : List ℕ) (start now new : Option (List ℕ)) (gathered line : List ℕ) (progress : Progress)
     → NoEnd line → 0 < length line
-    → Replies (IsAllowed filter) progress line [] gathered
+    → Replies (IsReplyTo filter) progress line [] gathered
     → Appends now new gathered
-    → Stands (IsAllowed filter) input start now [] line progress → AnswersAll filter (lines_of input) start new
+    → Stands (IsReplyTo filter) input start now [] line progress → AnswersAll filter (lines_of input) start new
 last_answered filter input start now new gathered line progress n l reply f s =
     let r = reply s.kept (length s.lines) s.held s.number in
     record {
       out = s.out ++ r.0;
-      replies = subst (λ ls. AreReplies (IsAllowed filter) 0 ls (s.out ++ r.0)) (sym (with_last filter input start now [] line progress n l s))
-          (one_reply (IsAllowed filter) 0 _ s.lines (s.kept ++ line) s.out r.0 (omega arith) s.replies r.2);
+      replies = subst (λ ls. AreReplies (IsReplyTo filter) 0 ls (s.out ++ r.0)) (sym (with_last filter input start now [] line progress n l s))
+          (one_reply (IsReplyTo filter) 0 _ s.lines (s.kept ++ line) s.out r.0 (omega arith) s.replies r.2);
       taken = all_more start now new s.written gathered (s.out ++ r.0) (ap (λ o. o ++ r.0) (s.whole ∙ append-nil s.written) ∙ ap (λ g. s.written ++ g) (sym r.1)) s.taken f;
     }
 
 pub last_failed : (filter : Filter) (input : List ℕ) (start now new : Option (List ℕ)) (gathered line : List ℕ) (progress : Progress)
     → NoEnd line → 0 < length line
-    → Replies (IsAllowed filter) progress line [] gathered
+    → Replies (IsReplyTo filter) progress line [] gathered
     → AppendsFront now new gathered
-    → Stands (IsAllowed filter) input start now [] line progress → AnswersFront filter (lines_of input) start new
+    → Stands (IsReplyTo filter) input start now [] line progress → AnswersFront filter (lines_of input) start new
 last_failed filter input start now new gathered line progress n l reply f s =
     let r = reply s.kept (length s.lines) s.held s.number in
     record {
@@ -269,13 +269,13 @@ last_failed filter input start now new gathered line progress n l reply f s =
       more = [];
       out = s.out ++ r.0;
       cut = with_last filter input start now [] line progress n l s ∙ sym (append-nil (s.lines ++ (s.kept ++ line) ∷ []));
-      replies = one_reply (IsAllowed filter) 0 _ s.lines (s.kept ++ line) s.out r.0 (omega arith) s.replies r.2;
+      replies = one_reply (IsReplyTo filter) 0 _ s.lines (s.kept ++ line) s.out r.0 (omega arith) s.replies r.2;
       taken = front_more start now new s.written gathered (s.out ++ r.0) (ap (λ o. o ++ r.0) (s.whole ∙ append-nil s.written) ∙ ap (λ g. s.written ++ g) (sym r.1)) s.taken f;
     }
 
 pub last_stopped : (filter : Filter) (input : List ℕ) (start now : Option (List ℕ)) (line : List ℕ) (progress : Progress) (told : UnansweredLine)
     → NoEnd line → 0 < length line → filter.is_strict ≡ true → Tells filter progress line told
-    → Stands (IsAllowed filter) input start now [] line progress → StopsAt filter told (lines_of input) start now
+    → Stands (IsReplyTo filter) input start now [] line progress → StopsAt filter told (lines_of input) start now
 last_stopped filter input start now line progress told n l strict tells s =
     record {
       lines = s.lines;
@@ -290,7 +290,7 @@ last_stopped filter input start now line progress told n l strict tells s =
     }
 
 -- ---- reads
-pub begun : (Allowed : Words) (start : Option (List ℕ)) (progress : Progress) → progress.is_long ≡ false → progress.number ≡ 0
+pub begun : (Allowed : Writes) (start : Option (List ℕ)) (progress : Progress) → progress.is_long ≡ false → progress.number ≡ 0
     → Stands Allowed [] start start [] [] progress
 begun Allowed start progress short zero = record {
   lines = [];
@@ -310,7 +310,7 @@ held_more : (b : Bool) (kept pending given : List ℕ) → IsHeld b kept pending
 held_more false kept pending given h = h
 held_more true kept pending given h = (h.0, h.1, (h.2.0, h.2.1 ++ given, ap (λ p. p ++ given) h.2.2, h.2.3))
 
-pub read : (Allowed : Words) (input given : List ℕ) (start now : Option (List ℕ)) (gathered pending : List ℕ) (progress : Progress)
+pub read : (Allowed : Writes) (input given : List ℕ) (start now : Option (List ℕ)) (gathered pending : List ℕ) (progress : Progress)
     → Stands Allowed input start now gathered pending progress → Stands Allowed (input ++ given) start now gathered (pending ++ given) progress
 read Allowed input given start now gathered pending progress s = record {
   lines = s.lines;
@@ -328,14 +328,14 @@ read Allowed input given start now gathered pending progress s = record {
 }
 
 pub ended_answered : (filter : Filter) (input : List ℕ) (start now : Option (List ℕ)) (pending : List ℕ) (progress : Progress) → NoEnd pending
-    → Stands (IsAllowed filter) input start now [] pending progress → AnswersAll filter (ended_lines input) start now
+    → Stands (IsReplyTo filter) input start now [] pending progress → AnswersAll filter (ended_lines input) start now
 ended_answered filter input start now pending progress n s =
     let none = slice_split_none is_end (s.kept ++ pending) (no_end_append s.kept pending (kept_no_end progress.is_long s.kept pending s.held) n) in
     let lines : ended_lines input ≡ s.lines =
     ended_are input s.kept pending s.lines s.cut ∙ ap (λ parts. s.lines ++ without_last parts) none ∙ append-nil s.lines in
     record {
       out = s.out;
-      replies = subst (λ ls. AreReplies (IsAllowed filter) 0 ls s.out) (sym lines) s.replies;
+      replies = subst (λ ls. AreReplies (IsReplyTo filter) 0 ls s.out) (sym lines) s.replies;
       taken = subst (Appends start now) (sym (s.whole ∙ append-nil s.written)) s.taken;
     }
 
@@ -356,7 +356,7 @@ front_shown false front front_now kept pending k h held is whole same =
 front_shown true front front_now kept pending k h held is whole same =
     ap words_shown (same refl) ∙ is ∙ sym (shown_front kept (take k pending) (omega (arith, held.0)))
 
-pub let_go : (Allowed : Words) (input : List ℕ) (start now : Option (List ℕ)) (gathered pending pending_now : List ℕ) (progress progress_now : Progress)
+pub let_go : (Allowed : Writes) (input : List ℕ) (start now : Option (List ℕ)) (gathered pending pending_now : List ℕ) (progress progress_now : Progress)
     → NoEnd pending → 4097 < length pending → pending_now ≡ drop (length pending - 1) pending → (progress.is_long ≡ false → words_shown progress_now.front ≡ shown pending)
     → (progress.is_long ≡ true → progress_now.front ≡ progress.front) → progress_now.is_long ≡ true → progress_now.number ≡ progress.number
     → Stands Allowed input start now gathered pending progress → Stands Allowed input start now gathered pending_now progress_now

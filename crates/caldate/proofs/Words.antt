@@ -6,16 +6,18 @@ use Rattle.std.specs.Option.{option_map_or, option_zip}
 use Rattle.std.proofs.lemmas.List.Splits.{length-slice_split}
 use Rattle.cal_text.specs.declared.any.DateOrMoment.{DateOrMoment}
 use Rattle.cal_time.specs.SignedDuration.{second}
-use Rattle.caldate.specs.Requests.{arguments_of, cut_options, date_of, filter_of, last_of, list_of, meaning_of, no_options, request_after, request_of, request_with, seconds_in, span_of, takes_strict, target_of, unit_of, verb_of, with_strict, with_value, lacking}
+use Rattle.caldate.specs.Requests.{arguments_of, bounds_of, cut_options, date_of, filter_of, last_of, list_of, meaning_of, no_options, range_of, request_after, request_of, request_with, seconds_in, span_of, takes_strict, target_of, unit_of, verb_of, with_strict, with_value, lacking}
 use Rattle.caldate.specs.declared.options.Options.{Options}
 use Rattle.caldate.proofs.Numbers.{fits, guard_yes}
 use Rattle.caldate.specs.Senseless.{senseless_at, senseless_end}
 use Rattle.caldate.specs.declared.senseless.Wanted.TheVariants as wanted
 use Rattle.caldate.specs.declared.request.Asked.{Asked}
+use Rattle.caldate.specs.declared.request.Bounds.{Bounds}
+use Rattle.caldate.specs.declared.request.Bounds.TheVariants.{FromTo}
 use Rattle.caldate.specs.declared.request.Pace.{Pace}
 use Rattle.caldate.specs.declared.request.TimeUnit.{TimeUnit}
 use Rattle.caldate.specs.declared.request.Verb.{Verb}
-use Rattle.caldate.specs.declared.request.Verb.TheVariants.{To, Add, Next, Last, Until, Since, Start, End, OnOrAfter, OnOrBefore, At}
+use Rattle.caldate.specs.declared.request.Verb.TheVariants.{To, Add, Next, Last, Until, Since, Start, End, OnOrAfter, OnOrBefore, At, Keep}
 
 -- one word is no request
 none_after : (reading : List ℕ → Option DateOrMoment) (found : Option Verb) → option_and_then (request_after reading []) found ≡ None
@@ -31,6 +33,7 @@ none_after reading (Some End) = refl
 none_after reading (Some OnOrAfter) = refl
 none_after reading (Some OnOrBefore) = refl
 none_after reading (Some At) = refl
+none_after reading (Some Keep) = refl
 
 pub one_word : (reading : List ℕ → Option DateOrMoment) (verb : List ℕ) → request_of reading (verb ∷ []) ≡ None
 one_word reading verb = none_after reading (verb_of verb)
@@ -70,6 +73,12 @@ either false x = refl
 pub no_request : (options : Options) → filter_of options None ≡ None
 no_request options = either (is_some (lacking options)) None
 
+-- one word is no bounds
+pub no_bounds : (reading : List ℕ → Option DateOrMoment) (word : List ℕ) → bounds_of reading (word ∷ []) ≡ None
+no_bounds reading word =
+    ap (λ o. cond (bytes_eq word (codes "from")) None o) (ap (λ o. cond (bytes_eq word (codes "after")) None o) (either (bytes_eq word (codes "before")) None)
+    ∙ either (bytes_eq word (codes "after")) None) ∙ either (bytes_eq word (codes "from")) None
+
 -- ---- two words and more
 abbrev chosen : (List ℕ → Option DateOrMoment) → List ℕ → List ℕ → List (List ℕ) → Bool → Option Asked
 chosen reading first second words list =
@@ -103,6 +112,17 @@ pub with_unit : (reading : List ℕ → Option DateOrMoment) (text word name : L
 with_unit reading text word name all found unit e same f g =
     sym (ap (target_of reading) e ∙ ap (λ b. cond b (option_zip (reading text) (option_map Some (unit_of name))) None) same
     ∙ ap (λ r. option_zip r (option_map Some (unit_of name))) (sym f) ∙ ap (λ r. option_zip (Some found) (option_map Some r)) (sym g))
+
+-- ---- a date or a moment, and another
+abbrev ranged : Option DateOrMoment → Option DateOrMoment → Option Bounds
+ranged first last = option_map (λ ends. FromTo ends.0 ends.1) (option_zip first last)
+
+pub with_bounds : (reading : List ℕ → Option DateOrMoment) (first to last : List ℕ) (all : List (List ℕ)) (low high : DateOrMoment)
+    → all ≡ first ∷ to ∷ last ∷ [] → bytes_eq to (codes "to") ≡ true → Some low ≡ reading first → Some high ≡ reading last
+    → Some (FromTo low high) ≡ range_of reading all
+with_bounds reading first to last all low high e same f g =
+    sym (ap (range_of reading) e ∙ ap (λ b. cond b (ranged (reading first) (reading last)) None) same
+    ∙ ap (λ a. ranged a (reading last)) (sym f) ∙ ap (ranged (Some low)) (sym g))
 
 -- ---- two dates, and a pace
 pub with_dates : (reading : List ℕ → Option DateOrMoment) (from first to : List ℕ) (words all : List (List ℕ)) (a : ℕ) (end : ℕ × Pace)

@@ -1,12 +1,12 @@
 -- The answer to the text of a line.
-use Rattle.std.specs.Prelude.{◌≡◌, ◌⊎◌, ℕ, ◌<◌, ◌≤◌, ◌&&◌, Bool, true, false, ℤ, pos, ◌+ℤ◌, ◌-ℤ◌, List, [], ◌++◌, codes, length, decimal, Option, Some, None, if◌then◌else◌}
+use Rattle.std.specs.Prelude.{◌≡◌, ◌⊎◌, ℕ, ◌<◌, ◌≤◌, ◌&&◌, true, ℤ, pos, ◌+ℤ◌, ◌-ℤ◌, List, [], ◌++◌, codes, length, decimal, Option, Some, None, is_some, if◌then◌else◌}
 use Rattle.std.specs.Fmt.{signed_decimal}
 use Rattle.cal_time.specs.Date.{IsDate, julian_day_at}
 use Rattle.cal_time.specs.Refusal.{component_name}
 use Rattle.cal_time.specs.declared.error.ComponentRange.{ComponentRange}
 use Rattle.cal_time.specs.SignedDuration.{whole_days}
 use Rattle.cal_time.specs.SignedDuration as duration
-use Rattle.cal_datetime.specs.DateTime.{IsDateTime, date_time, date_at, time_at}
+use Rattle.cal_datetime.specs.DateTime.{IsDateTime, date_time, time_at}
 use Rattle.cal_datetime.specs.OffsetDateTime.{Shown, instant, local_at}
 use Rattle.cal_text.specs.AnyForm.{HasAnyForm}
 use Rattle.cal_text.specs.Position.{IsPosition}
@@ -16,34 +16,19 @@ use Rattle.cal_text.specs.declared.any.DateOrMoment.{DateOrMoment}
 use Rattle.cal_text.specs.declared.any.DateOrMoment.TheVariants as read
 use Rattle.cal_text.specs.declared.any.MomentForm.TheVariants.{Rfc3339}
 use Rattle.caldate.specs.Counts.{IsCount}
+use Rattle.caldate.specs.Bounds.{lies_in}
 use Rattle.caldate.specs.Forms.{IsInForm}
+pub use Rattle.caldate.specs.Found.{day_of, form_read, is_date, moment_of}
 use Rattle.caldate.specs.Moves.{LeadsTo}
 use Rattle.caldate.specs.Readings.{HasFormIn, IsFaultIn, IsTextIn}
 use Rattle.caldate.specs.Room.{longest_text}
 use Rattle.caldate.specs.declared.reading.Reading.TheVariants.{Any}
 use Rattle.caldate.specs.declared.request.DayMove.{DayMove}
 use Rattle.caldate.specs.declared.request.Filter.{Filter}
-use Rattle.caldate.specs.declared.request.Form.{Form}
-use Rattle.caldate.specs.declared.request.Form.TheVariants.{Date, Moment}
+use Rattle.caldate.specs.declared.request.Form.TheVariants.{Moment}
 use Rattle.caldate.specs.declared.request.Request.{Request}
-use Rattle.caldate.specs.declared.request.Request.TheVariants.{To, Add, Move, Until, Since, At}
+use Rattle.caldate.specs.declared.request.Request.TheVariants.{To, Add, Move, Until, Since, At, Keep}
 use Rattle.caldate.specs.declared.request.TimeUnit.{TimeUnit}
-
--- ---- what was read: its moment, where a date is midnight at UTC, its day and its form
-abbrev pub moment_of : DateOrMoment → Shown
-moment_of (read.Date form n) = record { local = date_time n 0; offset = pos 0 }
-moment_of (read.Moment form m) = m
-
-abbrev pub day_of : DateOrMoment → ℕ
-day_of found = date_at (moment_of found).local
-
-abbrev pub form_read : DateOrMoment → Form
-form_read (read.Date form n) = Date form
-form_read (read.Moment form m) = Moment form
-
-abbrev pub is_date : DateOrMoment → Bool
-is_date (read.Date form n) = true
-is_date (read.Moment form m) = false
 
 -- ---- the words
 -- day n, at the same time of day and the same offset
@@ -88,7 +73,7 @@ IsAt offset from words = (m : Shown) × IsShownAt offset from m × IsInForm (Mom
 abbrev pub IsMoved : DayMove → DateOrMoment → List ℕ → Type 0
 IsMoved by found words = (n : ℕ) × LeadsTo by (day_of found) n × IsInForm (form_read found) (on_day (moment_of found) n) words
 
--- the words are what the request answers for what was read
+-- the words are what the request answers for what was read; where lines are kept there are none, as the line itself goes out, or nothing
 abbrev pub IsAnswerTo : Request → DateOrMoment → List ℕ → Type 0
 IsAnswerTo (To form) found words = IsInForm form (moment_of found) words
 IsAnswerTo (Add d) found words = (m : Shown) × IsLater found d m × IsInForm (form_read found) m words
@@ -96,6 +81,7 @@ IsAnswerTo (Move by) found words = IsMoved by found words
 IsAnswerTo (Until target unit) found words = IsBetween unit found target words
 IsAnswerTo (Since target unit) found words = IsBetween unit target found words
 IsAnswerTo (At offset) found words = IsAt offset (moment_of found) words
+IsAnswerTo (Keep bounds) found words = (is_some (lies_in bounds found) ≡ true) × (words ≡ [])
 
 -- ---- texts that have an answer, and texts that have none
 abbrev pub HasAnswer : Filter → List ℕ → List ℕ → Type 0

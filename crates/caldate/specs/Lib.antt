@@ -1,8 +1,11 @@
 pub mod Answers
+pub mod Bounds
 pub mod Counts
 pub mod Ending
 pub mod Fields
 pub mod Forms
+pub mod Found
+pub mod Kept
 pub mod Lines
 pub mod Lists
 pub mod Moves

@@ -36,7 +36,9 @@ use Rattle.caldate.specs.declared.request.UnixUnit.TheVariants.{Milliseconds, Mi
 use Rattle.caldate.specs.declared.request.Verb.{Verb}
 use Rattle.caldate.specs.declared.request.Verb.TheVariants as verb
 use Rattle.caldate.specs.declared.request.Request.{Request}
-use Rattle.caldate.specs.declared.request.Request.TheVariants.{To, Add, Move, Until, Since, At}
+use Rattle.caldate.specs.declared.request.Request.TheVariants.{To, Add, Move, Until, Since, At, Keep}
+use Rattle.caldate.specs.declared.request.Bounds.{Bounds}
+use Rattle.caldate.specs.declared.request.Bounds.TheVariants.{FromTo, After, Before}
 use Rattle.caldate.specs.declared.request.Asked.{Asked}
 use Rattle.caldate.specs.declared.request.Asked.TheVariants.{Help, Version, Lines, Dates, Recurring}
 use Rattle.caldate.specs.declared.senseless.Wanted.{Wanted}
@@ -92,6 +94,7 @@ verb_of word =
     if bytes_eq word (codes "on-or-after") then Some verb.OnOrAfter else
     if bytes_eq word (codes "on-or-before") then Some verb.OnOrBefore else
     if bytes_eq word (codes "at") then Some verb.At else
+    if bytes_eq word (codes "keep") then Some verb.Keep else
     None
 
 abbrev pub further_form_of : List ℕ → Option Form
@@ -225,6 +228,27 @@ abbrev pub at_request : List (List ℕ) → Option Request
 at_request (word ∷ []) = option_map At (offset_of word)
 at_request words = None
 
+-- `keep from A to B`, `keep after A`, `keep before B`
+abbrev pub bound_of : (List ℕ → Option DateOrMoment) → List (List ℕ) → Option DateOrMoment
+bound_of reading (text ∷ []) = reading text
+bound_of reading words = None
+
+abbrev pub range_of : (List ℕ → Option DateOrMoment) → List (List ℕ) → Option Bounds
+range_of reading (first ∷ to ∷ last ∷ []) =
+    if bytes_eq to (codes "to") then option_map (λ ends. FromTo ends.0 ends.1) (option_zip (reading first) (reading last)) else None
+range_of reading words = None
+
+abbrev pub bounds_of : (List ℕ → Option DateOrMoment) → List (List ℕ) → Option Bounds
+bounds_of reading [] = None
+bounds_of reading (word ∷ words) =
+    if bytes_eq word (codes "from") then range_of reading words else
+    if bytes_eq word (codes "after") then option_map After (bound_of reading words) else
+    if bytes_eq word (codes "before") then option_map Before (bound_of reading words) else
+    None
+
+abbrev pub keep_request : (List ℕ → Option DateOrMoment) → List (List ℕ) → Option Request
+keep_request reading words = option_map Keep (bounds_of reading words)
+
 abbrev pub request_after : (List ℕ → Option DateOrMoment) → List (List ℕ) → Verb → Option Request
 request_after reading words verb.To = to_request words
 request_after reading words verb.Add = add_request words
@@ -237,6 +261,7 @@ request_after reading words verb.End = edge_request move.End words
 request_after reading words verb.OnOrAfter = nearest_request move.OnOrAfter words
 request_after reading words verb.OnOrBefore = nearest_request move.OnOrBefore words
 request_after reading words verb.At = at_request words
+request_after reading words verb.Keep = keep_request reading words
 
 abbrev pub request_of : (List ℕ → Option DateOrMoment) → List (List ℕ) → Option Request
 request_of reading [] = None

@@ -1,11 +1,12 @@
 -- What a run does to the bytes of its reader and its writer, where those are told.
-use Rattle.std.specs.Prelude.{◌≡◌, ◌⊎◌, ℕ, ⊤, ◌<◌, ◌≤◌, nat_lt, Bool, true, false, List, ◌∷◌, ◌++◌, length, MatchBool, Option, Some, None, Result, Ok, Err}
+use Rattle.std.specs.Prelude.{◌≡◌, ◌⊎◌, ℕ, ⊤, ◌<◌, ◌≤◌, nat_lt, Bool, true, false, List, ◌∷◌, ◌++◌, length, MatchBool, MatchOption, Option, Some, None, Result, Ok, Err}
 use Rattle.std.specs.Io.KnownBytes.{Appends, Consumes, IsAtEnd}
 use Rattle.caldate.specs.Answers.{HasAnswer, IsAnswer, IsTooLong}
 use Rattle.caldate.specs.Fields.{asked_text, text_with}
+use Rattle.caldate.specs.Kept.{IsKept, bounds_kept}
 use Rattle.caldate.specs.Lines.{ended_lines, lines_of}
 use Rattle.caldate.specs.Room.{longest_text}
-use Rattle.caldate.specs.Standing.{AreReplies, Stands}
+use Rattle.caldate.specs.Standing.{AreReplies, IsReply, Stands}
 use Rattle.caldate.specs.Unanswered.{IsUnanswered}
 use Rattle.caldate.specs.declared.fault.Fault.{Fault}
 use Rattle.caldate.specs.declared.fault.Fault.TheVariants.{Read, Write, Unanswered}
@@ -33,6 +34,12 @@ IsAllowed filter before text words =
     ⊎ (length text ≤ longest_text)
     × MatchBool (nat_lt before filter.skip) (words ≡ text) (AllowedFor filter text (asked_text filter.field text) words)
 
+-- what may be written for a line before which so many came: what is allowed for its text, and the end that it has; or where lines are kept
+-- the line itself or nothing
+abbrev pub IsReplyTo : Filter → ℕ → List ℕ → List ℕ → Type 0
+IsReplyTo filter before line reply =
+    MatchOption (bounds_kept filter.request) (IsReply (IsAllowed filter before) line reply) (λ bounds. IsKept filter bounds before line reply)
+
 -- new is old and words of this kind
 abbrev pub AppendsThat : (List ℕ → Type 0) → List ℕ → List ℕ → Type 0
 AppendsThat IsOne old new = (words : List ℕ) × (new ≡ old ++ words) × IsOne words
@@ -58,7 +65,7 @@ pub record AppendsFront (old new : Option (List ℕ)) (bytes : List ℕ) : Type 
 -- the writer took just the replies to these lines
 pub record AnswersAll (filter : Filter) (all : List (List ℕ)) (old new : Option (List ℕ)) : Type 0 where
   pub out : List ℕ
-  pub replies : AreReplies (IsAllowed filter) 0 all out
+  pub replies : AreReplies (IsReplyTo filter) 0 all out
   pub taken : Appends old new out
 
 -- it took a beginning of the replies to the first of these lines, and never all of them
@@ -67,7 +74,7 @@ pub record AnswersFront (filter : Filter) (all : List (List ℕ)) (old new : Opt
   pub more : List (List ℕ)
   pub out : List ℕ
   pub cut : all ≡ lines ++ more
-  pub replies : AreReplies (IsAllowed filter) 0 lines out
+  pub replies : AreReplies (IsReplyTo filter) 0 lines out
   pub taken : AppendsFront old new out
 
 -- it took just the replies to those of these lines before the first that has no answer, which is the one that is told, counted from 1
@@ -79,7 +86,7 @@ pub record StopsAt (filter : Filter) (told : UnansweredLine) (all : List (List �
   pub strict : filter.is_strict ≡ true
   pub cut : all ≡ lines ++ line ∷ more
   pub unanswered : IsUnanswered filter (length lines) line told
-  pub replies : AreReplies (IsAllowed filter) 0 lines out
+  pub replies : AreReplies (IsReplyTo filter) 0 lines out
   pub taken : Appends old new out
 
 -- the reader gave this input
@@ -108,14 +115,14 @@ Shown page (Err fault) old new = IsOfWrite fault × AppendsFront old new page
 -- it ends as after a write that failed
 abbrev pub FailsFrom : Filter → (List ℕ → List (List ℕ)) → Option (List ℕ) → Option (List ℕ) → List ℕ → List ℕ → Progress → Type 0
 FailsFrom filter lines_in old new gathered pending progress =
-    (input : List ℕ) (start : Option (List ℕ)) → Stands (IsAllowed filter) input start old gathered pending progress → AnswersFront filter (lines_in input) start new
+    (input : List ℕ) (start : Option (List ℕ)) → Stands (IsReplyTo filter) input start old gathered pending progress → AnswersFront filter (lines_in input) start new
 
 -- it ends at the line that is told
 abbrev pub StopsFrom : Filter → UnansweredLine → (List ℕ → List (List ℕ)) → Option (List ℕ) → Option (List ℕ) → List ℕ → List ℕ → Progress → Type 0
 StopsFrom filter told lines_in old new gathered pending progress =
-    (input : List ℕ) (start : Option (List ℕ)) → Stands (IsAllowed filter) input start old gathered pending progress → StopsAt filter told (lines_in input) start new
+    (input : List ℕ) (start : Option (List ℕ)) → Stands (IsReplyTo filter) input start old gathered pending progress → StopsAt filter told (lines_in input) start new
 
 -- it ends with all lines answered
 abbrev pub EndsFrom : Filter → Option (List ℕ) → Option (List ℕ) → List ℕ → List ℕ → Progress → Type 0
 EndsFrom filter old new gathered pending progress =
-    (input : List ℕ) (start : Option (List ℕ)) → Stands (IsAllowed filter) input start old gathered pending progress → AnswersAll filter (lines_of input) start new
+    (input : List ℕ) (start : Option (List ℕ)) → Stands (IsReplyTo filter) input start old gathered pending progress → AnswersAll filter (lines_of input) start new

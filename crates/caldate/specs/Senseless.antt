@@ -10,7 +10,7 @@ use Rattle.caldate.specs.Shown.{shown}
 use Rattle.caldate.specs.declared.options.Options.{Options}
 use Rattle.caldate.specs.declared.request.Asked.{Asked}
 use Rattle.caldate.specs.declared.request.Verb.{Verb}
-use Rattle.caldate.specs.declared.request.Verb.TheVariants.{To, Add, Next, Last, Until, Since, Start, End, OnOrAfter, OnOrBefore, At}
+use Rattle.caldate.specs.declared.request.Verb.TheVariants.{To, Add, Next, Last, Until, Since, Start, End, OnOrAfter, OnOrBefore, At, Keep}
 use Rattle.caldate.specs.declared.senseless.Senseless.{Senseless}
 use Rattle.caldate.specs.declared.senseless.Wanted.{Wanted}
 use Rattle.caldate.specs.declared.senseless.Wanted.TheVariants as wanted
@@ -32,6 +32,7 @@ needed_by End = wanted.Period
 needed_by OnOrAfter = wanted.Weekday
 needed_by OnOrBefore = wanted.Weekday
 needed_by At = wanted.Offset
+needed_by Keep = wanted.Bounds
 
 abbrev pub further_to : Verb → Wanted
 further_to To = wanted.End
@@ -45,6 +46,15 @@ further_to End = wanted.End
 further_to OnOrAfter = wanted.End
 further_to OnOrBefore = wanted.End
 further_to At = wanted.End
+further_to Keep = wanted.Target
+
+-- the words before bounds, and what comes after each
+abbrev pub is_bounds : List ℕ → Bool
+is_bounds word = bytes_eq word (codes "from") || bytes_eq word (codes "after") || bytes_eq word (codes "before")
+
+abbrev pub bounds_after : List ℕ → List Wanted
+bounds_after word =
+    if bytes_eq word (codes "from") then wanted.Target ∷ wanted.UpTo ∷ wanted.Target ∷ [] else wanted.Target ∷ []
 
 -- the word may stand where this is wanted
 abbrev pub is_wanted : (List ℕ → Option DateOrMoment) → List ℕ → Wanted → Bool
@@ -62,6 +72,7 @@ is_wanted reading word wanted.Date = is_some (date_of reading word)
 is_wanted reading word wanted.UpTo = bytes_eq word (codes "to")
 is_wanted reading word wanted.By = bytes_eq word (codes "by")
 is_wanted reading word wanted.Many = is_some (many_of word) || is_ok (recurrence_of word)
+is_wanted reading word wanted.Bounds = is_bounds word
 is_wanted reading word wanted.UnitOfDays = is_some (option_and_then (step_in 1) (unit_of word))
 is_wanted reading word what = false
 
@@ -85,11 +96,23 @@ senseless_further reading at further [] = senseless_end at []
 senseless_further reading at further (word ∷ words) =
     if is_wanted reading word further then senseless_last at further words else senseless_at (at + 1) further
 
+-- each of so many is wanted: the first that is not what is wanted at its index, or is missing, or is one too many
+abbrev pub senseless_among : (List ℕ → Option DateOrMoment) → ℕ → List Wanted → List (List ℕ) → Senseless
+senseless_among reading at [] words = senseless_at at wanted.End
+senseless_among reading at (what ∷ more) [] = senseless_at at what
+senseless_among reading at (what ∷ more) (word ∷ words) =
+    if is_wanted reading word what then senseless_among reading (at + 1) more words else senseless_at at what
+
+-- after the word that the verb needs, which has this index
+abbrev pub senseless_rest : (List ℕ → Option DateOrMoment) → ℕ → Verb → List ℕ → List (List ℕ) → Senseless
+senseless_rest reading at Keep word words = senseless_among reading (at + 1) (bounds_after word) words
+senseless_rest reading at verb word words = senseless_further reading at (further_to verb) words
+
 -- after a verb, from this index on
 abbrev pub senseless_after : (List ℕ → Option DateOrMoment) → ℕ → List (List ℕ) → Verb → Senseless
 senseless_after reading at [] verb = senseless_at at (needed_by verb)
 senseless_after reading at (word ∷ words) verb =
-    if is_wanted reading word (needed_by verb) then senseless_further reading at (further_to verb) words else senseless_at at (needed_by verb)
+    if is_wanted reading word (needed_by verb) then senseless_rest reading at verb word words else senseless_at at (needed_by verb)
 
 -- from the verb on, which has this index, where this is wanted
 abbrev pub senseless_request : (List ℕ → Option DateOrMoment) → ℕ → Wanted → List (List ℕ) → Senseless
@@ -128,7 +151,7 @@ senseless_front reading options [] = senseless_at (words_in options) (verb_after
 senseless_front reading options (word ∷ words) =
     option_map_or (senseless_at (words_in options + 1)) (value_of options word) (senseless_verb reading options (word ∷ words))
 
--- after `list`: the first that is not what is wanted at its index, or is missing, or is one too many; after a recurrence comes no unit
+-- after `list`; after a recurrence comes no unit
 abbrev pub steps_words : List Wanted
 steps_words = wanted.From ∷ wanted.Date ∷ wanted.UpTo ∷ wanted.Date ∷ wanted.By ∷ wanted.Many ∷ wanted.UnitOfDays ∷ []
 
@@ -137,12 +160,6 @@ is_by_rule words = option_map_or (λ word. is_ok (recurrence_of word)) (slice_ge
 
 abbrev pub list_words : List (List ℕ) → List Wanted
 list_words words = if is_by_rule words then take 6 steps_words else steps_words
-
-abbrev pub senseless_among : (List ℕ → Option DateOrMoment) → ℕ → List Wanted → List (List ℕ) → Senseless
-senseless_among reading at [] words = senseless_at at wanted.End
-senseless_among reading at (what ∷ more) [] = senseless_at at what
-senseless_among reading at (what ∷ more) (word ∷ words) =
-    if is_wanted reading word what then senseless_among reading (at + 1) more words else senseless_at at what
 
 -- from the options on
 abbrev pub senseless_lines : (List ℕ → Option DateOrMoment) → List (List ℕ) → Senseless
@@ -164,8 +181,8 @@ asked_of reading words = ok_or (meaning_of reading words) (senseless_of reading 
 -- ---- the line that says so
 abbrev pub wanted_words : Wanted → List ℕ
 wanted_words wanted.Something = codes "nothing to do; caldate --help shows what can be asked"
-wanted_words wanted.Start = codes "no verb (to, add, next, last, until, since, start, end, on-or-after, on-or-before, at, list) and no option (--strict, --field, --separator, --skip, --read, --assume, --help, --version)"
-wanted_words wanted.Verb = codes "no verb (to, add, next, last, until, since, start, end, on-or-after, on-or-before, at) and no further option"
+wanted_words wanted.Start = codes "no verb (to, add, next, last, until, since, start, end, on-or-after, on-or-before, at, keep, list) and no option (--strict, --field, --separator, --skip, --read, --assume, --help, --version)"
+wanted_words wanted.Verb = codes "no verb (to, add, next, last, until, since, start, end, on-or-after, on-or-before, at, keep) and no further option"
 wanted_words wanted.Field = codes "no --field, which --separator needs"
 wanted_words wanted.FieldNumber = codes "no number of a field (1 .. 65535)"
 wanted_words wanted.Separator = codes "no separator (one byte)"
@@ -182,6 +199,7 @@ wanted_words wanted.Count = codes "no count (1 .. 255)"
 wanted_words wanted.Target = codes "no date and no moment (as 2024-02-29, 2024-02-29T23:59:59Z)"
 wanted_words wanted.Period = codes "no period (week, month, quarter, year)"
 wanted_words wanted.Offset = codes "no offset (as +01:00, -05:30, Z)"
+wanted_words wanted.Bounds = codes "no bound (from, after, before)"
 wanted_words wanted.In = codes "one word too many"
 wanted_words wanted.From = codes "no 'from'"
 wanted_words wanted.Date = codes "no date (as 2024-02-29, 2024-060, 2024-W09-4, J2460370)"

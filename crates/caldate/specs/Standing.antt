@@ -12,15 +12,15 @@ use Rattle.caldate.specs.declared.shown.ShownText.{ShownText}
 abbrev pub IsReply : (List ℕ → List ℕ → Type 0) → List ℕ → List ℕ → Type 0
 IsReply Allowed line reply = (words : List ℕ) × Allowed (text_of line) words × (reply ≡ words ++ end_of line)
 
--- what may be written for the text of a line, by how many lines came before it
-abbrev pub Words : Type 1
-Words = ℕ → List ℕ → List ℕ → Type 0
+-- what may be written for a line, by how many lines came before it
+abbrev pub Writes : Type 1
+Writes = ℕ → List ℕ → List ℕ → Type 0
 
 -- the bytes are the replies to the lines, in order, before which so many came
-abbrev pub AreReplies : Words → ℕ → List (List ℕ) → List ℕ → Type 0
+abbrev pub AreReplies : Writes → ℕ → List (List ℕ) → List ℕ → Type 0
 AreReplies Allowed before [] out = out ≡ []
 AreReplies Allowed before (line ∷ lines) out =
-    (reply rest : List ℕ) × IsReply (Allowed before) line reply × (out ≡ reply ++ rest) × AreReplies Allowed (before + 1) lines rest
+    (reply rest : List ℕ) × Allowed before line reply × (out ≡ reply ++ rest) × AreReplies Allowed (before + 1) lines rest
 
 -- no line ends within the bytes
 abbrev pub NoEnd : List ℕ → Type 0
@@ -43,7 +43,7 @@ counted n = min n (2 ^ 64 - 1)
 
 -- Of this input some lines are answered. Their replies went out but for what is gathered. What comes after the lines is pending,
 -- but for what was let go of a long line.
-pub record Stands (Allowed : Words) (input : List ℕ) (start now : Option (List ℕ)) (gathered pending : List ℕ) (progress : Progress) : Type 0 where
+pub record Stands (Allowed : Writes) (input : List ℕ) (start now : Option (List ℕ)) (gathered pending : List ℕ) (progress : Progress) : Type 0 where
   pub lines : List (List ℕ)
   pub kept : List ℕ
   pub out : List ℕ
@@ -57,7 +57,7 @@ pub record Stands (Allowed : Words) (input : List ℕ) (start now : Option (List
   pub number : progress.number ≡ counted (length lines)
 
 -- whatever the input was, and what the writer held at the start
-abbrev pub Advances : Words → Option (List ℕ) → Option (List ℕ) → List ℕ → List ℕ → List ℕ → List ℕ → Progress → Progress → Type 0
+abbrev pub Advances : Writes → Option (List ℕ) → Option (List ℕ) → List ℕ → List ℕ → List ℕ → List ℕ → Progress → Progress → Type 0
 Advances Allowed old new gathered gathered_now pending pending_now progress progress_now =
     (input : List ℕ) (start : Option (List ℕ)) → Stands Allowed input start old gathered pending progress
     → Stands Allowed input start new gathered_now pending_now progress_now

@@ -8,6 +8,7 @@ ghost use Rattle.caldate.specs.Forms.{IsInForm};
 ghost use Rattle.caldate.specs.Room.{HasRoom, longest_answer};
 ghost use Rattle.caldate.specs.Runs.{AppendsThat};
 
+use crate::bounds::lies_in;
 use crate::buffer::Buffer;
 use crate::counts::count_between;
 use crate::forms::{basic_text, month_text, quarter_text, unix_text};
@@ -92,6 +93,7 @@ fn push_answer_to(buffer: &mut Buffer, request: &Request, found: &DateOrMoment) 
         Request::Until(target, unit) => push_between(buffer, *unit, found, target),
         Request::Since(target, unit) => push_between(buffer, *unit, target, found),
         Request::At(offset) => push_at(buffer, *offset, moment),
+        Request::Keep(bounds) => lies_in(bounds, found).is_some() || push_none(buffer),
     }
 }
 
@@ -107,7 +109,7 @@ fn push_none(buffer: &mut Buffer) -> bool
 }
 
 /// The moment. A date is midnight at UTC.
-fn moment_of(found: &DateOrMoment) -> OffsetDateTime
+pub fn moment_of(found: &DateOrMoment) -> OffsetDateTime
     ensures { result ≡ moment_of found.now }
 {
     match found {
@@ -272,7 +274,8 @@ fn push_until(buffer: &mut Buffer, from: &DateOrMoment, to: &DateOrMoment)
     }
 }
 
-fn is_date(found: &DateOrMoment) -> bool
+/// Whether it is a date.
+pub fn is_date(found: &DateOrMoment) -> bool
     ensures { result ≡ is_date found.now }
 {
     match found {

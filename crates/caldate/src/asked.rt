@@ -2,11 +2,12 @@
 ghost use Rattle.std.specs.Prelude.{◌≡◌, ℕ, List, [], ◌∷◌, Option, IfOk, IfSome};
 ghost use Rattle.cal_text.specs.declared.any.DateOrMoment.{DateOrMoment};
 ghost use Rattle.caldate.specs.Lists.{IsAsked};
-ghost use Rattle.caldate.specs.Requests.{IsReading, arguments_of, meaning_of, filter_of, request_of, to_request, add_request, amount_in, duration_in, occurrence_of, occurrence_request, nearest_request, edge_request, target_of, target_request, at_request, request_with, cut_options, no_options};
+ghost use Rattle.caldate.specs.Requests.{IsReading, arguments_of, meaning_of, filter_of, request_of, to_request, add_request, amount_in, duration_in, occurrence_of, occurrence_request, nearest_request, edge_request, target_of, target_request, at_request, keep_request, request_with, cut_options, no_options};
 ghost use Rattle.caldate.specs.Senseless.{asked_of};
 ghost use Rattle.caldate.specs.declared.request.DayMove.TheVariants.{Next, Last, OnOrAfter, OnOrBefore, Start, End};
 ghost use Rattle.caldate.specs.declared.request.Request.TheVariants.{Until, Since};
 
+use crate::bounds::bounds_of;
 use crate::listing::list_of;
 use crate::offset::offset_of;
 use crate::options::{Options, field_of, lacking, options_of, reading_in};
@@ -106,6 +107,7 @@ fn request_of(words: &[u8]) -> Option<Request>
         Verb::OnOrAfter => on_or_after_request(rest),
         Verb::OnOrBefore => on_or_before_request(rest),
         Verb::At => at_request(rest),
+        Verb::Keep => keep_request(rest),
     }
 }
 
@@ -238,4 +240,10 @@ fn at_request(words: &[u8]) -> Option<Request>
     ensures { result ≡ at_request (arguments_of words.now) }
 {
     Some(Request::At(offset_of(only_word(words)?)?))
+}
+
+fn keep_request(words: &[u8]) -> Option<Request>
+    ensures { (reading : List ℕ → Option DateOrMoment) → IsReading reading → result ≡ keep_request reading (arguments_of words.now) }
+{
+    Some(Request::Keep(bounds_of(words)?))
 }

@@ -65,10 +65,10 @@ fn wanted_words(wanted: Wanted) -> &'static [u8]
     match wanted {
         Wanted::Something => b"nothing to do; caldate --help shows what can be asked".as_slice(),
         Wanted::Start => {
-            b"no verb (to, add, next, last, until, since, start, end, on-or-after, on-or-before, at, list) and no option (--strict, --field, --separator, --skip, --read, --assume, --help, --version)".as_slice()
+            b"no verb (to, add, next, last, until, since, start, end, on-or-after, on-or-before, at, keep, list) and no option (--strict, --field, --separator, --skip, --read, --assume, --help, --version)".as_slice()
         }
         Wanted::Verb => {
-            b"no verb (to, add, next, last, until, since, start, end, on-or-after, on-or-before, at) and no further option".as_slice()
+            b"no verb (to, add, next, last, until, since, start, end, on-or-after, on-or-before, at, keep) and no further option".as_slice()
         }
         Wanted::Field => b"no --field, which --separator needs".as_slice(),
         Wanted::FieldNumber => b"no number of a field (1 .. 65535)".as_slice(),
@@ -94,6 +94,7 @@ fn wanted_words(wanted: Wanted) -> &'static [u8]
         }
         Wanted::Period => b"no period (week, month, quarter, year)".as_slice(),
         Wanted::Offset => b"no offset (as +01:00, -05:30, Z)".as_slice(),
+        Wanted::Bounds => b"no bound (from, after, before)".as_slice(),
         Wanted::From => b"no 'from'".as_slice(),
         Wanted::Date => b"no date (as 2024-02-29, 2024-060, 2024-W09-4, J2460370)".as_slice(),
         Wanted::UpTo => b"no 'to'".as_slice(),

@@ -1,9 +1,20 @@
 //! The fields of a line.
-ghost use Rattle.std.specs.Prelude.{◌≡◌, ◌+◌, ◌≤◌, ◌++◌, ◌∷◌, [], ℕ, List, Some, None, MatchOption, length};
+ghost use Rattle.std.specs.Prelude.{◌≡◌, ◌+◌, ◌≤◌, ◌++◌, ◌∷◌, [], ℕ, List, Some, None, IfSome, MatchOption, length};
 ghost use Rattle.caldate.specs.Fields.{asked_text, fields_of, text_with};
 
 use crate::lines::index_of;
 use crate::request::Field;
+
+/// The text that is asked about: all of it where no field is named, or the field, if it has so many.
+pub fn asked_text(field: Option<Field>, text: &[u8]) -> Option<&[u8]>
+    ensures asked { MatchOption result (asked_text field text.now ≡ None) (λ asked. asked_text field text.now ≡ Some asked.now) }
+    ensures fits { IfSome result (λ asked. length asked.now ≤ length text.now) }
+{
+    match field {
+        Some(field) => Some(cut_field(field, text)?.1),
+        None => Some(text),
+    }
+}
 
 /// What comes before a field, the field, and what comes after it; `None` where the text has no such field.
 ///

@@ -18,6 +18,7 @@ pub const HELP: &[u8] = b"caldate answers each line of its input, a date or a mo
   caldate until DATE [in UNIT]    the days to that date, the duration to that moment, or the whole units
   caldate since DATE [in UNIT]    the same from there to it
   caldate at OFFSET               the moment as a clock at that offset shows it
+  caldate keep from A to B        the line itself where it lies from A to B, and nothing where not; also keep after A, keep before B
   caldate list from A to B        no input: all dates from A to B; with by N UNIT each so many days, weeks, months or years,
                                   with by RULE those of a recurrence, as FREQ=MONTHLY;BYDAY=-1FR
   caldate --strict ...            the same, but it ends at the first line without an answer, with status 1
@@ -47,5 +48,6 @@ A line is a date, as 2024-02-29, 2024-060, 2024-W09-4 or J2460370, or a moment, 
   echo 2024-02-29 | caldate to unix-ms                     1709164800000
   echo 2023-02-29 | caldate to ordinal                     refused day conditional
   echo a,2024-02-29 | caldate --field 2 --separator , to week   a,2024-W09-4
+  echo a,2024-02-29 | caldate --field 2 --separator , keep from 2024-02-01 to 2024-02-29   a,2024-02-29
   caldate list from 2024-01-31 to 2024-12-31 by 1 month | tail -n 1   2024-12-31
 ";

@@ -4,6 +4,7 @@
 mod answer;
 mod arguments;
 mod asked;
+mod bounds;
 mod buffer;
 mod complaint;
 mod counts;
@@ -13,6 +14,7 @@ mod fields;
 mod forms;
 mod help;
 mod input;
+mod keep;
 mod laws;
 mod lines;
 mod list;

@@ -82,6 +82,8 @@ pub enum Verb {
     OnOrBefore,
     /// `at OFFSET`.
     At,
+    /// `keep from A to B`, `keep after A`, `keep before B`.
+    Keep,
 }
 
 /// What leads from a day to another.
@@ -107,6 +109,17 @@ pub enum DayMove {
     End(Period),
 }
 
+/// Between which a date or a moment lies. Beside a date the date counts that its clock shows, and beside a moment its instant.
+#[derive(Clone, Copy)]
+pub enum Bounds {
+    /// `from A to B`: both of them too.
+    FromTo(DateOrMoment, DateOrMoment),
+    /// `after A`.
+    After(DateOrMoment),
+    /// `before B`.
+    Before(DateOrMoment),
+}
+
 /// What each line is answered.
 #[derive(Clone, Copy)]
 pub enum Request {
@@ -122,6 +135,8 @@ pub enum Request {
     Since(DateOrMoment, Option<TimeUnit>),
     /// `at OFFSET`: the moment as a clock at this offset shows it.
     At(UtcOffset),
+    /// `keep BOUNDS`: nothing in its place. The line itself goes out where it lies within these, and else nothing does.
+    Keep(Bounds),
 }
 
 /// Which field of a line is asked about.

@@ -3,17 +3,17 @@ ghost use Rattle.std.specs.Prelude.{◌≡◌, ◌≤◌, ◌+◌, ◌-◌, ◌+
 ghost use Rattle.std.specs.Io.KnownBytes.{Appends};
 ghost use Rattle.caldate.specs.Lines.{ended_lines, lines_of};
 ghost use Rattle.caldate.specs.Room.{HasRoom, longest_reply, longest_text};
-ghost use Rattle.caldate.specs.Runs.{AppendsFront, Ended, EndsFrom, FailsFrom, IsAllowed, IsOfWrite, StopsFrom};
+ghost use Rattle.caldate.specs.Runs.{AppendsFront, Ended, EndsFrom, FailsFrom, IsReplyTo, IsOfWrite, StopsFrom};
 ghost use Rattle.caldate.specs.Standing.{Advances, NoEnd};
 ghost use Rattle.caldate.specs.declared.unanswered.UnansweredLine.{UnansweredLine};
 
 use crate::buffer::Buffer;
 use crate::fault::Fault;
 use crate::input::Input;
+use crate::keep::push_line;
 use crate::lines::first_line;
 use crate::output::write_all;
 use crate::progress::Progress;
-use crate::reply::push_reply;
 use crate::request::Filter;
 use crate::shown::ShownText;
 use crate::unanswered::UnansweredLine;
@@ -74,7 +74,7 @@ fn answer_lines<W: Write>(
 ) -> Result<usize, Fault>
     ensures within { IfOk result (λ left. left ≤ length bytes.now) }
     ensures no_end { IfOk result (λ left. NoEnd (drop (length bytes.now - left) bytes.now)) }
-    ensures ok { IfOk result (λ left. Advances (IsAllowed filter.now) (W.contents writer.old) (W.contents writer.new) buffer.old buffer.new
+    ensures ok { IfOk result (λ left. Advances (IsReplyTo filter.now) (W.contents writer.old) (W.contents writer.new) buffer.old buffer.new
         bytes.now (drop (length bytes.now - left) bytes.now) progress.old progress.new) }
     ensures write { IsErrAnd result IsOfWrite
         → FailsFrom filter.now ended_lines (W.contents writer.old) (W.contents writer.new) buffer.old bytes.now progress.old }
@@ -85,7 +85,7 @@ fn answer_lines<W: Write>(
     let mut rest = bytes;
     while let Some((line, after)) = first_line(rest) {
         make_room(buffer, writer)?;
-        match push_reply(buffer, filter, progress, line) {
+        match push_line(buffer, filter, progress, line) {
             Ok(()) => {}
             Err(told) => return Err(stop(told, buffer, writer)),
         }
@@ -130,7 +130,7 @@ fn answer_last<W: Write>(
     if line.is_empty() {
         return Ok(());
     }
-    match push_reply(buffer, filter, progress, line) {
+    match push_line(buffer, filter, progress, line) {
         Ok(()) => write_all(writer, buffer.as_bytes()),
         Err(told) => Err(Fault::Unanswered(told)),
     }
@@ -143,7 +143,7 @@ fn let_go(input: &mut Input, progress: &mut Progress)
     ensures few { length input.new ≤ longest_text + 1 }
     ensures no_end { NoEnd input.new }
     ensures advances { (filter : Filter) (now : Option (List ℕ)) (buffer : List ℕ)
-        → Advances (IsAllowed filter) now now buffer buffer input.old input.new progress.old progress.new }
+        → Advances (IsReplyTo filter) now now buffer buffer input.old input.new progress.old progress.new }
 {
     if input.len() > MOST_KEPT {
         progress.front = progress.shown(input.as_bytes());

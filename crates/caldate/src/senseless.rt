@@ -4,7 +4,7 @@ ghost use Rattle.std.specs.Result.{is_ok};
 ghost use Rattle.cal_recurrence.specs.Text.{recurrence_of};
 ghost use Rattle.cal_text.specs.declared.any.DateOrMoment.{DateOrMoment};
 ghost use Rattle.caldate.specs.Requests.{IsReading, arguments_of, stands_alone, words_left, step_in, unit_of};
-ghost use Rattle.caldate.specs.Senseless.{further_to, is_by_rule, is_wanted, list_words, needed_by, senseless_after, senseless_at, senseless_end, senseless_front, senseless_further, senseless_last, senseless_lines, senseless_of, senseless_request, senseless_unit, senseless_verb, senseless_among};
+ghost use Rattle.caldate.specs.Senseless.{further_to, is_by_rule, is_wanted, list_words, needed_by, senseless_after, senseless_at, senseless_end, senseless_front, senseless_further, senseless_last, senseless_lines, senseless_of, senseless_request, senseless_unit, senseless_verb, senseless_among, senseless_rest, bounds_after, is_bounds};
 
 use crate::listing::{date_of, step_in};
 use crate::offset::offset_of;
@@ -58,6 +58,8 @@ pub enum Wanted {
     Period,
     /// An offset from UTC, as `+01:00`.
     Offset,
+    /// `from`, `after` or `before`.
+    Bounds,
     /// `in`, or no word.
     In,
     /// `from`.
@@ -95,6 +97,12 @@ const STEPS_WORDS: [Wanted; 7] = [
     Wanted::Many,
     Wanted::UnitOfDays,
 ];
+
+/// What may stand at each place after `keep from`.
+const RANGE_WORDS: [Wanted; 3] = [Wanted::Target, Wanted::UpTo, Wanted::Target];
+
+/// What may stand after `keep after` and `keep before`.
+const BOUND_WORDS: [Wanted; 1] = [Wanted::Target];
 
 /// The first word that makes no sense, of arguments that make none: of `next frday` that at index 1, where a weekday may stand.
 pub fn senseless_of(arguments: &[u8]) -> Senseless
@@ -188,7 +196,7 @@ fn is_by_rule(words: Option<&[u8]>) -> bool
 
 /// Of words from this index on, each of which is wanted so, the first that is not, or is missing, or is one too many.
 fn senseless_among(index: usize, wanted: &[Wanted], words: Option<&[u8]>) -> Senseless
-    requires { index + length wanted.now ≤ 8 }
+    requires { index + length wanted.now ≤ 16 }
     ensures { (reading : List ℕ → Option DateOrMoment) → IsReading reading → result ≡ senseless_among reading index wanted.now (words_left words.entry) }
 {
     let Some((first, others)) = wanted.split_first() else {
@@ -228,13 +236,36 @@ fn senseless_after(index: usize, words: Option<&[u8]>, verb: Verb) -> Senseless
     };
     let (word, rest) = cut(words);
     if is_wanted(word, needed) {
-        senseless_further(index, further_to(verb), rest)
+        senseless_rest(index, verb, word, rest)
     } else {
         senseless_at(index, needed)
     }
 }
 
 /// After the word that the verb needs, which has this index.
+fn senseless_rest(index: usize, verb: Verb, word: &[u8], words: Option<&[u8]>) -> Senseless
+    requires { index ≤ 12 }
+    ensures { (reading : List ℕ → Option DateOrMoment) → IsReading reading → result ≡ senseless_rest reading index verb word.now (words_left words.entry) }
+{
+    match verb {
+        Verb::Keep => senseless_among(index + 1, bounds_after(word), words),
+        _ => senseless_further(index, further_to(verb), words),
+    }
+}
+
+/// What comes after the word before bounds.
+fn bounds_after(word: &[u8]) -> &'static [Wanted]
+    ensures words { result.now ≡ bounds_after word.now }
+    ensures few { length result.now ≤ 3 }
+{
+    if word == b"from".as_slice() {
+        &RANGE_WORDS
+    } else {
+        &BOUND_WORDS
+    }
+}
+
+/// After the word that the verb needs, which has this index, where there may be another one.
 fn senseless_further(index: usize, further: Wanted, words: Option<&[u8]>) -> Senseless
     requires { index ≤ 12 }
     ensures { (reading : List ℕ → Option DateOrMoment) → IsReading reading → result ≡ senseless_further reading index further (words_left words.entry) }
@@ -306,6 +337,7 @@ fn needed_by(verb: Verb) -> Wanted
         Verb::Until | Verb::Since => Wanted::Target,
         Verb::Start | Verb::End => Wanted::Period,
         Verb::At => Wanted::Offset,
+        Verb::Keep => Wanted::Bounds,
     }
 }
 
@@ -317,6 +349,7 @@ fn further_to(verb: Verb) -> Wanted
         Verb::Add => Wanted::UnitOfTime,
         Verb::Next | Verb::Last => Wanted::Count,
         Verb::Until | Verb::Since => Wanted::In,
+        Verb::Keep => Wanted::Target,
         Verb::To | Verb::Start | Verb::End | Verb::OnOrAfter | Verb::OnOrBefore | Verb::At =>
             Wanted::End,
     }
@@ -335,6 +368,7 @@ fn is_wanted(word: &[u8], wanted: Wanted) -> bool
         Wanted::Target => read_any(word).is_ok(),
         Wanted::Period => period_of(word).is_some(),
         Wanted::Offset => offset_of(word).is_some(),
+        Wanted::Bounds => is_bounds(word),
         Wanted::In => word == b"in".as_slice(),
         Wanted::From => word == b"from".as_slice(),
         Wanted::Date => date_of(word).is_some(),
@@ -344,6 +378,13 @@ fn is_wanted(word: &[u8], wanted: Wanted) -> bool
         Wanted::UnitOfDays => is_unit_of_days(word),
         _ => false,
     }
+}
+
+/// Whether bounds come after the word.
+fn is_bounds(word: &[u8]) -> bool
+    ensures { result ≡ is_bounds word.now }
+{
+    word == b"from".as_slice() || word == b"after".as_slice() || word == b"before".as_slice()
 }
 
 /// Whether the word is a unit of which a list can have steps.

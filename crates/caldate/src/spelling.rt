@@ -35,6 +35,8 @@ pub fn verb_of(word: &[u8]) -> Option<Verb>
         Some(Verb::OnOrBefore)
     } else if word == b"at".as_slice() {
         Some(Verb::At)
+    } else if word == b"keep".as_slice() {
+        Some(Verb::Keep)
     } else {
         None
     }

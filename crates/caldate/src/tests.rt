@@ -12,6 +12,7 @@ use std::io::{ErrorKind, Read, Write};
 mod arguments;
 mod columns;
 mod failing;
+mod kept;
 mod lists;
 mod long;
 mod one_answer;

@@ -195,7 +195,55 @@ fn lists_that_make_no_sense(rt: HostRuntime) {
         ),
         (
             b"--strict\0list\0from\02024-02-29\0to\02024-03-01",
-            b"'list' is no verb (to, add, next, last, until, since, start, end, on-or-after, on-or-before, at) and no further option",
+            b"'list' is no verb (to, add, next, last, until, since, start, end, on-or-after, on-or-before, at, keep) and no further option",
+        ),
+    ];
+    for (arguments, wanted) in cases {
+        let told = complaint(rt.alloc(), Some(arguments)).unwrap_or(Vec::new(rt.alloc()));
+        assert!(rt; is_line(&told, wanted), "{arguments:?}");
+    }
+}
+
+#[test]
+fn bounds_that_make_no_sense(rt: HostRuntime) {
+    let cases: [(&[u8], &[u8]); 11] = [
+        (b"keep", b"there is no bound (from, after, before)"),
+        (
+            b"keep\02024-02-29",
+            b"'2024-02-29' is no bound (from, after, before)",
+        ),
+        (
+            b"keep\0After\02024-02-29",
+            b"'After' is no bound (from, after, before)",
+        ),
+        (
+            b"keep\0after",
+            b"there is no date and no moment (as 2024-02-29, 2024-02-29T23:59:59Z)",
+        ),
+        (
+            b"keep\0before\02023-02-29",
+            b"'2023-02-29' is no date and no moment (as 2024-02-29, 2024-02-29T23:59:59Z)",
+        ),
+        (
+            b"keep\0after\02024-02-29\0to\02024-03-01",
+            b"'to' is one word too many",
+        ),
+        (
+            b"--strict\0keep\0from\0x",
+            b"'x' is no date and no moment (as 2024-02-29, 2024-02-29T23:59:59Z)",
+        ),
+        (b"keep\0from\02024-02-29", b"there is no 'to'"),
+        (
+            b"keep\0from\02024-02-29\0till\02024-03-01",
+            b"'till' is no 'to'",
+        ),
+        (
+            b"keep\0from\02024-02-29\0to",
+            b"there is no date and no moment (as 2024-02-29, 2024-02-29T23:59:59Z)",
+        ),
+        (
+            b"keep\0from\02024-02-29\0to\02024-03-01\0by",
+            b"'by' is one word too many",
         ),
     ];
     for (arguments, wanted) in cases {
@@ -213,27 +261,27 @@ fn arguments_that_make_no_sense(rt: HostRuntime) {
         ),
         (
             b"\0to\0week",
-            b"'' is no verb (to, add, next, last, until, since, start, end, on-or-after, on-or-before, at, list) and no option (--strict, --field, --separator, --skip, --read, --assume, --help, --version)",
+            b"'' is no verb (to, add, next, last, until, since, start, end, on-or-after, on-or-before, at, keep, list) and no option (--strict, --field, --separator, --skip, --read, --assume, --help, --version)",
         ),
         (
             b"week",
-            b"'week' is no verb (to, add, next, last, until, since, start, end, on-or-after, on-or-before, at, list) and no option (--strict, --field, --separator, --skip, --read, --assume, --help, --version)",
+            b"'week' is no verb (to, add, next, last, until, since, start, end, on-or-after, on-or-before, at, keep, list) and no option (--strict, --field, --separator, --skip, --read, --assume, --help, --version)",
         ),
         (
             b"To\0week",
-            b"'To' is no verb (to, add, next, last, until, since, start, end, on-or-after, on-or-before, at, list) and no option (--strict, --field, --separator, --skip, --read, --assume, --help, --version)",
+            b"'To' is no verb (to, add, next, last, until, since, start, end, on-or-after, on-or-before, at, keep, list) and no option (--strict, --field, --separator, --skip, --read, --assume, --help, --version)",
         ),
         (
             b"--strict",
-            b"there is no verb (to, add, next, last, until, since, start, end, on-or-after, on-or-before, at) and no further option",
+            b"there is no verb (to, add, next, last, until, since, start, end, on-or-after, on-or-before, at, keep) and no further option",
         ),
         (
             b"--strict\0--help",
-            b"'--help' is no verb (to, add, next, last, until, since, start, end, on-or-after, on-or-before, at) and no further option",
+            b"'--help' is no verb (to, add, next, last, until, since, start, end, on-or-after, on-or-before, at, keep) and no further option",
         ),
         (
             b"--strict\0--strict\0to\0week",
-            b"'--strict' is no verb (to, add, next, last, until, since, start, end, on-or-after, on-or-before, at) and no further option",
+            b"'--strict' is no verb (to, add, next, last, until, since, start, end, on-or-after, on-or-before, at, keep) and no further option",
         ),
         (
             b"--skip",
@@ -249,11 +297,11 @@ fn arguments_that_make_no_sense(rt: HostRuntime) {
         ),
         (
             b"--skip\01",
-            b"there is no verb (to, add, next, last, until, since, start, end, on-or-after, on-or-before, at) and no further option",
+            b"there is no verb (to, add, next, last, until, since, start, end, on-or-after, on-or-before, at, keep) and no further option",
         ),
         (
             b"--skip\01\0--skip\02\0to\0week",
-            b"'--skip' is no verb (to, add, next, last, until, since, start, end, on-or-after, on-or-before, at) and no further option",
+            b"'--skip' is no verb (to, add, next, last, until, since, start, end, on-or-after, on-or-before, at, keep) and no further option",
         ),
         (
             b"--skip\01\0--strict\0to\0days",
@@ -294,11 +342,11 @@ fn arguments_that_make_no_sense(rt: HostRuntime) {
         ),
         (
             b"--field\02",
-            b"there is no verb (to, add, next, last, until, since, start, end, on-or-after, on-or-before, at) and no further option",
+            b"there is no verb (to, add, next, last, until, since, start, end, on-or-after, on-or-before, at, keep) and no further option",
         ),
         (
             b"--field\02\0--field\03\0to\0week",
-            b"'--field' is no verb (to, add, next, last, until, since, start, end, on-or-after, on-or-before, at) and no further option",
+            b"'--field' is no verb (to, add, next, last, until, since, start, end, on-or-after, on-or-before, at, keep) and no further option",
         ),
         (
             b"--read",
@@ -314,11 +362,11 @@ fn arguments_that_make_no_sense(rt: HostRuntime) {
         ),
         (
             b"--read\0dmy",
-            b"there is no verb (to, add, next, last, until, since, start, end, on-or-after, on-or-before, at) and no further option",
+            b"there is no verb (to, add, next, last, until, since, start, end, on-or-after, on-or-before, at, keep) and no further option",
         ),
         (
             b"--read\0dmy\0--read\0mdy\0to\0week",
-            b"'--read' is no verb (to, add, next, last, until, since, start, end, on-or-after, on-or-before, at) and no further option",
+            b"'--read' is no verb (to, add, next, last, until, since, start, end, on-or-after, on-or-before, at, keep) and no further option",
         ),
         (
             b"--read\0local\0to\0week",

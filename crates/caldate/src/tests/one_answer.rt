@@ -1,6 +1,7 @@
-//! A run leaves one answer where each text has one: two runs over one input that reach its end leave alike writers, and so do two
-//! that write one list.
-ghost use Rattle.std.specs.Prelude.{◌≡◌, List, ℕ, Some, IsOk};
+//! A run leaves one answer where each text has one, or where lines are kept each line has one reply: two runs over one input that
+//! reach its end leave alike writers, and so do two that write one list.
+ghost use Rattle.std.specs.Prelude.{◌≡◌, List, ℕ, Some, IsOk, MatchOption};
+ghost use Rattle.caldate.specs.Kept.{IsKept, bounds_kept};
 ghost use Rattle.caldate.specs.Lists.{IsStep};
 ghost use Rattle.caldate.specs.Runs.{IsAllowed};
 
@@ -17,7 +18,11 @@ fn runs<R: Read, W: Write>(
     writer: &mut W,
     other: &mut W,
 ) -> (Result<(), Fault>, Result<(), Fault>)
-    ensures { ((before : ℕ) (text words others : List ℕ) → IsAllowed filter.now before text words → IsAllowed filter.now before text others → words ≡ others)
+    ensures { MatchOption (bounds_kept filter.now.request)
+        ((before : ℕ) (text words others : List ℕ) → IsAllowed filter.now before text words → IsAllowed filter.now before text others
+        → words ≡ others)
+        (λ bounds. (before : ℕ) (line reply other : List ℕ) → IsKept filter.now bounds before line reply
+        → IsKept filter.now bounds before line other → reply ≡ other)
         → (input held : List ℕ) → R.remaining reader.old ≡ Some input → R.remaining twin.old ≡ Some input
         → W.contents writer.old ≡ Some held → W.contents other.old ≡ Some held
         → IsOk result.0 → IsOk result.1 → W.contents writer.new ≡ W.contents other.new }

@@ -1,6 +1,6 @@
 use Rattle.std.proofs.Common.{◌++◌, ◌∷◌, [], ◌∙◌, ap, sym, subst, arith, refl, append_assoc}
 use Rattle.std.specs.Io.KnownBytes.{Appends}
-use Rattle.caldate.specs.Runs.{AppendsFront, IsAllowed}
+use Rattle.caldate.specs.Runs.{AppendsFront, IsReplyTo}
 use Rattle.caldate.specs.Unanswered.{IsUnanswered}
 use Rattle.caldate.specs.declared.fault.Fault.TheVariants.{Unanswered}
 use Rattle.caldate.proofs.Ends.{same_fault}
@@ -15,7 +15,7 @@ pub returns-in-Err-clause-write : goal.returns-in-Err-clause-write
 returns-in-Err-clause-write g c = λ h input start s.
     let room = c.in_ok-make_room.ensures.ok in
     let same = c.in-Err.ensures.strict.1 in
-    let s = gone (IsAllowed c.args.filter.now) input start _ _ c.loop-line.buffer c.make_room.new.buffer room.0 c.loop-line.rest.now c.loop-line.progress room.1 room.2 (c.loop-line.invariant.1 input start s) in
+    let s = gone (IsReplyTo c.args.filter.now) input start _ _ c.loop-line.buffer c.make_room.new.buffer room.0 c.loop-line.rest.now c.loop-line.progress room.1 room.2 (c.loop-line.invariant.1 input start s) in
     failed c.args.filter.now input start _ _ c.make_room.new.buffer c.loop-line.rest.now c.loop-line.progress
     (subst (AppendsFront (g.W.Write.contents c.make_room.new.writer) (g.W.Write.contents c.stop.new.writer)) same (c.stop.ensures.write h)) s
 
@@ -24,7 +24,7 @@ returns-in-Err-clause-unanswered g c = λ told h input start s.
     let room = c.in_ok-make_room.ensures.ok in
     let no = c.in-Err.ensures.strict in
     let went = c.stop.ensures.unanswered told (same_fault c.stop.result (Unanswered told) h) in
-    let s = gone (IsAllowed c.args.filter.now) input start _ _ c.loop-line.buffer c.make_room.new.buffer room.0 c.loop-line.rest.now c.loop-line.progress room.1 room.2 (c.loop-line.invariant.1 input start s) in
+    let s = gone (IsReplyTo c.args.filter.now) input start _ _ c.loop-line.buffer c.make_room.new.buffer room.0 c.loop-line.rest.now c.loop-line.progress room.1 room.2 (c.loop-line.invariant.1 input start s) in
     stopped c.args.filter.now input start _ _ c.make_room.new.buffer c.loop-line.rest.now c.in-Some.line.now c.in-Some.after.now c.loop-line.progress told
     c.in-Some.ensures.parts.0 c.in-Some.ensures.parts.1 no.0
     (λ kept before held shown number. subst (λ t. IsUnanswered c.args.filter.now before (kept ++ c.in-Some.line.now) t) (sym went.0) (c.in-Err.ensures.told kept before held shown number))
@@ -40,7 +40,7 @@ loop-line-preserved g c =
     let reply = c.in-Ok.ensures.replied in (
       (front ++ (line ++ 10 ∷ []), c.loop-line.invariant.0.1 ∙ ap (λ rest. front ++ rest) (parts.1 ∙ sym (append_assoc line (10 ∷ []) after)) ∙ sym (append_assoc front (line ++ 10 ∷ []) after)),
       λ input start s.
-          answered (IsAllowed c.args.filter.now) input start _ c.make_room.new.buffer c.push_reply.new.buffer c.loop-line.rest.now line after c.loop-line.progress _ parts.0 parts.1 reply refl
+          answered (IsReplyTo c.args.filter.now) input start _ c.make_room.new.buffer c.push_line.new.buffer c.loop-line.rest.now line after c.loop-line.progress _ parts.0 parts.1 reply refl
           (omega (arith, c.saturating_add-progress.ensures))
-          (gone (IsAllowed c.args.filter.now) input start _ _ c.loop-line.buffer c.make_room.new.buffer room.0 c.loop-line.rest.now c.loop-line.progress room.1 room.2 (c.loop-line.invariant.1 input start s)),
+          (gone (IsReplyTo c.args.filter.now) input start _ _ c.loop-line.buffer c.make_room.new.buffer room.0 c.loop-line.rest.now c.loop-line.progress room.1 room.2 (c.loop-line.invariant.1 input start s)),
     )

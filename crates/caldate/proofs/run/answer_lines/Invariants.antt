@@ -1,5 +1,5 @@
 use Rattle.std.proofs.Common.{◌≡◌, ◌++◌, ℕ, List, length}
-use Rattle.caldate.specs.Runs.{IsAllowed}
+use Rattle.caldate.specs.Runs.{IsReplyTo}
 use Rattle.caldate.specs.Standing.{Advances}
 use Rattle.caldate.proofs.run.answer_lines.Given as goal
 
@@ -7,7 +7,7 @@ use Rattle.caldate.proofs.run.answer_lines.Given as goal
 abbrev pub invariant-loop-line : goal.invariant-loop-line
 invariant-loop-line g l =
     ((front : List ℕ) × (l.bytes ≡ front ++ l.rest))
-    × Advances (IsAllowed l.filter) (g.W.Write.contents l.initial.writer) (g.W.Write.contents l.writer) l.initial.buffer l.buffer l.bytes l.rest l.initial.progress l.progress
+    × Advances (IsReplyTo l.filter) (g.W.Write.contents l.initial.writer) (g.W.Write.contents l.writer) l.initial.buffer l.buffer l.bytes l.rest l.initial.progress l.progress
 
 abbrev pub decreases-loop-line : goal.decreases-loop-line
 decreases-loop-line g l = length l.rest

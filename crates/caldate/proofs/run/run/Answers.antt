@@ -5,7 +5,7 @@ use Rattle.std.specs.Io.KnownBytes.{Consumes, IsAtEnd}
 use Rattle.std.proofs.KnownBytes.{Consumes-nil, Consumes-trans, Consumes-kept}
 use Rattle.std.proofs.lemmas.Result.{on_ok_weaker}
 use Rattle.caldate.specs.Lines.{lines_of}
-use Rattle.caldate.specs.Runs.{AnswersAll, EndsFrom, Gives, HasRead, IsAllowed, IsOfWrite}
+use Rattle.caldate.specs.Runs.{AnswersAll, EndsFrom, Gives, HasRead, IsReplyTo, IsOfWrite}
 use Rattle.caldate.specs.declared.request.Filter.{Filter}
 use Rattle.caldate.specs.Standing.{NoEnd, Stands}
 use Rattle.caldate.specs.declared.progress.Progress.{Progress}
@@ -18,7 +18,7 @@ pub loop-reads-init : goal.loop-reads-init
 loop-reads-init g c =
     let progress : Progress = record { number = 0; is_long = false; front = c.new.result } in
     let start = g.W.Write.contents c.args.writer.now in (
-      ([], Consumes-nil _, subst (λ (p : List ℕ). Stands (IsAllowed c.args.filter) [] start start [] p progress) (sym c.new-input.ensures) (begun (IsAllowed c.args.filter) start progress refl refl)),
+      ([], Consumes-nil _, subst (λ (p : List ℕ). Stands (IsReplyTo c.args.filter) [] start start [] p progress) (sym c.new-input.ensures) (begun (IsReplyTo c.args.filter) start progress refl refl)),
       subst NoEnd (sym c.new-input.ensures) (λ k d l. absurd (omega arith)),
       c.new-buffer.ensures,
       omega (arith, ap length c.new-input.ensures),
@@ -33,23 +33,23 @@ returns-in_err-read_more g c =
 
 -- what stands once a read gave some bytes
 stands_read : (filter : Filter) (r0 r r' w0 w : Option (List ℕ)) (gathered pending bytes got : List ℕ) (progress : Progress) → gathered ≡ [] → bytes ≡ got
-    → ((input : List ℕ) × Consumes r0 r input × Stands (IsAllowed filter) input w0 w [] pending progress)
+    → ((input : List ℕ) × Consumes r0 r input × Stands (IsReplyTo filter) input w0 w [] pending progress)
     → HasRead r r' pending got
-    → (input : List ℕ) × Consumes r0 r' input × Stands (IsAllowed filter) input w0 w gathered bytes progress
+    → (input : List ℕ) × Consumes r0 r' input × Stands (IsReplyTo filter) input w0 w gathered bytes progress
 stands_read filter r0 r r' w0 w gathered pending bytes got progress none same s given =
-    let all = read (IsAllowed filter) s.0 given.0 w0 w [] pending progress s.2 in
-    let all = subst (λ (p : List ℕ). Stands (IsAllowed filter) (s.0 ++ given.0) w0 w [] p progress) (sym (same ∙ given.2)) all in (
+    let all = read (IsReplyTo filter) s.0 given.0 w0 w [] pending progress s.2 in
+    let all = subst (λ (p : List ℕ). Stands (IsReplyTo filter) (s.0 ++ given.0) w0 w [] p progress) (sym (same ∙ given.2)) all in (
       s.0 ++ given.0,
       Consumes-trans _ _ _ _ _ s.1 given.1,
-      subst (λ (l : List ℕ). Stands (IsAllowed filter) (s.0 ++ given.0) w0 w l bytes progress) (sym none) all,
+      subst (λ (l : List ℕ). Stands (IsReplyTo filter) (s.0 ++ given.0) w0 w l bytes progress) (sym none) all,
     )
 
 -- what stands once its lines are answered and what is left of them is kept
 stands_kept : (filter : Filter) (input : List ℕ) (w0 w : Option (List ℕ)) (gathered bytes got kept : List ℕ) (left : ℕ) (progress : Progress) → bytes ≡ got
     → kept ≡ drop (length got - left) got
-    → Stands (IsAllowed filter) input w0 w gathered (drop (length bytes - left) bytes) progress → Stands (IsAllowed filter) input w0 w gathered kept progress
+    → Stands (IsReplyTo filter) input w0 w gathered (drop (length bytes - left) bytes) progress → Stands (IsReplyTo filter) input w0 w gathered kept progress
 stands_kept filter input w0 w gathered bytes got kept left progress same e s =
-    subst (λ (p : List ℕ). Stands (IsAllowed filter) input w0 w gathered p progress) (ap (λ b. drop (length b - left) b) same ∙ sym e) s
+    subst (λ (p : List ℕ). Stands (IsReplyTo filter) input w0 w gathered p progress) (ap (λ b. drop (length b - left) b) same ∙ sym e) s
 
 pub returns-then-branch-eq0 : goal.returns-then-branch-eq0
 returns-then-branch-eq0 g c =
@@ -92,7 +92,7 @@ loop-reads-preserved g c =
     c.as_bytes-in-loop-reads.ensures.bytes c.keep_last.ensures (c.in-Ok.ensures.ok s.0 _ s.2) in
     let went = c.let_go.ensures.advances c.args.filter _ c.answer_lines.new.buffer s.0 _ kept in
     let out = c.in_ok-flush.ensures.ok in (
-      (s.0, s.1, gone (IsAllowed c.args.filter) s.0 _ _ _ c.answer_lines.new.buffer [] c.answer_lines.new.buffer c.let_go.new.input c.let_go.new.progress (sym (append-nil c.answer_lines.new.buffer)) out.0 went),
+      (s.0, s.1, gone (IsReplyTo c.args.filter) s.0 _ _ _ c.answer_lines.new.buffer [] c.answer_lines.new.buffer c.let_go.new.input c.let_go.new.progress (sym (append-nil c.answer_lines.new.buffer)) out.0 went),
       c.let_go.ensures.no_end,
       out.1,
       c.let_go.ensures.few,

@@ -1,6 +1,6 @@
 use Rattle.std.proofs.Common.{◌≡◌, ◌≤◌, ℕ, List, [], length}
 use Rattle.std.specs.Io.KnownBytes.{Consumes}
-use Rattle.caldate.specs.Runs.{IsAllowed}
+use Rattle.caldate.specs.Runs.{IsReplyTo}
 use Rattle.caldate.specs.Standing.{NoEnd, Stands}
 use Rattle.caldate.proofs.run.run.Given as goal
 
@@ -8,7 +8,7 @@ use Rattle.caldate.proofs.run.run.Given as goal
 abbrev pub invariant-loop-reads : goal.invariant-loop-reads
 invariant-loop-reads g l =
     ((input : List ℕ) × Consumes (g.R.Read.remaining l.initial.reader) (g.R.Read.remaining l.reader) input
-    × Stands (IsAllowed l.filter) input (g.W.Write.contents l.initial.writer) (g.W.Write.contents l.writer) [] l.input l.progress)
+    × Stands (IsReplyTo l.filter) input (g.W.Write.contents l.initial.writer) (g.W.Write.contents l.writer) [] l.input l.progress)
     × NoEnd l.input × (l.buffer ≡ []) × (length l.input ≤ 4097)
 
 abbrev pub decreases-loop-reads : goal.decreases-loop-reads

@@ -1,0 +1,118 @@
+-- Where lines are kept, each has one reply.
+use Rattle.std.proofs.Common.{◌≡◌, ℕ, ◌≤◌, Bool, true, false, List, [], ◌++◌, length, Option, Some, None, Result, Ok, refl, sym, ap, ◌∙◌, subst, arith, inl, inr}
+use Rattle.std.specs.Prelude.{◌↔◌, MatchBool, MatchOption, IsErrAnd, IsSomeAnd, is_some, nat_lt, if◌then◌else◌}
+use Rattle.std.proofs.lemmas.Bool.{false≢true, le-ltb}
+use Rattle.cal_time.specs.declared.error.ComponentRange.{ComponentRange}
+use Rattle.cal_text.specs.Reading.{IsRefusedFor, IsRefusedForForm}
+use Rattle.cal_text.specs.declared.any.DateOrMoment.{DateOrMoment}
+use Rattle.cal_text.specs.declared.error.Unreadable.{Unreadable}
+use Rattle.caldate.specs.Answers.{IsAnswerTo, LacksAnswer}
+use Rattle.caldate.specs.Bounds.{lies_in}
+use Rattle.caldate.specs.Fields.{asked_text}
+use Rattle.caldate.specs.Kept.{IsDecided, IsKept, IsTold, bounds_kept}
+use Rattle.caldate.specs.Lines.{end_of, text_of}
+use Rattle.caldate.specs.Readings.{HasFormIn, IsFaultIn, IsTextIn}
+use Rattle.caldate.specs.Runs.{IsAllowed, IsReplyTo}
+use Rattle.caldate.specs.Standing.{IsReply}
+use Rattle.caldate.specs.Unanswered.{IsReason, IsWhy}
+use Rattle.caldate.specs.declared.request.Bounds.{Bounds}
+use Rattle.caldate.specs.declared.request.Filter.{Filter}
+use Rattle.caldate.specs.declared.request.Request.TheVariants.{Keep}
+use Rattle.caldate.proofs.Keeps.{ok_one}
+use Rattle.caldate.proofs.OneAnswer.{some_one}
+
+-- ---- what a reader says of the text that is asked about
+told_one : (filter : Filter) (bounds : Bounds) (asked : List ℕ) (r : Result DateOrMoment Unreadable) (a b : Bool)
+    → ((found : DateOrMoment) → IsTextIn filter.reading asked found → r ≡ Ok found)
+    → IsTold filter bounds asked a → IsTold filter bounds asked b → a ≡ b
+told_one filter bounds asked r a b every h k =
+    let same = ok_one h.0 k.0 (sym (every h.0 h.1) ∙ every k.0 k.1) in
+    some_one a b (sym h.2 ∙ ap (λ f. lies_in bounds f) same ∙ k.2)
+
+refuses_no : (P : Unreadable → Type 0) (r : Result DateOrMoment Unreadable) (found : DateOrMoment) → r ≡ Ok found → ¬ IsErrAnd r P
+refuses_no P r found e = subst (λ s. ¬ IsErrAnd s P) (sym e) (λ h. h)
+
+told_lacks : (filter : Filter) (bounds : Bounds) (asked : List ℕ) (r : Result DateOrMoment Unreadable) (lies : Bool) (words : List ℕ)
+    → filter.request ≡ Keep bounds → ((found : DateOrMoment) → IsTextIn filter.reading asked found → r ≡ Ok found)
+    → (IsRefusedForForm r ↔ ¬ HasFormIn filter.reading asked) → ((why : ComponentRange) → IsRefusedFor why r ↔ IsFaultIn filter.reading asked why)
+    → length asked ≤ 4096 → IsTold filter bounds asked lies → ¬ LacksAnswer filter asked words
+told_lacks filter bounds asked r lies words e every form component fits t (inl long) = omega (arith, fits, long.0)
+told_lacks filter bounds asked r lies words e every form component fits t (inr (within, inl none)) =
+    let same = ok_one none.1.0 t.0 (sym (every none.1.0 none.1.1) ∙ every t.0 t.1) in
+    none.1.2 [] (subst (λ q. IsAnswerTo q none.1.0 []) (sym e) (ap is_some (ap (λ f. lies_in bounds f) same ∙ t.2), refl))
+told_lacks filter bounds asked r lies words e every form component fits t (inr (within, inr (inl fault))) =
+    refuses_no _ r t.0 (every t.0 t.1) ((component fault.0).1 fault.1)
+told_lacks filter bounds asked r lies words e every form component fits t (inr (within, inr (inr wrong))) =
+    refuses_no _ r t.0 (every t.0 t.1) (form.1 wrong.0)
+
+-- of the text it is said one thing
+abbrev pub One : Filter → Bounds → List ℕ → Type 0
+One filter bounds asked =
+    ((a b : Bool) → IsTold filter bounds asked a → IsTold filter bounds asked b → a ≡ b)
+    × ((lies : Bool) (words : List ℕ) → length asked ≤ 4096 → IsTold filter bounds asked lies → ¬ LacksAnswer filter asked words)
+
+pub one : (filter : Filter) (bounds : Bounds) (asked : List ℕ) (r : Result DateOrMoment Unreadable)
+    → filter.request ≡ Keep bounds → ((found : DateOrMoment) → IsTextIn filter.reading asked found → r ≡ Ok found)
+    → (IsRefusedForForm r ↔ ¬ HasFormIn filter.reading asked) → ((why : ComponentRange) → IsRefusedFor why r ↔ IsFaultIn filter.reading asked why)
+    → One filter bounds asked
+one filter bounds asked r e every form component = (
+  λ a b h k. told_one filter bounds asked r a b every h k,
+  λ lies words fits t. told_lacks filter bounds asked r lies words e every form component fits t,
+)
+
+-- ---- the line
+decided_one : (b : Bool) (o : Option (List ℕ)) (Is : List ℕ → Bool → Type 0) (x y : Bool)
+    → ((asked : List ℕ) → o ≡ Some asked → Is asked x → Is asked y → x ≡ y)
+    → MatchBool b (x ≡ true) (IsSomeAnd o (λ asked. Is asked x)) → MatchBool b (y ≡ true) (IsSomeAnd o (λ asked. Is asked y)) → x ≡ y
+decided_one true o Is x y one h k = h ∙ sym k
+decided_one false None Is x y one h k = absurd h
+decided_one false (Some asked) Is x y one h k = one asked refl h k
+
+decided_why : (filter : Filter) (b : Bool) (o : Option (List ℕ)) (Is : List ℕ → Type 0) (P : Type 0) (words : List ℕ) → b ≡ false
+    → ((asked : List ℕ) → o ≡ Some asked → Is asked → ¬ LacksAnswer filter asked words)
+    → MatchBool b P (IsSomeAnd o Is) → ¬ IsWhy filter o words
+decided_why filter true o Is P words e none h why = false≢true (sym e)
+decided_why filter false None Is P words e none h why = absurd h
+decided_why filter false (Some asked) Is P words e none h why = none asked refl h why
+
+abbrev pub Knows : Filter → Bounds → List ℕ → Type 0
+Knows filter bounds text = (asked : List ℕ) → asked_text filter.field text ≡ Some asked → (length asked ≤ length text) × One filter bounds asked
+
+not_both : (filter : Filter) (bounds : Bounds) (before : ℕ) (text words : List ℕ) (lies : Bool) → Knows filter bounds text
+    → IsDecided filter bounds before text lies → ¬ IsReason filter before text words
+not_both filter bounds before text words lies knows h (inl long) = omega (arith, h.0, long.0)
+not_both filter bounds before text words lies knows h (inr (fits, skip, why)) =
+    decided_why filter (nat_lt before filter.skip) (asked_text filter.field text) (λ asked. IsTold filter bounds asked lies) (lies ≡ true) words
+    (le-ltb before filter.skip skip) (λ asked is told. (knows asked is).1.1 lies words (omega (arith, fits, (knows asked is).0)) told) h.1 why
+
+pub kept_one : (filter : Filter) (bounds : Bounds) (before : ℕ) (line reply other : List ℕ) → Knows filter bounds (text_of line)
+    → IsKept filter bounds before line reply → IsKept filter bounds before line other → reply ≡ other
+kept_one filter bounds before line reply other knows (inl h) (inl k) =
+    let same = decided_one (nat_lt before filter.skip) (asked_text filter.field (text_of line)) (λ asked l. IsTold filter bounds asked l) h.0 k.0
+    (λ asked is a b. (knows asked is).1.0 h.0 k.0 a b) h.1.1 k.1.1 in
+    h.2 ∙ ap (λ lies. if lies then text_of line ++ end_of line else []) same ∙ sym k.2
+kept_one filter bounds before line reply other knows (inl h) (inr k) =
+    absurd (not_both filter bounds before (text_of line) k.0.1.0 h.0 knows h.1 k.0.1.1)
+kept_one filter bounds before line reply other knows (inr h) (inl k) =
+    absurd (not_both filter bounds before (text_of line) h.0.1.0 k.0 knows k.1 h.0.1.1)
+kept_one filter bounds before line reply other knows (inr h) (inr k) = h.1 ∙ sym k.1
+
+-- ---- the line, whatever is asked for
+abbrev pub OneReply : Filter → Type 0
+OneReply filter = MatchOption (bounds_kept filter.request)
+    ((before : ℕ) (text words others : List ℕ) → IsAllowed filter before text words → IsAllowed filter before text others → words ≡ others)
+    (λ bounds. (before : ℕ) (line reply other : List ℕ) → IsKept filter bounds before line reply → IsKept filter bounds before line other → reply ≡ other)
+
+replied_one : (filter : Filter) (o : Option Bounds)
+    → MatchOption o ((before : ℕ) (text words others : List ℕ) → IsAllowed filter before text words → IsAllowed filter before text others → words ≡ others)
+    (λ bounds. (before : ℕ) (line reply other : List ℕ) → IsKept filter bounds before line reply → IsKept filter bounds before line other → reply ≡ other)
+    → (before : ℕ) (line reply other : List ℕ)
+    → MatchOption o (IsReply (IsAllowed filter before) line reply) (λ bounds. IsKept filter bounds before line reply)
+    → MatchOption o (IsReply (IsAllowed filter before) line other) (λ bounds. IsKept filter bounds before line other) → reply ≡ other
+replied_one filter None one before line reply other h k =
+    h.2 ∙ ap (λ words. words ++ end_of line) (one before (text_of line) h.0 k.0 h.1 k.1) ∙ sym k.2
+replied_one filter (Some bounds) one before line reply other h k = one before line reply other h k
+
+pub one_reply : (filter : Filter) → OneReply filter → (before : ℕ) (line reply other : List ℕ)
+    → IsReplyTo filter before line reply → IsReplyTo filter before line other → reply ≡ other
+one_reply filter one before line reply other h k = replied_one filter (bounds_kept filter.request) one before line reply other h k

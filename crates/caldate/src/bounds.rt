@@ -1,0 +1,99 @@
+//! Bounds, and what lies within them.
+ghost use Rattle.std.specs.Prelude.{◌≡◌, ℕ, List, Option};
+ghost use Rattle.cal_text.specs.declared.any.DateOrMoment.{DateOrMoment};
+ghost use Rattle.caldate.specs.Bounds.{are_dates, is_after, is_before, is_within, lies_in};
+ghost use Rattle.caldate.specs.Requests.{IsReading, arguments_of, bound_of, bounds_of, range_of};
+
+use crate::answer::{is_date, moment_of};
+use crate::asked::found_in;
+use crate::request::Bounds;
+use crate::spelling::{first_word, only_word};
+use cal_text::DateOrMoment;
+
+/// The bounds of `from A to B`, `after A` or `before B`.
+#[tactic(auto, using(crate::proofs::Words::no_bounds))]
+pub fn bounds_of(words: &[u8]) -> Option<Bounds>
+    ensures { (reading : List ℕ → Option DateOrMoment) → IsReading reading → result ≡ bounds_of reading (arguments_of words.now) }
+{
+    let (word, rest) = first_word(words)?;
+    if word == b"from".as_slice() {
+        range_of(rest)
+    } else if word == b"after".as_slice() {
+        Some(Bounds::After(bound_of(rest)?))
+    } else if word == b"before".as_slice() {
+        Some(Bounds::Before(bound_of(rest)?))
+    } else {
+        None
+    }
+}
+
+/// The one date or moment.
+fn bound_of(words: &[u8]) -> Option<DateOrMoment>
+    ensures { (reading : List ℕ → Option DateOrMoment) → IsReading reading → result ≡ bound_of reading (arguments_of words.now) }
+{
+    found_in(only_word(words)?)
+}
+
+/// From one to the other.
+fn range_of(words: &[u8]) -> Option<Bounds>
+    ensures { (reading : List ℕ → Option DateOrMoment) → IsReading reading → result ≡ range_of reading (arguments_of words.now) }
+{
+    let (first, rest) = first_word(words)?;
+    let (to, last) = first_word(rest)?;
+    if to != b"to".as_slice() {
+        return None;
+    }
+    Some(Bounds::FromTo(found_in(first)?, found_in(only_word(last)?)?))
+}
+
+/// Whether it lies within the bounds; `None` for a date where one of them is a moment.
+///
+/// From 2024-02-29 to 2024-02-29 lies `2024-02-29T23:30:00-05:00`, though at UTC it is 1 March.
+pub fn lies_in(bounds: &Bounds, found: &DateOrMoment) -> Option<bool>
+    ensures { result ≡ lies_in bounds.now found.now }
+{
+    if is_date(found) && !are_dates(bounds) {
+        return None;
+    }
+    Some(is_within(bounds, found))
+}
+
+fn are_dates(bounds: &Bounds) -> bool
+    ensures { result ≡ are_dates bounds.now }
+{
+    match bounds {
+        Bounds::FromTo(first, last) => is_date(first) && is_date(last),
+        Bounds::After(bound) => is_date(bound),
+        Bounds::Before(bound) => is_date(bound),
+    }
+}
+
+fn is_within(bounds: &Bounds, found: &DateOrMoment) -> bool
+    ensures { result ≡ is_within bounds.now found.now }
+{
+    match bounds {
+        Bounds::FromTo(first, last) => !is_before(found, first) && !is_after(found, last),
+        Bounds::After(bound) => is_after(found, bound),
+        Bounds::Before(bound) => is_before(found, bound),
+    }
+}
+
+/// Whether its date comes before this date, or its instant before that of this moment.
+fn is_before(found: &DateOrMoment, bound: &DateOrMoment) -> bool
+    ensures { result ≡ is_before found.now bound.now }
+{
+    match bound {
+        DateOrMoment::Date(_, date) => moment_of(found).date() < *date,
+        DateOrMoment::Moment(_, moment) => moment_of(found) < *moment,
+    }
+}
+
+/// Whether its date comes after this date, or its instant after that of this moment.
+fn is_after(found: &DateOrMoment, bound: &DateOrMoment) -> bool
+    ensures { result ≡ is_after found.now bound.now }
+{
+    match bound {
+        DateOrMoment::Date(_, date) => *date < moment_of(found).date(),
+        DateOrMoment::Moment(_, moment) => *moment < moment_of(found),
+    }
+}
