@@ -37,11 +37,13 @@ either : {X : Type 0} (P : X → Type 0) (b : Bool) (o p : Option X) → (b ≡ 
 either P true o p h k = h refl
 either P false o p h k = k
 
-mapped : {X Y : Type 0} (P : X → Type 0) (Q : Y → Type 0) (f : X → Y) (o : Option X) → ((x : X) → P x → Q (f x)) → IfSome o P → IfSome (option_map f o) Q
+mapped : {X Y : Type 0} (P : X → Type 0) (Q : Y → Type 0) (f : X → Y) (o : Option X) → ((x : X) → P x → Q (f x)) → IfSome o P
+    → IfSome (option_map f o) Q
 mapped P Q f None h k = tt
 mapped P Q f (Some x) h k = h x k
 
-if_there : {X Y : Type 0} (P : X → Type 0) (Q : Y → Type 0) (f : X → Option Y) (o : Option X) → ((x : X) → P x → IfSome (f x) Q) → IfSome o P → IfSome (option_and_then f o) Q
+if_there : {X Y : Type 0} (P : X → Type 0) (Q : Y → Type 0) (f : X → Option Y) (o : Option X) → ((x : X) → P x → IfSome (f x) Q)
+    → IfSome o P → IfSome (option_and_then f o) Q
 if_there P Q f None h k = tt
 if_there P Q f (Some x) h k = h x k
 
@@ -90,7 +92,8 @@ counts word = weaker (count_of 4294967295 word) (counted 4294967295 word)
     weaker (Some n) h = (h.0, omega (arith, h.1))
 
 -- ---- weekdays and days
-zipped : (o : Option ℤ) (w : Option Weekday) → IfSome o (IsIndex 53) → IfSome (option_map (λ both. Nth both.0 both.1) (option_zip o w)) IsByDay
+zipped : (o : Option ℤ) (w : Option Weekday) → IfSome o (IsIndex 53)
+    → IfSome (option_map (λ both. Nth both.0 both.1) (option_zip o w)) IsByDay
 zipped None w h = tt
 zipped (Some z) None h = tt
 zipped (Some z) (Some w) h = h
@@ -130,7 +133,8 @@ dates word =
 abbrev AreValues : {X : Type 0} → (X → Type 0) → ℕ → List X → Type 0
 AreValues P count xs = (length xs ≡ count) × All P xs
 
-all-cons : {X : Type 0} (P : X → Type 0) (x : X) (xs : List X) → P x → All P xs → (k : ℕ) (d : X) → k < length (x ∷ xs) → P (slice_index_or (x ∷ xs) k d)
+all-cons : {X : Type 0} (P : X → Type 0) (x : X) (xs : List X) → P x → All P xs → (k : ℕ) (d : X) → k < length (x ∷ xs)
+    → P (slice_index_or (x ∷ xs) k d)
 all-cons P x xs p h zero d less = p
 all-cons P x xs p h (suc k) d less = h k d (omega (arith, less))
 
@@ -167,7 +171,8 @@ record IsDraft (d : Draft) : Type 0 where
   weekdays : IfSome d.weekdays (AreFew IsByDay)
   end : IfSome d.end IsEnd
 
-is-put : {X : Type 0} (P : X → Type 0) (at : RulePart) (there : Bool) (o : Option X) (to : X → Draft) → IfSome o P → ((x : X) → P x → IsDraft (to x))
+is-put : {X : Type 0} (P : X → Type 0) (at : RulePart) (there : Bool) (o : Option X) (to : X → Draft) → IfSome o P
+    → ((x : X) → P x → IsDraft (to x))
     → IfOk (changed to (fresh at there o)) IsDraft
 is-put P at true o to h k = tt
 is-put P at false None to h k = tt
@@ -211,7 +216,8 @@ ok-if : {E : Type 0} (b : Bool) (r : Result Draft E) (why : E) → (b ≡ true �
 ok-if true r why h = h refl
 ok-if false r why h = tt
 
-known : {E : Type 0} (f : RulePart → Result Draft E) (at : Option RulePart) (why : E) → ((p : RulePart) → IfOk (f p) IsDraft) → IfOk (option_map_or f at (Err why)) IsDraft
+known : {E : Type 0} (f : RulePart → Result Draft E) (at : Option RulePart) (why : E) → ((p : RulePart) → IfOk (f p) IsDraft)
+    → IfOk (option_map_or f at (Err why)) IsDraft
 known f None why h = tt
 known f (Some at) why h = h at
 
@@ -237,18 +243,22 @@ spelled d f h =
       end = or_else IsEnd d.end Never h.end tt;
     }
 
-with-one : (d : Draft) (why : RuleFault) (f : Option Frequency) → IsDraft d → IfOk (option_map_or (λ f. Ok (with_frequency d f)) f (Err why)) IsSpelled
+with-one : (d : Draft) (why : RuleFault) (f : Option Frequency) → IsDraft d
+    → IfOk (option_map_or (λ f. Ok (with_frequency d f)) f (Err why)) IsSpelled
 with-one d why None h = tt
 with-one d why (Some f) h = spelled d f h
 
-next : (at : ℕ) (others : Draft → Result Recurrence RuleFault) (r : Result Draft RuleReason) → IfOk r IsDraft → ((d : Draft) → IsDraft d → IfOk (others d) IsSpelled)
+next : (at : ℕ) (others : Draft → Result Recurrence RuleFault) (r : Result Draft RuleReason) → IfOk r IsDraft
+    → ((d : Draft) → IsDraft d → IfOk (others d) IsSpelled)
     → IfOk (and_on at others r) IsSpelled
 next at others (Ok d) h k = k d h
 next at others (Err why) h k = tt
 
 read-on : (at : ℕ) (d : Draft) (texts : List (List ℕ)) → IsDraft d → IfOk (read_on at d texts) IsSpelled
 read-on at d [] h = with-one d (fault (at - 1) Missing) d.frequency h
-read-on at d (text ∷ texts) h = next at (λ more. read_on (at + length text + 1) more texts) (put_part d text) (part-is d text h) (λ e k. read-on (at + length text + 1) e texts k)
+read-on at d (text ∷ texts) h =
+    next at (λ more. read_on (at + length text + 1) more texts) (put_part d text) (part-is d text h) (λ e k. read-on (at + length text + 1) e texts k)
 
 pub read_is_spelled : (text : List ℕ) → IfOk (recurrence_of text) IsSpelled
-read_is_spelled text = read-on 0 nothing (parts_at 59 text) (record { interval = tt; months = tt; month_days = tt; weekdays = tt; end = tt })
+read_is_spelled text =
+    read-on 0 nothing (parts_at 59 text) (record { interval = tt; months = tt; month_days = tt; weekdays = tt; end = tt })

@@ -72,7 +72,8 @@ two-more width n m xs ys h k = record {
 }
 
 -- ---- the day
-day-back : (number n : ℕ) → IsDate n → HasCalendarDate (pos (number / 10000)) (number / 100 % 100) (number % 100) n → day_with number ≡ Some n
+day-back : (number n : ℕ) → IsDate n → HasCalendarDate (pos (number / 10000)) (number / 100 % 100) (number % 100) n
+    → day_with number ≡ Some n
 unfolding day_with
 day-back number n date h =
     let first = filter-first (has_digits number) 0 (last_day + 1) n (record {
@@ -86,7 +87,8 @@ day-back number n date h =
     }) in
     ap (λ days. slice_get days 0) first
 
-eight-digits : (word : List ℕ) (n number : ℕ) → AreDigits 8 number word → number < 4294967296 → day_with number ≡ Some n → date_of word ≡ Some n
+eight-digits : (word : List ℕ) (n number : ℕ) → AreDigits 8 number word → number < 4294967296 → day_with number ≡ Some n
+    → date_of word ≡ Some n
 eight-digits word n number h small day =
     ap (λ b. cond b (option_and_then day_with (number_of word)) None) (eq-eqb _ _ h.size)
     ∙ ap (option_and_then day_with) (number-back word number h.all (omega (arith, h.size)) h.value small)

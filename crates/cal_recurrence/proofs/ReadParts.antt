@@ -34,7 +34,8 @@ record Says (draft : Draft) (rest : List ℕ) (r : Recurrence) : Type 0 where
   cut : (text : List ℕ) → avoids 59 text ≡ true → parts_at 59 (text ++ rest) ≡ text ∷ parts_after rest
   reads : (at : ℕ) → read_on at draft (parts_after rest) ≡ Ok r
 
-one-part : (draft more : Draft) (text rest : List ℕ) (r : Recurrence) → avoids 59 text ≡ true → put_part draft text ≡ Ok more → Says more rest r
+one-part : (draft more : Draft) (text rest : List ℕ) (r : Recurrence) → avoids 59 text ≡ true → put_part draft text ≡ Ok more
+    → Says more rest r
     → Says draft (59 ∷ (text ++ rest)) r
 one-part draft more text rest r plain put h = record {
   cut = λ first clean. cut-here 59 first (text ++ rest) clean;
@@ -50,7 +51,112 @@ given : {X : Type 0} (draft : Draft) (at : RulePart) (value : List ℕ) (meaning
 given draft at value meaning x to h e =
     ap (λ b. cond b (put draft at value) (Err (TooMany at))) h.few ∙ e ∙ ap (λ o. changed to (fresh at false o)) h.means
 
-abbrev draft_of : Frequency → Option ℕ → Option RuleEnd → Option (List Month) → Option (List ℤ) → Option (List ByDay) → Option Weekday → Draft
+-- ---- the parts in their order, of which each may be left out: what the draft then has is said by that
+frequency-said : (f : Frequency) (rest : List ℕ) (r : Recurrence) → Says (record nothing { frequency = Some f }) rest r
+    → recurrence_of ((codes "FREQ=" ++ frequency_text f) ++ rest) ≡ Ok r
+frequency-said f rest r h =
+    let value = one-word frequency_of f (frequency_text f) (frequency-word f) in
+    (one-part nothing (record nothing { frequency = Some f }) (codes "FREQ=" ++ frequency_text f) rest r
+    (avoids-append 59 (codes "FREQ=") (frequency_text f) refl value.semicolon)
+    (given nothing part.Frequency (frequency_text f) frequency_of f (λ x. record nothing { frequency = Some x }) value refl) h).reads 0
+
+interval-said : (d : Draft) (n : ℕ) (rest : List ℕ) (r : Recurrence) → IsCount n
+    → ((o : Option ℕ) → unwrap_or o 1 ≡ n → Says (record d { interval = o }) rest r)
+    → Says (record d { interval = None }) (interval_text n ++ rest) r
+interval-said d n rest r is h =
+    let none : Draft = record d { interval = None } in
+    let value = one-word (count_of 4294967295) n (decimal n) (count-word n is) in
+    let text : Bool → List ℕ = λ b. cond b [] (codes ";INTERVAL=" ++ decimal n) in
+    elim (cases_Bool (eqb n 1)) as (λ _. Says none (interval_text n ++ rest) r) [
+      | inl one ↦ subst (λ b. Says none (text b ++ rest) r) (sym one) (h None (sym (eqb-true n 1 one)))
+      | inr more ↦
+          subst (λ b. Says none (text b ++ rest) r) (sym more)
+          (one-part none (record d { interval = Some n }) (codes "INTERVAL=" ++ decimal n) rest r
+          (avoids-append 59 (codes "INTERVAL=") (decimal n) refl value.semicolon)
+          (given none part.Interval (decimal n) (count_of 4294967295) n (λ x. record d { interval = Some x }) value refl)
+          (h (Some n) refl))
+    ]
+
+end-said : (d : Draft) (end : RuleEnd) (rest : List ℕ) (r : Recurrence) → IsEnd end
+    → ((o : Option RuleEnd) → unwrap_or o Never ≡ end → Says (record d { end = o }) rest r)
+    → Says (record d { end = None }) (end_text end ++ rest) r
+end-said d Never rest r is h = h None refl
+end-said d (Until day) rest r is h =
+    let none : Draft = record d { end = None } in
+    let value = one-word date_of day (day_text day) (day-word day is.0 is.1 is.2) in
+    one-part none (record d { end = Some (Until day) }) (codes "UNTIL=" ++ day_text day) rest r
+    (avoids-append 59 (codes "UNTIL=") (day_text day) refl value.semicolon)
+    (given none part.Until (day_text day) date_of day (λ x. record d { end = Some (Until x) }) value refl)
+    (h (Some (Until day)) refl)
+end-said d (Count n) rest r is h =
+    let none : Draft = record d { end = None } in
+    let value = one-word (count_of 4294967295) n (decimal n) (count-word n is) in
+    one-part none (record d { end = Some (Count n) }) (codes "COUNT=" ++ decimal n) rest r
+    (avoids-append 59 (codes "COUNT=") (decimal n) refl value.semicolon)
+    (given none part.Count (decimal n) (count_of 4294967295) n (λ x. record d { end = Some (Count x) }) value refl)
+    (h (Some (Count n)) refl)
+
+months-said : (d : Draft) (xs : List Month) (rest : List ℕ) (r : Recurrence) → AreWords month_of month_text xs → length xs ≤ 62
+    → ((o : Option (List Month)) → unwrap_or o [] ≡ xs → Says (record d { months = o }) rest r)
+    → Says (record d { months = None }) (list_text (codes ";BYMONTH=") month_text xs ++ rest) r
+months-said d [] rest r words few h = h None refl
+months-said d (x ∷ xs) rest r words few h =
+    let none : Draft = record d { months = None } in
+    let text = month_text x ++ list_text (codes ",") month_text xs in
+    let value = list-value month_of month_text x xs words few in
+    one-part none (record d { months = Some (x ∷ xs) }) (codes "BYMONTH=" ++ text) rest r
+    (avoids-append 59 (codes "BYMONTH=") text refl value.semicolon)
+    (given none part.Months text (list_of month_of) (x ∷ xs) (λ o. record d { months = Some o }) value refl)
+    (h (Some (x ∷ xs)) refl)
+
+month_days-said : (d : Draft) (xs : List ℤ) (rest : List ℕ) (r : Recurrence) → AreWords month_day_of month_day_text xs → length xs ≤ 62
+    → ((o : Option (List ℤ)) → unwrap_or o [] ≡ xs → Says (record d { month_days = o }) rest r)
+    → Says (record d { month_days = None }) (list_text (codes ";BYMONTHDAY=") month_day_text xs ++ rest) r
+month_days-said d [] rest r words few h = h None refl
+month_days-said d (x ∷ xs) rest r words few h =
+    let none : Draft = record d { month_days = None } in
+    let text = month_day_text x ++ list_text (codes ",") month_day_text xs in
+    let value = list-value month_day_of month_day_text x xs words few in
+    one-part none (record d { month_days = Some (x ∷ xs) }) (codes "BYMONTHDAY=" ++ text) rest r
+    (avoids-append 59 (codes "BYMONTHDAY=") text refl value.semicolon)
+    (given none part.MonthDays text (list_of month_day_of) (x ∷ xs) (λ o. record d { month_days = Some o }) value refl)
+    (h (Some (x ∷ xs)) refl)
+
+weekdays-said : (d : Draft) (xs : List ByDay) (rest : List ℕ) (r : Recurrence) → AreWords by_day_of by_day_text xs → length xs ≤ 62
+    → ((o : Option (List ByDay)) → unwrap_or o [] ≡ xs → Says (record d { weekdays = o }) rest r)
+    → Says (record d { weekdays = None }) (list_text (codes ";BYDAY=") by_day_text xs ++ rest) r
+weekdays-said d [] rest r words few h = h None refl
+weekdays-said d (x ∷ xs) rest r words few h =
+    let none : Draft = record d { weekdays = None } in
+    let text = by_day_text x ++ list_text (codes ",") by_day_text xs in
+    let value = list-value by_day_of by_day_text x xs words few in
+    one-part none (record d { weekdays = Some (x ∷ xs) }) (codes "BYDAY=" ++ text) rest r
+    (avoids-append 59 (codes "BYDAY=") text refl value.semicolon)
+    (given none part.Weekdays text (list_of by_day_of) (x ∷ xs) (λ o. record d { weekdays = Some o }) value refl)
+    (h (Some (x ∷ xs)) refl)
+
+week_start-given : (d : Draft) (s : Weekday) (rest : List ℕ) (r : Recurrence) → Says (record d { week_start = Some s }) rest r
+    → Says (record d { week_start = None }) ((codes ";WKST=" ++ weekday_text s) ++ rest) r
+week_start-given d s rest r h =
+    let none : Draft = record d { week_start = None } in
+    let value = one-word weekday_of s (weekday_text s) (weekday-word s) in
+    one-part none (record d { week_start = Some s }) (codes "WKST=" ++ weekday_text s) rest r
+    (avoids-append 59 (codes "WKST=") (weekday_text s) refl value.semicolon)
+    (given none part.WeekStart (weekday_text s) weekday_of s (λ x. record d { week_start = Some x }) value refl) h
+
+week_start-said : (d : Draft) (s : Weekday) (rest : List ℕ) (r : Recurrence)
+    → ((o : Option Weekday) → unwrap_or o weekday.Monday ≡ s → Says (record d { week_start = o }) rest r)
+    → Says (record d { week_start = None }) (week_start_text s ++ rest) r
+week_start-said d weekday.Monday rest r h = h None refl
+week_start-said d weekday.Tuesday rest r h = week_start-given d weekday.Tuesday rest r (h (Some weekday.Tuesday) refl)
+week_start-said d weekday.Wednesday rest r h = week_start-given d weekday.Wednesday rest r (h (Some weekday.Wednesday) refl)
+week_start-said d weekday.Thursday rest r h = week_start-given d weekday.Thursday rest r (h (Some weekday.Thursday) refl)
+week_start-said d weekday.Friday rest r h = week_start-given d weekday.Friday rest r (h (Some weekday.Friday) refl)
+week_start-said d weekday.Saturday rest r h = week_start-given d weekday.Saturday rest r (h (Some weekday.Saturday) refl)
+week_start-said d weekday.Sunday rest r h = week_start-given d weekday.Sunday rest r (h (Some weekday.Sunday) refl)
+
+abbrev draft_of : Frequency → Option ℕ → Option RuleEnd → Option (List Month) → Option (List ℤ) → Option (List ByDay) → Option Weekday
+    → Draft
 draft_of f interval end months month_days weekdays week_start = record {
   frequency = Some f;
   interval = interval;
@@ -61,10 +167,10 @@ draft_of f interval end months month_days weekdays week_start = record {
   end = end;
 }
 
--- ---- the parts in their order, from the last one
-all-said : (r : Recurrence) (i : Option ℕ) (e : Option RuleEnd) (m : Option (List Month)) (d : Option (List ℤ)) (w : Option (List ByDay)) (s : Option Weekday)
-    → unwrap_or i 1 ≡ r.interval → unwrap_or e Never ≡ r.end → unwrap_or m [] ≡ r.months → unwrap_or d [] ≡ r.month_days
-    → unwrap_or w [] ≡ r.weekdays → unwrap_or s weekday.Monday ≡ r.week_start → Says (draft_of r.frequency i e m d w s) [] r
+all-said : (r : Recurrence) (i : Option ℕ) (e : Option RuleEnd) (m : Option (List Month)) (d : Option (List ℤ))
+    (w : Option (List ByDay)) (s : Option Weekday) → unwrap_or i 1 ≡ r.interval → unwrap_or e Never ≡ r.end → unwrap_or m [] ≡ r.months
+    → unwrap_or d [] ≡ r.month_days → unwrap_or w [] ≡ r.weekdays → unwrap_or s weekday.Monday ≡ r.week_start
+    → Says (draft_of r.frequency i e m d w s) [] r
 all-said r i e m d w s is ends months month_days weekdays starts = record {
   cut = λ text clean. ap (parts_at 59) (append-nil text) ∙ cut-nowhere 59 text clean;
   reads = λ at j. Ok (record {
@@ -77,106 +183,6 @@ all-said r i e m d w s is ends months month_days weekdays starts = record {
     end = ends j;
   });
 }
-
-week_start-given : (f : Frequency) (i : Option ℕ) (e : Option RuleEnd) (m : Option (List Month)) (d : Option (List ℤ)) (w : Option (List ByDay)) (s : Weekday) (rest : List ℕ) (r : Recurrence)
-    → Says (draft_of f i e m d w (Some s)) rest r → Says (draft_of f i e m d w None) ((codes ";WKST=" ++ weekday_text s) ++ rest) r
-week_start-given f i e m d w s rest r h =
-    let value = one-word weekday_of s (weekday_text s) (weekday-word s) in
-    one-part (draft_of f i e m d w None) (draft_of f i e m d w (Some s)) (codes "WKST=" ++ weekday_text s) rest r
-    (avoids-append 59 (codes "WKST=") (weekday_text s) refl value.semicolon)
-    (given (draft_of f i e m d w None) part.WeekStart (weekday_text s) weekday_of s (λ x. draft_of f i e m d w (Some x)) value refl) h
-
-week_start-said : (f : Frequency) (i : Option ℕ) (e : Option RuleEnd) (m : Option (List Month)) (d : Option (List ℤ)) (w : Option (List ByDay)) (s : Weekday) (rest : List ℕ) (r : Recurrence)
-    → ((o : Option Weekday) → unwrap_or o weekday.Monday ≡ s → Says (draft_of f i e m d w o) rest r)
-    → Says (draft_of f i e m d w None) (week_start_text s ++ rest) r
-week_start-said f i e m d w weekday.Monday rest r h = h None refl
-week_start-said f i e m d w weekday.Tuesday rest r h = week_start-given f i e m d w weekday.Tuesday rest r (h (Some weekday.Tuesday) refl)
-week_start-said f i e m d w weekday.Wednesday rest r h = week_start-given f i e m d w weekday.Wednesday rest r (h (Some weekday.Wednesday) refl)
-week_start-said f i e m d w weekday.Thursday rest r h = week_start-given f i e m d w weekday.Thursday rest r (h (Some weekday.Thursday) refl)
-week_start-said f i e m d w weekday.Friday rest r h = week_start-given f i e m d w weekday.Friday rest r (h (Some weekday.Friday) refl)
-week_start-said f i e m d w weekday.Saturday rest r h = week_start-given f i e m d w weekday.Saturday rest r (h (Some weekday.Saturday) refl)
-week_start-said f i e m d w weekday.Sunday rest r h = week_start-given f i e m d w weekday.Sunday rest r (h (Some weekday.Sunday) refl)
-
-weekdays-said : (f : Frequency) (i : Option ℕ) (e : Option RuleEnd) (m : Option (List Month)) (d : Option (List ℤ)) (xs : List ByDay) (rest : List ℕ) (r : Recurrence)
-    → AreWords by_day_of by_day_text xs → length xs ≤ 62
-    → ((o : Option (List ByDay)) → unwrap_or o [] ≡ xs → Says (draft_of f i e m d o None) rest r)
-    → Says (draft_of f i e m d None None) (list_text (codes ";BYDAY=") by_day_text xs ++ rest) r
-weekdays-said f i e m d [] rest r words few h = h None refl
-weekdays-said f i e m d (x ∷ xs) rest r words few h =
-    let text = by_day_text x ++ list_text (codes ",") by_day_text xs in
-    let value = list-value by_day_of by_day_text x xs words few in
-    one-part (draft_of f i e m d None None) (draft_of f i e m d (Some (x ∷ xs)) None) (codes "BYDAY=" ++ text) rest r
-    (avoids-append 59 (codes "BYDAY=") text refl value.semicolon)
-    (given (draft_of f i e m d None None) part.Weekdays text (list_of by_day_of) (x ∷ xs) (λ o. draft_of f i e m d (Some o) None) value refl)
-    (h (Some (x ∷ xs)) refl)
-
-month_days-said : (f : Frequency) (i : Option ℕ) (e : Option RuleEnd) (m : Option (List Month)) (xs : List ℤ) (rest : List ℕ) (r : Recurrence)
-    → AreWords month_day_of month_day_text xs → length xs ≤ 62
-    → ((o : Option (List ℤ)) → unwrap_or o [] ≡ xs → Says (draft_of f i e m o None None) rest r)
-    → Says (draft_of f i e m None None None) (list_text (codes ";BYMONTHDAY=") month_day_text xs ++ rest) r
-month_days-said f i e m [] rest r words few h = h None refl
-month_days-said f i e m (x ∷ xs) rest r words few h =
-    let text = month_day_text x ++ list_text (codes ",") month_day_text xs in
-    let value = list-value month_day_of month_day_text x xs words few in
-    one-part (draft_of f i e m None None None) (draft_of f i e m (Some (x ∷ xs)) None None) (codes "BYMONTHDAY=" ++ text) rest r
-    (avoids-append 59 (codes "BYMONTHDAY=") text refl value.semicolon)
-    (given (draft_of f i e m None None None) part.MonthDays text (list_of month_day_of) (x ∷ xs) (λ o. draft_of f i e m (Some o) None None) value refl)
-    (h (Some (x ∷ xs)) refl)
-
-months-said : (f : Frequency) (i : Option ℕ) (e : Option RuleEnd) (xs : List Month) (rest : List ℕ) (r : Recurrence)
-    → AreWords month_of month_text xs → length xs ≤ 62
-    → ((o : Option (List Month)) → unwrap_or o [] ≡ xs → Says (draft_of f i e o None None None) rest r)
-    → Says (draft_of f i e None None None None) (list_text (codes ";BYMONTH=") month_text xs ++ rest) r
-months-said f i e [] rest r words few h = h None refl
-months-said f i e (x ∷ xs) rest r words few h =
-    let text = month_text x ++ list_text (codes ",") month_text xs in
-    let value = list-value month_of month_text x xs words few in
-    one-part (draft_of f i e None None None None) (draft_of f i e (Some (x ∷ xs)) None None None) (codes "BYMONTH=" ++ text) rest r
-    (avoids-append 59 (codes "BYMONTH=") text refl value.semicolon)
-    (given (draft_of f i e None None None None) part.Months text (list_of month_of) (x ∷ xs) (λ o. draft_of f i e (Some o) None None None) value refl)
-    (h (Some (x ∷ xs)) refl)
-
-end-said : (f : Frequency) (i : Option ℕ) (end : RuleEnd) (rest : List ℕ) (r : Recurrence) → IsEnd end
-    → ((o : Option RuleEnd) → unwrap_or o Never ≡ end → Says (draft_of f i o None None None None) rest r)
-    → Says (draft_of f i None None None None None) (end_text end ++ rest) r
-end-said f i Never rest r is h = h None refl
-end-said f i (Until day) rest r is h =
-    let value = one-word date_of day (day_text day) (day-word day is.0 is.1 is.2) in
-    one-part (draft_of f i None None None None None) (draft_of f i (Some (Until day)) None None None None) (codes "UNTIL=" ++ day_text day) rest r
-    (avoids-append 59 (codes "UNTIL=") (day_text day) refl value.semicolon)
-    (given (draft_of f i None None None None None) part.Until (day_text day) date_of day (λ x. draft_of f i (Some (Until x)) None None None None) value refl)
-    (h (Some (Until day)) refl)
-end-said f i (Count n) rest r is h =
-    let value = one-word (count_of 4294967295) n (decimal n) (count-word n is) in
-    one-part (draft_of f i None None None None None) (draft_of f i (Some (Count n)) None None None None) (codes "COUNT=" ++ decimal n) rest r
-    (avoids-append 59 (codes "COUNT=") (decimal n) refl value.semicolon)
-    (given (draft_of f i None None None None None) part.Count (decimal n) (count_of 4294967295) n (λ x. draft_of f i (Some (Count x)) None None None None) value refl)
-    (h (Some (Count n)) refl)
-
-interval-said : (f : Frequency) (n : ℕ) (rest : List ℕ) (r : Recurrence) → IsCount n
-    → ((o : Option ℕ) → unwrap_or o 1 ≡ n → Says (draft_of f o None None None None None) rest r)
-    → Says (draft_of f None None None None None None) (interval_text n ++ rest) r
-interval-said f n rest r is h =
-    let value = one-word (count_of 4294967295) n (decimal n) (count-word n is) in
-    let text : Bool → List ℕ = λ b. cond b [] (codes ";INTERVAL=" ++ decimal n) in
-    elim (cases_Bool (eqb n 1)) as (λ _. Says (draft_of f None None None None None None) (interval_text n ++ rest) r) [
-      | inl one ↦
-          subst (λ b. Says (draft_of f None None None None None None) (text b ++ rest) r) (sym one) (h None (sym (eqb-true n 1 one)))
-      | inr more ↦
-          subst (λ b. Says (draft_of f None None None None None None) (text b ++ rest) r) (sym more)
-          (one-part (draft_of f None None None None None None) (draft_of f (Some n) None None None None None) (codes "INTERVAL=" ++ decimal n) rest r
-          (avoids-append 59 (codes "INTERVAL=") (decimal n) refl value.semicolon)
-          (given (draft_of f None None None None None None) part.Interval (decimal n) (count_of 4294967295) n (λ x. draft_of f (Some x) None None None None None) value refl)
-          (h (Some n) refl))
-    ]
-
-frequency-said : (f : Frequency) (rest : List ℕ) (r : Recurrence) → Says (draft_of f None None None None None None) rest r
-    → recurrence_of ((codes "FREQ=" ++ frequency_text f) ++ rest) ≡ Ok r
-frequency-said f rest r h =
-    let value = one-word frequency_of f (frequency_text f) (frequency-word f) in
-    (one-part nothing (draft_of f None None None None None None) (codes "FREQ=" ++ frequency_text f) rest r
-    (avoids-append 59 (codes "FREQ=") (frequency_text f) refl value.semicolon)
-    (given nothing part.Frequency (frequency_text f) frequency_of f (λ x. draft_of x None None None None None None) value refl) h).reads 0
 
 -- ---- lists
 first-one : {X : Type 0} (P : X → Type 0) (x : X) (xs : List X) → All P (x ∷ xs) → P x
@@ -203,6 +209,7 @@ grouped a b c d e f g =
 
 reads_back_of : (r : Recurrence) → IsSpelled r → recurrence_of (text_of r) ≡ Ok r
 reads_back_of r h =
+    let from : Option ℕ → Option RuleEnd → Option (List Month) → Option (List ℤ) → Option (List ByDay) → Draft = λ i e m d w. draft_of r.frequency i e m d w None in
     let starts = week_start_text r.week_start ++ [] in
     let weekdays = list_text (codes ";BYDAY=") by_day_text r.weekdays ++ starts in
     let month_days = list_text (codes ";BYMONTHDAY=") month_day_text r.month_days ++ weekdays in
@@ -214,12 +221,12 @@ reads_back_of r h =
     ap recurrence_of (grouped (codes "FREQ=" ++ frequency_text r.frequency) (interval_text r.interval) (end_text r.end)
     (list_text (codes ";BYMONTH=") month_text r.months) (list_text (codes ";BYMONTHDAY=") month_day_text r.month_days)
     (list_text (codes ";BYDAY=") by_day_text r.weekdays) (week_start_text r.week_start))
-    ∙ frequency-said r.frequency interval r (interval-said r.frequency r.interval end r h.interval (λ i a.
-    end-said r.frequency i r.end months r h.end (λ e b.
-    months-said r.frequency i e r.months month_days r (month-words r.months) h.months (λ m c.
-    month_days-said r.frequency i e m r.month_days weekdays r day_words h.month_days (λ d p.
-    weekdays-said r.frequency i e m d r.weekdays starts r weekday_words h.weekdays (λ w q.
-    week_start-said r.frequency i e m d w r.week_start [] r (λ s o.
+    ∙ frequency-said r.frequency interval r (interval-said (from None None None None None) r.interval end r h.interval (λ i a.
+    end-said (from i None None None None) r.end months r h.end (λ e b.
+    months-said (from i e None None None) r.months month_days r (month-words r.months) h.months (λ m c.
+    month_days-said (from i e m None None) r.month_days weekdays r day_words h.month_days (λ d p.
+    weekdays-said (from i e m d None) r.weekdays starts r weekday_words h.weekdays (λ w q.
+    week_start-said (from i e m d w) r.week_start [] r (λ s o.
     all-said r i e m d w s a b c p q o)))))))
 
 pub reads_back : (r : Recurrence) (text : List ℕ) → text ≡ text_of r → IsSpelled r → recurrence_of text ≡ Ok r

@@ -48,7 +48,8 @@ no-semicolon meaning text x [] h = avoids-append 59 (text x) [] h.0.semicolon re
 no-semicolon meaning text x (y ∷ ys) h =
     avoids-append 59 (text x) (44 ∷ joined text y ys) h.0.semicolon (no-semicolon meaning text y ys h.1)
 
-each-word : {X : Type 0} (meaning : List ℕ → Option X) (text : X → List ℕ) (xs : List X) → AreWords meaning text xs → each meaning (map text xs) ≡ Some xs
+each-word : {X : Type 0} (meaning : List ℕ → Option X) (text : X → List ℕ) (xs : List X) → AreWords meaning text xs
+    → each meaning (map text xs) ≡ Some xs
 each-word meaning text [] h = refl
 each-word meaning text (x ∷ xs) h =
     ap (λ o. option_map (λ both. both.0 ∷ both.1) (option_zip o (each meaning (map text xs)))) h.0.means
@@ -61,7 +62,8 @@ length-map text (x ∷ xs) = omega (arith, length-map text xs)
 few-enough : (n : ℕ) → n ≤ 62 → nat_le n most_values ≡ true
 few-enough n h = grind (arith, nat_tests, h)
 
-pub list-value : {X : Type 0} (meaning : List ℕ → Option X) (text : X → List ℕ) (x : X) (xs : List X) → AreWords meaning text (x ∷ xs) → length (x ∷ xs) ≤ 62
+pub list-value : {X : Type 0} (meaning : List ℕ → Option X) (text : X → List ℕ) (x : X) (xs : List X) → AreWords meaning text (x ∷ xs)
+    → length (x ∷ xs) ≤ 62
     → IsValue (list_of meaning) (x ∷ xs) (joined text x xs)
 list-value meaning text x xs h few = record {
   few = few-enough (length (parts_at 44 (joined text x xs))) (omega (arith, few, ap length (cut meaning text x xs h), length-map text (x ∷ xs)));

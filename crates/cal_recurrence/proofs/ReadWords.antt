@@ -39,7 +39,8 @@ digits-avoid byte (c ∷ cs) h all =
 decimal-avoids : (byte n : ℕ) → (byte < 48) ⊎ (57 < byte) → n < 2 ^ 32 → avoids byte (decimal n) ≡ true
 decimal-avoids byte n h small = digits-avoid byte (decimal n) h (digits_decimal digits n (omega (arith, small)))
 
-pub number-back : (word : List ℕ) (n : ℕ) → all_ascii_digits word ≡ true → 0 < length word → digits_value 10 word ≡ n → n < 4294967296 → number_of word ≡ Some n
+pub number-back : (word : List ℕ) (n : ℕ) → all_ascii_digits word ≡ true → 0 < length word → digits_value 10 word ≡ n → n < 4294967296
+    → number_of word ≡ Some n
 number-back word n all some value small =
     guard_yes (is_number word) (digits_value 10 word) (numeral_is word (all, some, omega (arith, value, small))) ∙ ap Some value
 
@@ -69,12 +70,15 @@ short-back most n low high two =
     ap (λ b. cond b (count_of most (decimal n)) None) test ∙ count-back most n low high (omega (arith, high, two))
 
 -- ---- an index with its sign
-plain-index : (most : ℕ) (word : List ℕ) (n : ℕ) → 48 < slice_index word 0 → short_count_of most word ≡ Some n → index_of most word ≡ Some (pos n)
+plain-index : (most : ℕ) (word : List ℕ) (n : ℕ) → 48 < slice_index word 0 → short_count_of most word ≡ Some n
+    → index_of most word ≡ Some (pos n)
 plain-index most word n first h =
+    let after = short_count_of most (drop 1 word) in
+    let plain = option_map pos (short_count_of most word) in
     let minus : eqb (slice_index word 0) 45 ≡ false = ne_eqb _ _ (λ e. omega (arith, e, first)) in
     let plus : eqb (slice_index word 0) 43 ≡ false = ne_eqb _ _ (λ e. omega (arith, e, first)) in
-    ap (λ b. cond b (option_map (λ n. neg_ℤ (pos n)) (short_count_of most (drop 1 word))) (cond (eqb (slice_index word 0) 43) (option_map pos (short_count_of most (drop 1 word))) (option_map pos (short_count_of most word)))) minus
-    ∙ ap (λ b. cond b (option_map pos (short_count_of most (drop 1 word))) (option_map pos (short_count_of most word))) plus
+    ap (λ b. cond b (option_map (λ n. neg_ℤ (pos n)) after) (cond (eqb (slice_index word 0) 43) (option_map pos after) plain)) minus
+    ∙ ap (λ b. cond b (option_map pos after) plain) plus
     ∙ ap (option_map pos) h
 
 pub index-back : (most : ℕ) (z : ℤ) → most < 100 → IsIndex most z → index_of most (signed_decimal z) ≡ Some z
@@ -87,7 +91,8 @@ index-back most (negsuc n) two h =
     let high : suc n ≤ most = h.1 in
     ap (option_map (λ n. neg_ℤ (pos n))) (short-back most (suc n) low high two)
 
-signed-avoids : (byte most : ℕ) (z : ℤ) → most < 100 → IsIndex most z → eqb 45 byte ≡ false → (byte < 48) ⊎ (57 < byte) → avoids byte (signed_decimal z) ≡ true
+signed-avoids : (byte most : ℕ) (z : ℤ) → most < 100 → IsIndex most z → eqb 45 byte ≡ false → (byte < 48) ⊎ (57 < byte)
+    → avoids byte (signed_decimal z) ≡ true
 signed-avoids byte most (pos n) two h minus out =
     let high : n ≤ most = h.1 in
     decimal-avoids byte n out (omega (arith, high, two))
@@ -156,7 +161,8 @@ every-back w =
     let none : length (weekday_text w) - 2 ≡ 0 = omega (arith, two-letters w) in
     by_day-cut (weekday_text w) 0 none ∙ ap (option_map Every) (weekday-word w).means
 
-nth-back : (index name : List ℕ) (z : ℤ) (w : Weekday) → 0 < length index → length name ≡ 2 → index_of 53 index ≡ Some z → weekday_of name ≡ Some w
+nth-back : (index name : List ℕ) (z : ℤ) (w : Weekday) → 0 < length index → length name ≡ 2 → index_of 53 index ≡ Some z
+    → weekday_of name ≡ Some w
     → by_day_of (index ++ name) ≡ Some (Nth z w)
 nth-back index name z w some two e f =
     let front : length (index ++ name) - 2 ≡ length index = omega (arith, length-append index name, two) in
@@ -164,13 +170,14 @@ nth-back index name z w some two e f =
     let start : take (length index) (index ++ name) ≡ index = take-append-le (length index) index name (omega arith) ∙ take_all _ index (omega arith) in
     let rest : drop (length index) (index ++ name) ≡ name =
     drop-append-le (length index) index name (omega arith) ∙ ap (λ bytes. bytes ++ name) (drop_all _ index (omega arith)) in
+    let both : Option ℤ → Option Weekday → Option ByDay = λ o p. option_map (λ both. Nth both.0 both.1) (option_zip o p) in
     by_day-cut (index ++ name) (length index) front
     ∙ ap (λ b. cond b (option_map Every (weekday_of (index ++ name)))
-    (option_map (λ both. Nth both.0 both.1) (option_zip (index_of 53 (take (length index) (index ++ name))) (weekday_of (drop (length index) (index ++ name)))))) not_none
-    ∙ ap (λ bytes. option_map (λ both. Nth both.0 both.1) (option_zip (index_of 53 bytes) (weekday_of (drop (length index) (index ++ name))))) start
-    ∙ ap (λ bytes. option_map (λ both. Nth both.0 both.1) (option_zip (index_of 53 index) (weekday_of bytes))) rest
-    ∙ ap (λ o. option_map (λ both. Nth both.0 both.1) (option_zip o (weekday_of name))) e
-    ∙ ap (λ o. option_map (λ both. Nth both.0 both.1) (option_zip (Some z) o)) f
+    (both (index_of 53 (take (length index) (index ++ name))) (weekday_of (drop (length index) (index ++ name))))) not_none
+    ∙ ap (λ bytes. both (index_of 53 bytes) (weekday_of (drop (length index) (index ++ name)))) start
+    ∙ ap (λ bytes. both (index_of 53 index) (weekday_of bytes)) rest
+    ∙ ap (λ o. both o (weekday_of name)) e
+    ∙ ap (λ o. both (Some z) o) f
 
 signed-some : (most : ℕ) (z : ℤ) → most < 100 → IsIndex most z → 0 < length (signed_decimal z)
 signed-some most (pos n) two h = let high : n ≤ most = h.1 in decimal_nonempty n (omega (arith, high, two))

@@ -22,7 +22,8 @@ fn next_two(rule: &Rule<'_>, date: Date) -> Option<(Date, Date)>
 
 /// The text of a recurrence in the order and the spelling in which each is written, or the fault of the text.
 fn respelled(text: &[u8]) -> Result<RecurrenceText, RuleFault>
-    ensures { IfOk result (λ written. (r : Recurrence) × (recurrence_of text.now ≡ Ok r) × (written ≡ text_of r)) }
+    ensures written { IfOk result (λ written. (r : Recurrence) × (recurrence_of text.now ≡ Ok r) × (written ≡ text_of r)) }
+    ensures same { IfOk result (λ written. recurrence_of written ≡ recurrence_of text.now) }
 {
     let recurrence = parse(text)?;
     Ok(recurrence.text())
