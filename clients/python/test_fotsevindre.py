@@ -527,7 +527,7 @@ class Texts(Cases):
                 with self.assertRaises(TypeError):
                     call(wrong)
         for call in (rfc3339_text, unix_text, unix_duration):
-            for position, wrong in itertools.product(range(3), NO_NUMBERS + [1, "Z", span(1)]):
+            for index, wrong in itertools.product(range(3), NO_NUMBERS + [1, "Z", span(1)]):
                 arguments = list(moment)
                 arguments[index] = wrong
                 with self.assertRaises(TypeError):
@@ -1113,7 +1113,7 @@ class Values(Cases):
             (days_in_year_month, 2),
         ]
         for call, count in number_calls:
-            for position, wrong in itertools.product(range(count), NO_NUMBERS + self.values() + [Weekday.Monday]):
+            for index, wrong in itertools.product(range(count), NO_NUMBERS + self.values() + [Weekday.Monday]):
                 arguments = [1] * count
                 arguments[index] = wrong
                 with self.assertRaises(TypeError, msg=(call, arguments)):

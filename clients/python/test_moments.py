@@ -340,7 +340,7 @@ class Values(Cases):
             calls += [(value.replace_date, (Date.MIN,)), (value.replace_time, (Time.MAX,)), (value.replace_year, (2000,))]
         for call, right in calls:
             call(*right)
-            for position, wrong in itertools.product(range(len(right)), [None, 1.0, "1", b"1", [], object(), NIGHT]):
+            for index, wrong in itertools.product(range(len(right)), [None, 1.0, "1", b"1", [], object(), NIGHT]):
                 arguments = [*right[:index], wrong, *right[index + 1:]]
                 with self.assertRaises(TypeError, msg=(call, arguments)):
                     call(*arguments)
