@@ -42,6 +42,8 @@ pub fn push_line(
 }
 
 /// Gathers the line itself where it lies within the bounds. In a strict run it returns what is told of a line that has no answer.
+// Apart, so that its room on the stack is not prepared for other requests.
+#[inline(never)]
 fn push_kept(
     buffer: &mut Buffer,
     filter: &Filter,
