@@ -36,9 +36,10 @@ pub fn push_line(
         → IsUnanswered filter.now before (kept ++ line.now) told) }
 {
     match &filter.request {
-        Request::Keep(bounds) => push_kept(buffer, filter, bounds, progress, line),
-        _ => push_reply(buffer, filter, progress, line),
+        Request::Keep(bounds) => push_kept(buffer, filter, bounds, progress, line)?,
+        _ => push_reply(buffer, filter, progress, line)?,
     }
+    Ok(())
 }
 
 /// Gathers the line itself where it lies within the bounds. In a strict run it returns what is told of a line that has no answer.
