@@ -1,5 +1,5 @@
 -- The days of a recurrence up to a last one.
-use Rattle.std.proofs.Common.{◌≡◌, ℕ, zero, suc, ◌+◌, ◌<◌, ◌≤◌, refl, ap, sym, subst, ◌∙◌, arith, inl, inr, Bool, true, false, cond, Option, Result, Ok, Err, List, [], ◌∷◌, ◌++◌, take, filter, append_assoc, length}
+use Rattle.std.proofs.Common.{◌≡◌, ℕ, zero, suc, ◌+◌, ◌<◌, refl, ap, sym, subst, ◌∙◌, arith, inl, inr, Bool, true, false, Option, Result, Ok, Err, List, [], ◌∷◌, ◌++◌, take, filter, append_assoc}
 use Rattle.std.specs.Prelude.{nat_le, IfErr, IsErrAnd, OnErr, OnOk}
 use Rattle.std.specs.List.{flat_map, take_while}
 use Rattle.std.proofs.lemmas.Bool.{cases_Bool}

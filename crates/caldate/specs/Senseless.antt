@@ -5,7 +5,7 @@ use Rattle.std.specs.Result.{is_ok}
 use Rattle.cal_text.specs.declared.any.DateOrMoment.{DateOrMoment}
 use Rattle.cal_recurrence.specs.Text.{recurrence_of}
 use Rattle.caldate.specs.Offsets.{offset_of}
-use Rattle.caldate.specs.Requests.{count_of, cut_options, form_of, is_number, meaning_of, no_options, period_of, stands_alone, takes_field, takes_separator, takes_skip, unit_of, verb_of, weekday_of, arguments_of, date_of, many_of, step_in, lacking, takes_offset, takes_reading}
+use Rattle.caldate.specs.Requests.{count_of, cut_options, form_of, is_number, meaning_of, no_options, period_of, stands_alone, takes_field, takes_separator, takes_skip, unit_of, verb_of, weekday_of, date_of, many_of, step_in, lacking, takes_offset, takes_reading}
 use Rattle.caldate.specs.Shown.{shown}
 use Rattle.caldate.specs.declared.options.Options.{Options}
 use Rattle.caldate.specs.declared.request.Asked.{Asked}

@@ -1,8 +1,8 @@
-use Rattle.std.proofs.Common.{◌≡◌, ◌++◌, ◌∷◌, ◌∙◌, ap, sym, arith, rules, append_assoc, refl, length, []}
+use Rattle.std.proofs.Common.{◌++◌, ◌∷◌, ◌∙◌, ap, sym, arith, rules, append_assoc, refl, length, []}
 use Rattle.std.specs.Prelude.{IsErrAnd}
 use Rattle.std.proofs.KnownBytes.{Appends-nil, Appends-trans}
 use Rattle.caldate.specs.Runs.{IsOfWrite}
-use Rattle.caldate.proofs.FrontDays.{dates_ended, dates_failed, front_to, one_date_more}
+use Rattle.caldate.proofs.FrontDays.{dates_ended, dates_failed, one_date_more}
 use Rattle.caldate.proofs.Listed.{one_line_more}
 use Rattle.caldate.proofs.Steps.{front_more}
 use Rattle.caldate.proofs.recurring.list_occurrences.Goals as goal

@@ -1,4 +1,4 @@
-use Rattle.std.proofs.Common.{◌≡◌, ◌∙◌, ◌++◌, arith, ap, codes, drop, length, length-append, sym, subst, inl}
+use Rattle.std.proofs.Common.{◌∙◌, ◌++◌, arith, ap, codes, drop, length, length-append, sym, subst, inl}
 use Rattle.caldate.specs.Lines.{text_of}
 use Rattle.caldate.specs.Runs.{AppendsThat, IsAllowed}
 use Rattle.caldate.specs.Standing.{IsHeld}

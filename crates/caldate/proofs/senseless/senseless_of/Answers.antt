@@ -4,7 +4,7 @@ use Rattle.std.specs.Prelude.{bytes_eq}
 use Rattle.std.proofs.lemmas.Bool.{false≢true}
 use Rattle.std.proofs.lemmas.Grind.{common_steps}
 use Rattle.cal_text.specs.declared.any.DateOrMoment.{DateOrMoment}
-use Rattle.caldate.specs.Requests.{arguments_of, stands_alone, words_left}
+use Rattle.caldate.specs.Requests.{stands_alone, words_left}
 use Rattle.caldate.specs.Senseless.{list_words, senseless_among, senseless_lines, senseless_of}
 use Rattle.caldate.specs.declared.senseless.Senseless.{Senseless}
 use Rattle.caldate.proofs.Words.{some_word}
