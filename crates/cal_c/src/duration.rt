@@ -18,7 +18,8 @@ mod arithmetic;
 /// None where that is no duration. That of -1 and 1 has 0 seconds and -999999999 nanoseconds.
 #[unsafe(no_mangle)]
 pub extern "C" fn fots_duration_new(seconds: i64, nanoseconds: i32) -> DurationResult
-    ensures past_range { ¬ IsDuration (seconds *ℤ pos second +ℤ nanoseconds) → result ≡ duration_refused past_range }
+    ensures past_range { ¬ IsDuration (seconds *ℤ pos second +ℤ nanoseconds)
+        → result ≡ duration_refused past_range }
     ensures duration { IsDuration (seconds *ℤ pos second +ℤ nanoseconds)
         → result ≡ duration_done (seconds *ℤ pos second +ℤ nanoseconds) }
 {
@@ -65,8 +66,10 @@ pub extern "C" fn fots_duration_hours(hours: i64) -> DurationResult
 /// The duration of so many minutes, or none where that is no duration.
 #[unsafe(no_mangle)]
 pub extern "C" fn fots_duration_minutes(minutes: i64) -> DurationResult
-    ensures past_range { ¬ IsDuration (minutes *ℤ pos minute) → result ≡ duration_refused past_range }
-    ensures duration { IsDuration (minutes *ℤ pos minute) → result ≡ duration_done (minutes *ℤ pos minute) }
+    ensures past_range { ¬ IsDuration (minutes *ℤ pos minute)
+        → result ≡ duration_refused past_range }
+    ensures duration { IsDuration (minutes *ℤ pos minute)
+        → result ≡ duration_done (minutes *ℤ pos minute) }
 {
     match minutes.checked_mul(60) {
         Some(seconds) => DurationResult::of(SignedDuration::seconds(seconds)),
@@ -110,7 +113,8 @@ pub extern "C" fn fots_duration_nanoseconds(nanoseconds: i64) -> DurationResult
 #[unsafe(no_mangle)]
 pub extern "C" fn fots_duration_whole_weeks(duration: Duration) -> LongResult
     ensures bad_duration { ¬ IsDurationPair duration → result ≡ long_refused bad_duration }
-    ensures value { IsDurationPair duration → result ≡ long_done (cut (nanoseconds_in duration) (pos week)) }
+    ensures value { IsDurationPair duration
+        → result ≡ long_done (cut (nanoseconds_in duration) (pos week)) }
 {
     match duration_of(duration) {
         Some(duration) => LongResult::of(duration.whole_weeks()),
@@ -122,7 +126,8 @@ pub extern "C" fn fots_duration_whole_weeks(duration: Duration) -> LongResult
 #[unsafe(no_mangle)]
 pub extern "C" fn fots_duration_whole_days(duration: Duration) -> LongResult
     ensures bad_duration { ¬ IsDurationPair duration → result ≡ long_refused bad_duration }
-    ensures value { IsDurationPair duration → result ≡ long_done (cut (nanoseconds_in duration) (pos day)) }
+    ensures value { IsDurationPair duration
+        → result ≡ long_done (cut (nanoseconds_in duration) (pos day)) }
 {
     match duration_of(duration) {
         Some(duration) => LongResult::of(duration.whole_days()),
@@ -134,7 +139,8 @@ pub extern "C" fn fots_duration_whole_days(duration: Duration) -> LongResult
 #[unsafe(no_mangle)]
 pub extern "C" fn fots_duration_whole_hours(duration: Duration) -> LongResult
     ensures bad_duration { ¬ IsDurationPair duration → result ≡ long_refused bad_duration }
-    ensures value { IsDurationPair duration → result ≡ long_done (cut (nanoseconds_in duration) (pos hour)) }
+    ensures value { IsDurationPair duration
+        → result ≡ long_done (cut (nanoseconds_in duration) (pos hour)) }
 {
     match duration_of(duration) {
         Some(duration) => LongResult::of(duration.whole_hours()),
@@ -146,7 +152,8 @@ pub extern "C" fn fots_duration_whole_hours(duration: Duration) -> LongResult
 #[unsafe(no_mangle)]
 pub extern "C" fn fots_duration_whole_minutes(duration: Duration) -> LongResult
     ensures bad_duration { ¬ IsDurationPair duration → result ≡ long_refused bad_duration }
-    ensures value { IsDurationPair duration → result ≡ long_done (cut (nanoseconds_in duration) (pos minute)) }
+    ensures value { IsDurationPair duration
+        → result ≡ long_done (cut (nanoseconds_in duration) (pos minute)) }
 {
     match duration_of(duration) {
         Some(duration) => LongResult::of(duration.whole_minutes()),
@@ -158,7 +165,8 @@ pub extern "C" fn fots_duration_whole_minutes(duration: Duration) -> LongResult
 #[unsafe(no_mangle)]
 pub extern "C" fn fots_duration_whole_seconds(duration: Duration) -> LongResult
     ensures bad_duration { ¬ IsDurationPair duration → result ≡ long_refused bad_duration }
-    ensures value { IsDurationPair duration → result ≡ long_done (cut (nanoseconds_in duration) (pos second)) }
+    ensures value { IsDurationPair duration
+        → result ≡ long_done (cut (nanoseconds_in duration) (pos second)) }
 {
     match duration_of(duration) {
         Some(duration) => LongResult::of(duration.whole_seconds()),
@@ -170,8 +178,12 @@ pub extern "C" fn fots_duration_whole_seconds(duration: Duration) -> LongResult
 #[unsafe(no_mangle)]
 pub extern "C" fn fots_duration_whole_milliseconds(duration: Duration) -> LongResult
     ensures bad_duration { ¬ IsDurationPair duration → result ≡ long_refused bad_duration }
-    ensures past_range { IsDurationPair duration → ¬ FitsSigned w64 (cut (nanoseconds_in duration) (pos millisecond)) → result ≡ long_refused past_range }
-    ensures value { IsDurationPair duration → FitsSigned w64 (cut (nanoseconds_in duration) (pos millisecond)) → result ≡ long_done (cut (nanoseconds_in duration) (pos millisecond)) }
+    ensures past_range { IsDurationPair duration
+        → ¬ FitsSigned w64 (cut (nanoseconds_in duration) (pos millisecond))
+        → result ≡ long_refused past_range }
+    ensures value { IsDurationPair duration
+        → FitsSigned w64 (cut (nanoseconds_in duration) (pos millisecond))
+        → result ≡ long_done (cut (nanoseconds_in duration) (pos millisecond)) }
 {
     match duration_of(duration) {
         Some(duration) => LongResult::of_wide(duration.whole_milliseconds()),
@@ -183,8 +195,12 @@ pub extern "C" fn fots_duration_whole_milliseconds(duration: Duration) -> LongRe
 #[unsafe(no_mangle)]
 pub extern "C" fn fots_duration_whole_microseconds(duration: Duration) -> LongResult
     ensures bad_duration { ¬ IsDurationPair duration → result ≡ long_refused bad_duration }
-    ensures past_range { IsDurationPair duration → ¬ FitsSigned w64 (cut (nanoseconds_in duration) (pos microsecond)) → result ≡ long_refused past_range }
-    ensures value { IsDurationPair duration → FitsSigned w64 (cut (nanoseconds_in duration) (pos microsecond)) → result ≡ long_done (cut (nanoseconds_in duration) (pos microsecond)) }
+    ensures past_range { IsDurationPair duration
+        → ¬ FitsSigned w64 (cut (nanoseconds_in duration) (pos microsecond))
+        → result ≡ long_refused past_range }
+    ensures value { IsDurationPair duration
+        → FitsSigned w64 (cut (nanoseconds_in duration) (pos microsecond))
+        → result ≡ long_done (cut (nanoseconds_in duration) (pos microsecond)) }
 {
     match duration_of(duration) {
         Some(duration) => LongResult::of_wide(duration.whole_microseconds()),
@@ -196,8 +212,10 @@ pub extern "C" fn fots_duration_whole_microseconds(duration: Duration) -> LongRe
 #[unsafe(no_mangle)]
 pub extern "C" fn fots_duration_whole_nanoseconds(duration: Duration) -> LongResult
     ensures bad_duration { ¬ IsDurationPair duration → result ≡ long_refused bad_duration }
-    ensures past_range { IsDurationPair duration → ¬ FitsSigned w64 (nanoseconds_in duration) → result ≡ long_refused past_range }
-    ensures value { IsDurationPair duration → FitsSigned w64 (nanoseconds_in duration) → result ≡ long_done (nanoseconds_in duration) }
+    ensures past_range { IsDurationPair duration → ¬ FitsSigned w64 (nanoseconds_in duration)
+        → result ≡ long_refused past_range }
+    ensures value { IsDurationPair duration → FitsSigned w64 (nanoseconds_in duration)
+        → result ≡ long_done (nanoseconds_in duration) }
 {
     match duration_of(duration) {
         Some(duration) => LongResult::of_wide(duration.whole_nanoseconds()),
@@ -209,7 +227,8 @@ pub extern "C" fn fots_duration_whole_nanoseconds(duration: Duration) -> LongRes
 #[unsafe(no_mangle)]
 pub extern "C" fn fots_duration_subsec_milliseconds(duration: Duration) -> NumberResult
     ensures bad_duration { ¬ IsDurationPair duration → result ≡ number_refused bad_duration }
-    ensures value { IsDurationPair duration → result ≡ number_done (cut (past_second (nanoseconds_in duration)) (pos millisecond)) }
+    ensures value { IsDurationPair duration
+        → result ≡ number_done (cut (past_second (nanoseconds_in duration)) (pos millisecond)) }
 {
     match duration_of(duration) {
         Some(duration) => NumberResult::of(i32::from(duration.subsec_milliseconds())),
@@ -221,7 +240,8 @@ pub extern "C" fn fots_duration_subsec_milliseconds(duration: Duration) -> Numbe
 #[unsafe(no_mangle)]
 pub extern "C" fn fots_duration_subsec_microseconds(duration: Duration) -> NumberResult
     ensures bad_duration { ¬ IsDurationPair duration → result ≡ number_refused bad_duration }
-    ensures value { IsDurationPair duration → result ≡ number_done (cut (past_second (nanoseconds_in duration)) (pos microsecond)) }
+    ensures value { IsDurationPair duration
+        → result ≡ number_done (cut (past_second (nanoseconds_in duration)) (pos microsecond)) }
 {
     match duration_of(duration) {
         Some(duration) => NumberResult::of(duration.subsec_microseconds()),

@@ -15,7 +15,8 @@ use cal_text::{date, julian_day, rfc3339, unix};
 
 /// A text is one of a day, has no form of a date, or has one with a component at fault.
 pub fn date_cases(text: &[u8])
-    ensures { ((n : ℕ) × IsDate n × IsDateText text.now n) ⊎ (¬ HasDateForm text.now) ⊎ ((why : ComponentRange) × HasDateFault text.now why) }
+    ensures { ((n : ℕ) × IsDate n × IsDateText text.now n) ⊎ (¬ HasDateForm text.now)
+        ⊎ ((why : ComponentRange) × HasDateFault text.now why) }
 {
     let _ = date::read(text);
 }
@@ -30,7 +31,8 @@ pub fn julian_day_cases(text: &[u8])
 
 /// A text is one of a moment, has no such form, or has one with a component at fault.
 pub fn moment_cases(text: &[u8])
-    ensures { ((m : Shown) × IsMomentText text.now m) ⊎ (¬ HasFormOfMoment text.now) ⊎ ((why : ComponentRange) × HasMomentFault text.now why) }
+    ensures { ((m : Shown) × IsMomentText text.now m) ⊎ (¬ HasFormOfMoment text.now)
+        ⊎ ((why : ComponentRange) × HasMomentFault text.now why) }
 {
     let _ = rfc3339::read(text);
 }

@@ -16,7 +16,8 @@ use cal_time::UtcOffset;
 #[unsafe(no_mangle)]
 pub extern "C" fn fots_offset_from_hms(hours: i32, minutes: i32, seconds: i32) -> OffsetResult
     ensures hour { 25 < unsigned_abs hours → result ≡ offset_refused offset_hour_refused }
-    ensures minute { unsigned_abs hours ≤ 25 → 59 < unsigned_abs minutes → result ≡ offset_refused offset_minute_refused }
+    ensures minute { unsigned_abs hours ≤ 25 → 59 < unsigned_abs minutes
+        → result ≡ offset_refused offset_minute_refused }
     ensures second { unsigned_abs hours ≤ 25 → unsigned_abs minutes ≤ 59 → 59 < unsigned_abs seconds
         → result ≡ offset_refused offset_second_refused }
     ensures offset { unsigned_abs hours ≤ 25 → unsigned_abs minutes ≤ 59 → unsigned_abs seconds ≤ 59

@@ -16,7 +16,8 @@ use cal_time::{add_to_pair, sub_from_pair};
 pub extern "C" fn fots_add_to_pair(date: i32, time: u64, duration: Duration) -> PairResult
     ensures bad_date { ¬ IsJulianDay date → result ≡ pair_refused bad_date }
     ensures bad_time { IsJulianDay date → ¬ IsTime time → result ≡ pair_refused bad_time }
-    ensures bad_duration { IsJulianDay date → IsTime time → ¬ IsDurationPair duration → result ≡ pair_refused bad_duration }
+    ensures bad_duration { IsJulianDay date → IsTime time → ¬ IsDurationPair duration
+        → result ≡ pair_refused bad_duration }
     ensures pair { IsJulianDay date → IsTime time → IsDurationPair duration
         → IsPairAt (moment (day_of date) time +ℤ nanoseconds_in duration) result }
 {
@@ -37,7 +38,8 @@ pub extern "C" fn fots_add_to_pair(date: i32, time: u64, duration: Duration) -> 
 pub extern "C" fn fots_sub_from_pair(date: i32, time: u64, duration: Duration) -> PairResult
     ensures bad_date { ¬ IsJulianDay date → result ≡ pair_refused bad_date }
     ensures bad_time { IsJulianDay date → ¬ IsTime time → result ≡ pair_refused bad_time }
-    ensures bad_duration { IsJulianDay date → IsTime time → ¬ IsDurationPair duration → result ≡ pair_refused bad_duration }
+    ensures bad_duration { IsJulianDay date → IsTime time → ¬ IsDurationPair duration
+        → result ≡ pair_refused bad_duration }
     ensures pair { IsJulianDay date → IsTime time → IsDurationPair duration
         → IsPairAt (moment (day_of date) time -ℤ nanoseconds_in duration) result }
 {

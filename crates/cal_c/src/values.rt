@@ -32,7 +32,8 @@ pub fn date_of(julian_day: i32) -> Option<Date>
 
 /// The month that has the number, from January, 1.
 pub fn month_of(month: u32) -> Option<Month>
-    ensures { MatchOption result (¬ IsMonth month) (λ found. IsMonth month × (number found ≡ month)) }
+    ensures { MatchOption result (¬ IsMonth month)
+        (λ found. IsMonth month × (number found ≡ month)) }
 {
     match Month::try_from(byte_of(month)) {
         Ok(month) => Some(month),
@@ -42,7 +43,8 @@ pub fn month_of(month: u32) -> Option<Month>
 
 /// The weekday that has the number, from Monday, 1.
 pub fn weekday_of(weekday: u32) -> Option<Weekday>
-    ensures { MatchOption result (¬ IsWeekday weekday) (λ found. IsWeekday weekday × (index found + 1 ≡ weekday)) }
+    ensures { MatchOption result (¬ IsWeekday weekday)
+        (λ found. IsWeekday weekday × (index found + 1 ≡ weekday)) }
 {
     match weekday {
         1 => Some(Weekday::Monday),

@@ -50,7 +50,8 @@ impl Time {
     /// The first component out of range, unconditionally: `hour` above 23, else `minute` above 59, else `second` above 59.
     pub fn from_hms(hour: u8, minute: u8, second: u8) -> Result<Self, ComponentRange>
         ensures refused { IsRefusedByClock hour minute second result }
-        ensures value { hour ≤ 23 → minute ≤ 59 → second ≤ 59 → result ≡ Ok (time_of hour minute second 0) }
+        ensures value { hour ≤ 23 → minute ≤ 59 → second ≤ 59
+            → result ≡ Ok (time_of hour minute second 0) }
     {
         if hour > 23 {
             return Err(ComponentRange::unconditional(Component::Hour));

@@ -55,8 +55,10 @@ impl UtcOffset {
         ensures minute { IsRefused offset_minute_out_of_range result
             ↔ (unsigned_abs hours ≤ 25) × (59 < unsigned_abs minutes) }
         ensures second { IsRefused offset_second_out_of_range result
-            ↔ (unsigned_abs hours ≤ 25) × (unsigned_abs minutes ≤ 59) × (59 < unsigned_abs seconds) }
-        ensures value { unsigned_abs hours ≤ 25 → unsigned_abs minutes ≤ 59 → unsigned_abs seconds ≤ 59
+            ↔ (unsigned_abs hours ≤ 25) × (unsigned_abs minutes ≤ 59)
+            × (59 < unsigned_abs seconds) }
+        ensures value { unsigned_abs hours ≤ 25 → unsigned_abs minutes ≤ 59
+            → unsigned_abs seconds ≤ 59
             → result ≡ Ok (offset_of hours minutes seconds) }
     {
         if hours.unsigned_abs() > 25 {
@@ -95,7 +97,8 @@ impl UtcOffset {
     ///
     /// Refused with `seconds`, unconditional, outside -93599 to 93599.
     pub fn from_whole_seconds(seconds: i32) -> Result<Self, ComponentRange>
-        ensures refused { IsRefused seconds_out_of_range result ↔ (greatest < unsigned_abs seconds) }
+        ensures refused { IsRefused seconds_out_of_range result
+            ↔ (greatest < unsigned_abs seconds) }
         ensures value { unsigned_abs seconds ≤ greatest → result ≡ Ok seconds }
     {
         if seconds.unsigned_abs() > 93_599 {

@@ -120,7 +120,8 @@ impl Date {
         ensures refused { IsErr result ↔ NoDate (HasOrdinalDate year ordinal) }
         ensures reason { IfErr result (λ e. (e ≡ year_out_of_range) ⊎ (e ≡ ordinal_out_of_range)) }
         ensures year { IsRefused year_out_of_range result ↔ ¬ IsYear year }
-        ensures ordinal { IsRefused ordinal_out_of_range result ↔ IsYear year × ¬ IsOrdinal year ordinal }
+        ensures ordinal { IsRefused ordinal_out_of_range result
+            ↔ IsYear year × ¬ IsOrdinal year ordinal }
     {
         if !is_year(year) {
             return Err(ComponentRange::unconditional(Component::Year));
@@ -143,7 +144,8 @@ impl Date {
         ensures has { IfOk result (λ n. IsDate n × HasJulianDay julian_day n) }
         ensures refused { IsErr result ↔ NoDate (HasJulianDay julian_day) }
         ensures reason { IfErr result (λ e. e ≡ julian_day_out_of_range) }
-        ensures julian_day { IsRefused julian_day_out_of_range result ↔ NoDate (HasJulianDay julian_day) }
+        ensures julian_day { IsRefused julian_day_out_of_range result
+            ↔ NoDate (HasJulianDay julian_day) }
         ensures closed_form { let kernel = kernel_of julian_day in
             IfOk result (HasOrdinalDate (year_of_kernel kernel) (ordinal_of_kernel kernel)) }
     {
@@ -176,7 +178,8 @@ impl Date {
     /// 2020-12-31 is (2020, 366).
     pub fn to_ordinal_date(self) -> (i32, u16)
         ensures date { HasOrdinalDate result.0 result.1 self }
-        ensures order { (n : ℕ) → IsDate n → (n < self) ↔ IsBefore (ordinal_date_at n) (result.0 ∷ pos result.1 ∷ []) }
+        ensures order { (n : ℕ) → IsDate n
+            → (n < self) ↔ IsBefore (ordinal_date_at n) (result.0 ∷ pos result.1 ∷ []) }
         ensures range { IsYear result.0 × IsOrdinal result.0 result.1 × (result.1 ≤ 366) }
         ensures in_range { IsDate self }
     {
@@ -337,7 +340,8 @@ impl Date {
     /// The day of the same year that has so many days of the year before it, or `None` where the year has no such day.
     #[tactic(auto, using(crate::proofs::Neighbours::places))]
     fn of_same_year(self, index: u64) -> Option<Self>
-        ensures day { SomeIff result (index < days_in_year (year_at self)) (ordinal_number (year_at self) (index + 1)) }
+        ensures day { SomeIff result (index < days_in_year (year_at self))
+            (ordinal_number (year_at self) (index + 1)) }
         ensures in_range { IsDate self }
     {
         let length = 365 + u64::from(self.is_in_leap_year());

@@ -70,7 +70,8 @@ pub fn julian_kernel(julian_day: i32) -> JulianKernel
     ensures date { (n : ℕ) → IsDate n → HasJulianDay julian_day n
         → HasOrdinalDate (year_of_kernel result) (ordinal_of_kernel result) n }
     ensures leap { is_leap_by_kernel result ≡ is_leap_year (year_of_kernel result) }
-    ensures century { let day = shifted_day julian_day in day % 146097 ≢ 0 → result.century ≡ 4 * day / 146097 }
+    ensures century { let day = shifted_day julian_day in day % 146097 ≢ 0
+        → result.century ≡ 4 * day / 146097 }
     ensures century_one_low { let day = shifted_day julian_day in
         day % 146097 ≡ 0 → result.century + 1 ≡ 4 * day / 146097 }
 {
@@ -81,7 +82,8 @@ pub fn julian_kernel(julian_day: i32) -> JulianKernel
 pub(crate) fn date_of_julian_day(julian_day: i32) -> Option<Date>
     ensures has { IfSome result (λ n. IsDate n × HasJulianDay julian_day n) }
     ensures none { result ≡ None → NoDate (HasJulianDay julian_day) }
-    ensures closed_form { let kernel = kernel_of julian_day in IfSome result (HasOrdinalDate (year_of_kernel kernel) (ordinal_of_kernel kernel)) }
+    ensures closed_form { let kernel = kernel_of julian_day in
+        IfSome result (HasOrdinalDate (year_of_kernel kernel) (ordinal_of_kernel kernel)) }
 {
     // A number past the last day stands as the day after that, also one below zero, which wraps. So the test comes after the
     // products, and a compiler can take several Julian days at a time.

@@ -105,7 +105,8 @@ pub fn hash_of(plain: PlainDateTime) -> u64
 
 /// What the default hasher makes of a date-time at an offset: it depends on the instant alone.
 pub fn hash_of_instant(moment: OffsetDateTime) -> u64
-    ensures { result ≡ hasher.finish (fold hasher.write hasher.initial (fed.i128 (instant moment))) }
+    ensures { result ≡ hasher.finish
+        (fold hasher.write hasher.initial (fed.i128 (instant moment))) }
 {
     let mut state = DefaultHasher::new();
     moment.hash(&mut state);

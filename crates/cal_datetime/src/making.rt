@@ -38,7 +38,8 @@ pub fn with_hms(
     second: u8,
 ) -> Result<PlainDateTime, ComponentRange>
     ensures refused { IsRefusedByClock hour minute second result }
-    ensures value { hour ≤ 23 → minute ≤ 59 → second ≤ 59 → result ≡ Ok (date_time date (time_of hour minute second 0)) }
+    ensures value { hour ≤ 23 → minute ≤ 59 → second ≤ 59
+        → result ≡ Ok (date_time date (time_of hour minute second 0)) }
 {
     match Time::from_hms(hour, minute, second) {
         Ok(time) => Ok(PlainDateTime::new(date, time)),

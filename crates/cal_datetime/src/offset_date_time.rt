@@ -144,7 +144,8 @@ impl OffsetDateTime {
         ensures value { let local = local_at (instant self) offset
             in SomeIff result (IsDateTime local) (record { local = local; offset = offset }) }
         ensures same_instant { IfSome result (λ there. instant there ≡ instant self) }
-        ensures every { (there : Shown) → IsDateTime there.local → there.offset ≡ offset → instant there ≡ instant self
+        ensures every { (there : Shown) → IsDateTime there.local → there.offset ≡ offset
+            → instant there ≡ instant self
             → result ≡ Some there }
         ensures in_range { IsDateTime self.local }
     {
@@ -156,7 +157,8 @@ impl OffsetDateTime {
 
     /// The same instant at UTC, or `None` where that is out of the range.
     pub fn checked_to_utc(self) -> Option<Self>
-        ensures value { SomeIff result (IsDateTime (instant self)) (record { local = instant self; offset = pos 0 }) }
+        ensures value { SomeIff result (IsDateTime (instant self))
+            (record { local = instant self; offset = pos 0 }) }
         ensures same_instant { IfSome result (λ there. instant there ≡ instant self) }
     {
         self.checked_to_offset(UtcOffset::UTC)
@@ -166,7 +168,8 @@ impl OffsetDateTime {
     #[tactic(auto, unfolding(crate::specs::OffsetDateTime::instant))]
     pub fn to_offset(self, offset: UtcOffset) -> Self
         requires { IsDateTime (local_at (instant self) offset) }
-        ensures value { result ≡ record { local = local_at (instant self) offset; offset = offset } }
+        ensures value { result ≡ record
+            { local = local_at (instant self) offset; offset = offset } }
         ensures same_instant { instant result ≡ instant self }
     {
         self.checked_to_offset(offset).unwrap()

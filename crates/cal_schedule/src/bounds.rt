@@ -46,8 +46,10 @@ pub fn first_of_month(date: Date) -> Date
 
 /// The last day of the month: of 1 February 2024 it is 29 February 2024.
 pub fn last_of_month(date: Date) -> Date
-    ensures date { HasCalendarDate (year_at date) (month_at date) (days_in_month (year_at date) (month_at date)) result }
-    ensures days { result + day_of_month_at date ≡ date + days_in_month (year_at date) (month_at date) }
+    ensures date { HasCalendarDate (year_at date) (month_at date)
+        (days_in_month (year_at date) (month_at date)) result }
+    ensures days { result + day_of_month_at date
+        ≡ date + days_in_month (year_at date) (month_at date) }
     ensures in_range { IsDate date × IsDate result }
 {
     last_in(date.year(), date.month())
@@ -74,7 +76,8 @@ pub fn first_of_quarter(date: Date) -> Date
 
 /// The last day of the quarter: of 29 February 2024 it is 31 March 2024.
 pub fn last_of_quarter(date: Date) -> Date
-    ensures date { HasCalendarDate (year_at date) (3 * quarter_at date) (days_in_month (year_at date) (3 * quarter_at date)) result }
+    ensures date { HasCalendarDate (year_at date) (3 * quarter_at date)
+        (days_in_month (year_at date) (3 * quarter_at date)) result }
     ensures not_before { date ≤ result }
     ensures in_range { IsDate date × IsDate result }
 {
@@ -117,7 +120,8 @@ pub fn first_of_iso_week(date: Date) -> Date
 ///
 /// `None` exactly where the range ends before that Sunday, which is so of its last five days alone: it ends on a Friday.
 pub fn last_of_iso_week(date: Date) -> Option<Date>
-    ensures day { SomeIff result (date + 6 ≤ last_day + weekday_at date) (date + 6 - weekday_at date) }
+    ensures day { SomeIff result (date + 6 ≤ last_day + weekday_at date)
+        (date + 6 - weekday_at date) }
     ensures date { IfSome result (HasIsoWeekDate (iso_year_at date) (iso_week_at date) 6) }
     ensures in_range { IsDate date }
 {

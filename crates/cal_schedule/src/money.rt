@@ -100,7 +100,8 @@ fn other_days(from: Date, to: Date) -> i64
 
 /// The days in leap years over 366 and the others over 365, over the denominator of both.
 fn by_years(from: Date, to: Date) -> i64
-    ensures { result ≡ days_that in_leap_year from to *ℤ pos 365 +ℤ days_that in_other_year from to *ℤ pos 366 }
+    ensures { result ≡ days_that in_leap_year from to *ℤ pos 365 +ℤ days_that in_other_year from to
+        *ℤ pos 366 }
 {
     leap_days(from, to) * 365 + other_days(from, to) * 366
 }

@@ -37,7 +37,8 @@ pub(crate) fn day_in_month(index: u32, day: u8) -> Date
     requires month { index < 23_999_988 }
     requires day { 1 ≤ day }
     ensures month { pos index ≡ month_number_at result +ℤ pos 11_999_988 }
-    ensures day { day_of_month_at result ≡ min day (days_in_month (year_at result) (month_at result)) }
+    ensures day { day_of_month_at result
+        ≡ min day (days_in_month (year_at result) (month_at result)) }
     ensures in_range { IsDate result }
 {
     let (year, month) = year_and_month(index);
@@ -84,9 +85,11 @@ pub fn checked_add_months(date: Date, months: i32) -> Option<Date>
 ///
 /// One month after 31 January 2023 is 28 February 2023, and a month after [`Date::MAX`] is `Date::MAX`.
 pub fn saturating_add_months(date: Date, months: i32) -> Date
-    ensures within { IsMonthNumber (month_number_at date +ℤ months) → IsMonthsLater date months result }
+    ensures within { IsMonthNumber (month_number_at date +ℤ months)
+        → IsMonthsLater date months result }
     ensures before { (month_number_at date +ℤ months) <ℤ (first_year *ℤ pos 12) → result ≡ 0 }
-    ensures past { ((last_year +ℤ pos 1) *ℤ pos 12) ≤ℤ (month_number_at date +ℤ months) → result ≡ last_day }
+    ensures past { ((last_year +ℤ pos 1) *ℤ pos 12) ≤ℤ (month_number_at date +ℤ months)
+        → result ≡ last_day }
     ensures in_range { IsDate date × IsDate result }
 {
     match checked_add_months(date, months) {
@@ -104,7 +107,8 @@ pub fn saturating_add_months(date: Date, months: i32) -> Date
 pub fn checked_add_years(date: Date, years: i32) -> Option<Date>
     ensures every { (n : ℕ) → IsDate n → IsMonthsLater date (pos 12 *ℤ years) n → result ≡ Some n }
     ensures has { IfSome result (λ n. IsDate n × IsMonthsLater date (pos 12 *ℤ years) n) }
-    ensures parts { IfSome result (λ n. (year_at n ≡ year_at date +ℤ years) × (month_at n ≡ month_at date)) }
+    ensures parts { IfSome result (λ n.
+        (year_at n ≡ year_at date +ℤ years) × (month_at n ≡ month_at date)) }
     ensures some { IfSome result (λ _. IsYear (year_at date +ℤ years)) }
     ensures none { IfNone result (¬ IsYear (year_at date +ℤ years)) }
     ensures in_range { IsDate date }

@@ -82,8 +82,10 @@ pub fn months_until(from: Date, to: Date) -> i32
 /// The years and the months past them that are so many months.
 fn years_and_months(months: i32) -> (i32, i32)
     ensures sum { months ≡ pos 12 *ℤ result.0 +ℤ result.1 }
-    ensures on { pos 0 ≤ℤ months → (pos 0 ≤ℤ result.0) × (pos 0 ≤ℤ result.1) × (result.1 ≤ℤ pos 11) }
-    ensures back { months ≤ℤ pos 0 → (result.0 ≤ℤ pos 0) × (neg_ℤ (pos 11) ≤ℤ result.1) × (result.1 ≤ℤ pos 0) }
+    ensures on { pos 0 ≤ℤ months → (pos 0 ≤ℤ result.0) × (pos 0 ≤ℤ result.1)
+        × (result.1 ≤ℤ pos 11) }
+    ensures back { months ≤ℤ pos 0 → (result.0 ≤ℤ pos 0) × (neg_ℤ (pos 11) ≤ℤ result.1)
+        × (result.1 ≤ℤ pos 0) }
 {
     (months / 12, months % 12)
 }
@@ -113,8 +115,10 @@ pub fn period_until(from: Date, to: Date) -> Period
     ensures leads { LeadsTo from to result }
     ensures on { from ≤ to → IsGreatest (LeadsUpTo from to) (months_of result) }
     ensures back { to < from → IsLeast (LeadsBackTo from to) (months_of result) }
-    ensures forward { from ≤ to → (pos 0 ≤ℤ result.years) × (pos 0 ≤ℤ result.months) × (result.months ≤ℤ pos 11) × (pos 0 ≤ℤ result.days) }
-    ensures backward { to < from → (result.years ≤ℤ pos 0) × (neg_ℤ (pos 11) ≤ℤ result.months) × (result.months ≤ℤ pos 0) × (result.days ≤ℤ pos 0) }
+    ensures forward { from ≤ to → (pos 0 ≤ℤ result.years) × (pos 0 ≤ℤ result.months)
+        × (result.months ≤ℤ pos 11) × (pos 0 ≤ℤ result.days) }
+    ensures backward { to < from → (result.years ≤ℤ pos 0) × (neg_ℤ (pos 11) ≤ℤ result.months)
+        × (result.months ≤ℤ pos 0) × (result.days ≤ℤ pos 0) }
     ensures in_range { IsDate from × IsDate to }
 {
     let whole = months_until(from, to);

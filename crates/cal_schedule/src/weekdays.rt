@@ -22,8 +22,10 @@ fn days_on(from: Weekday, to: Weekday) -> u8
 /// The n-th day with the weekday in a month of the range, if it has one.
 fn nth_of_month(year: i32, month: Month, weekday: Weekday, n: u8) -> Option<Date>
     requires { IsYear year }
-    ensures every { (k : ℕ) → IsDate k → IsNthWeekday year (number month) (index weekday) n k → result ≡ Some k }
-    ensures has { IfSome result (λ k. IsDate k × IsNthWeekday year (number month) (index weekday) n k) }
+    ensures every { (k : ℕ) → IsDate k → IsNthWeekday year (number month) (index weekday) n k
+        → result ≡ Some k }
+    ensures has { IfSome result (λ k.
+        IsDate k × IsNthWeekday year (number month) (index weekday) n k) }
 {
     if n == 0 || n > 5 {
         return None;
@@ -67,12 +69,15 @@ pub fn nth_weekday_of_month(
     weekday: Weekday,
     n: u8,
 ) -> Result<Date, ComponentRange>
-    ensures every { (k : ℕ) → IsDate k → IsNthWeekday year (number month) (index weekday) n k → result ≡ Ok k }
-    ensures has { IfOk result (λ k. IsDate k × IsNthWeekday year (number month) (index weekday) n k) }
+    ensures every { (k : ℕ) → IsDate k → IsNthWeekday year (number month) (index weekday) n k
+        → result ≡ Ok k }
+    ensures has { IfOk result (λ k. IsDate k
+        × IsNthWeekday year (number month) (index weekday) n k) }
     ensures refused { IsErr result ↔ NoDate (IsNthWeekday year (number month) (index weekday) n) }
     ensures reason { IfErr result (λ e. (e ≡ year_out_of_range) ⊎ (e ≡ weekday_out_of_range)) }
     ensures year { IsRefused year_out_of_range result ↔ ¬ IsYear year }
-    ensures weekday { IsRefused weekday_out_of_range result ↔ IsYear year × NoDate (IsNthWeekday year (number month) (index weekday) n) }
+    ensures weekday { IsRefused weekday_out_of_range result
+        ↔ IsYear year × NoDate (IsNthWeekday year (number month) (index weekday) n) }
 {
     if !is_year(year) {
         return Err(ComponentRange::unconditional(Component::Year));
@@ -91,8 +96,10 @@ pub fn last_weekday_of_month(
     month: Month,
     weekday: Weekday,
 ) -> Result<Date, ComponentRange>
-    ensures every { (k : ℕ) → IsDate k → IsLastWeekday year (number month) (index weekday) k → result ≡ Ok k }
-    ensures has { IfOk result (λ k. IsDate k × IsLastWeekday year (number month) (index weekday) k) }
+    ensures every { (k : ℕ) → IsDate k → IsLastWeekday year (number month) (index weekday) k
+        → result ≡ Ok k }
+    ensures has { IfOk result (λ k. IsDate k
+        × IsLastWeekday year (number month) (index weekday) k) }
     ensures refused { IsErr result ↔ ¬ IsYear year }
     ensures reason { IfErr result (λ e. e ≡ year_out_of_range) }
 {
@@ -107,7 +114,8 @@ pub fn last_weekday_of_month(
 /// `None` exactly where the range ends before it.
 pub fn on_or_after(date: Date, weekday: Weekday) -> Option<Date>
     ensures day { result ≡ slice_get (occurrences_from (index weekday) date) 0 }
-    ensures index { let days = (index weekday + 7 - weekday_at date) % 7 in SomeIff result (date + days ≤ last_day) (date + days) }
+    ensures index { let days = (index weekday + 7 - weekday_at date) % 7 in
+        SomeIff result (date + days ≤ last_day) (date + days) }
     ensures weekday { IfSome result (λ n. weekday_at n ≡ index weekday) }
     ensures in_range { IsDate date }
 {
@@ -123,7 +131,8 @@ pub fn on_or_after(date: Date, weekday: Weekday) -> Option<Date>
 /// `None` exactly where the range begins after it.
 pub fn on_or_before(date: Date, weekday: Weekday) -> Option<Date>
     ensures day { result ≡ slice_get (occurrences_upto (index weekday) date) 0 }
-    ensures index { let days = (weekday_at date + 7 - index weekday) % 7 in SomeIff result (days ≤ date) (date - days) }
+    ensures index { let days = (weekday_at date + 7 - index weekday) % 7 in
+        SomeIff result (days ≤ date) (date - days) }
     ensures weekday { IfSome result (λ n. weekday_at n ≡ index weekday) }
     ensures in_range { IsDate date }
 {

@@ -30,7 +30,8 @@ impl Workdays<'_> {
     /// Where Monday to Friday are marked, that after a Friday is the Monday, if it is no holiday.
     pub fn next_workday(&self, date: Date) -> Option<Date>
         ensures day { result ≡ slice_get (workdays_from self.now (date + 1)) 0 }
-        ensures found { IfSome result (λ n. (is_workday self.now n ≡ true) × (date < n) × IsDate n) }
+        ensures found { IfSome result (λ n.
+            (is_workday self.now n ≡ true) × (date < n) × IsDate n) }
         ensures in_range { IsDate date }
     {
         self.nth_from(number(date) + 1, 0)
@@ -41,7 +42,8 @@ impl Workdays<'_> {
     /// That before a Monday is the Friday, if it is no holiday.
     pub fn previous_workday(&self, date: Date) -> Option<Date>
         ensures day { result ≡ slice_get (workdays_back self.now date) 0 }
-        ensures found { IfSome result (λ n. (is_workday self.now n ≡ true) × (n < date) × IsDate n) }
+        ensures found { IfSome result (λ n.
+            (is_workday self.now n ≡ true) × (n < date) × IsDate n) }
         ensures in_range { IsDate date }
     {
         self.nth_before(number(date), 0)
@@ -71,7 +73,8 @@ impl Workdays<'_> {
     ///
     /// Where Monday to Friday are marked, and with no holidays, from 2024-01-01 to 2025-01-01 there are 262, and -262 back.
     pub fn workdays_between(&self, from: Date, to: Date) -> i32
-        ensures number { result ≡ pos (length (workdays_within self.now from to)) -ℤ pos (length (workdays_within self.now to from)) }
+        ensures number { result ≡ pos (length (workdays_within self.now from to))
+            -ℤ pos (length (workdays_within self.now to from)) }
         ensures in_range { IsDate from × IsDate to }
     {
         let first = number(from);

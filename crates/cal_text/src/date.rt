@@ -34,7 +34,8 @@ pub fn read(text: &[u8]) -> Result<Date, Unreadable>
     // It is refused for its form exactly where it has none, and else for the first component at fault.
     ensures form { IsRefusedForForm result ↔ ((form : Form) → ¬ HasForm text.now form) }
     ensures position { IfErr result (IsAtStop (HasSome HasForm) text.now) }
-    ensures component { (why : ComponentRange) → IsRefusedFor why result ↔ HasFault HasForm IsFaultOf text.now why }
+    ensures component { (why : ComponentRange)
+        → IsRefusedFor why result ↔ HasFault HasForm IsFaultOf text.now why }
 {
     match form_and_date(text) {
         Ok(found) => Ok(found.1),
@@ -44,11 +45,14 @@ pub fn read(text: &[u8]) -> Result<Date, Unreadable>
 
 /// The form that the text has, and its day.
 pub(crate) fn form_and_date(text: &[u8]) -> Result<(Form, Date), Unreadable>
-    ensures every { (form : Form) (n : ℕ) → IsDate n → HasForm text.now form → IsOnDay form n → result ≡ Ok (form, n) }
-    ensures has { IfOk result (λ found. IsDate found.1 × HasForm text.now found.0 × IsOnDay found.0 found.1) }
+    ensures every { (form : Form) (n : ℕ) → IsDate n → HasForm text.now form → IsOnDay form n
+        → result ≡ Ok (form, n) }
+    ensures has { IfOk result (λ found.
+        IsDate found.1 × HasForm text.now found.0 × IsOnDay found.0 found.1) }
     ensures form { IsRefusedForForm result ↔ ((form : Form) → ¬ HasForm text.now form) }
     ensures position { IfErr result (IsAtStop (HasSome HasForm) text.now) }
-    ensures component { (why : ComponentRange) → IsRefusedFor why result ↔ HasFault HasForm IsFaultOf text.now why }
+    ensures component { (why : ComponentRange)
+        → IsRefusedFor why result ↔ HasFault HasForm IsFaultOf text.now why }
 {
     let mut scanner = Scanner { rest: text };
     match form_of(&mut scanner) {

@@ -8,7 +8,9 @@ use crate::scanner::Scanner;
 pub(crate) fn number_above_0(scanner: &mut Scanner, more: usize) -> Option<u64>
     requires { more ≤ 17 }
     ensures scans { Scans (Number more) scanner.old.rest.now scanner.new.rest.now result }
-    ensures number { IfSome result (λ n. (0 < n) × (n < 10 ^ (more + 1)) × (scanner.old.rest.now ≡ decimal n ++ scanner.new.rest.now)) }
+    ensures number { IfSome result (λ n.
+        (0 < n) × (n < 10 ^ (more + 1))
+        × (scanner.old.rest.now ≡ decimal n ++ scanner.new.rest.now)) }
 {
     let first = scanner.digit_from_1()?;
     let number = more_digits(scanner, u64::from(first), more);
@@ -18,7 +20,8 @@ pub(crate) fn number_above_0(scanner: &mut Scanner, more: usize) -> Option<u64>
 /// The number that the next digits make of one that is read, of which so many are read at most.
 pub(crate) fn more_digits(scanner: &mut Scanner, number: u64, most: usize) -> u64
     requires { (number + 1) * 10 ^ most ≤ 10 ^ 18 }
-    ensures scans { (f : Shape) → left (UpTo most f) scanner.old.rest.now ≡ left f scanner.new.rest.now }
+    ensures scans { (f : Shape) → left (UpTo most f) scanner.old.rest.now
+        ≡ left f scanner.new.rest.now }
     ensures digits { ReadsMore scanner.old.rest.now scanner.new.rest.now most number result }
     ensures below { result < (number + 1) * 10 ^ most }
 {

@@ -25,7 +25,8 @@ pub(crate) fn push_fraction(text: &mut ShortText, nanosecond: u32)
 /// A fraction of a second: none, or a point, a digit and so many more at most, of which eight count.
 pub(crate) fn fraction(scanner: &mut Scanner, more: usize) -> Option<u32>
     ensures scans { Scans (Fraction more) scanner.old.rest.now scanner.new.rest.now result }
-    ensures fraction { IfSome result (HasFractionBefore scanner.new.rest.now more scanner.old.rest.now) }
+    ensures fraction { IfSome result
+        (HasFractionBefore scanner.new.rest.now more scanner.old.rest.now) }
 {
     match scanner.byte(b'.') {
         Some(()) => {
@@ -40,7 +41,8 @@ pub(crate) fn fraction(scanner: &mut Scanner, more: usize) -> Option<u32>
 pub(crate) fn decimals_above_0(scanner: &mut Scanner, unit: u32, more: usize) -> Option<u32>
     requires { unit ≤ 100_000_000 }
     ensures scans { Scans (SomeUpTo more) scanner.old.rest.now scanner.new.rest.now result }
-    ensures digits { IfSome result (ReadsSomeDecimals scanner.old.rest.now scanner.new.rest.now more unit) }
+    ensures digits { IfSome result (ReadsSomeDecimals scanner.old.rest.now scanner.new.rest.now more
+        unit) }
 {
     match scanner.digit_from_1() {
         Some(first) => {
@@ -61,8 +63,10 @@ pub(crate) fn decimals_above_0(scanner: &mut Scanner, unit: u32, more: usize) ->
 /// before it, and so many are read at most.
 fn more_decimals(scanner: &mut Scanner, nanosecond: u32, unit: u32, most: usize) -> u32
     requires { nanosecond + 10 * unit ≤ 1_000_000_000 }
-    ensures scans { (f : Shape) → left (UpTo most f) scanner.old.rest.now ≡ left f scanner.new.rest.now }
-    ensures digits { ReadsDecimals scanner.old.rest.now scanner.new.rest.now most unit nanosecond result }
+    ensures scans { (f : Shape) → left (UpTo most f) scanner.old.rest.now
+        ≡ left f scanner.new.rest.now }
+    ensures digits { ReadsDecimals scanner.old.rest.now scanner.new.rest.now most unit nanosecond
+        result }
 {
     let mut nanosecond = nanosecond;
     let mut unit = unit;

@@ -51,7 +51,8 @@ pub fn read(text: &[u8]) -> Result<Date, Unreadable>
     ensures has { IfOk result (λ n. IsDate n × (text.now ≡ julian_text n)) }
     ensures form { IsRefusedForForm result ↔ ((j : ℤ) → ¬ IsJulianForm text.now j) }
     ensures position { IfErr result (IsAtStop (HasSome IsJulianForm) text.now) }
-    ensures component { (why : ComponentRange) → IsRefusedFor why result ↔ HasFault IsJulianForm IsJulianFault text.now why }
+    ensures component { (why : ComponentRange)
+        → IsRefusedFor why result ↔ HasFault IsJulianForm IsJulianFault text.now why }
 {
     let mut scanner = Scanner { rest: text };
     match julian_day_of(&mut scanner) {
@@ -68,7 +69,9 @@ fn julian_day_of(scanner: &mut Scanner) -> Option<i32>
     ensures every { (j : ℤ) → IsJulianForm scanner.old.rest.now j → result ≡ Some j }
     ensures has { IfSome result (IsJulianForm scanner.old.rest.now) }
     ensures within { IfNone result (length scanner.new.rest.now ≤ length scanner.old.rest.now) }
-    ensures position { IfNone result (IsPosition (HasSome IsJulianForm) scanner.old.rest.now (length scanner.old.rest.now - length scanner.new.rest.now)) }
+    ensures position { IfNone result
+        (IsPosition (HasSome IsJulianForm) scanner.old.rest.now
+        (length scanner.old.rest.now - length scanner.new.rest.now)) }
 {
     julian_day(scanner)
 }

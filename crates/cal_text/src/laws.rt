@@ -19,7 +19,8 @@ use cal_time::Date;
 
 /// No two days share a text, be it of one form or of two.
 pub(crate) fn one_day(text: &[u8]) -> Result<Date, Unreadable>
-    ensures { (m n : ℕ) → IsDate m → IsDate n → IsDateText text.now m → IsDateText text.now n → m ≡ n }
+    ensures { (m n : ℕ) → IsDate m → IsDate n → IsDateText text.now m → IsDateText text.now n
+        → m ≡ n }
 {
     read(text)
 }

@@ -37,7 +37,8 @@ pub fn read(text: &[u8]) -> Result<OffsetDateTime, Unreadable>
     // It is refused for its form exactly where it has none, and else for the first component at fault.
     ensures form { IsRefusedForForm result ↔ ((m : Numbers) → ¬ HasMomentForm text.now m) }
     ensures position { IfErr result (IsAtStop (HasSome HasMomentForm) text.now) }
-    ensures component { (why : ComponentRange) → IsRefusedFor why result ↔ HasFault HasMomentForm IsMomentFault text.now why }
+    ensures component { (why : ComponentRange)
+        → IsRefusedFor why result ↔ HasFault HasMomentForm IsMomentFault text.now why }
 {
     let mut scanner = Scanner { rest: text };
     match numbers_of(&mut scanner) {

@@ -16,7 +16,8 @@ impl Scanner<'_> {
         requires { low + above < 256 }
         ensures scans { Scans (From low above) self.old.rest.now self.new.rest.now result }
         ensures branches { Branches low above self.old.rest.now self.new.rest.now result }
-        ensures byte { IfSome result (λ b. (low ≤ b) × (b ≤ low + above) × (self.old.rest.now ≡ b ∷ self.new.rest.now)) }
+        ensures byte { IfSome result (λ b.
+            (low ≤ b) × (b ≤ low + above) × (self.old.rest.now ≡ b ∷ self.new.rest.now)) }
         ensures kept { IfNone result (self.new.rest.now ≡ self.old.rest.now) }
     {
         let (first, others) = self.rest.split_first()?;
@@ -41,7 +42,8 @@ impl Scanner<'_> {
     pub(crate) fn digit_from_1(&mut self) -> Option<u32>
         ensures scans { Scans (From 49 8) self.old.rest.now self.new.rest.now result }
         ensures branches { Branches 49 8 self.old.rest.now self.new.rest.now result }
-        ensures digit { IfSome result (λ d. (1 ≤ d) × (d < 10) × (self.old.rest.now ≡ (48 + d) ∷ self.new.rest.now)) }
+        ensures digit { IfSome result (λ d.
+            (1 ≤ d) × (d < 10) × (self.old.rest.now ≡ (48 + d) ∷ self.new.rest.now)) }
         ensures kept { IfNone result (self.new.rest.now ≡ self.old.rest.now) }
     {
         let byte = self.byte_from(b'1', 8)?;
@@ -51,7 +53,8 @@ impl Scanner<'_> {
     pub(crate) fn digit(&mut self) -> Option<u32>
         ensures scans { Scans (Digits 1) self.old.rest.now self.new.rest.now result }
         ensures branches { Branches 48 9 self.old.rest.now self.new.rest.now result }
-        ensures digit { IfSome result (λ d. (d < 10) × (self.old.rest.now ≡ (48 + d) ∷ self.new.rest.now)) }
+        ensures digit { IfSome result (λ d.
+            (d < 10) × (self.old.rest.now ≡ (48 + d) ∷ self.new.rest.now)) }
         ensures kept { IfNone result (self.new.rest.now ≡ self.old.rest.now) }
     {
         let byte = self.byte_from(b'0', 9)?;

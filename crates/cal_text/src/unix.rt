@@ -28,7 +28,8 @@ pub fn read(text: &[u8]) -> Result<OffsetDateTime, Unreadable>
     ensures has { IfOk result (IsUnixText text.now) }
     ensures form { IsRefusedForForm result ↔ ((v : ℤ) → ¬ HasUnixForm text.now v) }
     ensures position { IfErr result (IsAtStop (HasSome HasUnixForm) text.now) }
-    ensures component { (why : ComponentRange) → IsRefusedFor why result ↔ HasFault HasUnixForm IsUnixFault text.now why }
+    ensures component { (why : ComponentRange)
+        → IsRefusedFor why result ↔ HasFault HasUnixForm IsUnixFault text.now why }
 {
     let mut scanner = Scanner { rest: text };
     match unix_of(&mut scanner) {

@@ -10,7 +10,8 @@ use crate::scanner::Scanner;
 /// A year, and the hyphen after it.
 pub(crate) fn year(scanner: &mut Scanner) -> Option<i32>
     ensures scans { Scans Year scanner.old.rest.now scanner.new.rest.now result }
-    ensures year { IfSome result (λ y. IsWrittenYear y × (scanner.old.rest.now ≡ year_text y ++ 45 ∷ scanner.new.rest.now)) }
+    ensures year { IfSome result (λ y.
+        IsWrittenYear y × (scanner.old.rest.now ≡ year_text y ++ 45 ∷ scanner.new.rest.now)) }
 {
     match scanner.byte(b'+') {
         Some(()) => {
@@ -24,7 +25,8 @@ pub(crate) fn year(scanner: &mut Scanner) -> Option<i32>
 /// A year without a plus sign, and the hyphen after it.
 fn unsigned(scanner: &mut Scanner) -> Option<i32>
     ensures scans { Scans Unsigned scanner.old.rest.now scanner.new.rest.now result }
-    ensures year { IfSome result (λ y. IsWrittenYear y × (scanner.old.rest.now ≡ year_text y ++ 45 ∷ scanner.new.rest.now)) }
+    ensures year { IfSome result (λ y.
+        IsWrittenYear y × (scanner.old.rest.now ≡ year_text y ++ 45 ∷ scanner.new.rest.now)) }
 {
     match scanner.byte(b'-') {
         Some(()) => {
@@ -76,7 +78,8 @@ fn above_0(scanner: &mut Scanner) -> Option<u32>
 /// A zero and three digits, of which one is not 0.
 fn zero_and_three(scanner: &mut Scanner) -> Option<u32>
     ensures scans { Scans ZeroAndThree scanner.old.rest.now scanner.new.rest.now result }
-    ensures number { IfSome result (λ n. ReadsDigits scanner.old.rest.now scanner.new.rest.now 4 n) }
+    ensures number { IfSome result (λ n.
+        ReadsDigits scanner.old.rest.now scanner.new.rest.now 4 n) }
     ensures range { IfSome result (λ n. (0 < n) × (n < 1000)) }
 {
     scanner.byte(b'0')?;
@@ -87,7 +90,8 @@ fn zero_and_three(scanner: &mut Scanner) -> Option<u32>
 /// Three digits, of which one is not 0.
 fn some_of_three(scanner: &mut Scanner) -> Option<u32>
     ensures scans { Scans (SomeDigits 2) scanner.old.rest.now scanner.new.rest.now result }
-    ensures number { IfSome result (λ n. ReadsDigits scanner.old.rest.now scanner.new.rest.now 3 n) }
+    ensures number { IfSome result (λ n.
+        ReadsDigits scanner.old.rest.now scanner.new.rest.now 3 n) }
     ensures range { IfSome result (λ n. (0 < n) × (n < 1000)) }
 {
     match scanner.digit_from_1() {
@@ -107,7 +111,8 @@ fn some_of_three(scanner: &mut Scanner) -> Option<u32>
 /// Two digits, of which one is not 0.
 fn some_of_two(scanner: &mut Scanner) -> Option<u32>
     ensures scans { Scans (SomeDigits 1) scanner.old.rest.now scanner.new.rest.now result }
-    ensures number { IfSome result (λ n. ReadsDigits scanner.old.rest.now scanner.new.rest.now 2 n) }
+    ensures number { IfSome result (λ n.
+        ReadsDigits scanner.old.rest.now scanner.new.rest.now 2 n) }
     ensures range { IfSome result (λ n. (0 < n) × (n < 100)) }
 {
     match scanner.digit_from_1() {

@@ -38,7 +38,8 @@ pub fn sub_from_pair(date: Date, time: Time, duration: SignedDuration) -> Option
 /// The day that the step of a clock leads to.
 fn adjusted(date: Date, adjustment: DateAdjustment) -> Option<Date>
     requires { IsDate date }
-    ensures { SomeIff result (IsDateNumber (pos date +ℤ carry adjustment)) (date_nearest (pos date +ℤ carry adjustment)) }
+    ensures { SomeIff result (IsDateNumber (pos date +ℤ carry adjustment))
+        (date_nearest (pos date +ℤ carry adjustment)) }
 {
     match adjustment {
         DateAdjustment::Previous => date.previous_day(),

@@ -27,7 +27,8 @@ pub trait Counted: Copy + Ord + Hash {
     ghost apart: { (x y : Self) → number_of x ≡ number_of y → x ≡ y };
 
     /// Values of one number give a hasher the same input.
-    ghost hashed: { (x y : Self) → number_of x ≡ number_of y → Self.hash_input x ≡ Self.hash_input y };
+    ghost hashed: { (x y : Self) → number_of x ≡ number_of y
+        → Self.hash_input x ≡ Self.hash_input y };
 }
 
 /// The least and the greatest item of the slice, or `None` if it has no items.

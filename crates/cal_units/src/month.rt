@@ -131,7 +131,8 @@ impl Eq for Month {
 impl PartialOrd for Month {
     ghost partial_cmp = { as_partial_cmp (on number nat_cmp) };
 
-    ghost laws = { partial_order_from_own_ties (Prim.search (comparing, rules)) (Prim.search (comparing, rules)) };
+    ghost laws = { partial_order_from_own_ties (Prim.search (comparing, rules))
+        (Prim.search (comparing, rules)) };
 
     fn partial_cmp(&self, other: &Month) -> Option<Ordering> {
         Some(self.cmp(other))

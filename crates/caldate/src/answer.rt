@@ -29,8 +29,10 @@ pub const LONGEST_TEXT: usize = 4096;
 /// Gathers the answer to a text, or the words that say why it has none, and returns whether it has one.
 pub fn push_answer(buffer: &mut Buffer, filter: &Filter, text: &[u8]) -> bool
     requires { HasRoom longest_answer buffer.old }
-    ensures has { result ≡ true → AppendsThat (HasAnswer filter.now text.now) buffer.old buffer.new }
-    ensures lacks { result ≡ false → AppendsThat (LacksAnswer filter.now text.now) buffer.old buffer.new }
+    ensures has { result ≡ true → AppendsThat
+        (HasAnswer filter.now text.now) buffer.old buffer.new }
+    ensures lacks { result ≡ false → AppendsThat
+        (LacksAnswer filter.now text.now) buffer.old buffer.new }
     ensures short { length buffer.new ≤ length buffer.old + longest_answer }
 {
     if text.len() > LONGEST_TEXT {
@@ -77,8 +79,10 @@ fn push_refusal(buffer: &mut Buffer, error: ComponentRange)
 /// Gathers what the request answers for this date or this moment, or `none`, and returns whether there is an answer.
 fn push_answer_to(buffer: &mut Buffer, request: &Request, found: &DateOrMoment) -> bool
     requires { HasRoom longest_answer buffer.old }
-    ensures has { result ≡ true → AppendsThat (IsAnswerTo request.now found.now) buffer.old buffer.new }
-    ensures none { result ≡ false → (buffer.new ≡ buffer.old ++ codes "none") × ((words : List ℕ) → ¬ IsAnswerTo request.now found.now words) }
+    ensures has { result ≡ true → AppendsThat
+        (IsAnswerTo request.now found.now) buffer.old buffer.new }
+    ensures none { result ≡ false → (buffer.new ≡ buffer.old ++ codes "none")
+        × ((words : List ℕ) → ¬ IsAnswerTo request.now found.now words) }
     ensures short { length buffer.new ≤ length buffer.old + longest_answer }
 {
     let moment = moment_of(found);
@@ -139,7 +143,8 @@ fn on_day(moment: OffsetDateTime, date: Date) -> OffsetDateTime
 fn push_in_form(buffer: &mut Buffer, form: Form, moment: OffsetDateTime) -> bool
     requires { HasRoom longest_answer buffer.old }
     ensures has { result ≡ true → AppendsThat (IsInForm form moment) buffer.old buffer.new }
-    ensures none { result ≡ false → (buffer.new ≡ buffer.old ++ codes "none") × ((words : List ℕ) → ¬ IsInForm form moment words) }
+    ensures none { result ≡ false → (buffer.new ≡ buffer.old ++ codes "none")
+        × ((words : List ℕ) → ¬ IsInForm form moment words) }
     ensures short { length buffer.new ≤ length buffer.old + longest_answer }
 {
     match form {
@@ -179,7 +184,8 @@ fn text_of_date(form: DateForm, date: Date) -> ShortText
 
 /// The moment so much later, or `None` where it is past either end of the range.
 fn later(found: &DateOrMoment, duration: SignedDuration) -> Option<OffsetDateTime>
-    ensures { MatchOption result ((m : Shown) → ¬ IsLater found.now duration m) (IsLater found.now duration) }
+    ensures { MatchOption result ((m : Shown) → ¬ IsLater found.now duration m)
+        (IsLater found.now duration) }
 {
     match found {
         DateOrMoment::Date(_, date) => day_later(*date, duration),
@@ -189,7 +195,8 @@ fn later(found: &DateOrMoment, duration: SignedDuration) -> Option<OffsetDateTim
 
 /// The midnight of the day that is as many whole days later.
 fn day_later(date: Date, duration: SignedDuration) -> Option<OffsetDateTime>
-    ensures { MatchOption result ((m : Shown) → ¬ IsDayLater date duration m) (IsDayLater date duration) }
+    ensures { MatchOption result ((m : Shown) → ¬ IsDayLater date duration m)
+        (IsDayLater date duration) }
 {
     match date.checked_add(duration) {
         Some(day) => Some(OffsetDateTime::new_utc(day, Time::MIDNIGHT)),
@@ -199,7 +206,8 @@ fn day_later(date: Date, duration: SignedDuration) -> Option<OffsetDateTime>
 
 /// The moment that is all of the duration later.
 fn moment_later(moment: OffsetDateTime, duration: SignedDuration) -> Option<OffsetDateTime>
-    ensures { MatchOption result ((m : Shown) → ¬ IsMomentLater moment duration m) (IsMomentLater moment duration) }
+    ensures { MatchOption result ((m : Shown) → ¬ IsMomentLater moment duration m)
+        (IsMomentLater moment duration) }
 {
     moment.checked_add(duration)
 }
@@ -208,7 +216,8 @@ fn moment_later(moment: OffsetDateTime, duration: SignedDuration) -> Option<Offs
 fn push_moved(buffer: &mut Buffer, by: DayMove, found: &DateOrMoment) -> bool
     requires { HasRoom longest_answer buffer.old }
     ensures has { result ≡ true → AppendsThat (IsMoved by found.now) buffer.old buffer.new }
-    ensures none { result ≡ false → (buffer.new ≡ buffer.old ++ codes "none") × ((words : List ℕ) → ¬ IsMoved by found.now words) }
+    ensures none { result ≡ false → (buffer.new ≡ buffer.old ++ codes "none")
+        × ((words : List ℕ) → ¬ IsMoved by found.now words) }
     ensures short { length buffer.new ≤ length buffer.old + longest_answer }
 {
     let moment = moment_of(found);
@@ -223,7 +232,8 @@ fn push_moved(buffer: &mut Buffer, by: DayMove, found: &DateOrMoment) -> bool
 fn push_at(buffer: &mut Buffer, offset: UtcOffset, moment: OffsetDateTime) -> bool
     requires { HasRoom longest_answer buffer.old }
     ensures has { result ≡ true → AppendsThat (IsAt offset moment) buffer.old buffer.new }
-    ensures none { result ≡ false → (buffer.new ≡ buffer.old ++ codes "none") × ((words : List ℕ) → ¬ IsAt offset moment words) }
+    ensures none { result ≡ false → (buffer.new ≡ buffer.old ++ codes "none")
+        × ((words : List ℕ) → ¬ IsAt offset moment words) }
     ensures short { length buffer.new ≤ length buffer.old + longest_answer }
 {
     match moment.checked_to_offset(offset) {
@@ -240,8 +250,10 @@ fn push_between(
     to: &DateOrMoment,
 ) -> bool
     requires { HasRoom longest_answer buffer.old }
-    ensures has { result ≡ true → AppendsThat (IsBetween unit from.now to.now) buffer.old buffer.new }
-    ensures none { result ≡ false → (buffer.new ≡ buffer.old ++ codes "none") × ((words : List ℕ) → ¬ IsBetween unit from.now to.now words) }
+    ensures has { result ≡ true → AppendsThat
+        (IsBetween unit from.now to.now) buffer.old buffer.new }
+    ensures none { result ≡ false → (buffer.new ≡ buffer.old ++ codes "none")
+        × ((words : List ℕ) → ¬ IsBetween unit from.now to.now words) }
     ensures short { length buffer.new ≤ length buffer.old + longest_answer }
 {
     let Some(unit) = unit else {

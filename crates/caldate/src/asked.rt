@@ -25,7 +25,8 @@ use cal_time::{SignedDuration, Weekday};
 /// `to week` asks for the lines in the form of week dates; of `add 1 fortnight` the word at index 2 is no unit.
 pub fn asked_of(arguments: &[u8]) -> Result<Asked, Senseless>
     ensures steps { IfOk result IsAsked }
-    ensures asked { (reading : List ℕ → Option DateOrMoment) → IsReading reading → result ≡ asked_of reading (arguments_of arguments.now) }
+    ensures asked { (reading : List ℕ → Option DateOrMoment) → IsReading reading
+        → result ≡ asked_of reading (arguments_of arguments.now) }
 {
     match meaning_of(arguments) {
         Some(asked) => Ok(asked),
@@ -36,7 +37,8 @@ pub fn asked_of(arguments: &[u8]) -> Result<Asked, Senseless>
 /// What the arguments ask for, or `None` where they make no sense.
 fn meaning_of(arguments: &[u8]) -> Option<Asked>
     ensures steps { IfSome result IsAsked }
-    ensures asked { (reading : List ℕ → Option DateOrMoment) → IsReading reading → result ≡ meaning_of reading (arguments_of arguments.now) }
+    ensures asked { (reading : List ℕ → Option DateOrMoment) → IsReading reading
+        → result ≡ meaning_of reading (arguments_of arguments.now) }
 {
     let Some((first, rest)) = first_word(arguments) else {
         return only_option(arguments);
@@ -61,7 +63,8 @@ fn lines_of(arguments: &[u8]) -> Option<Asked>
 /// What an option asks for that stands alone.
 fn only_option(word: &[u8]) -> Option<Asked>
     ensures steps { IfSome result IsAsked }
-    ensures asked { (reading : List ℕ → Option DateOrMoment) → result ≡ meaning_of reading (word.now ∷ []) }
+    ensures asked { (reading : List ℕ → Option DateOrMoment)
+        → result ≡ meaning_of reading (word.now ∷ []) }
 {
     if asks_for_help(word) {
         Some(Asked::Help)
@@ -92,7 +95,8 @@ fn filter_of(options: &Options, request: Option<Request>) -> Option<Asked>
 /// The request of a verb and what comes after it.
 #[tactic(auto, using(crate::proofs::Words::one_word))]
 fn request_of(words: &[u8]) -> Option<Request>
-    ensures { (reading : List ℕ → Option DateOrMoment) → IsReading reading → result ≡ request_of reading (arguments_of words.now) }
+    ensures { (reading : List ℕ → Option DateOrMoment) → IsReading reading
+        → result ≡ request_of reading (arguments_of words.now) }
 {
     let (verb, rest) = first_word(words)?;
     match verb_of(verb)? {
@@ -199,14 +203,16 @@ fn end_request(words: &[u8]) -> Option<Request>
 }
 
 fn until_request(words: &[u8]) -> Option<Request>
-    ensures { (reading : List ℕ → Option DateOrMoment) → IsReading reading → result ≡ target_request Until reading (arguments_of words.now) }
+    ensures { (reading : List ℕ → Option DateOrMoment) → IsReading reading
+        → result ≡ target_request Until reading (arguments_of words.now) }
 {
     let (target, unit) = target_of(words)?;
     Some(Request::Until(target, unit))
 }
 
 fn since_request(words: &[u8]) -> Option<Request>
-    ensures { (reading : List ℕ → Option DateOrMoment) → IsReading reading → result ≡ target_request Since reading (arguments_of words.now) }
+    ensures { (reading : List ℕ → Option DateOrMoment) → IsReading reading
+        → result ≡ target_request Since reading (arguments_of words.now) }
 {
     let (target, unit) = target_of(words)?;
     Some(Request::Since(target, unit))
@@ -214,7 +220,8 @@ fn since_request(words: &[u8]) -> Option<Request>
 
 /// A date or a moment, and perhaps a unit.
 fn target_of(words: &[u8]) -> Option<(DateOrMoment, Option<TimeUnit>)>
-    ensures { (reading : List ℕ → Option DateOrMoment) → IsReading reading → result ≡ target_of reading (arguments_of words.now) }
+    ensures { (reading : List ℕ → Option DateOrMoment) → IsReading reading
+        → result ≡ target_of reading (arguments_of words.now) }
 {
     let Some((text, rest)) = first_word(words) else {
         return Some((found_in(words)?, None));
@@ -228,7 +235,8 @@ fn target_of(words: &[u8]) -> Option<(DateOrMoment, Option<TimeUnit>)>
 
 /// The date or the moment of a text, if it is one.
 pub fn found_in(text: &[u8]) -> Option<DateOrMoment>
-    ensures { (reading : List ℕ → Option DateOrMoment) → IsReading reading → result ≡ reading text.now }
+    ensures { (reading : List ℕ → Option DateOrMoment) → IsReading reading
+        → result ≡ reading text.now }
 {
     match read_any(text) {
         Ok(found) => Some(found),
@@ -243,7 +251,8 @@ fn at_request(words: &[u8]) -> Option<Request>
 }
 
 fn keep_request(words: &[u8]) -> Option<Request>
-    ensures { (reading : List ℕ → Option DateOrMoment) → IsReading reading → result ≡ keep_request reading (arguments_of words.now) }
+    ensures { (reading : List ℕ → Option DateOrMoment) → IsReading reading
+        → result ≡ keep_request reading (arguments_of words.now) }
 {
     Some(Request::Keep(bounds_of(words)?))
 }

@@ -13,7 +13,8 @@ use cal_text::DateOrMoment;
 /// The bounds of `from A to B`, `after A` or `before B`.
 #[tactic(auto, using(crate::proofs::Words::no_bounds))]
 pub fn bounds_of(words: &[u8]) -> Option<Bounds>
-    ensures { (reading : List ℕ → Option DateOrMoment) → IsReading reading → result ≡ bounds_of reading (arguments_of words.now) }
+    ensures { (reading : List ℕ → Option DateOrMoment) → IsReading reading
+        → result ≡ bounds_of reading (arguments_of words.now) }
 {
     let (word, rest) = first_word(words)?;
     if word == b"from".as_slice() {
@@ -29,14 +30,16 @@ pub fn bounds_of(words: &[u8]) -> Option<Bounds>
 
 /// The one date or moment.
 fn bound_of(words: &[u8]) -> Option<DateOrMoment>
-    ensures { (reading : List ℕ → Option DateOrMoment) → IsReading reading → result ≡ bound_of reading (arguments_of words.now) }
+    ensures { (reading : List ℕ → Option DateOrMoment) → IsReading reading
+        → result ≡ bound_of reading (arguments_of words.now) }
 {
     found_in(only_word(words)?)
 }
 
 /// From one to the other.
 fn range_of(words: &[u8]) -> Option<Bounds>
-    ensures { (reading : List ℕ → Option DateOrMoment) → IsReading reading → result ≡ range_of reading (arguments_of words.now) }
+    ensures { (reading : List ℕ → Option DateOrMoment) → IsReading reading
+        → result ≡ range_of reading (arguments_of words.now) }
 {
     let (first, rest) = first_word(words)?;
     let (to, last) = first_word(rest)?;

@@ -22,7 +22,8 @@ pub fn complain<W: Write>(
     senseless: Senseless,
     writer: &mut W,
 ) -> Result<(), Fault>
-    ensures { Shown (complaint (arguments_of arguments.now) senseless) result (W.contents writer.old) (W.contents writer.new) }
+    ensures { Shown (complaint (arguments_of arguments.now) senseless) result
+        (W.contents writer.old) (W.contents writer.new) }
 {
     let mut line = Buffer::new();
     push_complaint(&mut line, arguments, senseless);

@@ -27,7 +27,8 @@ pub fn count_between(unit: TimeUnit, from: OffsetDateTime, to: OffsetDateTime) -
 
 /// The whole years to the day that is reached.
 fn years_between(from: OffsetDateTime, to: OffsetDateTime) -> Option<i64>
-    ensures { MatchOption result ((z : ℤ) → ¬ IsCount TimeUnit.Years from to z) (IsCount TimeUnit.Years from to) }
+    ensures { MatchOption result ((z : ℤ) → ¬ IsCount TimeUnit.Years from to z)
+        (IsCount TimeUnit.Years from to) }
 {
     match reached(from, to) {
         Some(day) => Some(years_to(from.date(), day)),
@@ -44,7 +45,8 @@ fn years_to(from: Date, to: Date) -> i64
 
 /// The whole months to the day that is reached.
 fn months_between(from: OffsetDateTime, to: OffsetDateTime) -> Option<i64>
-    ensures { MatchOption result ((z : ℤ) → ¬ IsCount TimeUnit.Months from to z) (IsCount TimeUnit.Months from to) }
+    ensures { MatchOption result ((z : ℤ) → ¬ IsCount TimeUnit.Months from to z)
+        (IsCount TimeUnit.Months from to) }
 {
     match reached(from, to) {
         Some(day) => Some(i64::from(months_until(from.date(), day))),
@@ -54,7 +56,8 @@ fn months_between(from: OffsetDateTime, to: OffsetDateTime) -> Option<i64>
 
 /// The working days to the day before the one that is reached.
 fn workdays_between(from: OffsetDateTime, to: OffsetDateTime) -> Option<i64>
-    ensures { MatchOption result ((z : ℤ) → ¬ IsCount TimeUnit.Workdays from to z) (IsCount TimeUnit.Workdays from to) }
+    ensures { MatchOption result ((z : ℤ) → ¬ IsCount TimeUnit.Workdays from to z)
+        (IsCount TimeUnit.Workdays from to) }
 {
     match reached(from, to) {
         Some(day) => Some(i64::from(workdays().workdays_between(from.date(), day))),

@@ -37,7 +37,8 @@ pub fn quarter_text(date: Date) -> ShortText
 
 /// The date in the basic format, as `20240229`, or `None` where its year has not four digits.
 pub fn basic_text(date: Date) -> Option<ShortText>
-    ensures { MatchOption result (¬ HasBasicText date) (λ text. HasBasicText date × (text ≡ basic_text date) × (length text ≤ 11)) }
+    ensures { MatchOption result (¬ HasBasicText date)
+        (λ text. HasBasicText date × (text ≡ basic_text date) × (length text ≤ 11)) }
 {
     let (year, month, day) = date.to_calendar_date();
     if year < 0 || year > 9_999 {

@@ -62,10 +62,13 @@ impl Input {
     #[tactic(auto, using(crate::proofs::Known::given_more))]
     pub fn read_more<R: Read>(&mut self, reader: &mut R) -> Result<usize, Fault>
         requires { length self.old < capacity }
-        ensures given { OnOk result (HasRead (R.remaining reader.old) (R.remaining reader.new) self.old self.new) }
+        ensures given { OnOk result (HasRead (R.remaining reader.old)
+            (R.remaining reader.new) self.old self.new) }
         ensures count { IfOk result (λ n. length self.new ≡ length self.old + n) }
-        ensures end { IsOkAnd result (λ n. n ≡ 0) → IsAtEnd (R.remaining reader.new) × (self.new ≡ self.old) }
-        ensures err { IfErr result (λ fault. (fault ≡ Fault.Read) × Keeps (R.remaining reader.old) (R.remaining reader.new)) }
+        ensures end { IsOkAnd result (λ n. n ≡ 0)
+            → IsAtEnd (R.remaining reader.new) × (self.new ≡ self.old) }
+        ensures err { IfErr result (λ fault.
+            (fault ≡ Fault.Read) × Keeps (R.remaining reader.old) (R.remaining reader.new)) }
     {
         match read_some(reader, &mut self.bytes[self.filled..], &mut Retries::new()) {
             Ok(count) => {
@@ -90,8 +93,10 @@ impl Input {
 /// One read, taken again where it was interrupted and a retry is left. So it is interrupted only where no retry is left.
 fn read_some<R: Read>(reader: &mut R, buffer: &mut [u8], retries: &mut Retries) -> io::Result<usize>
     ensures bound { ReadsAtMost result buffer.new }
-    ensures bytes { ReadConsumes (R.remaining reader.old) (R.remaining reader.new) result buffer.new }
-    ensures patient { IfErr result (λ error. error_kind error ≡ ErrorKind.Interrupted → retries.new ≡ 0) }
+    ensures bytes { ReadConsumes (R.remaining reader.old)
+        (R.remaining reader.new) result buffer.new }
+    ensures patient { IfErr result (λ error. error_kind error ≡ ErrorKind.Interrupted
+        → retries.new ≡ 0) }
 {
     loop {
         match reader.read(buffer) {

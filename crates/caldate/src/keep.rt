@@ -28,11 +28,15 @@ pub fn push_line(
     line: &[u8],
 ) -> Result<(), UnansweredLine>
     requires { HasRoom longest_reply buffer.old }
-    ensures replied { OnOk result ((kept : List ℕ) (before : ℕ) → IsHeld progress.now.is_long kept line.now → progress.now.number ≡ counted before
+    ensures replied { OnOk result ((kept : List ℕ) (before : ℕ)
+        → IsHeld progress.now.is_long kept line.now → progress.now.number ≡ counted before
         → AppendsThat (IsReplyTo filter.now before (kept ++ line.now)) buffer.old buffer.new) }
-    ensures strict { IfErr result (λ told. (filter.now.is_strict ≡ true) × (buffer.new ≡ buffer.old)) }
-    ensures told { IfErr result (λ told. (kept : List ℕ) (before : ℕ) → IsHeld progress.now.is_long kept line.now
-        → IsShown progress.now.is_long progress.now.front kept → progress.now.number ≡ counted before
+    ensures strict { IfErr result (λ told.
+        (filter.now.is_strict ≡ true) × (buffer.new ≡ buffer.old)) }
+    ensures told { IfErr result (λ told. (kept : List ℕ) (before : ℕ)
+        → IsHeld progress.now.is_long kept line.now
+        → IsShown progress.now.is_long progress.now.front kept
+        → progress.now.number ≡ counted before
         → IsUnanswered filter.now before (kept ++ line.now) told) }
 {
     match &filter.request {
@@ -54,11 +58,16 @@ fn push_kept(
 ) -> Result<(), UnansweredLine>
     requires room { HasRoom longest_reply buffer.old }
     requires keep { filter.now.request ≡ Keep bounds.now }
-    ensures replied { OnOk result ((kept : List ℕ) (before : ℕ) → IsHeld progress.now.is_long kept line.now → progress.now.number ≡ counted before
-        → AppendsThat (IsKept filter.now bounds.now before (kept ++ line.now)) buffer.old buffer.new) }
-    ensures strict { IfErr result (λ told. (filter.now.is_strict ≡ true) × (buffer.new ≡ buffer.old)) }
-    ensures told { IfErr result (λ told. (kept : List ℕ) (before : ℕ) → IsHeld progress.now.is_long kept line.now
-        → IsShown progress.now.is_long progress.now.front kept → progress.now.number ≡ counted before
+    ensures replied { OnOk result ((kept : List ℕ) (before : ℕ)
+        → IsHeld progress.now.is_long kept line.now → progress.now.number ≡ counted before
+        → AppendsThat (IsKept filter.now bounds.now before (kept ++ line.now)) buffer.old
+        buffer.new) }
+    ensures strict { IfErr result (λ told.
+        (filter.now.is_strict ≡ true) × (buffer.new ≡ buffer.old)) }
+    ensures told { IfErr result (λ told. (kept : List ℕ) (before : ℕ)
+        → IsHeld progress.now.is_long kept line.now
+        → IsShown progress.now.is_long progress.now.front kept
+        → progress.now.number ≡ counted before
         → IsUnanswered filter.now before (kept ++ line.now) told) }
 {
     let (text, end) = text_and_end(line);
@@ -82,12 +91,15 @@ fn push_kept(
 /// Whether the text of a line goes out, or `None` where it has no answer.
 fn is_kept(filter: &Filter, bounds: &Bounds, progress: &Progress, text: &[u8]) -> Option<bool>
     requires { filter.now.request ≡ Keep bounds.now }
-    ensures kept { IfSome result (λ lies. (progress.now.is_long ≡ false) × ((before : ℕ) → progress.now.number ≡ counted before
+    ensures kept { IfSome result (λ lies.
+        (progress.now.is_long ≡ false) × ((before : ℕ) → progress.now.number ≡ counted before
         → IsDecided filter.now bounds.now before text.now lies)) }
     ensures fits { OnSome result (length text.now ≤ longest_text) }
-    ensures why { result ≡ None → progress.now.is_long ≡ false → (before : ℕ) → progress.now.number ≡ counted before
+    ensures why { result ≡ None → progress.now.is_long ≡ false → (before : ℕ)
+        → progress.now.number ≡ counted before
         → (words : List ℕ) × IsReason filter.now before text.now words }
-    ensures none { result ≡ None → progress.now.is_long ≡ false → filter.now.is_strict ≡ true → (before : ℕ) (words : List ℕ)
+    ensures none { result ≡ None → progress.now.is_long ≡ false → filter.now.is_strict ≡ true
+        → (before : ℕ) (words : List ℕ)
         → progress.now.number ≡ counted before → ¬ IsAllowed filter.now before text.now words }
 {
     if progress.is_long || text.len() > LONGEST_TEXT {

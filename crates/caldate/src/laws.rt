@@ -15,16 +15,20 @@ use cal_text::{DateOrMoment, Unreadable};
 /// No text has two answers to one request in one reading, but for the position that the words for an unreadable text name where a
 /// reading is named.
 pub(crate) fn one_answer(filter: &Filter, text: &[u8]) -> Result<DateOrMoment, Unreadable>
-    ensures { (words others : List ℕ) → IsAnswer filter.now text.now words → IsAnswer filter.now text.now others
-        → (words ≡ others) ⊎ (filter.now.reading ≢ Any) × IsUnreadable filter.now text.now words × IsUnreadable filter.now text.now others }
+    ensures { (words others : List ℕ) → IsAnswer filter.now text.now words
+        → IsAnswer filter.now text.now others
+        → (words ≡ others) ⊎ (filter.now.reading ≢ Any) × IsUnreadable filter.now text.now words
+        × IsUnreadable filter.now text.now others }
 {
     read_in(filter.reading, text)
 }
 
 /// Where lines are kept, no line has two replies: it goes out, or it does not.
 pub(crate) fn one_kept(filter: &Filter, line: &[u8]) -> Option<Result<DateOrMoment, Unreadable>>
-    ensures { (bounds : Bounds) (before : ℕ) (reply other : List ℕ) → filter.now.request ≡ Keep bounds
-        → IsKept filter.now bounds before line.now reply → IsKept filter.now bounds before line.now other → reply ≡ other }
+    ensures { (bounds : Bounds) (before : ℕ) (reply other : List ℕ)
+        → filter.now.request ≡ Keep bounds
+        → IsKept filter.now bounds before line.now reply
+        → IsKept filter.now bounds before line.now other → reply ≡ other }
 {
     let (text, _end) = text_and_end(line);
     Some(read_in(filter.reading, asked_text(filter.field, text)?))

@@ -8,7 +8,8 @@ ghost use Rattle.caldate.specs.Standing.{NoEnd};
 pub fn first_line(bytes: &[u8]) -> Option<(&[u8], &[u8])>
     ensures parts { MatchOption result (NoEnd bytes.now)
         (λ parts. NoEnd parts.0.now × (bytes.now ≡ parts.0.now ++ 10 ∷ parts.1.now)) }
-    ensures shorter { MatchOption result (length bytes.now ≡ length bytes.now) (λ parts. length parts.1.now < length bytes.now) }
+    ensures shorter { MatchOption result (length bytes.now ≡ length bytes.now)
+        (λ parts. length parts.1.now < length bytes.now) }
 {
     let at = index_of(b'\n', bytes)?;
     Some((&bytes[..at], &bytes[at + 1..]))

@@ -34,7 +34,8 @@ pub fn list<W: Write>(listing: &Listing, writer: &mut W) -> Result<(), Fault>
 
 /// The day so many days or months after the first, or `None` where it is past the last.
 fn day_within(listing: &Listing, count: u64) -> Option<Date>
-    ensures day { MatchOption result ((day : ℕ) → ¬ IsWithin listing.now count day) (IsWithin listing.now count) }
+    ensures day { MatchOption result ((day : ℕ) → ¬ IsWithin listing.now count day)
+        (IsWithin listing.now count) }
     ensures near { IfSome result (λ _. count < 1_000_000_000) }
 {
     let day = day_after(listing.step.unit, listing.first, count)?;
@@ -46,7 +47,8 @@ fn day_within(listing: &Listing, count: u64) -> Option<Date>
 
 /// The day so many days or months later, or `None` where it is past the end of the range.
 fn day_after(unit: StepUnit, date: Date, count: u64) -> Option<Date>
-    ensures day { MatchOption result ((n : ℕ) → ¬ (IsDate n × IsAfter unit count date n)) (λ n. IsDate n × IsAfter unit count date n) }
+    ensures day { MatchOption result ((n : ℕ) → ¬ (IsDate n × IsAfter unit count date n))
+        (λ n. IsDate n × IsAfter unit count date n) }
     ensures near { IfSome result (λ _. count < 1_000_000_000) }
 {
     match unit {
@@ -56,7 +58,8 @@ fn day_after(unit: StepUnit, date: Date, count: u64) -> Option<Date>
 }
 
 fn days_after(date: Date, days: u64) -> Option<Date>
-    ensures day { MatchOption result ((n : ℕ) → ¬ (IsDate n × (n ≡ date + days))) (λ n. IsDate n × (n ≡ date + days)) }
+    ensures day { MatchOption result ((n : ℕ) → ¬ (IsDate n × (n ≡ date + days)))
+        (λ n. IsDate n × (n ≡ date + days)) }
     ensures near { IfSome result (λ _. days < 1_000_000_000) }
 {
     match Date::from_julian_day(date.to_julian_day() + days.min(FAR) as i32) {
@@ -66,7 +69,9 @@ fn days_after(date: Date, days: u64) -> Option<Date>
 }
 
 fn months_after(date: Date, months: u64) -> Option<Date>
-    ensures day { MatchOption result ((n : ℕ) → ¬ (IsDate n × IsAfter StepUnit.Months months date n)) (λ n. IsDate n × IsAfter StepUnit.Months months date n) }
+    ensures day { MatchOption result
+        ((n : ℕ) → ¬ (IsDate n × IsAfter StepUnit.Months months date n))
+        (λ n. IsDate n × IsAfter StepUnit.Months months date n) }
     ensures near { IfSome result (λ _. months < 1_000_000_000) }
 {
     checked_add_months(date, months.min(FAR) as i32)

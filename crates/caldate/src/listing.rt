@@ -16,7 +16,8 @@ use cal_time::Date;
 /// The list of `from A to B`, `from A to B by N UNIT` and `from A to B by RULE`.
 pub fn list_of(words: &[u8]) -> Option<Asked>
     ensures steps { IfSome result IsAsked }
-    ensures list { (reading : List ℕ → Option DateOrMoment) → IsReading reading → result ≡ list_of reading (arguments_of words.now) }
+    ensures list { (reading : List ℕ → Option DateOrMoment) → IsReading reading
+        → result ≡ list_of reading (arguments_of words.now) }
 {
     let (first, (last, pace)) = span_of(words)?;
     Some(paced(first, last, pace))
@@ -25,7 +26,8 @@ pub fn list_of(words: &[u8]) -> Option<Asked>
 /// The first date, and the last one with the pace.
 fn span_of(words: &[u8]) -> Option<(Date, (Date, Pace))>
     ensures steps { IfSome result (λ span. IsPace span.1.1) }
-    ensures span { (reading : List ℕ → Option DateOrMoment) → IsReading reading → result ≡ span_of reading (arguments_of words.now) }
+    ensures span { (reading : List ℕ → Option DateOrMoment) → IsReading reading
+        → result ≡ span_of reading (arguments_of words.now) }
 {
     let (from, rest) = first_word(words)?;
     let (first, rest) = first_word(rest)?;
@@ -62,7 +64,8 @@ fn paced(first: Date, last: Date, pace: Pace) -> Asked
 /// The last date, and the pace.
 fn last_of(words: &[u8]) -> Option<(Date, Pace)>
     ensures steps { IfSome result (λ end. IsPace end.1) }
-    ensures end { (reading : List ℕ → Option DateOrMoment) → IsReading reading → result ≡ last_of reading (arguments_of words.now) }
+    ensures end { (reading : List ℕ → Option DateOrMoment) → IsReading reading
+        → result ≡ last_of reading (arguments_of words.now) }
 {
     let Some((last, by)) = first_word(words) else {
         return Some((date_of(words)?, Pace::Steps(EVERY_DAY)));
@@ -118,7 +121,8 @@ pub fn step_in(number: u32, unit: TimeUnit) -> Option<Step>
 
 /// The date that the text is, if it is one and no moment.
 pub fn date_of(text: &[u8]) -> Option<Date>
-    ensures { (reading : List ℕ → Option DateOrMoment) → IsReading reading → result ≡ date_of reading text.now }
+    ensures { (reading : List ℕ → Option DateOrMoment) → IsReading reading
+        → result ≡ date_of reading text.now }
 {
     date_in(&found_in(text)?)
 }

@@ -32,14 +32,16 @@ pub fn led_to(date: Date, by: DayMove) -> Option<Date>
 
 /// The day so many months later.
 fn months_later(date: Date, months: i64) -> Option<Date>
-    ensures { MatchOption result ((n : ℕ) → ¬ (IsDate n × IsMonthsLater date months n)) (λ n. IsDate n × IsMonthsLater date months n) }
+    ensures { MatchOption result ((n : ℕ) → ¬ (IsDate n × IsMonthsLater date months n))
+        (λ n. IsDate n × IsMonthsLater date months n) }
 {
     checked_add_months(date, nearest(months))
 }
 
 /// The day so many years later.
 fn years_later(date: Date, years: i64) -> Option<Date>
-    ensures { MatchOption result ((n : ℕ) → ¬ (IsDate n × IsMonthsLater date (pos 12 *ℤ years) n)) (λ n. IsDate n × IsMonthsLater date (pos 12 *ℤ years) n) }
+    ensures { MatchOption result ((n : ℕ) → ¬ (IsDate n × IsMonthsLater date (pos 12 *ℤ years) n))
+        (λ n. IsDate n × IsMonthsLater date (pos 12 *ℤ years) n) }
 {
     checked_add_years(date, nearest(years))
 }
@@ -54,7 +56,8 @@ fn workdays_later(date: Date, days: i64) -> Option<Date>
 /// The nearest number from -2000000000 to 2000000000, which lead past each end of the range in any unit.
 fn nearest(number: i64) -> i32
     ensures below { number ≤ℤ neg_ℤ (pos 2_000_000_000) → result ≡ neg_ℤ (pos 2_000_000_000) }
-    ensures within { neg_ℤ (pos 2_000_000_000) ≤ℤ number → number ≤ℤ pos 2_000_000_000 → result ≡ number }
+    ensures within { neg_ℤ (pos 2_000_000_000) ≤ℤ number → number ≤ℤ pos 2_000_000_000
+        → result ≡ number }
     ensures above { pos 2_000_000_000 ≤ℤ number → result ≡ pos 2_000_000_000 }
 {
     if number < -2_000_000_000 {
@@ -91,7 +94,8 @@ fn first_of(period: Period, date: Date) -> Date
 
 /// The last day of the period that has the day, or `None` where the range ends within its week.
 fn last_of(period: Period, date: Date) -> Option<Date>
-    ensures { MatchOption result ((n : ℕ) → ¬ (IsDate n × IsLastOf period date n)) (λ n. IsDate n × IsLastOf period date n) }
+    ensures { MatchOption result ((n : ℕ) → ¬ (IsDate n × IsLastOf period date n))
+        (λ n. IsDate n × IsLastOf period date n) }
 {
     match period {
         Period::Week => last_of_iso_week(date),

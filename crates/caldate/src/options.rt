@@ -53,9 +53,12 @@ fn next_option<'a>(
     options: &Options,
     words: Option<&'a [u8]>,
 ) -> Option<(Options, Option<&'a [u8]>)>
-    ensures cut { MatchOption result (cut_options options.now (words_left words.entry) ≡ (options.now, words_left words.entry))
-        (λ next. cut_options options.now (words_left words.entry) ≡ cut_options next.0 (words_left next.1)) }
-    ensures fewer { MatchOption result (length (words_left words.entry) ≡ length (words_left words.entry))
+    ensures cut { MatchOption result
+        (cut_options options.now (words_left words.entry) ≡ (options.now, words_left words.entry))
+        (λ next. cut_options options.now (words_left words.entry)
+        ≡ cut_options next.0 (words_left next.1)) }
+    ensures fewer { MatchOption result
+        (length (words_left words.entry) ≡ length (words_left words.entry))
         (λ next. length (words_left next.1) < length (words_left words.entry)) }
 {
     let (word, rest) = cut(words?);

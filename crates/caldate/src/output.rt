@@ -15,7 +15,8 @@ use std::io::{self, ErrorKind, Write};
 #[tactic(auto, using(crate::proofs::Known::taken_more))]
 pub fn write_all<W: Write>(writer: &mut W, bytes: &[u8]) -> Result<(), Fault>
     ensures ok { OnOk result (Appends (W.contents writer.old) (W.contents writer.new) bytes.now) }
-    ensures front { OnErr result (AppendsFront (W.contents writer.old) (W.contents writer.new) bytes.now) }
+    ensures front { OnErr result (AppendsFront (W.contents writer.old)
+        (W.contents writer.new) bytes.now) }
     ensures err { IfErr result IsOfWrite }
 {
     let mut retries = Retries::new();
@@ -34,7 +35,8 @@ pub fn write_all<W: Write>(writer: &mut W, bytes: &[u8]) -> Result<(), Fault>
 fn write_some<W: Write>(writer: &mut W, bytes: &[u8], retries: &mut Retries) -> io::Result<usize>
     ensures bound { WritesAtMost result bytes.now }
     ensures bytes { WriteAppends (W.contents writer.old) (W.contents writer.new) result bytes.now }
-    ensures patient { IfErr result (λ error. error_kind error ≡ ErrorKind.Interrupted → retries.new ≡ 0) }
+    ensures patient { IfErr result (λ error. error_kind error ≡ ErrorKind.Interrupted
+        → retries.new ≡ 0) }
 {
     loop {
         match writer.write(bytes) {

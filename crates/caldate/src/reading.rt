@@ -47,7 +47,8 @@ pub fn read_in(reading: Reading, text: &[u8]) -> Result<DateOrMoment, Unreadable
     ensures has { IfOk result (IsTextIn reading text.now) }
     ensures form { IsRefusedForForm result ↔ ¬ HasFormIn reading text.now }
     ensures position { reading ≡ Any → IfErr result (IsAtStop HasAnyForm text.now) }
-    ensures component { (why : ComponentRange) → IsRefusedFor why result ↔ IsFaultIn reading text.now why }
+    ensures component { (why : ComponentRange)
+        → IsRefusedFor why result ↔ IsFaultIn reading text.now why }
 {
     match reading {
         Reading::Any => read_any(text),

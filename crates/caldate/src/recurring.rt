@@ -29,7 +29,8 @@ pub fn list_occurrences<W: Write>(asked: &Occurrences, writer: &mut W) -> Result
 /// The next of the days, which is taken from the walk, or `None` where there is none or it is past the last.
 fn next_within(days: &mut RuleDays<'_>, last: Date) -> Option<Date>
     ensures { MatchOption result (take_while (λ day. nat_le day last) days.old ≡ [])
-        (λ next. take_while (λ day. nat_le day last) days.old ≡ next ∷ take_while (λ day. nat_le day last) days.new) }
+        (λ next. take_while (λ day. nat_le day last) days.old
+        ≡ next ∷ take_while (λ day. nat_le day last) days.new) }
 {
     let day = days.next()?;
     if day > last {

@@ -27,11 +27,16 @@ pub fn push_reply(
     line: &[u8],
 ) -> Result<(), UnansweredLine>
     requires { HasRoom longest_reply buffer.old }
-    ensures replied { OnOk result ((kept : List ℕ) (before : ℕ) → IsHeld progress.now.is_long kept line.now → progress.now.number ≡ counted before
-        → AppendsThat (IsReply (IsAllowed filter.now before) (kept ++ line.now)) buffer.old buffer.new) }
-    ensures strict { IfErr result (λ told. (filter.now.is_strict ≡ true) × (buffer.new ≡ buffer.old)) }
-    ensures told { IfErr result (λ told. (kept : List ℕ) (before : ℕ) → IsHeld progress.now.is_long kept line.now
-        → IsShown progress.now.is_long progress.now.front kept → progress.now.number ≡ counted before
+    ensures replied { OnOk result ((kept : List ℕ) (before : ℕ)
+        → IsHeld progress.now.is_long kept line.now → progress.now.number ≡ counted before
+        → AppendsThat (IsReply (IsAllowed filter.now before) (kept ++ line.now)) buffer.old
+        buffer.new) }
+    ensures strict { IfErr result (λ told.
+        (filter.now.is_strict ≡ true) × (buffer.new ≡ buffer.old)) }
+    ensures told { IfErr result (λ told. (kept : List ℕ) (before : ℕ)
+        → IsHeld progress.now.is_long kept line.now
+        → IsShown progress.now.is_long progress.now.front kept
+        → progress.now.number ≡ counted before
         → IsUnanswered filter.now before (kept ++ line.now) told) }
 {
     let (text, end) = text_and_end(line);
@@ -97,9 +102,11 @@ fn push_too_long(buffer: &mut Buffer, filter: &Filter) -> Result<(), usize>
 /// and returns where that begins.
 fn push_text(buffer: &mut Buffer, filter: &Filter, number: u64, text: &[u8]) -> Result<(), usize>
     requires { HasRoom longest_reply buffer.old }
-    ensures ok { OnOk result ((before : ℕ) → number ≡ counted before → AppendsThat (IsAllowed filter.now before text.now) buffer.old buffer.new) }
+    ensures ok { OnOk result ((before : ℕ) → number ≡ counted before
+        → AppendsThat (IsAllowed filter.now before text.now) buffer.old buffer.new) }
     ensures strict { IfErr result (Stopped filter.now buffer.old buffer.new) }
-    ensures reason { IfErr result (λ start. (before : ℕ) → number ≡ counted before → IsReason filter.now before text.now (drop start buffer.new)) }
+    ensures reason { IfErr result (λ start. (before : ℕ) → number ≡ counted before
+        → IsReason filter.now before text.now (drop start buffer.new)) }
     ensures short { length buffer.new ≤ length buffer.old + longest_text + longest_answer }
 {
     if text.len() > LONGEST_TEXT {
@@ -121,9 +128,11 @@ fn push_field(buffer: &mut Buffer, filter: &Filter, field: Field, text: &[u8]) -
     requires room { HasRoom longest_reply buffer.old }
     requires fits { length text.now ≤ longest_text }
     requires field { filter.now.field ≡ Some field }
-    ensures ok { OnOk result (AppendsThat (AllowedFor filter.now text.now (asked_text (Some field) text.now)) buffer.old buffer.new) }
+    ensures ok { OnOk result (AppendsThat
+        (AllowedFor filter.now text.now (asked_text (Some field) text.now)) buffer.old buffer.new) }
     ensures strict { IfErr result (Stopped filter.now buffer.old buffer.new) }
-    ensures reason { IfErr result (λ start. IsWhy filter.now (asked_text (Some field) text.now) (drop start buffer.new)) }
+    ensures reason { IfErr result (λ start.
+        IsWhy filter.now (asked_text (Some field) text.now) (drop start buffer.new)) }
     ensures short { length buffer.new ≤ length buffer.old + longest_text + longest_answer }
 {
     let Some((front, asked, rest)) = cut_field(field, text) else {
@@ -139,7 +148,8 @@ fn push_field(buffer: &mut Buffer, filter: &Filter, field: Field, text: &[u8]) -
 fn push_without_field(buffer: &mut Buffer, filter: &Filter, text: &[u8]) -> Result<(), usize>
     requires room { HasRoom longest_reply buffer.old }
     requires fits { length text.now ≤ longest_text }
-    ensures ok { OnOk result ((filter.now.is_strict ≡ false) × (buffer.new ≡ buffer.old ++ text.now)) }
+    ensures ok { OnOk result ((filter.now.is_strict ≡ false)
+        × (buffer.new ≡ buffer.old ++ text.now)) }
     ensures strict { IfErr result (Stopped filter.now buffer.old buffer.new) }
     ensures reason { IfErr result (λ start. drop start buffer.new ≡ codes "no such field") }
     ensures short { length buffer.new ≤ length buffer.old + longest_text + longest_answer }
@@ -157,9 +167,11 @@ fn push_without_field(buffer: &mut Buffer, filter: &Filter, text: &[u8]) -> Resu
 /// where that begins.
 fn push_asked(buffer: &mut Buffer, filter: &Filter, text: &[u8]) -> Result<(), usize>
     requires { HasRoom longest_answer buffer.old }
-    ensures ok { OnOk result (AppendsThat (Allowed filter.now.is_strict filter.now text.now) buffer.old buffer.new) }
+    ensures ok { OnOk result (AppendsThat
+        (Allowed filter.now.is_strict filter.now text.now) buffer.old buffer.new) }
     ensures strict { IfErr result (Stopped filter.now buffer.old buffer.new) }
-    ensures reason { IfErr result (λ start. LacksAnswer filter.now text.now (drop start buffer.new)) }
+    ensures reason { IfErr result (λ start.
+        LacksAnswer filter.now text.now (drop start buffer.new)) }
     ensures short { length buffer.new ≤ length buffer.old + longest_answer }
 {
     let start = buffer.len();

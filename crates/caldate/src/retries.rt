@@ -34,7 +34,8 @@ impl Retries {
 
     /// Whether a call that failed like this is taken again: it was interrupted, and not for too many times.
     pub fn allows(&mut self, error: &io::Error) -> bool
-        ensures allowed { IsTrue result ↔ (error_kind error.now ≡ ErrorKind.Interrupted) × (0 < self.old) }
+        ensures allowed { IsTrue result
+            ↔ (error_kind error.now ≡ ErrorKind.Interrupted) × (0 < self.old) }
         ensures left { self.old ≡ (if result then self.new + 1 else self.new) }
     {
         if error.kind() != ErrorKind::Interrupted || self.left == 0 {

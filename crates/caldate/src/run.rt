@@ -26,7 +26,8 @@ const MOST_KEPT: usize = 4097;
 ///
 /// The answers to what one read gave go out before the next read. It gives up as after a failed read once it has read 2^64 - 1 times.
 pub fn run<R: Read, W: Write>(filter: Filter, reader: &mut R, writer: &mut W) -> Result<(), Fault>
-    ensures { Ended filter result (R.remaining reader.old) (R.remaining reader.new) (W.contents writer.old) (W.contents writer.new) }
+    ensures { Ended filter result (R.remaining reader.old) (R.remaining reader.new)
+        (W.contents writer.old) (W.contents writer.new) }
 {
     let mut input = Input::new();
     let mut buffer = Buffer::new();
@@ -74,12 +75,16 @@ fn answer_lines<W: Write>(
 ) -> Result<usize, Fault>
     ensures within { IfOk result (λ left. left ≤ length bytes.now) }
     ensures no_end { IfOk result (λ left. NoEnd (drop (length bytes.now - left) bytes.now)) }
-    ensures ok { IfOk result (λ left. Advances (IsReplyTo filter.now) (W.contents writer.old) (W.contents writer.new) buffer.old buffer.new
+    ensures ok { IfOk result (λ left.
+        Advances (IsReplyTo filter.now) (W.contents writer.old)
+        (W.contents writer.new) buffer.old buffer.new
         bytes.now (drop (length bytes.now - left) bytes.now) progress.old progress.new) }
     ensures write { IsErrAnd result IsOfWrite
-        → FailsFrom filter.now ended_lines (W.contents writer.old) (W.contents writer.new) buffer.old bytes.now progress.old }
+        → FailsFrom filter.now ended_lines (W.contents writer.old)
+        (W.contents writer.new) buffer.old bytes.now progress.old }
     ensures unanswered { (told : UnansweredLine) → IsErrOf result (Fault.Unanswered told)
-        → StopsFrom filter.now told ended_lines (W.contents writer.old) (W.contents writer.new) buffer.old bytes.now progress.old }
+        → StopsFrom filter.now told ended_lines (W.contents writer.old)
+        (W.contents writer.new) buffer.old bytes.now progress.old }
     ensures no_read { IsErrOf result Fault.Read → ⊥ }
 {
     let mut rest = bytes;
@@ -120,11 +125,14 @@ fn answer_last<W: Write>(
 ) -> Result<(), Fault>
     requires no_end { NoEnd line.now }
     requires none { buffer.old ≡ [] }
-    ensures ok { OnOk result (EndsFrom filter.now (W.contents writer.old) (W.contents writer.new) [] line.now progress.old) }
+    ensures ok { OnOk result (EndsFrom filter.now (W.contents writer.old)
+        (W.contents writer.new) [] line.now progress.old) }
     ensures write { IsErrAnd result IsOfWrite
-        → FailsFrom filter.now lines_of (W.contents writer.old) (W.contents writer.new) [] line.now progress.old }
+        → FailsFrom filter.now lines_of (W.contents writer.old)
+        (W.contents writer.new) [] line.now progress.old }
     ensures unanswered { (told : UnansweredLine) → IsErrOf result (Fault.Unanswered told)
-        → StopsFrom filter.now told lines_of (W.contents writer.old) (W.contents writer.new) [] line.now progress.old }
+        → StopsFrom filter.now told lines_of (W.contents writer.old)
+        (W.contents writer.new) [] line.now progress.old }
     ensures no_read { IsErrOf result Fault.Read → ⊥ }
 {
     if line.is_empty() {
@@ -143,7 +151,8 @@ fn let_go(input: &mut Input, progress: &mut Progress)
     ensures few { length input.new ≤ longest_text + 1 }
     ensures no_end { NoEnd input.new }
     ensures advances { (filter : Filter) (now : Option (List ℕ)) (buffer : List ℕ)
-        → Advances (IsReplyTo filter) now now buffer buffer input.old input.new progress.old progress.new }
+        → Advances (IsReplyTo filter) now now buffer buffer input.old input.new progress.old
+        progress.new }
 {
     if input.len() > MOST_KEPT {
         progress.front = progress.shown(input.as_bytes());
@@ -157,7 +166,8 @@ pub fn make_room<W: Write>(buffer: &mut Buffer, writer: &mut W) -> Result<(), Fa
     ensures room { OnOk result (HasRoom longest_reply buffer.new) }
     ensures ok { OnOk result ((written : List ℕ) × (buffer.old ≡ written ++ buffer.new)
         × Appends (W.contents writer.old) (W.contents writer.new) written) }
-    ensures front { OnErr result (AppendsFront (W.contents writer.old) (W.contents writer.new) buffer.old) }
+    ensures front { OnErr result (AppendsFront (W.contents writer.old)
+        (W.contents writer.new) buffer.old) }
     ensures err { IfErr result IsOfWrite }
 {
     if !buffer.has_room_for_a_reply() {
@@ -168,8 +178,10 @@ pub fn make_room<W: Write>(buffer: &mut Buffer, writer: &mut W) -> Result<(), Fa
 
 /// Writes what was gathered.
 fn flush<W: Write>(buffer: &mut Buffer, writer: &mut W) -> Result<(), Fault>
-    ensures ok { OnOk result (Appends (W.contents writer.old) (W.contents writer.new) buffer.old × (buffer.new ≡ [])) }
-    ensures front { OnErr result (AppendsFront (W.contents writer.old) (W.contents writer.new) buffer.old) }
+    ensures ok { OnOk result (Appends (W.contents writer.old) (W.contents writer.new) buffer.old
+        × (buffer.new ≡ [])) }
+    ensures front { OnErr result (AppendsFront (W.contents writer.old)
+        (W.contents writer.new) buffer.old) }
     ensures err { IfErr result IsOfWrite }
 {
     write_all(writer, buffer.as_bytes())?;

@@ -106,7 +106,8 @@ const BOUND_WORDS: [Wanted; 1] = [Wanted::Target];
 
 /// The first word that makes no sense, of arguments that make none: of `next frday` that at index 1, where a weekday may stand.
 pub fn senseless_of(arguments: &[u8]) -> Senseless
-    ensures { (reading : List ℕ → Option DateOrMoment) → IsReading reading → result ≡ senseless_of reading (arguments_of arguments.now) }
+    ensures { (reading : List ℕ → Option DateOrMoment) → IsReading reading
+        → result ≡ senseless_of reading (arguments_of arguments.now) }
 {
     if arguments.is_empty() {
         return senseless_at(0, Wanted::Something);
@@ -123,7 +124,8 @@ pub fn senseless_of(arguments: &[u8]) -> Senseless
 
 /// From the options on.
 fn senseless_lines(arguments: &[u8]) -> Senseless
-    ensures { (reading : List ℕ → Option DateOrMoment) → IsReading reading → result ≡ senseless_lines reading (arguments_of arguments.now) }
+    ensures { (reading : List ℕ → Option DateOrMoment) → IsReading reading
+        → result ≡ senseless_lines reading (arguments_of arguments.now) }
 {
     let (options, words) = options_of(arguments);
     senseless_front(&options, words)
@@ -131,7 +133,8 @@ fn senseless_lines(arguments: &[u8]) -> Senseless
 
 /// From the word after the options on.
 fn senseless_front(options: &Options, words: Option<&[u8]>) -> Senseless
-    ensures { (reading : List ℕ → Option DateOrMoment) → IsReading reading → result ≡ senseless_front reading options.now (words_left words.entry) }
+    ensures { (reading : List ℕ → Option DateOrMoment) → IsReading reading
+        → result ≡ senseless_front reading options.now (words_left words.entry) }
 {
     let index = words_in(options);
     let Some(words) = words else {
@@ -146,7 +149,8 @@ fn senseless_front(options: &Options, words: Option<&[u8]>) -> Senseless
 
 /// From the verb on, where the word is no option.
 fn senseless_verb(options: &Options, words: &[u8]) -> Senseless
-    ensures { (reading : List ℕ → Option DateOrMoment) → IsReading reading → result ≡ senseless_verb reading options.now (arguments_of words.now) }
+    ensures { (reading : List ℕ → Option DateOrMoment) → IsReading reading
+        → result ≡ senseless_verb reading options.now (arguments_of words.now) }
 {
     let index = words_in(options);
     let wanted = verb_after(options);
@@ -197,7 +201,8 @@ fn is_by_rule(words: Option<&[u8]>) -> bool
 /// Of words from this index on, each of which is wanted so, the first that is not, or is missing, or is one too many.
 fn senseless_among(index: usize, wanted: &[Wanted], words: Option<&[u8]>) -> Senseless
     requires { index + length wanted.now ≤ 16 }
-    ensures { (reading : List ℕ → Option DateOrMoment) → IsReading reading → result ≡ senseless_among reading index wanted.now (words_left words.entry) }
+    ensures { (reading : List ℕ → Option DateOrMoment) → IsReading reading
+        → result ≡ senseless_among reading index wanted.now (words_left words.entry) }
 {
     let Some((first, others)) = wanted.split_first() else {
         return senseless_at(index, Wanted::End);
@@ -216,7 +221,8 @@ fn senseless_among(index: usize, wanted: &[Wanted], words: Option<&[u8]>) -> Sen
 /// From the verb on, which has this index, where this is wanted.
 fn senseless_request(index: usize, wanted: Wanted, words: &[u8]) -> Senseless
     requires { index ≤ 11 }
-    ensures { (reading : List ℕ → Option DateOrMoment) → IsReading reading → result ≡ senseless_request reading index wanted (arguments_of words.now) }
+    ensures { (reading : List ℕ → Option DateOrMoment) → IsReading reading
+        → result ≡ senseless_request reading index wanted (arguments_of words.now) }
 {
     let (word, rest) = cut(words);
     match verb_of(word) {
@@ -228,7 +234,8 @@ fn senseless_request(index: usize, wanted: Wanted, words: &[u8]) -> Senseless
 /// After a verb, from this index on.
 fn senseless_after(index: usize, words: Option<&[u8]>, verb: Verb) -> Senseless
     requires { index ≤ 12 }
-    ensures { (reading : List ℕ → Option DateOrMoment) → IsReading reading → result ≡ senseless_after reading index (words_left words.entry) verb }
+    ensures { (reading : List ℕ → Option DateOrMoment) → IsReading reading
+        → result ≡ senseless_after reading index (words_left words.entry) verb }
 {
     let needed = needed_by(verb);
     let Some(words) = words else {
@@ -245,7 +252,8 @@ fn senseless_after(index: usize, words: Option<&[u8]>, verb: Verb) -> Senseless
 /// After the word that the verb needs, which has this index.
 fn senseless_rest(index: usize, verb: Verb, word: &[u8], words: Option<&[u8]>) -> Senseless
     requires { index ≤ 12 }
-    ensures { (reading : List ℕ → Option DateOrMoment) → IsReading reading → result ≡ senseless_rest reading index verb word.now (words_left words.entry) }
+    ensures { (reading : List ℕ → Option DateOrMoment) → IsReading reading
+        → result ≡ senseless_rest reading index verb word.now (words_left words.entry) }
 {
     match verb {
         Verb::Keep => senseless_among(index + 1, bounds_after(word), words),
@@ -268,7 +276,8 @@ fn bounds_after(word: &[u8]) -> &'static [Wanted]
 /// After the word that the verb needs, which has this index, where there may be another one.
 fn senseless_further(index: usize, further: Wanted, words: Option<&[u8]>) -> Senseless
     requires { index ≤ 12 }
-    ensures { (reading : List ℕ → Option DateOrMoment) → IsReading reading → result ≡ senseless_further reading index further (words_left words.entry) }
+    ensures { (reading : List ℕ → Option DateOrMoment) → IsReading reading
+        → result ≡ senseless_further reading index further (words_left words.entry) }
 {
     let Some(words) = words else {
         return senseless_at(index, Wanted::Amount);
@@ -357,7 +366,8 @@ fn further_to(verb: Verb) -> Wanted
 
 /// Whether the word may stand where this is wanted.
 fn is_wanted(word: &[u8], wanted: Wanted) -> bool
-    ensures { (reading : List ℕ → Option DateOrMoment) → IsReading reading → result ≡ is_wanted reading word.now wanted }
+    ensures { (reading : List ℕ → Option DateOrMoment) → IsReading reading
+        → result ≡ is_wanted reading word.now wanted }
 {
     match wanted {
         Wanted::Form => form_of(word).is_some(),

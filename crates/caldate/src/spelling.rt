@@ -242,7 +242,8 @@ pub fn cut(words: &[u8]) -> (&[u8], Option<&[u8]>)
 #[tactic(auto, using(crate::proofs::Parts::two_arguments, crate::proofs::Parts::arguments_of_none))]
 pub fn only_word(bytes: &[u8]) -> Option<&[u8]>
     ensures { MatchOption result
-        ((first second : List ℕ) × (more : List (List ℕ)) × (arguments_of bytes.now ≡ first ∷ second ∷ more))
+        ((first second : List ℕ) × (more : List (List ℕ))
+        × (arguments_of bytes.now ≡ first ∷ second ∷ more))
         (λ word. arguments_of bytes.now ≡ word.now ∷ []) }
 {
     match index_of(0, bytes) {

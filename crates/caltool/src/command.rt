@@ -138,7 +138,8 @@ fn first_word(bytes: &[u8]) -> Option<(&[u8], &[u8])>
 #[tactic(auto, using(crate::proofs::Parts::two_words, crate::proofs::Parts::words_of_none))]
 fn only_word(bytes: &[u8]) -> Option<&[u8]>
     ensures { MatchOption result
-        ((first second : List ℕ) × (more : List (List ℕ)) × (words_of bytes.now ≡ first ∷ second ∷ more))
+        ((first second : List ℕ) × (more : List (List ℕ))
+        × (words_of bytes.now ≡ first ∷ second ∷ more))
         (λ word. words_of bytes.now ≡ word.now ∷ []) }
 {
     match index_of(b' ', bytes) {

@@ -33,7 +33,8 @@ pub fn find_calendar_date(year: i32, month: u8, day: u8) -> Result<Date, Compone
 }
 
 fn find_date_of_month(year: i32, month: Month, day: u8) -> Result<Date, ComponentRange>
-    ensures { Finds (day_of_calendar_date year (number month) day) (why_no_calendar_date year (number month)) result }
+    ensures { Finds (day_of_calendar_date year (number month) day)
+        (why_no_calendar_date year (number month)) result }
 {
     Date::from_calendar_date(year, month, day)
 }

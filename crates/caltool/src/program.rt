@@ -15,7 +15,8 @@ use std::io::{Read, Write};
 /// is 2, with nothing written and `input too long` told.
 pub fn perform<R: Read, W: Write, E: Write>(reader: &mut R, writer: &mut W, errors: &mut E) -> u8
     ensures { (outcome : Result Unit Fault)
-        × Ended outcome (R.remaining reader.old) (R.remaining reader.new) (W.contents writer.old) (W.contents writer.new)
+        × Ended outcome (R.remaining reader.old) (R.remaining reader.new) (W.contents writer.old)
+        (W.contents writer.new)
         × Tells outcome result (E.contents errors.old) (E.contents errors.new) }
 {
     let outcome = run(reader, writer);

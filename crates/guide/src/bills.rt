@@ -18,7 +18,8 @@ use std::io;
 /// The end of the month after that of the day.
 fn end_of_next_month(date: Date) -> Option<Date>
     ensures { IfSome result (λ end. (later : ℕ) × IsMonthsLater date (pos 1) later
-        × HasCalendarDate (year_at later) (month_at later) (days_in_month (year_at later) (month_at later)) end) }
+        × HasCalendarDate (year_at later) (month_at later)
+        (days_in_month (year_at later) (month_at later)) end) }
 {
     let later = checked_add_months(date, 1)?;
     Some(last_of_month(later))

@@ -12,7 +12,8 @@ use std::io;
 
 /// The last day of that month.
 fn last_of_month(year: i32, month: Month) -> Result<Date, ComponentRange>
-    ensures { IfOk result (HasCalendarDate year (number month) (days_in_month year (number month))) }
+    ensures { IfOk result (HasCalendarDate year (number month)
+        (days_in_month year (number month))) }
 {
     Date::from_calendar_date(year, month, days_in_month(month, year))
 }

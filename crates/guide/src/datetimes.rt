@@ -270,7 +270,8 @@ fn moment_comes_back(moment: OffsetDateTime) -> Option<OffsetDateTime>
 /// The instant of a Unix time in seconds.
 fn unix_instant(timestamp: i64) -> Option<OffsetDateTime>
     ensures some { IsSome result ↔ IsDateTime (unix_epoch +ℤ timestamp *ℤ pos second) }
-    ensures instant { IfSome result (λ moment. instant moment ≡ unix_epoch +ℤ timestamp *ℤ pos second) }
+    ensures instant { IfSome result (λ moment.
+        instant moment ≡ unix_epoch +ℤ timestamp *ℤ pos second) }
 {
     OffsetDateTime::from_unix_timestamp(timestamp).ok()
 }

@@ -13,7 +13,8 @@ use std::io;
 /// The next day of the rule, and the one after it.
 fn next_two(rule: &Rule<'_>, date: Date) -> Option<(Date, Date)>
     ensures order { IfSome result (λ days. (date < days.0) × (days.0 < days.1)) }
-    ensures on { IfSome result (λ days. (is_on rule.now days.0 ≡ true) × (is_on rule.now days.1 ≡ true)) }
+    ensures on { IfSome result (λ days.
+        (is_on rule.now days.0 ≡ true) × (is_on rule.now days.1 ≡ true)) }
 {
     let first = rule.next_after(date)?;
     let second = rule.next_after(first)?;
@@ -22,7 +23,8 @@ fn next_two(rule: &Rule<'_>, date: Date) -> Option<(Date, Date)>
 
 /// The text of a recurrence in the order and the spelling in which each is written, or the fault of the text.
 fn respelled(text: &[u8]) -> Result<RecurrenceText, RuleFault>
-    ensures written { IfOk result (λ written. (r : Recurrence) × (recurrence_of text.now ≡ Ok r) × (written ≡ text_of r)) }
+    ensures written { IfOk result (λ written.
+        (r : Recurrence) × (recurrence_of text.now ≡ Ok r) × (written ≡ text_of r)) }
     ensures same { IfOk result (λ written. recurrence_of written ≡ recurrence_of text.now) }
 {
     let recurrence = parse(text)?;

@@ -11,7 +11,8 @@ use std::io;
 
 /// The first day of that month and its weekday, or the refusal, handed on.
 fn first_of_month(year: i32, month: Month) -> Result<(Date, Weekday), ComponentRange>
-    ensures { IfOk result (λ first. HasCalendarDate year (number month) 1 first.0 × (index first.1 ≡ weekday_at first.0)) }
+    ensures { IfOk result (λ first. HasCalendarDate year (number month) 1 first.0
+        × (index first.1 ≡ weekday_at first.0)) }
 {
     let date = Date::from_calendar_date(year, month, 1)?;
     Ok((date, date.weekday()))

@@ -36,7 +36,8 @@ fn show_moment(rt: &impl Print, text: &str) -> io::Result<()> {
 
 /// The day of a calendar date, an ordinal date or a week date. The refusal is that of the reader, handed on.
 fn date_in(text: &[u8]) -> Result<Date, Unreadable>
-    ensures month { IsRefusedFor month_out_of_range result ↔ HasFault HasForm IsFaultOf text.now month_out_of_range }
+    ensures month { IsRefusedFor month_out_of_range result
+        ↔ HasFault HasForm IsFaultOf text.now month_out_of_range }
 {
     date::read(text)
 }

@@ -51,7 +51,8 @@ pub(super) fn iso_week_date_at(date: i32) -> (i32, u8, u8)
 /// The days of a month, in a leap year or in a common one.
 #[inline(always)]
 pub(super) fn length_of(month: u8, leap: bool) -> u8
-    ensures value { (year : ℤ) → IsMonth month → leap ≡ is_leap_year year → result ≡ days_in_month year month }
+    ensures value { (year : ℤ) → IsMonth month → leap ≡ is_leap_year year
+        → result ≡ days_in_month year month }
     ensures least { 28 ≤ result }
     ensures most { result ≤ 31 }
 {
@@ -75,8 +76,10 @@ pub(super) fn has_day(year: i32, month: u8, day: u8) -> bool
 /// The Julian day of a year, a month and a day of the month.
 #[inline(always)]
 pub(super) fn julian_day_at(year: i32, month: u8, day: u8) -> i32
-    ensures has { IsYear year → IsMonth month → IsDayOfMonth year month day → HasCalendarDate year month day (day_of result) }
-    ensures in_range { IsYear year → IsMonth month → IsDayOfMonth year month day → IsJulianDay result }
+    ensures has { IsYear year → IsMonth month → IsDayOfMonth year month day
+        → HasCalendarDate year month day (day_of result) }
+    ensures in_range { IsYear year → IsMonth month → IsDayOfMonth year month day
+        → IsJulianDay result }
 {
     // Years are counted from 1 March, so that a leap day ends its year; the first one begins in -1000000.
     let is_early = month <= 2;

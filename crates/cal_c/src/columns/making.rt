@@ -24,7 +24,9 @@ pub extern "C" fn fots_dates_from_julian_days(
     ensures unlike { ¬ Alike3 (length julian_days.now) (length dates.old) (length statuses.old)
         → (result ≡ usize.MAX) × (dates.new ≡ dates.old) × (statuses.new ≡ statuses.old) }
     ensures rows { Alike3 (length julian_days.now) (length dates.old) (length statuses.old)
-        → (k : ℕ) → k < length julian_days.now → IsDateOfJulianDay (get_or julian_days.now k (pos 0)) (date_row (get_or dates.new k (pos 0)) (get_or statuses.new k 0)) }
+        → (k : ℕ) → k < length julian_days.now
+        → IsDateOfJulianDay (get_or julian_days.now k (pos 0))
+        (date_row (get_or dates.new k (pos 0)) (get_or statuses.new k 0)) }
     ensures count { Alike3 (length julian_days.now) (length dates.old) (length statuses.old)
         → result ≡ count_by is_refused statuses.new }
 {
@@ -49,11 +51,17 @@ pub extern "C" fn fots_dates_from_calendar_dates(
     dates: &mut [i32],
     statuses: &mut [u8],
 ) -> usize
-    ensures unlike { ¬ Alike5 (length years.now) (length months.now) (length days.now) (length dates.old) (length statuses.old)
+    ensures unlike { ¬ Alike5 (length years.now) (length months.now) (length days.now)
+        (length dates.old) (length statuses.old)
         → (result ≡ usize.MAX) × (dates.new ≡ dates.old) × (statuses.new ≡ statuses.old) }
-    ensures rows { Alike5 (length years.now) (length months.now) (length days.now) (length dates.old) (length statuses.old)
-        → (k : ℕ) → k < length years.now → IsDateOfCalendarDate (get_or years.now k (pos 0)) (get_or months.now k 0) (get_or days.now k 0) (date_row (get_or dates.new k (pos 0)) (get_or statuses.new k 0)) }
-    ensures count { Alike5 (length years.now) (length months.now) (length days.now) (length dates.old) (length statuses.old)
+    ensures rows { Alike5 (length years.now) (length months.now) (length days.now)
+        (length dates.old) (length statuses.old)
+        → (k : ℕ) → k < length years.now
+        → IsDateOfCalendarDate (get_or years.now k (pos 0)) (get_or months.now k 0)
+        (get_or days.now k 0) (date_row (get_or dates.new k (pos 0))
+        (get_or statuses.new k 0)) }
+    ensures count { Alike5 (length years.now) (length months.now) (length days.now)
+        (length dates.old) (length statuses.old)
         → result ≡ count_by is_refused statuses.new }
 {
     let rows = years.len();
@@ -76,11 +84,16 @@ pub extern "C" fn fots_dates_from_ordinal_dates(
     dates: &mut [i32],
     statuses: &mut [u8],
 ) -> usize
-    ensures unlike { ¬ Alike4 (length years.now) (length ordinals.now) (length dates.old) (length statuses.old)
+    ensures unlike { ¬ Alike4 (length years.now) (length ordinals.now) (length dates.old)
+        (length statuses.old)
         → (result ≡ usize.MAX) × (dates.new ≡ dates.old) × (statuses.new ≡ statuses.old) }
-    ensures rows { Alike4 (length years.now) (length ordinals.now) (length dates.old) (length statuses.old)
-        → (k : ℕ) → k < length years.now → IsDateOfOrdinalDate (get_or years.now k (pos 0)) (get_or ordinals.now k 0) (date_row (get_or dates.new k (pos 0)) (get_or statuses.new k 0)) }
-    ensures count { Alike4 (length years.now) (length ordinals.now) (length dates.old) (length statuses.old)
+    ensures rows { Alike4 (length years.now) (length ordinals.now) (length dates.old)
+        (length statuses.old)
+        → (k : ℕ) → k < length years.now
+        → IsDateOfOrdinalDate (get_or years.now k (pos 0)) (get_or ordinals.now k 0)
+        (date_row (get_or dates.new k (pos 0)) (get_or statuses.new k 0)) }
+    ensures count { Alike4 (length years.now) (length ordinals.now) (length dates.old)
+        (length statuses.old)
         → result ≡ count_by is_refused statuses.new }
 {
     let rows = years.len();
@@ -104,11 +117,17 @@ pub extern "C" fn fots_dates_from_iso_week_dates(
     dates: &mut [i32],
     statuses: &mut [u8],
 ) -> usize
-    ensures unlike { ¬ Alike5 (length years.now) (length weeks.now) (length weekdays.now) (length dates.old) (length statuses.old)
+    ensures unlike { ¬ Alike5 (length years.now) (length weeks.now) (length weekdays.now)
+        (length dates.old) (length statuses.old)
         → (result ≡ usize.MAX) × (dates.new ≡ dates.old) × (statuses.new ≡ statuses.old) }
-    ensures rows { Alike5 (length years.now) (length weeks.now) (length weekdays.now) (length dates.old) (length statuses.old)
-        → (k : ℕ) → k < length years.now → IsDateOfIsoWeekDate (get_or years.now k (pos 0)) (get_or weeks.now k 0) (get_or weekdays.now k 0) (date_row (get_or dates.new k (pos 0)) (get_or statuses.new k 0)) }
-    ensures count { Alike5 (length years.now) (length weeks.now) (length weekdays.now) (length dates.old) (length statuses.old)
+    ensures rows { Alike5 (length years.now) (length weeks.now) (length weekdays.now)
+        (length dates.old) (length statuses.old)
+        → (k : ℕ) → k < length years.now
+        → IsDateOfIsoWeekDate (get_or years.now k (pos 0)) (get_or weeks.now k 0)
+        (get_or weekdays.now k 0) (date_row (get_or dates.new k (pos 0))
+        (get_or statuses.new k 0)) }
+    ensures count { Alike5 (length years.now) (length weeks.now) (length weekdays.now)
+        (length dates.old) (length statuses.old)
         → result ≡ count_by is_refused statuses.new }
 {
     let rows = years.len();
@@ -156,14 +175,16 @@ pub(super) fn made_if_any(date: Option<Date>) -> (i32, u8)
 
 /// The weekday that has the number, from Monday, 1.
 fn weekday_of(weekday: u8) -> Option<Weekday>
-    ensures { MatchOption result (¬ IsWeekday weekday) (λ found. IsWeekday weekday × (index found + 1 ≡ weekday)) }
+    ensures { MatchOption result (¬ IsWeekday weekday)
+        (λ found. IsWeekday weekday × (index found + 1 ≡ weekday)) }
 {
     values::weekday_of(u32::from(weekday))
 }
 
 /// The date of a Julian day, and its status.
 fn date_of_julian_day(julian_day: i64) -> (i32, u8)
-    ensures no_julian_day { ¬ IsJulianDay julian_day → date_row result.0 result.1 ≡ date_refused julian_day_refused }
+    ensures no_julian_day { ¬ IsJulianDay julian_day
+        → date_row result.0 result.1 ≡ date_refused julian_day_refused }
     ensures date { IsJulianDay julian_day → date_row result.0 result.1 ≡ date_done julian_day }
 {
     if is_date(julian_day) {
@@ -176,8 +197,10 @@ fn date_of_julian_day(julian_day: i64) -> (i32, u8)
 /// The date of a year, a month and a day of the month, and its status.
 fn date_of_calendar_date(year: i32, month: u8, day: u8) -> (i32, u8)
     ensures no_month { ¬ IsMonth month → date_row result.0 result.1 ≡ date_refused month_refused }
-    ensures no_year { IsMonth month → ¬ IsYear year → date_row result.0 result.1 ≡ date_refused year_refused }
-    ensures no_day { IsMonth month → IsYear year → ¬ IsDayOfMonth year month day → date_row result.0 result.1 ≡ date_refused day_refused }
+    ensures no_year { IsMonth month → ¬ IsYear year
+        → date_row result.0 result.1 ≡ date_refused year_refused }
+    ensures no_day { IsMonth month → IsYear year → ¬ IsDayOfMonth year month day
+        → date_row result.0 result.1 ≡ date_refused day_refused }
     ensures date { IsMonth month → IsYear year → IsDayOfMonth year month day
         → IsDayWith (HasCalendarDate year month day) (date_row result.0 result.1) }
 {
@@ -195,7 +218,8 @@ fn date_of_calendar_date(year: i32, month: u8, day: u8) -> (i32, u8)
 pub(super) fn status_of_calendar_date(year: i32, month: u8, day: u8) -> u8
     ensures no_month { ¬ IsMonth month → pos result ≡ month_refused }
     ensures no_year { IsMonth month → ¬ IsYear year → pos result ≡ year_refused }
-    ensures no_day { IsMonth month → IsYear year → ¬ IsDayOfMonth year month day → pos result ≡ day_refused }
+    ensures no_day { IsMonth month → IsYear year → ¬ IsDayOfMonth year month day
+        → pos result ≡ day_refused }
     ensures date { IsMonth month → IsYear year → IsDayOfMonth year month day → result ≡ 0 }
 {
     let is_day = has_day(year, month, day);
@@ -213,8 +237,10 @@ pub(super) fn status_of_calendar_date(year: i32, month: u8, day: u8) -> u8
 /// The date of a year and an ordinal, and its status.
 fn date_of_ordinal_date(year: i32, ordinal: u16) -> (i32, u8)
     ensures no_year { ¬ IsYear year → date_row result.0 result.1 ≡ date_refused year_refused }
-    ensures no_ordinal { IsYear year → ¬ IsOrdinal year ordinal → date_row result.0 result.1 ≡ date_refused ordinal_refused }
-    ensures date { IsYear year → IsOrdinal year ordinal → IsDayWith (HasOrdinalDate year ordinal) (date_row result.0 result.1) }
+    ensures no_ordinal { IsYear year → ¬ IsOrdinal year ordinal
+        → date_row result.0 result.1 ≡ date_refused ordinal_refused }
+    ensures date { IsYear year → IsOrdinal year ordinal
+        → IsDayWith (HasOrdinalDate year ordinal) (date_row result.0 result.1) }
 {
     match Date::from_ordinal_date(year, ordinal) {
         Ok(date) => made(date),
@@ -224,12 +250,17 @@ fn date_of_ordinal_date(year: i32, ordinal: u16) -> (i32, u8)
 
 /// The date of an ISO year, a week and a weekday, and its status.
 fn date_of_iso_week_date(year: i32, week: u8, weekday: u8) -> (i32, u8)
-    ensures bad_weekday { ¬ IsWeekday weekday → date_row result.0 result.1 ≡ date_refused bad_weekday }
-    ensures no_year { IsWeekday weekday → ¬ IsYear year → date_row result.0 result.1 ≡ date_refused year_refused }
-    ensures no_week { IsWeekday weekday → IsYear year → ¬ IsWeek year week → date_row result.0 result.1 ≡ date_refused week_refused }
-    ensures no_weekday { IsWeekday weekday → IsYear year → IsWeek year week → NoDate (HasIsoWeekDate year week (weekday - 1))
+    ensures bad_weekday { ¬ IsWeekday weekday
+        → date_row result.0 result.1 ≡ date_refused bad_weekday }
+    ensures no_year { IsWeekday weekday → ¬ IsYear year
+        → date_row result.0 result.1 ≡ date_refused year_refused }
+    ensures no_week { IsWeekday weekday → IsYear year → ¬ IsWeek year week
+        → date_row result.0 result.1 ≡ date_refused week_refused }
+    ensures no_weekday { IsWeekday weekday → IsYear year → IsWeek year week
+        → NoDate (HasIsoWeekDate year week (weekday - 1))
         → date_row result.0 result.1 ≡ date_refused weekday_refused }
-    ensures date { IsWeekday weekday → (n : ℕ) → IsDate n → HasIsoWeekDate year week (weekday - 1) n → IsWeek year week
+    ensures date { IsWeekday weekday → (n : ℕ) → IsDate n → HasIsoWeekDate year week (weekday - 1) n
+        → IsWeek year week
         → date_row result.0 result.1 ≡ date_done (julian_day_at n) }
 {
     let Some(weekday) = weekday_of(weekday) else {

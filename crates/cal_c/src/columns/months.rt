@@ -28,11 +28,16 @@ pub extern "C" fn fots_dates_add_months(
     moved: &mut [i32],
     statuses: &mut [u8],
 ) -> usize
-    ensures unlike { ¬ Alike4 (length dates.now) (length months.now) (length moved.old) (length statuses.old)
+    ensures unlike { ¬ Alike4 (length dates.now) (length months.now) (length moved.old)
+        (length statuses.old)
         → (result ≡ usize.MAX) × (moved.new ≡ moved.old) × (statuses.new ≡ statuses.old) }
-    ensures rows { Alike4 (length dates.now) (length months.now) (length moved.old) (length statuses.old)
-        → (k : ℕ) → k < length dates.now → IsDateMonthsLater (get_or dates.now k (pos 0)) (get_or months.now k (pos 0)) (date_row (get_or moved.new k (pos 0)) (get_or statuses.new k 0)) }
-    ensures count { Alike4 (length dates.now) (length months.now) (length moved.old) (length statuses.old)
+    ensures rows { Alike4 (length dates.now) (length months.now) (length moved.old)
+        (length statuses.old)
+        → (k : ℕ) → k < length dates.now
+        → IsDateMonthsLater (get_or dates.now k (pos 0)) (get_or months.now k (pos 0))
+        (date_row (get_or moved.new k (pos 0)) (get_or statuses.new k 0)) }
+    ensures count { Alike4 (length dates.now) (length months.now) (length moved.old)
+        (length statuses.old)
         → result ≡ count_by is_refused statuses.new }
 {
     let rows = dates.len();
@@ -50,7 +55,9 @@ pub extern "C" fn fots_dates_add_months(
 /// The day so many months later, and the status.
 fn date_months_later(date: i32, months: i32) -> (i32, u8)
     ensures bad_date { ¬ IsJulianDay date → date_row result.0 result.1 ≡ date_refused bad_date }
-    ensures past_range { IsJulianDay date → ¬ IsMonthNumber (month_number_at (day_of date) +ℤ months) → date_row result.0 result.1 ≡ date_refused past_range }
+    ensures past_range { IsJulianDay date
+        → ¬ IsMonthNumber (month_number_at (day_of date) +ℤ months)
+        → date_row result.0 result.1 ≡ date_refused past_range }
     ensures day { IsJulianDay date → IsMonthNumber (month_number_at (day_of date) +ℤ months)
         → IsDayWith (IsMonthsLater (day_of date) months) (date_row result.0 result.1) }
 {
@@ -70,7 +77,8 @@ fn date_months_later(date: i32, months: i32) -> (i32, u8)
 /// The months of the range that come before the month of a date, and its day of the month.
 #[inline(always)]
 fn index_and_day(date: i32) -> (u32, u8)
-    ensures index { IsJulianDay date → pos result.0 ≡ month_number_at (day_of date) +ℤ pos 11_999_988 }
+    ensures index { IsJulianDay date
+        → pos result.0 ≡ month_number_at (day_of date) +ℤ pos 11_999_988 }
     ensures day { IsJulianDay date → result.1 ≡ day_of_month_at (day_of date) }
     ensures most { result.0 ≤ 23_999_987 }
     ensures some { 1 ≤ result.1 }
@@ -90,7 +98,8 @@ fn day_in_month(index: u32, day: u8) -> i32
     requires index { index ≤ 23_999_987 }
     requires day { 1 ≤ day }
     ensures month { month_number_at (day_of result) +ℤ pos 11_999_988 ≡ pos index }
-    ensures day { day_of_month_at (day_of result) ≡ min day (days_in_month (year_at (day_of result)) (month_at (day_of result))) }
+    ensures day { day_of_month_at (day_of result)
+        ≡ min day (days_in_month (year_at (day_of result)) (month_at (day_of result))) }
     ensures in_range { IsJulianDay result }
 {
     let year = (index / 12) as i32 - 999_999;

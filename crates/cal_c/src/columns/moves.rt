@@ -20,11 +20,16 @@ pub extern "C" fn fots_dates_add_days(
     moved: &mut [i32],
     statuses: &mut [u8],
 ) -> usize
-    ensures unlike { ¬ Alike4 (length dates.now) (length days.now) (length moved.old) (length statuses.old)
+    ensures unlike { ¬ Alike4 (length dates.now) (length days.now) (length moved.old)
+        (length statuses.old)
         → (result ≡ usize.MAX) × (moved.new ≡ moved.old) × (statuses.new ≡ statuses.old) }
-    ensures rows { Alike4 (length dates.now) (length days.now) (length moved.old) (length statuses.old)
-        → (k : ℕ) → k < length dates.now → IsDateMoved (get_or dates.now k (pos 0)) (get_or days.now k (pos 0)) (date_row (get_or moved.new k (pos 0)) (get_or statuses.new k 0)) }
-    ensures count { Alike4 (length dates.now) (length days.now) (length moved.old) (length statuses.old)
+    ensures rows { Alike4 (length dates.now) (length days.now) (length moved.old)
+        (length statuses.old)
+        → (k : ℕ) → k < length dates.now
+        → IsDateMoved (get_or dates.now k (pos 0)) (get_or days.now k (pos 0))
+        (date_row (get_or moved.new k (pos 0)) (get_or statuses.new k 0)) }
+    ensures count { Alike4 (length dates.now) (length days.now) (length moved.old)
+        (length statuses.old)
         → result ≡ count_by is_refused statuses.new }
 {
     let rows = dates.len();
@@ -42,8 +47,10 @@ pub extern "C" fn fots_dates_add_days(
 /// The day so many days later, and the status.
 fn moved_date(date: i32, days: i64) -> (i32, u8)
     ensures bad_date { ¬ IsJulianDay date → date_row result.0 result.1 ≡ date_refused bad_date }
-    ensures past_range { IsJulianDay date → ¬ IsJulianDay (date +ℤ days) → date_row result.0 result.1 ≡ date_refused past_range }
-    ensures day { IsJulianDay date → IsJulianDay (date +ℤ days) → date_row result.0 result.1 ≡ date_done (date +ℤ days) }
+    ensures past_range { IsJulianDay date → ¬ IsJulianDay (date +ℤ days)
+        → date_row result.0 result.1 ≡ date_refused past_range }
+    ensures day { IsJulianDay date → IsJulianDay (date +ℤ days)
+        → date_row result.0 result.1 ≡ date_done (date +ℤ days) }
 {
     let moved = moved_number(number_held(date), days);
     if !is_julian_day(date) {

@@ -22,11 +22,18 @@ pub extern "C" fn fots_dates_to_calendar_dates(
     days: &mut [u8],
     statuses: &mut [u8],
 ) -> usize
-    ensures unlike { ¬ Alike5 (length dates.now) (length years.old) (length months.old) (length days.old) (length statuses.old)
-        → (result ≡ usize.MAX) × (years.new ≡ years.old) × (months.new ≡ months.old) × (days.new ≡ days.old) × (statuses.new ≡ statuses.old) }
-    ensures rows { Alike5 (length dates.now) (length years.old) (length months.old) (length days.old) (length statuses.old)
-        → (k : ℕ) → k < length dates.now → IsCalendarDateOf (get_or dates.now k (pos 0)) (calendar_date_row (get_or years.new k (pos 0)) (get_or months.new k 0) (get_or days.new k 0) (get_or statuses.new k 0)) }
-    ensures count { Alike5 (length dates.now) (length years.old) (length months.old) (length days.old) (length statuses.old)
+    ensures unlike { ¬ Alike5 (length dates.now) (length years.old) (length months.old)
+        (length days.old) (length statuses.old)
+        → (result ≡ usize.MAX) × (years.new ≡ years.old) × (months.new ≡ months.old)
+        × (days.new ≡ days.old) × (statuses.new ≡ statuses.old) }
+    ensures rows { Alike5 (length dates.now) (length years.old) (length months.old)
+        (length days.old) (length statuses.old)
+        → (k : ℕ) → k < length dates.now
+        → IsCalendarDateOf (get_or dates.now k (pos 0))
+        (calendar_date_row (get_or years.new k (pos 0)) (get_or months.new k 0)
+        (get_or days.new k 0) (get_or statuses.new k 0)) }
+    ensures count { Alike5 (length dates.now) (length years.old) (length months.old)
+        (length days.old) (length statuses.old)
         → result ≡ count_by is_refused statuses.new }
 {
     let rows = dates.len();
@@ -51,11 +58,18 @@ pub extern "C" fn fots_dates_to_ordinal_dates(
     ordinals: &mut [u16],
     statuses: &mut [u8],
 ) -> usize
-    ensures unlike { ¬ Alike4 (length dates.now) (length years.old) (length ordinals.old) (length statuses.old)
-        → (result ≡ usize.MAX) × (years.new ≡ years.old) × (ordinals.new ≡ ordinals.old) × (statuses.new ≡ statuses.old) }
-    ensures rows { Alike4 (length dates.now) (length years.old) (length ordinals.old) (length statuses.old)
-        → (k : ℕ) → k < length dates.now → IsOrdinalDateOf (get_or dates.now k (pos 0)) (ordinal_date_row (get_or years.new k (pos 0)) (get_or ordinals.new k 0) (get_or statuses.new k 0)) }
-    ensures count { Alike4 (length dates.now) (length years.old) (length ordinals.old) (length statuses.old)
+    ensures unlike { ¬ Alike4 (length dates.now) (length years.old) (length ordinals.old)
+        (length statuses.old)
+        → (result ≡ usize.MAX) × (years.new ≡ years.old) × (ordinals.new ≡ ordinals.old)
+        × (statuses.new ≡ statuses.old) }
+    ensures rows { Alike4 (length dates.now) (length years.old) (length ordinals.old)
+        (length statuses.old)
+        → (k : ℕ) → k < length dates.now
+        → IsOrdinalDateOf (get_or dates.now k (pos 0))
+        (ordinal_date_row (get_or years.new k (pos 0)) (get_or ordinals.new k 0)
+        (get_or statuses.new k 0)) }
+    ensures count { Alike4 (length dates.now) (length years.old) (length ordinals.old)
+        (length statuses.old)
         → result ≡ count_by is_refused statuses.new }
 {
     let rows = dates.len();
@@ -80,11 +94,18 @@ pub extern "C" fn fots_dates_to_iso_week_dates(
     weekdays: &mut [u8],
     statuses: &mut [u8],
 ) -> usize
-    ensures unlike { ¬ Alike5 (length dates.now) (length years.old) (length weeks.old) (length weekdays.old) (length statuses.old)
-        → (result ≡ usize.MAX) × (years.new ≡ years.old) × (weeks.new ≡ weeks.old) × (weekdays.new ≡ weekdays.old) × (statuses.new ≡ statuses.old) }
-    ensures rows { Alike5 (length dates.now) (length years.old) (length weeks.old) (length weekdays.old) (length statuses.old)
-        → (k : ℕ) → k < length dates.now → IsIsoWeekDateOf (get_or dates.now k (pos 0)) (iso_week_date_row (get_or years.new k (pos 0)) (get_or weeks.new k 0) (get_or weekdays.new k 0) (get_or statuses.new k 0)) }
-    ensures count { Alike5 (length dates.now) (length years.old) (length weeks.old) (length weekdays.old) (length statuses.old)
+    ensures unlike { ¬ Alike5 (length dates.now) (length years.old) (length weeks.old)
+        (length weekdays.old) (length statuses.old)
+        → (result ≡ usize.MAX) × (years.new ≡ years.old) × (weeks.new ≡ weeks.old)
+        × (weekdays.new ≡ weekdays.old) × (statuses.new ≡ statuses.old) }
+    ensures rows { Alike5 (length dates.now) (length years.old) (length weeks.old)
+        (length weekdays.old) (length statuses.old)
+        → (k : ℕ) → k < length dates.now
+        → IsIsoWeekDateOf (get_or dates.now k (pos 0))
+        (iso_week_date_row (get_or years.new k (pos 0)) (get_or weeks.new k 0)
+        (get_or weekdays.new k 0) (get_or statuses.new k 0)) }
+    ensures count { Alike5 (length dates.now) (length years.old) (length weeks.old)
+        (length weekdays.old) (length statuses.old)
         → result ≡ count_by is_refused statuses.new }
 {
     let rows = dates.len();
@@ -115,7 +136,9 @@ pub extern "C" fn fots_dates_weekdays(
     ensures unlike { ¬ Alike3 (length dates.now) (length weekdays.old) (length statuses.old)
         → (result ≡ usize.MAX) × (weekdays.new ≡ weekdays.old) × (statuses.new ≡ statuses.old) }
     ensures rows { Alike3 (length dates.now) (length weekdays.old) (length statuses.old)
-        → (k : ℕ) → k < length dates.now → IsWeekdayOf (get_or dates.now k (pos 0)) (get_or weekdays.new k 0) (get_or statuses.new k 0) }
+        → (k : ℕ) → k < length dates.now
+        → IsWeekdayOf (get_or dates.now k (pos 0)) (get_or weekdays.new k 0)
+        (get_or statuses.new k 0) }
     ensures count { Alike3 (length dates.now) (length weekdays.old) (length statuses.old)
         → result ≡ count_by is_refused statuses.new }
 {
@@ -142,11 +165,18 @@ pub extern "C" fn fots_calendar_dates_to_iso_week_dates(
     weekdays: &mut [u8],
     statuses: &mut [u8],
 ) -> usize
-    ensures unlike { ¬ Alike7 (length years.now) (length months.now) (length days.now) (length iso_years.old) (length weeks.old) (length weekdays.old) (length statuses.old)
-        → (result ≡ usize.MAX) × (iso_years.new ≡ iso_years.old) × (weeks.new ≡ weeks.old) × (weekdays.new ≡ weekdays.old) × (statuses.new ≡ statuses.old) }
-    ensures rows { Alike7 (length years.now) (length months.now) (length days.now) (length iso_years.old) (length weeks.old) (length weekdays.old) (length statuses.old)
-        → (k : ℕ) → k < length years.now → IsIsoWeekDateOfCalendarDate (get_or years.now k (pos 0)) (get_or months.now k 0) (get_or days.now k 0) (iso_week_date_row (get_or iso_years.new k (pos 0)) (get_or weeks.new k 0) (get_or weekdays.new k 0) (get_or statuses.new k 0)) }
-    ensures count { Alike7 (length years.now) (length months.now) (length days.now) (length iso_years.old) (length weeks.old) (length weekdays.old) (length statuses.old)
+    ensures unlike { ¬ Alike7 (length years.now) (length months.now) (length days.now)
+        (length iso_years.old) (length weeks.old) (length weekdays.old) (length statuses.old)
+        → (result ≡ usize.MAX) × (iso_years.new ≡ iso_years.old) × (weeks.new ≡ weeks.old)
+        × (weekdays.new ≡ weekdays.old) × (statuses.new ≡ statuses.old) }
+    ensures rows { Alike7 (length years.now) (length months.now) (length days.now)
+        (length iso_years.old) (length weeks.old) (length weekdays.old) (length statuses.old)
+        → (k : ℕ) → k < length years.now
+        → IsIsoWeekDateOfCalendarDate (get_or years.now k (pos 0)) (get_or months.now k 0)
+        (get_or days.now k 0) (iso_week_date_row (get_or iso_years.new k (pos 0))
+        (get_or weeks.new k 0) (get_or weekdays.new k 0) (get_or statuses.new k 0)) }
+    ensures count { Alike7 (length years.now) (length months.now) (length days.now)
+        (length iso_years.old) (length weeks.old) (length weekdays.old) (length statuses.old)
         → result ≡ count_by is_refused statuses.new }
 {
     let rows = years.len();
@@ -175,8 +205,10 @@ pub extern "C" fn fots_calendar_dates_to_iso_week_dates(
 
 /// The year, the month and the day of the month of a date, and the status.
 fn calendar_date_of(date: i32) -> (i32, u8, u8, u8)
-    ensures bad_date { ¬ IsJulianDay date → calendar_date_row result.0 result.1 result.2 result.3 ≡ calendar_date_refused bad_date }
-    ensures value { IsJulianDay date → calendar_date_row result.0 result.1 result.2 result.3 ≡ calendar_date_done (day_of date) }
+    ensures bad_date { ¬ IsJulianDay date
+        → calendar_date_row result.0 result.1 result.2 result.3 ≡ calendar_date_refused bad_date }
+    ensures value { IsJulianDay date
+        → calendar_date_row result.0 result.1 result.2 result.3 ≡ calendar_date_done (day_of date) }
 {
     let Some(date) = date_of(date) else {
         return (NOTHING, 0, 0, BAD_DATE);
@@ -187,8 +219,10 @@ fn calendar_date_of(date: i32) -> (i32, u8, u8, u8)
 
 /// The year and the ordinal of a date, and the status.
 fn ordinal_date_of(date: i32) -> (i32, u16, u8)
-    ensures bad_date { ¬ IsJulianDay date → ordinal_date_row result.0 result.1 result.2 ≡ ordinal_date_refused bad_date }
-    ensures value { IsJulianDay date → ordinal_date_row result.0 result.1 result.2 ≡ ordinal_date_done (day_of date) }
+    ensures bad_date { ¬ IsJulianDay date
+        → ordinal_date_row result.0 result.1 result.2 ≡ ordinal_date_refused bad_date }
+    ensures value { IsJulianDay date
+        → ordinal_date_row result.0 result.1 result.2 ≡ ordinal_date_done (day_of date) }
 {
     let Some(date) = date_of(date) else {
         return (NOTHING, 0, BAD_DATE);
@@ -199,8 +233,10 @@ fn ordinal_date_of(date: i32) -> (i32, u16, u8)
 
 /// The ISO year, the week and the weekday of a date, and the status.
 fn iso_week_date_of(date: i32) -> (i32, u8, u8, u8)
-    ensures bad_date { ¬ IsJulianDay date → iso_week_date_row result.0 result.1 result.2 result.3 ≡ iso_week_date_refused bad_date }
-    ensures value { IsJulianDay date → iso_week_date_row result.0 result.1 result.2 result.3 ≡ iso_week_date_done (day_of date) }
+    ensures bad_date { ¬ IsJulianDay date
+        → iso_week_date_row result.0 result.1 result.2 result.3 ≡ iso_week_date_refused bad_date }
+    ensures value { IsJulianDay date
+        → iso_week_date_row result.0 result.1 result.2 result.3 ≡ iso_week_date_done (day_of date) }
 {
     let (year, week, weekday) = iso_week_date_at(date);
     if is_julian_day(date) {
@@ -213,7 +249,8 @@ fn iso_week_date_of(date: i32) -> (i32, u8, u8, u8)
 /// The weekday of a date, from Monday, 1, and the status.
 fn weekday_of(date: i32) -> (u8, u8)
     ensures bad_date { ¬ IsJulianDay date → (result.0 ≡ 0) × (pos result.1 ≡ bad_date) }
-    ensures value { IsJulianDay date → (result.0 ≡ weekday_at (day_of date) + 1) × (pos result.1 ≡ done) }
+    ensures value { IsJulianDay date
+        → (result.0 ≡ weekday_at (day_of date) + 1) × (pos result.1 ≡ done) }
 {
     match number_of(date) {
         Some(number) => (weekday_of_number(number), DONE),
@@ -223,13 +260,18 @@ fn weekday_of(date: i32) -> (u8, u8)
 
 /// The ISO year, the week and the weekday of a year, a month and a day of the month, and the status.
 fn iso_week_date_of_calendar_date(year: i32, month: u8, day: u8) -> (i32, u8, u8, u8)
-    ensures no_month { ¬ IsMonth month → iso_week_date_row result.0 result.1 result.2 result.3 ≡ iso_week_date_refused month_refused }
+    ensures no_month { ¬ IsMonth month
+        → iso_week_date_row result.0 result.1 result.2 result.3
+        ≡ iso_week_date_refused month_refused }
     ensures no_year { IsMonth month → ¬ IsYear year
-        → iso_week_date_row result.0 result.1 result.2 result.3 ≡ iso_week_date_refused year_refused }
+        → iso_week_date_row result.0 result.1 result.2 result.3
+        ≡ iso_week_date_refused year_refused }
     ensures no_day { IsMonth month → IsYear year → ¬ IsDayOfMonth year month day
-        → iso_week_date_row result.0 result.1 result.2 result.3 ≡ iso_week_date_refused day_refused }
+        → iso_week_date_row result.0 result.1 result.2 result.3
+        ≡ iso_week_date_refused day_refused }
     ensures value { IsMonth month → IsYear year → IsDayOfMonth year month day
-        → (n : ℕ) × IsDate n × HasCalendarDate year month day n × (iso_week_date_row result.0 result.1 result.2 result.3 ≡ iso_week_date_done n) }
+        → (n : ℕ) × IsDate n × HasCalendarDate year month day n
+        × (iso_week_date_row result.0 result.1 result.2 result.3 ≡ iso_week_date_done n) }
 {
     let (iso_year, week, weekday) = iso_week_date_at(julian_day_at(year, month, day));
     let status = status_of_calendar_date(year, month, day);

@@ -25,11 +25,17 @@ pub extern "C" fn fots_dates_add_workdays(
     moved: &mut [i32],
     statuses: &mut [u8],
 ) -> usize
-    ensures unlike { ¬ Alike4 (length dates.now) (length days.now) (length moved.old) (length statuses.old)
+    ensures unlike { ¬ Alike4 (length dates.now) (length days.now) (length moved.old)
+        (length statuses.old)
         → (result ≡ usize.MAX) × (moved.new ≡ moved.old) × (statuses.new ≡ statuses.old) }
-    ensures rows { Alike4 (length dates.now) (length days.now) (length moved.old) (length statuses.old)
-        → (k : ℕ) → k < length dates.now → IsDateWorkdaysLater (get_or dates.now k (pos 0)) (get_or days.now k (pos 0)) week holidays.now (date_row (get_or moved.new k (pos 0)) (get_or statuses.new k 0)) }
-    ensures count { Alike4 (length dates.now) (length days.now) (length moved.old) (length statuses.old)
+    ensures rows { Alike4 (length dates.now) (length days.now) (length moved.old)
+        (length statuses.old)
+        → (k : ℕ) → k < length dates.now
+        → IsDateWorkdaysLater (get_or dates.now k (pos 0))
+        (get_or days.now k (pos 0)) week holidays.now
+        (date_row (get_or moved.new k (pos 0)) (get_or statuses.new k 0)) }
+    ensures count { Alike4 (length dates.now) (length days.now) (length moved.old)
+        (length statuses.old)
         → result ≡ count_by is_refused statuses.new }
 {
     let rows = dates.len();
@@ -57,11 +63,17 @@ pub extern "C" fn fots_dates_workdays_between(
     numbers: &mut [i32],
     statuses: &mut [u8],
 ) -> usize
-    ensures unlike { ¬ Alike4 (length dates.now) (length others.now) (length numbers.old) (length statuses.old)
+    ensures unlike { ¬ Alike4 (length dates.now) (length others.now) (length numbers.old)
+        (length statuses.old)
         → (result ≡ usize.MAX) × (numbers.new ≡ numbers.old) × (statuses.new ≡ statuses.old) }
-    ensures rows { Alike4 (length dates.now) (length others.now) (length numbers.old) (length statuses.old)
-        → (k : ℕ) → k < length dates.now → IsWorkdaysBetween (get_or dates.now k (pos 0)) (get_or others.now k (pos 0)) week holidays.now (number_row (get_or numbers.new k (pos 0)) (get_or statuses.new k 0)) }
-    ensures count { Alike4 (length dates.now) (length others.now) (length numbers.old) (length statuses.old)
+    ensures rows { Alike4 (length dates.now) (length others.now) (length numbers.old)
+        (length statuses.old)
+        → (k : ℕ) → k < length dates.now
+        → IsWorkdaysBetween (get_or dates.now k (pos 0))
+        (get_or others.now k (pos 0)) week holidays.now
+        (number_row (get_or numbers.new k (pos 0)) (get_or statuses.new k 0)) }
+    ensures count { Alike4 (length dates.now) (length others.now) (length numbers.old)
+        (length statuses.old)
         → result ≡ count_by is_refused statuses.new }
 {
     let rows = dates.len();
@@ -81,8 +93,11 @@ pub extern "C" fn fots_dates_workdays_between(
 /// The working day so many working days later, and the status.
 fn date_workdays_later(date: i32, days: i32, workdays: &Result<Workdays<'_>, i32>) -> (i32, u8)
     ensures bad_date { ¬ IsJulianDay date → date_row result.0 result.1 ≡ date_refused bad_date }
-    ensures refused { IsJulianDay date → IfErr workdays.now (λ status. IsByte status → date_row result.0 result.1 ≡ date_refused status) }
-    ensures day { IsJulianDay date → IfOk workdays.now (λ w. date_row result.0 result.1 ≡ date_if_any (nth_workday w days (day_of date))) }
+    ensures refused { IsJulianDay date
+        → IfErr workdays.now (λ status. IsByte status
+        → date_row result.0 result.1 ≡ date_refused status) }
+    ensures day { IsJulianDay date → IfOk workdays.now
+        (λ w. date_row result.0 result.1 ≡ date_if_any (nth_workday w days (day_of date))) }
 {
     let Some(date) = date_of(date) else {
         return refused(BAD_DATE);
@@ -95,10 +110,14 @@ fn date_workdays_later(date: i32, days: i32, workdays: &Result<Workdays<'_>, i32
 
 /// How many working days there are from the date to the day before the other, and the status.
 fn workdays_to(date: i32, other: i32, workdays: &Result<Workdays<'_>, i32>) -> (i32, u8)
-    ensures bad_date { ¬ (IsJulianDay date × IsJulianDay other) → number_row result.0 result.1 ≡ number_refused bad_date }
-    ensures refused { IsJulianDay date → IsJulianDay other → IfErr workdays.now (λ status. IsByte status → number_row result.0 result.1 ≡ number_refused status) }
+    ensures bad_date { ¬ (IsJulianDay date × IsJulianDay other)
+        → number_row result.0 result.1 ≡ number_refused bad_date }
+    ensures refused { IsJulianDay date → IsJulianDay other
+        → IfErr workdays.now (λ status. IsByte status
+        → number_row result.0 result.1 ≡ number_refused status) }
     ensures value { IsJulianDay date → IsJulianDay other
-        → IfOk workdays.now (λ w. number_row result.0 result.1 ≡ number_done (workdays_number w (day_of date) (day_of other))) }
+        → IfOk workdays.now (λ w. number_row result.0 result.1
+        ≡ number_done (workdays_number w (day_of date) (day_of other))) }
 {
     let Some(date) = date_of(date) else {
         return (NOTHING, BAD_DATE);

@@ -32,8 +32,10 @@ pub extern "C" fn fots_date_from_julian_day(julian_day: i64) -> DateResult
 pub extern "C" fn fots_date_from_calendar_date(year: i32, month: u32, day: u32) -> DateResult
     ensures month { ¬ IsMonth month → result ≡ date_refused month_refused }
     ensures year { IsMonth month → ¬ IsYear year → result ≡ date_refused year_refused }
-    ensures day { IsMonth month → IsYear year → ¬ IsDayOfMonth year month day → result ≡ date_refused day_refused }
-    ensures date { IsMonth month → IsYear year → IsDayOfMonth year month day → IsDayWith (HasCalendarDate year month day) result }
+    ensures day { IsMonth month → IsYear year → ¬ IsDayOfMonth year month day
+        → result ≡ date_refused day_refused }
+    ensures date { IsMonth month → IsYear year → IsDayOfMonth year month day
+        → IsDayWith (HasCalendarDate year month day) result }
 {
     let Some(month) = month_of(month) else {
         return DateResult::refused(MONTH);
@@ -50,8 +52,10 @@ pub extern "C" fn fots_date_from_calendar_date(year: i32, month: u32, day: u32) 
 #[unsafe(no_mangle)]
 pub extern "C" fn fots_date_from_ordinal_date(year: i32, ordinal: u32) -> DateResult
     ensures year { ¬ IsYear year → result ≡ date_refused year_refused }
-    ensures ordinal { IsYear year → ¬ IsOrdinal year ordinal → result ≡ date_refused ordinal_refused }
-    ensures date { IsYear year → IsOrdinal year ordinal → IsDayWith (HasOrdinalDate year ordinal) result }
+    ensures ordinal { IsYear year → ¬ IsOrdinal year ordinal
+        → result ≡ date_refused ordinal_refused }
+    ensures date { IsYear year → IsOrdinal year ordinal
+        → IsDayWith (HasOrdinalDate year ordinal) result }
 {
     match Date::from_ordinal_date(year, ordinal_of(ordinal)) {
         Ok(date) => DateResult::of(date),
@@ -67,10 +71,13 @@ pub extern "C" fn fots_date_from_ordinal_date(year: i32, ordinal: u32) -> DateRe
 pub extern "C" fn fots_date_from_iso_week_date(year: i32, week: u32, weekday: u32) -> DateResult
     ensures bad_weekday { ¬ IsWeekday weekday → result ≡ date_refused bad_weekday }
     ensures year { IsWeekday weekday → ¬ IsYear year → result ≡ date_refused year_refused }
-    ensures week { IsWeekday weekday → IsYear year → ¬ IsWeek year week → result ≡ date_refused week_refused }
-    ensures weekday { IsWeekday weekday → IsYear year → IsWeek year week → NoDate (HasIsoWeekDate year week (weekday - 1))
+    ensures week { IsWeekday weekday → IsYear year → ¬ IsWeek year week
+        → result ≡ date_refused week_refused }
+    ensures weekday { IsWeekday weekday → IsYear year → IsWeek year week
+        → NoDate (HasIsoWeekDate year week (weekday - 1))
         → result ≡ date_refused weekday_refused }
-    ensures date { IsWeekday weekday → (n : ℕ) → IsDate n → HasIsoWeekDate year week (weekday - 1) n → IsWeek year week
+    ensures date { IsWeekday weekday → (n : ℕ) → IsDate n → HasIsoWeekDate year week (weekday - 1) n
+        → IsWeek year week
         → result ≡ date_done (julian_day_at n) }
 {
     let Some(weekday) = weekday_of(weekday) else {

@@ -16,8 +16,10 @@ use crate::values::duration_of;
 #[unsafe(no_mangle)]
 pub extern "C" fn fots_date_next_day(date: i32) -> DateResult
     ensures bad_date { ¬ IsJulianDay date → result ≡ date_refused bad_date }
-    ensures past_range { IsJulianDay date → ¬ IsJulianDay (date +ℤ pos 1) → result ≡ date_refused past_range }
-    ensures day { IsJulianDay date → IsJulianDay (date +ℤ pos 1) → result ≡ date_done (date +ℤ pos 1) }
+    ensures past_range { IsJulianDay date → ¬ IsJulianDay (date +ℤ pos 1)
+        → result ≡ date_refused past_range }
+    ensures day { IsJulianDay date → IsJulianDay (date +ℤ pos 1)
+        → result ≡ date_done (date +ℤ pos 1) }
 {
     if !is_julian_day(date) {
         return DateResult::refused(BAD_DATE);
@@ -29,8 +31,10 @@ pub extern "C" fn fots_date_next_day(date: i32) -> DateResult
 #[unsafe(no_mangle)]
 pub extern "C" fn fots_date_previous_day(date: i32) -> DateResult
     ensures bad_date { ¬ IsJulianDay date → result ≡ date_refused bad_date }
-    ensures past_range { IsJulianDay date → ¬ IsJulianDay (date -ℤ pos 1) → result ≡ date_refused past_range }
-    ensures day { IsJulianDay date → IsJulianDay (date -ℤ pos 1) → result ≡ date_done (date -ℤ pos 1) }
+    ensures past_range { IsJulianDay date → ¬ IsJulianDay (date -ℤ pos 1)
+        → result ≡ date_refused past_range }
+    ensures day { IsJulianDay date → IsJulianDay (date -ℤ pos 1)
+        → result ≡ date_done (date -ℤ pos 1) }
 {
     if !is_julian_day(date) {
         return DateResult::refused(BAD_DATE);
@@ -42,9 +46,14 @@ pub extern "C" fn fots_date_previous_day(date: i32) -> DateResult
 #[unsafe(no_mangle)]
 pub extern "C" fn fots_date_checked_add(date: i32, duration: Duration) -> DateResult
     ensures bad_date { ¬ IsJulianDay date → result ≡ date_refused bad_date }
-    ensures bad_duration { IsJulianDay date → ¬ IsDurationPair duration → result ≡ date_refused bad_duration }
-    ensures past_range { IsJulianDay date → IsDurationPair duration → ¬ IsJulianDay (date +ℤ whole_days (nanoseconds_in duration)) → result ≡ date_refused past_range }
-    ensures day { IsJulianDay date → IsDurationPair duration → IsJulianDay (date +ℤ whole_days (nanoseconds_in duration)) → result ≡ date_done (date +ℤ whole_days (nanoseconds_in duration)) }
+    ensures bad_duration { IsJulianDay date → ¬ IsDurationPair duration
+        → result ≡ date_refused bad_duration }
+    ensures past_range { IsJulianDay date → IsDurationPair duration
+        → ¬ IsJulianDay (date +ℤ whole_days (nanoseconds_in duration))
+        → result ≡ date_refused past_range }
+    ensures day { IsJulianDay date → IsDurationPair duration
+        → IsJulianDay (date +ℤ whole_days (nanoseconds_in duration))
+        → result ≡ date_done (date +ℤ whole_days (nanoseconds_in duration)) }
 {
     if !is_julian_day(date) {
         return DateResult::refused(BAD_DATE);
@@ -59,8 +68,10 @@ pub extern "C" fn fots_date_checked_add(date: i32, duration: Duration) -> DateRe
 #[unsafe(no_mangle)]
 pub extern "C" fn fots_date_saturating_add(date: i32, duration: Duration) -> DateResult
     ensures bad_date { ¬ IsJulianDay date → result ≡ date_refused bad_date }
-    ensures bad_duration { IsJulianDay date → ¬ IsDurationPair duration → result ≡ date_refused bad_duration }
-    ensures day { IsJulianDay date → IsDurationPair duration → result ≡ date_done (julian_nearest (date +ℤ whole_days (nanoseconds_in duration))) }
+    ensures bad_duration { IsJulianDay date → ¬ IsDurationPair duration
+        → result ≡ date_refused bad_duration }
+    ensures day { IsJulianDay date → IsDurationPair duration
+        → result ≡ date_done (julian_nearest (date +ℤ whole_days (nanoseconds_in duration))) }
 {
     if !is_julian_day(date) {
         return DateResult::refused(BAD_DATE);
@@ -75,9 +86,14 @@ pub extern "C" fn fots_date_saturating_add(date: i32, duration: Duration) -> Dat
 #[unsafe(no_mangle)]
 pub extern "C" fn fots_date_checked_sub(date: i32, duration: Duration) -> DateResult
     ensures bad_date { ¬ IsJulianDay date → result ≡ date_refused bad_date }
-    ensures bad_duration { IsJulianDay date → ¬ IsDurationPair duration → result ≡ date_refused bad_duration }
-    ensures past_range { IsJulianDay date → IsDurationPair duration → ¬ IsJulianDay (date -ℤ whole_days (nanoseconds_in duration)) → result ≡ date_refused past_range }
-    ensures day { IsJulianDay date → IsDurationPair duration → IsJulianDay (date -ℤ whole_days (nanoseconds_in duration)) → result ≡ date_done (date -ℤ whole_days (nanoseconds_in duration)) }
+    ensures bad_duration { IsJulianDay date → ¬ IsDurationPair duration
+        → result ≡ date_refused bad_duration }
+    ensures past_range { IsJulianDay date → IsDurationPair duration
+        → ¬ IsJulianDay (date -ℤ whole_days (nanoseconds_in duration))
+        → result ≡ date_refused past_range }
+    ensures day { IsJulianDay date → IsDurationPair duration
+        → IsJulianDay (date -ℤ whole_days (nanoseconds_in duration))
+        → result ≡ date_done (date -ℤ whole_days (nanoseconds_in duration)) }
 {
     if !is_julian_day(date) {
         return DateResult::refused(BAD_DATE);
@@ -92,8 +108,10 @@ pub extern "C" fn fots_date_checked_sub(date: i32, duration: Duration) -> DateRe
 #[unsafe(no_mangle)]
 pub extern "C" fn fots_date_saturating_sub(date: i32, duration: Duration) -> DateResult
     ensures bad_date { ¬ IsJulianDay date → result ≡ date_refused bad_date }
-    ensures bad_duration { IsJulianDay date → ¬ IsDurationPair duration → result ≡ date_refused bad_duration }
-    ensures day { IsJulianDay date → IsDurationPair duration → result ≡ date_done (julian_nearest (date -ℤ whole_days (nanoseconds_in duration))) }
+    ensures bad_duration { IsJulianDay date → ¬ IsDurationPair duration
+        → result ≡ date_refused bad_duration }
+    ensures day { IsJulianDay date → IsDurationPair duration
+        → result ≡ date_done (julian_nearest (date -ℤ whole_days (nanoseconds_in duration))) }
 {
     if !is_julian_day(date) {
         return DateResult::refused(BAD_DATE);
@@ -109,8 +127,10 @@ pub extern "C" fn fots_date_saturating_sub(date: i32, duration: Duration) -> Dat
 #[unsafe(no_mangle)]
 pub extern "C" fn fots_date_add_days(date: i32, days: i64) -> DateResult
     ensures bad_date { ¬ IsJulianDay date → result ≡ date_refused bad_date }
-    ensures past_range { IsJulianDay date → ¬ IsJulianDay (date +ℤ days) → result ≡ date_refused past_range }
-    ensures day { IsJulianDay date → IsJulianDay (date +ℤ days) → result ≡ date_done (date +ℤ days) }
+    ensures past_range { IsJulianDay date → ¬ IsJulianDay (date +ℤ days)
+        → result ≡ date_refused past_range }
+    ensures day { IsJulianDay date → IsJulianDay (date +ℤ days)
+        → result ≡ date_done (date +ℤ days) }
 {
     if !is_julian_day(date) {
         return DateResult::refused(BAD_DATE);
@@ -122,8 +142,10 @@ pub extern "C" fn fots_date_add_days(date: i32, days: i64) -> DateResult
 /// is 5097600 seconds.
 #[unsafe(no_mangle)]
 pub extern "C" fn fots_date_duration_since(date: i32, other: i32) -> DurationResult
-    ensures bad_date { ¬ (IsJulianDay date × IsJulianDay other) → result ≡ duration_refused bad_date }
-    ensures value { IsJulianDay date → IsJulianDay other → result ≡ duration_done ((date -ℤ other) *ℤ pos day) }
+    ensures bad_date { ¬ (IsJulianDay date × IsJulianDay other)
+        → result ≡ duration_refused bad_date }
+    ensures value { IsJulianDay date → IsJulianDay other
+        → result ≡ duration_done ((date -ℤ other) *ℤ pos day) }
 {
     if !is_julian_day(date) || !is_julian_day(other) {
         return DurationResult::refused(BAD_DATE);

@@ -15,8 +15,10 @@ use crate::status::{BAD_COUNT, BAD_DATE, BAD_WEEKDAY, PAST_RANGE};
 #[unsafe(no_mangle)]
 pub extern "C" fn fots_date_nth_next_occurrence(date: i32, weekday: u32, count: u32) -> DateResult
     ensures bad_date { ¬ IsJulianDay date → result ≡ date_refused bad_date }
-    ensures bad_weekday { IsJulianDay date → ¬ IsWeekday weekday → result ≡ date_refused bad_weekday }
-    ensures bad_count { IsJulianDay date → IsWeekday weekday → 255 < count → result ≡ date_refused bad_count }
+    ensures bad_weekday { IsJulianDay date → ¬ IsWeekday weekday
+        → result ≡ date_refused bad_weekday }
+    ensures bad_count { IsJulianDay date → IsWeekday weekday → 255 < count
+        → result ≡ date_refused bad_count }
     ensures day { IsJulianDay date → IsWeekday weekday → count ≤ 255
         → result ≡ date_if_any (kth count (next_occurrences (weekday - 1) (day_of date))) }
 {
@@ -37,8 +39,10 @@ pub extern "C" fn fots_date_nth_next_occurrence(date: i32, weekday: u32, count: 
 #[unsafe(no_mangle)]
 pub extern "C" fn fots_date_nth_prev_occurrence(date: i32, weekday: u32, count: u32) -> DateResult
     ensures bad_date { ¬ IsJulianDay date → result ≡ date_refused bad_date }
-    ensures bad_weekday { IsJulianDay date → ¬ IsWeekday weekday → result ≡ date_refused bad_weekday }
-    ensures bad_count { IsJulianDay date → IsWeekday weekday → 255 < count → result ≡ date_refused bad_count }
+    ensures bad_weekday { IsJulianDay date → ¬ IsWeekday weekday
+        → result ≡ date_refused bad_weekday }
+    ensures bad_count { IsJulianDay date → IsWeekday weekday → 255 < count
+        → result ≡ date_refused bad_count }
     ensures day { IsJulianDay date → IsWeekday weekday → count ≤ 255
         → result ≡ date_if_any (kth count (prev_occurrences (weekday - 1) (day_of date))) }
 {
@@ -58,7 +62,8 @@ pub extern "C" fn fots_date_nth_prev_occurrence(date: i32, weekday: u32, count: 
 #[unsafe(no_mangle)]
 pub extern "C" fn fots_date_next_occurrence(date: i32, weekday: u32) -> DateResult
     ensures bad_date { ¬ IsJulianDay date → result ≡ date_refused bad_date }
-    ensures bad_weekday { IsJulianDay date → ¬ IsWeekday weekday → result ≡ date_refused bad_weekday }
+    ensures bad_weekday { IsJulianDay date → ¬ IsWeekday weekday
+        → result ≡ date_refused bad_weekday }
     ensures day { IsJulianDay date → IsWeekday weekday
         → result ≡ date_if_any (kth 1 (next_occurrences (weekday - 1) (day_of date))) }
 {
@@ -75,7 +80,8 @@ pub extern "C" fn fots_date_next_occurrence(date: i32, weekday: u32) -> DateResu
 #[unsafe(no_mangle)]
 pub extern "C" fn fots_date_prev_occurrence(date: i32, weekday: u32) -> DateResult
     ensures bad_date { ¬ IsJulianDay date → result ≡ date_refused bad_date }
-    ensures bad_weekday { IsJulianDay date → ¬ IsWeekday weekday → result ≡ date_refused bad_weekday }
+    ensures bad_weekday { IsJulianDay date → ¬ IsWeekday weekday
+        → result ≡ date_refused bad_weekday }
     ensures day { IsJulianDay date → IsWeekday weekday
         → result ≡ date_if_any (kth 1 (prev_occurrences (weekday - 1) (day_of date))) }
 {

@@ -15,9 +15,11 @@ use crate::values::{date_of, day_of_month_of, month_of, ordinal_of};
 pub extern "C" fn fots_date_replace_year(date: i32, year: i32) -> DateResult
     ensures bad_date { ¬ IsJulianDay date → result ≡ date_refused bad_date }
     ensures year { IsJulianDay date → ¬ IsYear year → result ≡ date_refused year_refused }
-    ensures day { let n = day_of date in IsJulianDay date → IsYear year → ¬ IsDayOfMonth year (month_at n) (day_of_month_at n)
+    ensures day { let n = day_of date in IsJulianDay date → IsYear year
+        → ¬ IsDayOfMonth year (month_at n) (day_of_month_at n)
         → result ≡ date_refused day_refused }
-    ensures date { let n = day_of date in IsJulianDay date → IsYear year → IsDayOfMonth year (month_at n) (day_of_month_at n)
+    ensures date { let n = day_of date in IsJulianDay date → IsYear year
+        → IsDayOfMonth year (month_at n) (day_of_month_at n)
         → IsDayWith (HasCalendarDate year (month_at n) (day_of_month_at n)) result }
 {
     let Some(date) = date_of(date) else {
@@ -35,9 +37,11 @@ pub extern "C" fn fots_date_replace_year(date: i32, year: i32) -> DateResult
 pub extern "C" fn fots_date_replace_month(date: i32, month: u32) -> DateResult
     ensures bad_date { ¬ IsJulianDay date → result ≡ date_refused bad_date }
     ensures month { IsJulianDay date → ¬ IsMonth month → result ≡ date_refused month_refused }
-    ensures day { let n = day_of date in IsJulianDay date → IsMonth month → ¬ IsDayOfMonth (year_at n) month (day_of_month_at n)
+    ensures day { let n = day_of date in IsJulianDay date → IsMonth month
+        → ¬ IsDayOfMonth (year_at n) month (day_of_month_at n)
         → result ≡ date_refused day_refused }
-    ensures date { let n = day_of date in IsJulianDay date → IsMonth month → IsDayOfMonth (year_at n) month (day_of_month_at n)
+    ensures date { let n = day_of date in IsJulianDay date → IsMonth month
+        → IsDayOfMonth (year_at n) month (day_of_month_at n)
         → IsDayWith (HasCalendarDate (year_at n) month (day_of_month_at n)) result }
 {
     let Some(date) = date_of(date) else {
@@ -56,9 +60,11 @@ pub extern "C" fn fots_date_replace_month(date: i32, month: u32) -> DateResult
 #[unsafe(no_mangle)]
 pub extern "C" fn fots_date_replace_day(date: i32, day: u32) -> DateResult
     ensures bad_date { ¬ IsJulianDay date → result ≡ date_refused bad_date }
-    ensures day { let n = day_of date in IsJulianDay date → ¬ IsDayOfMonth (year_at n) (month_at n) day
+    ensures day { let n = day_of date in IsJulianDay date
+        → ¬ IsDayOfMonth (year_at n) (month_at n) day
         → result ≡ date_refused day_refused }
-    ensures date { let n = day_of date in IsJulianDay date → IsDayOfMonth (year_at n) (month_at n) day
+    ensures date { let n = day_of date in IsJulianDay date
+        → IsDayOfMonth (year_at n) (month_at n) day
         → IsDayWith (HasCalendarDate (year_at n) (month_at n) day) result }
 {
     let Some(date) = date_of(date) else {

@@ -12,9 +12,14 @@ use crate::values::duration_of;
 /// The sum, or none where it is no duration.
 #[unsafe(no_mangle)]
 pub extern "C" fn fots_duration_checked_add(duration: Duration, other: Duration) -> DurationResult
-    ensures bad_duration { ¬ (IsDurationPair duration × IsDurationPair other) → result ≡ duration_refused bad_duration }
-    ensures past_range { IsDurationPair duration → IsDurationPair other → ¬ IsDuration (nanoseconds_in duration +ℤ nanoseconds_in other) → result ≡ duration_refused past_range }
-    ensures value { IsDurationPair duration → IsDurationPair other → IsDuration (nanoseconds_in duration +ℤ nanoseconds_in other) → result ≡ duration_done (nanoseconds_in duration +ℤ nanoseconds_in other) }
+    ensures bad_duration { ¬ (IsDurationPair duration × IsDurationPair other)
+        → result ≡ duration_refused bad_duration }
+    ensures past_range { IsDurationPair duration → IsDurationPair other
+        → ¬ IsDuration (nanoseconds_in duration +ℤ nanoseconds_in other)
+        → result ≡ duration_refused past_range }
+    ensures value { IsDurationPair duration → IsDurationPair other
+        → IsDuration (nanoseconds_in duration +ℤ nanoseconds_in other)
+        → result ≡ duration_done (nanoseconds_in duration +ℤ nanoseconds_in other) }
 {
     let Some(duration) = duration_of(duration) else {
         return DurationResult::refused(BAD_DURATION);
@@ -31,8 +36,10 @@ pub extern "C" fn fots_duration_saturating_add(
     duration: Duration,
     other: Duration,
 ) -> DurationResult
-    ensures bad_duration { ¬ (IsDurationPair duration × IsDurationPair other) → result ≡ duration_refused bad_duration }
-    ensures value { IsDurationPair duration → IsDurationPair other → result ≡ duration_done (clamp (nanoseconds_in duration +ℤ nanoseconds_in other)) }
+    ensures bad_duration { ¬ (IsDurationPair duration × IsDurationPair other)
+        → result ≡ duration_refused bad_duration }
+    ensures value { IsDurationPair duration → IsDurationPair other
+        → result ≡ duration_done (clamp (nanoseconds_in duration +ℤ nanoseconds_in other)) }
 {
     let Some(duration) = duration_of(duration) else {
         return DurationResult::refused(BAD_DURATION);
@@ -46,9 +53,14 @@ pub extern "C" fn fots_duration_saturating_add(
 /// The difference, or none where it is no duration.
 #[unsafe(no_mangle)]
 pub extern "C" fn fots_duration_checked_sub(duration: Duration, other: Duration) -> DurationResult
-    ensures bad_duration { ¬ (IsDurationPair duration × IsDurationPair other) → result ≡ duration_refused bad_duration }
-    ensures past_range { IsDurationPair duration → IsDurationPair other → ¬ IsDuration (nanoseconds_in duration -ℤ nanoseconds_in other) → result ≡ duration_refused past_range }
-    ensures value { IsDurationPair duration → IsDurationPair other → IsDuration (nanoseconds_in duration -ℤ nanoseconds_in other) → result ≡ duration_done (nanoseconds_in duration -ℤ nanoseconds_in other) }
+    ensures bad_duration { ¬ (IsDurationPair duration × IsDurationPair other)
+        → result ≡ duration_refused bad_duration }
+    ensures past_range { IsDurationPair duration → IsDurationPair other
+        → ¬ IsDuration (nanoseconds_in duration -ℤ nanoseconds_in other)
+        → result ≡ duration_refused past_range }
+    ensures value { IsDurationPair duration → IsDurationPair other
+        → IsDuration (nanoseconds_in duration -ℤ nanoseconds_in other)
+        → result ≡ duration_done (nanoseconds_in duration -ℤ nanoseconds_in other) }
 {
     let Some(duration) = duration_of(duration) else {
         return DurationResult::refused(BAD_DURATION);
@@ -65,8 +77,10 @@ pub extern "C" fn fots_duration_saturating_sub(
     duration: Duration,
     other: Duration,
 ) -> DurationResult
-    ensures bad_duration { ¬ (IsDurationPair duration × IsDurationPair other) → result ≡ duration_refused bad_duration }
-    ensures value { IsDurationPair duration → IsDurationPair other → result ≡ duration_done (clamp (nanoseconds_in duration -ℤ nanoseconds_in other)) }
+    ensures bad_duration { ¬ (IsDurationPair duration × IsDurationPair other)
+        → result ≡ duration_refused bad_duration }
+    ensures value { IsDurationPair duration → IsDurationPair other
+        → result ≡ duration_done (clamp (nanoseconds_in duration -ℤ nanoseconds_in other)) }
 {
     let Some(duration) = duration_of(duration) else {
         return DurationResult::refused(BAD_DURATION);
@@ -81,8 +95,10 @@ pub extern "C" fn fots_duration_saturating_sub(
 #[unsafe(no_mangle)]
 pub extern "C" fn fots_duration_checked_mul(duration: Duration, factor: i32) -> DurationResult
     ensures bad_duration { ¬ IsDurationPair duration → result ≡ duration_refused bad_duration }
-    ensures past_range { IsDurationPair duration → ¬ IsDuration (nanoseconds_in duration *ℤ factor) → result ≡ duration_refused past_range }
-    ensures value { IsDurationPair duration → IsDuration (nanoseconds_in duration *ℤ factor) → result ≡ duration_done (nanoseconds_in duration *ℤ factor) }
+    ensures past_range { IsDurationPair duration → ¬ IsDuration (nanoseconds_in duration *ℤ factor)
+        → result ≡ duration_refused past_range }
+    ensures value { IsDurationPair duration → IsDuration (nanoseconds_in duration *ℤ factor)
+        → result ≡ duration_done (nanoseconds_in duration *ℤ factor) }
 {
     match duration_of(duration) {
         Some(duration) => DurationResult::of_option(duration.checked_mul(factor)),
@@ -94,8 +110,10 @@ pub extern "C" fn fots_duration_checked_mul(duration: Duration, factor: i32) -> 
 #[unsafe(no_mangle)]
 pub extern "C" fn fots_duration_checked_div(duration: Duration, divisor: i32) -> DurationResult
     ensures bad_duration { ¬ IsDurationPair duration → result ≡ duration_refused bad_duration }
-    ensures past_range { IsDurationPair duration → ¬ HasQuotient (nanoseconds_in duration) divisor → result ≡ duration_refused past_range }
-    ensures value { IsDurationPair duration → HasQuotient (nanoseconds_in duration) divisor → result ≡ duration_done (cut (nanoseconds_in duration) divisor) }
+    ensures past_range { IsDurationPair duration → ¬ HasQuotient (nanoseconds_in duration) divisor
+        → result ≡ duration_refused past_range }
+    ensures value { IsDurationPair duration → HasQuotient (nanoseconds_in duration) divisor
+        → result ≡ duration_done (cut (nanoseconds_in duration) divisor) }
 {
     match duration_of(duration) {
         Some(duration) => DurationResult::of_option(duration.checked_div(divisor)),
@@ -107,8 +125,10 @@ pub extern "C" fn fots_duration_checked_div(duration: Duration, divisor: i32) ->
 #[unsafe(no_mangle)]
 pub extern "C" fn fots_duration_checked_neg(duration: Duration) -> DurationResult
     ensures bad_duration { ¬ IsDurationPair duration → result ≡ duration_refused bad_duration }
-    ensures past_range { IsDurationPair duration → ¬ IsDuration (neg_ℤ (nanoseconds_in duration)) → result ≡ duration_refused past_range }
-    ensures value { IsDurationPair duration → IsDuration (neg_ℤ (nanoseconds_in duration)) → result ≡ duration_done (neg_ℤ (nanoseconds_in duration)) }
+    ensures past_range { IsDurationPair duration → ¬ IsDuration (neg_ℤ (nanoseconds_in duration))
+        → result ≡ duration_refused past_range }
+    ensures value { IsDurationPair duration → IsDuration (neg_ℤ (nanoseconds_in duration))
+        → result ≡ duration_done (neg_ℤ (nanoseconds_in duration)) }
 {
     match duration_of(duration) {
         Some(duration) => DurationResult::of_option(duration.checked_neg()),
@@ -120,7 +140,8 @@ pub extern "C" fn fots_duration_checked_neg(duration: Duration) -> DurationResul
 #[unsafe(no_mangle)]
 pub extern "C" fn fots_duration_saturating_mul(duration: Duration, factor: i32) -> DurationResult
     ensures bad_duration { ¬ IsDurationPair duration → result ≡ duration_refused bad_duration }
-    ensures value { IsDurationPair duration → result ≡ duration_done (clamp (nanoseconds_in duration *ℤ factor)) }
+    ensures value { IsDurationPair duration
+        → result ≡ duration_done (clamp (nanoseconds_in duration *ℤ factor)) }
 {
     match duration_of(duration) {
         Some(duration) => DurationResult::of(duration.saturating_mul(factor)),
@@ -132,7 +153,8 @@ pub extern "C" fn fots_duration_saturating_mul(duration: Duration, factor: i32) 
 #[unsafe(no_mangle)]
 pub extern "C" fn fots_duration_abs(duration: Duration) -> DurationResult
     ensures bad_duration { ¬ IsDurationPair duration → result ≡ duration_refused bad_duration }
-    ensures value { IsDurationPair duration → result ≡ duration_done (clamp (pos (unsigned_abs (nanoseconds_in duration)))) }
+    ensures value { IsDurationPair duration
+        → result ≡ duration_done (clamp (pos (unsigned_abs (nanoseconds_in duration)))) }
 {
     match duration_of(duration) {
         Some(duration) => DurationResult::of(duration.abs()),
@@ -143,12 +165,16 @@ pub extern "C" fn fots_duration_abs(duration: Duration) -> DurationResult
 /// -1, 0 or 1, as the one duration is less than the other, the same, or greater.
 #[unsafe(no_mangle)]
 pub extern "C" fn fots_duration_compare(duration: Duration, other: Duration) -> NumberResult
-    ensures bad_duration { ¬ (IsDurationPair duration × IsDurationPair other) → result ≡ number_refused bad_duration }
-    ensures less { IsDurationPair duration → IsDurationPair other → nanoseconds_in duration <ℤ nanoseconds_in other
+    ensures bad_duration { ¬ (IsDurationPair duration × IsDurationPair other)
+        → result ≡ number_refused bad_duration }
+    ensures less { IsDurationPair duration → IsDurationPair other
+        → nanoseconds_in duration <ℤ nanoseconds_in other
         → result ≡ number_done (neg_ℤ (pos 1)) }
-    ensures same { IsDurationPair duration → IsDurationPair other → nanoseconds_in duration ≡ nanoseconds_in other
+    ensures same { IsDurationPair duration → IsDurationPair other
+        → nanoseconds_in duration ≡ nanoseconds_in other
         → result ≡ number_done (pos 0) }
-    ensures greater { IsDurationPair duration → IsDurationPair other → nanoseconds_in other <ℤ nanoseconds_in duration
+    ensures greater { IsDurationPair duration → IsDurationPair other
+        → nanoseconds_in other <ℤ nanoseconds_in duration
         → result ≡ number_done (pos 1) }
 {
     let Some(duration) = duration_of(duration) else {

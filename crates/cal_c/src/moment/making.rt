@@ -20,8 +20,10 @@ use cal_time::UtcOffset;
 pub extern "C" fn fots_moment_new(date: i32, time: u64, offset: i32) -> MomentResult
     ensures bad_date { ¬ IsJulianDay date → result ≡ moment_refused bad_date }
     ensures bad_time { IsJulianDay date → ¬ IsTime time → result ≡ moment_refused bad_time }
-    ensures bad_offset { IsJulianDay date → IsTime time → ¬ IsOffset offset → result ≡ moment_refused bad_offset }
-    ensures moment { IsJulianDay date → IsTime time → IsOffset offset → result ≡ moment_done (moment_of date time offset) }
+    ensures bad_offset { IsJulianDay date → IsTime time → ¬ IsOffset offset
+        → result ≡ moment_refused bad_offset }
+    ensures moment { IsJulianDay date → IsTime time → IsOffset offset
+        → result ≡ moment_done (moment_of date time offset) }
 {
     let Some(date) = date_of(date) else {
         return MomentResult::refused(BAD_DATE);
@@ -41,9 +43,11 @@ pub extern "C" fn fots_moment_to_offset(moment: Moment, offset: i32) -> MomentRe
     ensures bad_moment { ¬ IsMoment moment → result ≡ moment_refused bad_moment }
     ensures bad_offset { IsMoment moment → ¬ IsOffset offset → result ≡ moment_refused bad_offset }
     ensures past_range { let local = local_at (instant (shown_in moment)) offset
-        in IsMoment moment → IsOffset offset → ¬ IsDateTime local → result ≡ moment_refused past_range }
+        in IsMoment moment → IsOffset offset → ¬ IsDateTime local
+        → result ≡ moment_refused past_range }
     ensures moment { let local = local_at (instant (shown_in moment)) offset
-        in IsMoment moment → IsOffset offset → IsDateTime local → result ≡ moment_done (record { local = local; offset = offset }) }
+        in IsMoment moment → IsOffset offset → IsDateTime local
+        → result ≡ moment_done (record { local = local; offset = offset }) }
 {
     let Some(moment) = moment_of(moment) else {
         return MomentResult::refused(BAD_MOMENT);

@@ -18,9 +18,11 @@ use cal_time::SignedDuration;
 #[unsafe(no_mangle)]
 pub extern "C" fn fots_moment_checked_add(moment: Moment, duration: Duration) -> MomentResult
     ensures bad_moment { ¬ IsMoment moment → result ≡ moment_refused bad_moment }
-    ensures bad_duration { IsMoment moment → ¬ IsDurationPair duration → result ≡ moment_refused bad_duration }
+    ensures bad_duration { IsMoment moment → ¬ IsDurationPair duration
+        → result ≡ moment_refused bad_duration }
     ensures past_range { let local = local_in moment +ℤ nanoseconds_in duration
-        in IsMoment moment → IsDurationPair duration → ¬ IsDateTime local → result ≡ moment_refused past_range }
+        in IsMoment moment → IsDurationPair duration → ¬ IsDateTime local
+        → result ≡ moment_refused past_range }
     ensures moment { let local = local_in moment +ℤ nanoseconds_in duration
         in IsMoment moment → IsDurationPair duration → IsDateTime local
         → result ≡ moment_done (record { local = local; offset = moment.offset }) }
@@ -36,9 +38,11 @@ pub extern "C" fn fots_moment_checked_add(moment: Moment, duration: Duration) ->
 
 /// The moment that much later.
 fn later(moment: OffsetDateTime, duration: SignedDuration) -> MomentResult
-    ensures past_range { ¬ IsDateTime (moment.local +ℤ duration) → result ≡ moment_refused past_range }
+    ensures past_range { ¬ IsDateTime (moment.local +ℤ duration)
+        → result ≡ moment_refused past_range }
     ensures moment { let local = moment.local +ℤ duration
-        in IsDateTime local → result ≡ moment_done (record { local = local; offset = moment.offset }) }
+        in IsDateTime local → result ≡ moment_done
+        (record { local = local; offset = moment.offset }) }
 {
     match moment.checked_add(duration) {
         Some(moved) => MomentResult::of(moved),
@@ -50,9 +54,11 @@ fn later(moment: OffsetDateTime, duration: SignedDuration) -> MomentResult
 #[unsafe(no_mangle)]
 pub extern "C" fn fots_moment_checked_sub(moment: Moment, duration: Duration) -> MomentResult
     ensures bad_moment { ¬ IsMoment moment → result ≡ moment_refused bad_moment }
-    ensures bad_duration { IsMoment moment → ¬ IsDurationPair duration → result ≡ moment_refused bad_duration }
+    ensures bad_duration { IsMoment moment → ¬ IsDurationPair duration
+        → result ≡ moment_refused bad_duration }
     ensures past_range { let local = local_in moment -ℤ nanoseconds_in duration
-        in IsMoment moment → IsDurationPair duration → ¬ IsDateTime local → result ≡ moment_refused past_range }
+        in IsMoment moment → IsDurationPair duration → ¬ IsDateTime local
+        → result ≡ moment_refused past_range }
     ensures moment { let local = local_in moment -ℤ nanoseconds_in duration
         in IsMoment moment → IsDurationPair duration → IsDateTime local
         → result ≡ moment_done (record { local = local; offset = moment.offset }) }
@@ -68,9 +74,11 @@ pub extern "C" fn fots_moment_checked_sub(moment: Moment, duration: Duration) ->
 
 /// The moment that much earlier.
 fn earlier(moment: OffsetDateTime, duration: SignedDuration) -> MomentResult
-    ensures past_range { ¬ IsDateTime (moment.local -ℤ duration) → result ≡ moment_refused past_range }
+    ensures past_range { ¬ IsDateTime (moment.local -ℤ duration)
+        → result ≡ moment_refused past_range }
     ensures moment { let local = moment.local -ℤ duration
-        in IsDateTime local → result ≡ moment_done (record { local = local; offset = moment.offset }) }
+        in IsDateTime local → result ≡ moment_done
+        (record { local = local; offset = moment.offset }) }
 {
     match moment.checked_sub(duration) {
         Some(moved) => MomentResult::of(moved),
@@ -82,9 +90,14 @@ fn earlier(moment: OffsetDateTime, duration: SignedDuration) -> MomentResult
 #[unsafe(no_mangle)]
 pub extern "C" fn fots_moment_saturating_add(moment: Moment, duration: Duration) -> MomentResult
     ensures bad_moment { ¬ IsMoment moment → result ≡ moment_refused bad_moment }
-    ensures bad_duration { IsMoment moment → ¬ IsDurationPair duration → result ≡ moment_refused bad_duration }
+    ensures bad_duration { IsMoment moment → ¬ IsDurationPair duration
+        → result ≡ moment_refused bad_duration }
     ensures moment { IsMoment moment → IsDurationPair duration
-        → result ≡ moment_done (record { local = nearest (local_in moment +ℤ nanoseconds_in duration); offset = moment.offset }) }
+        → result ≡ moment_done (record {
+          local = nearest (local_in moment +ℤ nanoseconds_in duration);
+          offset =
+              moment.offset;
+        }) }
 {
     let Some(moment) = moment_of(moment) else {
         return MomentResult::refused(BAD_MOMENT);
@@ -99,9 +112,14 @@ pub extern "C" fn fots_moment_saturating_add(moment: Moment, duration: Duration)
 #[unsafe(no_mangle)]
 pub extern "C" fn fots_moment_saturating_sub(moment: Moment, duration: Duration) -> MomentResult
     ensures bad_moment { ¬ IsMoment moment → result ≡ moment_refused bad_moment }
-    ensures bad_duration { IsMoment moment → ¬ IsDurationPair duration → result ≡ moment_refused bad_duration }
+    ensures bad_duration { IsMoment moment → ¬ IsDurationPair duration
+        → result ≡ moment_refused bad_duration }
     ensures moment { IsMoment moment → IsDurationPair duration
-        → result ≡ moment_done (record { local = nearest (local_in moment -ℤ nanoseconds_in duration); offset = moment.offset }) }
+        → result ≡ moment_done (record {
+          local = nearest (local_in moment -ℤ nanoseconds_in duration);
+          offset =
+              moment.offset;
+        }) }
 {
     let Some(moment) = moment_of(moment) else {
         return MomentResult::refused(BAD_MOMENT);
@@ -115,7 +133,8 @@ pub extern "C" fn fots_moment_saturating_sub(moment: Moment, duration: Duration)
 /// The duration from the other instant to that of the moment, below zero where the other one is later.
 #[unsafe(no_mangle)]
 pub extern "C" fn fots_moment_duration_since(moment: Moment, other: Moment) -> DurationResult
-    ensures bad_moment { ¬ (IsMoment moment × IsMoment other) → result ≡ duration_refused bad_moment }
+    ensures bad_moment { ¬ (IsMoment moment × IsMoment other)
+        → result ≡ duration_refused bad_moment }
     ensures value { IsMoment moment → IsMoment other
         → result ≡ duration_done (instant (shown_in moment) -ℤ instant (shown_in other)) }
 {
@@ -132,11 +151,14 @@ pub extern "C" fn fots_moment_duration_since(moment: Moment, other: Moment) -> D
 #[unsafe(no_mangle)]
 pub extern "C" fn fots_moment_compare(moment: Moment, other: Moment) -> NumberResult
     ensures bad_moment { ¬ (IsMoment moment × IsMoment other) → result ≡ number_refused bad_moment }
-    ensures before { IsMoment moment → IsMoment other → instant (shown_in moment) <ℤ instant (shown_in other)
+    ensures before { IsMoment moment → IsMoment other
+        → instant (shown_in moment) <ℤ instant (shown_in other)
         → result ≡ number_done (neg_ℤ (pos 1)) }
-    ensures same { IsMoment moment → IsMoment other → instant (shown_in moment) ≡ instant (shown_in other)
+    ensures same { IsMoment moment → IsMoment other
+        → instant (shown_in moment) ≡ instant (shown_in other)
         → result ≡ number_done (pos 0) }
-    ensures after { IsMoment moment → IsMoment other → instant (shown_in other) <ℤ instant (shown_in moment)
+    ensures after { IsMoment moment → IsMoment other
+        → instant (shown_in other) <ℤ instant (shown_in moment)
         → result ≡ number_done (pos 1) }
 {
     let Some(moment) = moment_of(moment) else {

@@ -18,7 +18,8 @@ use cal_time::SignedDuration;
 /// The moment at UTC so many seconds after 1970-01-01 0:00, or before where they are below zero. Refused as `timestamp`.
 #[unsafe(no_mangle)]
 pub extern "C" fn fots_moment_from_unix_timestamp(seconds: i64) -> MomentResult
-    ensures timestamp { ¬ IsDateTime (unix_epoch +ℤ seconds *ℤ pos second) → result ≡ moment_refused timestamp_refused }
+    ensures timestamp { ¬ IsDateTime (unix_epoch +ℤ seconds *ℤ pos second)
+        → result ≡ moment_refused timestamp_refused }
     ensures moment { let local = unix_epoch +ℤ seconds *ℤ pos second
         in IsDateTime local → result ≡ moment_done (record { local = local; offset = pos 0 }) }
 {
@@ -32,10 +33,12 @@ pub extern "C" fn fots_moment_from_unix_timestamp(seconds: i64) -> MomentResult
 #[unsafe(no_mangle)]
 pub extern "C" fn fots_moment_from_unix_time(duration: Duration) -> MomentResult
     ensures bad_duration { ¬ IsDurationPair duration → result ≡ moment_refused bad_duration }
-    ensures timestamp { IsDurationPair duration → ¬ IsDateTime (unix_epoch +ℤ nanoseconds_in duration)
+    ensures timestamp { IsDurationPair duration
+        → ¬ IsDateTime (unix_epoch +ℤ nanoseconds_in duration)
         → result ≡ moment_refused timestamp_refused }
     ensures moment { let local = unix_epoch +ℤ nanoseconds_in duration
-        in IsDurationPair duration → IsDateTime local → result ≡ moment_done (record { local = local; offset = pos 0 }) }
+        in IsDurationPair duration → IsDateTime local
+        → result ≡ moment_done (record { local = local; offset = pos 0 }) }
 {
     match duration_of(duration) {
         Some(duration) => at_unix_time(duration),
@@ -45,7 +48,8 @@ pub extern "C" fn fots_moment_from_unix_time(duration: Duration) -> MomentResult
 
 /// The moment at UTC of a Unix time.
 fn at_unix_time(duration: SignedDuration) -> MomentResult
-    ensures timestamp { ¬ IsDateTime (unix_epoch +ℤ duration) → result ≡ moment_refused timestamp_refused }
+    ensures timestamp { ¬ IsDateTime (unix_epoch +ℤ duration)
+        → result ≡ moment_refused timestamp_refused }
     ensures moment { let local = unix_epoch +ℤ duration
         in IsDateTime local → result ≡ moment_done (record { local = local; offset = pos 0 }) }
 {
@@ -59,7 +63,8 @@ fn at_unix_time(duration: SignedDuration) -> MomentResult
 #[unsafe(no_mangle)]
 pub extern "C" fn fots_moment_unix_timestamp(moment: Moment) -> LongResult
     ensures bad_moment { ¬ IsMoment moment → result ≡ long_refused bad_moment }
-    ensures value { IsMoment moment → result ≡ long_done (unix_seconds (instant (shown_in moment))) }
+    ensures value { IsMoment moment → result
+        ≡ long_done (unix_seconds (instant (shown_in moment))) }
 {
     match moment_of(moment) {
         Some(moment) => LongResult::of(moment.unix_timestamp()),
@@ -71,7 +76,8 @@ pub extern "C" fn fots_moment_unix_timestamp(moment: Moment) -> LongResult
 #[unsafe(no_mangle)]
 pub extern "C" fn fots_moment_unix_time(moment: Moment) -> DurationResult
     ensures bad_moment { ¬ IsMoment moment → result ≡ duration_refused bad_moment }
-    ensures value { IsMoment moment → result ≡ duration_done (unix_nanoseconds (instant (shown_in moment))) }
+    ensures value { IsMoment moment → result
+        ≡ duration_done (unix_nanoseconds (instant (shown_in moment))) }
 {
     match moment_of(moment) {
         Some(moment) => DurationResult::of(moment - OffsetDateTime::unix_epoch()),

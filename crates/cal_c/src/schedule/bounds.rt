@@ -20,7 +20,8 @@ use cal_schedule::{
 #[unsafe(no_mangle)]
 pub extern "C" fn fots_date_first_of_month(date: i32) -> DateResult
     ensures bad_date { ¬ IsJulianDay date → result ≡ date_refused bad_date }
-    ensures day { IsJulianDay date → IsDayWith (HasCalendarDate (year_at (day_of date)) (month_at (day_of date)) 1) result }
+    ensures day { IsJulianDay date → IsDayWith
+        (HasCalendarDate (year_at (day_of date)) (month_at (day_of date)) 1) result }
 {
     match date_of(date) {
         Some(date) => DateResult::of(first_of_month(date)),
@@ -33,7 +34,8 @@ pub extern "C" fn fots_date_first_of_month(date: i32) -> DateResult
 pub extern "C" fn fots_date_last_of_month(date: i32) -> DateResult
     ensures bad_date { ¬ IsJulianDay date → result ≡ date_refused bad_date }
     ensures day { IsJulianDay date
-        → IsDayWith (HasCalendarDate (year_at (day_of date)) (month_at (day_of date)) (days_in_month (year_at (day_of date)) (month_at (day_of date)))) result }
+        → IsDayWith (HasCalendarDate (year_at (day_of date)) (month_at (day_of date))
+        (days_in_month (year_at (day_of date)) (month_at (day_of date)))) result }
 {
     match date_of(date) {
         Some(date) => DateResult::of(last_of_month(date)),
@@ -57,7 +59,8 @@ pub extern "C" fn fots_date_quarter(date: i32) -> NumberResult
 #[unsafe(no_mangle)]
 pub extern "C" fn fots_date_first_of_quarter(date: i32) -> DateResult
     ensures bad_date { ¬ IsJulianDay date → result ≡ date_refused bad_date }
-    ensures day { IsJulianDay date → IsDayWith (HasCalendarDate (year_at (day_of date)) (3 * quarter_at (day_of date) - 2) 1) result }
+    ensures day { IsJulianDay date → IsDayWith
+        (HasCalendarDate (year_at (day_of date)) (3 * quarter_at (day_of date) - 2) 1) result }
 {
     match date_of(date) {
         Some(date) => DateResult::of(first_of_quarter(date)),
@@ -70,7 +73,8 @@ pub extern "C" fn fots_date_first_of_quarter(date: i32) -> DateResult
 pub extern "C" fn fots_date_last_of_quarter(date: i32) -> DateResult
     ensures bad_date { ¬ IsJulianDay date → result ≡ date_refused bad_date }
     ensures day { IsJulianDay date
-        → IsDayWith (HasCalendarDate (year_at (day_of date)) (3 * quarter_at (day_of date)) (days_in_month (year_at (day_of date)) (3 * quarter_at (day_of date)))) result }
+        → IsDayWith (HasCalendarDate (year_at (day_of date)) (3 * quarter_at (day_of date))
+        (days_in_month (year_at (day_of date)) (3 * quarter_at (day_of date)))) result }
 {
     match date_of(date) {
         Some(date) => DateResult::of(last_of_quarter(date)),
@@ -82,7 +86,8 @@ pub extern "C" fn fots_date_last_of_quarter(date: i32) -> DateResult
 #[unsafe(no_mangle)]
 pub extern "C" fn fots_date_first_of_year(date: i32) -> DateResult
     ensures bad_date { ¬ IsJulianDay date → result ≡ date_refused bad_date }
-    ensures day { IsJulianDay date → IsDayWith (HasCalendarDate (year_at (day_of date)) 1 1) result }
+    ensures day { IsJulianDay date → IsDayWith
+        (HasCalendarDate (year_at (day_of date)) 1 1) result }
 {
     match date_of(date) {
         Some(date) => DateResult::of(first_of_year(date)),
@@ -94,7 +99,8 @@ pub extern "C" fn fots_date_first_of_year(date: i32) -> DateResult
 #[unsafe(no_mangle)]
 pub extern "C" fn fots_date_last_of_year(date: i32) -> DateResult
     ensures bad_date { ¬ IsJulianDay date → result ≡ date_refused bad_date }
-    ensures day { IsJulianDay date → IsDayWith (HasCalendarDate (year_at (day_of date)) 12 31) result }
+    ensures day { IsJulianDay date → IsDayWith
+        (HasCalendarDate (year_at (day_of date)) 12 31) result }
 {
     match date_of(date) {
         Some(date) => DateResult::of(last_of_year(date)),
@@ -106,7 +112,8 @@ pub extern "C" fn fots_date_last_of_year(date: i32) -> DateResult
 #[unsafe(no_mangle)]
 pub extern "C" fn fots_date_first_of_iso_week(date: i32) -> DateResult
     ensures bad_date { ¬ IsJulianDay date → result ≡ date_refused bad_date }
-    ensures day { IsJulianDay date → IsDayWith (HasIsoWeekDate (iso_year_at (day_of date)) (iso_week_at (day_of date)) 0) result }
+    ensures day { IsJulianDay date → IsDayWith
+        (HasIsoWeekDate (iso_year_at (day_of date)) (iso_week_at (day_of date)) 0) result }
 {
     match date_of(date) {
         Some(date) => DateResult::of(first_of_iso_week(date)),
@@ -119,7 +126,8 @@ pub extern "C" fn fots_date_first_of_iso_week(date: i32) -> DateResult
 #[unsafe(no_mangle)]
 pub extern "C" fn fots_date_last_of_iso_week(date: i32) -> DateResult
     ensures bad_date { ¬ IsJulianDay date → result ≡ date_refused bad_date }
-    ensures past_range { IsJulianDay date → last_day + weekday_at (day_of date) < day_of date + 6 → result ≡ date_refused past_range }
+    ensures past_range { IsJulianDay date → last_day + weekday_at (day_of date) < day_of date + 6
+        → result ≡ date_refused past_range }
     ensures day { IsJulianDay date → day_of date + 6 ≤ last_day + weekday_at (day_of date)
         → result ≡ date_done (julian_day_at (day_of date + 6 - weekday_at (day_of date))) }
 {

@@ -13,7 +13,8 @@ use cal_schedule::{DayCount, day_count};
 
 /// The day count that has the number, from actual/360, 1.
 fn day_count_of(number: u32) -> Option<DayCount>
-    ensures { MatchOption result (¬ IsDayCount number) (λ found. IsDayCount number × (day_count_number found ≡ number)) }
+    ensures { MatchOption result (¬ IsDayCount number)
+        (λ found. IsDayCount number × (day_count_number found ≡ number)) }
 {
     match number {
         1 => Some(DayCount::Actual360),
@@ -30,10 +31,14 @@ fn day_count_of(number: u32) -> Option<DayCount>
 /// 2003-11-01, to 2453127, 2004-05-01, by 5 it is 66491 over 133590.
 #[unsafe(no_mangle)]
 pub extern "C" fn fots_date_day_count(date: i32, other: i32, convention: u32) -> YearFractionResult
-    ensures bad_date { ¬ (IsJulianDay date × IsJulianDay other) → result ≡ year_fraction_refused bad_date }
-    ensures bad_convention { IsJulianDay date → IsJulianDay other → ¬ IsDayCount convention → result ≡ year_fraction_refused bad_convention }
-    ensures value { IsJulianDay date → IsJulianDay other → (c : DayCount) → day_count_number c ≡ convention
-        → result ≡ year_fraction_done (counted_days c (day_of date) (day_of other)) (year_counts c) }
+    ensures bad_date { ¬ (IsJulianDay date × IsJulianDay other)
+        → result ≡ year_fraction_refused bad_date }
+    ensures bad_convention { IsJulianDay date → IsJulianDay other → ¬ IsDayCount convention
+        → result ≡ year_fraction_refused bad_convention }
+    ensures value { IsJulianDay date → IsJulianDay other → (c : DayCount)
+        → day_count_number c ≡ convention
+        → result ≡ year_fraction_done (counted_days c (day_of date) (day_of other))
+        (year_counts c) }
 {
     let Some(date) = date_of(date) else {
         return YearFractionResult::refused(BAD_DATE);

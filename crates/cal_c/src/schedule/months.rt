@@ -17,8 +17,11 @@ use cal_schedule::{checked_add_months, checked_add_years, saturating_add_months}
 #[unsafe(no_mangle)]
 pub extern "C" fn fots_date_add_months(date: i32, months: i32) -> DateResult
     ensures bad_date { ¬ IsJulianDay date → result ≡ date_refused bad_date }
-    ensures past_range { IsJulianDay date → ¬ IsMonthNumber (month_number_at (day_of date) +ℤ months) → result ≡ date_refused past_range }
-    ensures day { IsJulianDay date → IsMonthNumber (month_number_at (day_of date) +ℤ months) → IsDayWith (IsMonthsLater (day_of date) months) result }
+    ensures past_range { IsJulianDay date
+        → ¬ IsMonthNumber (month_number_at (day_of date) +ℤ months)
+        → result ≡ date_refused past_range }
+    ensures day { IsJulianDay date → IsMonthNumber (month_number_at (day_of date) +ℤ months)
+        → IsDayWith (IsMonthsLater (day_of date) months) result }
 {
     match date_of(date) {
         Some(date) => DateResult::of_option(checked_add_months(date, months)),
@@ -30,9 +33,13 @@ pub extern "C" fn fots_date_add_months(date: i32, months: i32) -> DateResult
 #[unsafe(no_mangle)]
 pub extern "C" fn fots_date_saturating_add_months(date: i32, months: i32) -> DateResult
     ensures bad_date { ¬ IsJulianDay date → result ≡ date_refused bad_date }
-    ensures day { IsJulianDay date → IsMonthNumber (month_number_at (day_of date) +ℤ months) → IsDayWith (IsMonthsLater (day_of date) months) result }
-    ensures before { IsJulianDay date → (month_number_at (day_of date) +ℤ months) <ℤ (first_year *ℤ pos 12) → result ≡ date_done first_julian_day }
-    ensures past { IsJulianDay date → ((last_year +ℤ pos 1) *ℤ pos 12) ≤ℤ (month_number_at (day_of date) +ℤ months) → result ≡ date_done (julian_day_at last_day) }
+    ensures day { IsJulianDay date → IsMonthNumber (month_number_at (day_of date) +ℤ months)
+        → IsDayWith (IsMonthsLater (day_of date) months) result }
+    ensures before { IsJulianDay date
+        → (month_number_at (day_of date) +ℤ months) <ℤ (first_year *ℤ pos 12)
+        → result ≡ date_done first_julian_day }
+    ensures past { IsJulianDay date → ((last_year +ℤ pos 1) *ℤ pos 12)
+        ≤ℤ (month_number_at (day_of date) +ℤ months) → result ≡ date_done (julian_day_at last_day) }
 {
     match date_of(date) {
         Some(date) => DateResult::of(saturating_add_months(date, months)),
@@ -46,8 +53,10 @@ pub extern "C" fn fots_date_saturating_add_months(date: i32, months: i32) -> Dat
 #[unsafe(no_mangle)]
 pub extern "C" fn fots_date_add_years(date: i32, years: i32) -> DateResult
     ensures bad_date { ¬ IsJulianDay date → result ≡ date_refused bad_date }
-    ensures past_range { IsJulianDay date → ¬ IsYear (year_at (day_of date) +ℤ years) → result ≡ date_refused past_range }
-    ensures day { IsJulianDay date → IsYear (year_at (day_of date) +ℤ years) → IsDayWith (IsMonthsLater (day_of date) (pos 12 *ℤ years)) result }
+    ensures past_range { IsJulianDay date → ¬ IsYear (year_at (day_of date) +ℤ years)
+        → result ≡ date_refused past_range }
+    ensures day { IsJulianDay date → IsYear (year_at (day_of date) +ℤ years)
+        → IsDayWith (IsMonthsLater (day_of date) (pos 12 *ℤ years)) result }
 {
     match date_of(date) {
         Some(date) => DateResult::of_option(checked_add_years(date, years)),

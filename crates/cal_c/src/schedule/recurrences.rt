@@ -28,8 +28,10 @@ use reading::Recurrence;
 /// 2024-01-26.
 #[unsafe(no_mangle)]
 pub extern "C" fn fots_rule_first(rule: &RuleParts<'_>) -> DateResult
-    ensures refused { ¬ IsRule rule.now → IsRuleStatus rule.now result.status × (result ≡ date_refused result.status) }
-    ensures day { IsRule rule.now → ((its : Rule) × IsRuleOf rule.now its × (result ≡ date_if_any (slice_get (days_of its) 0))) }
+    ensures refused { ¬ IsRule rule.now
+        → IsRuleStatus rule.now result.status × (result ≡ date_refused result.status) }
+    ensures day { IsRule rule.now → ((its : Rule) × IsRuleOf rule.now its
+        × (result ≡ date_if_any (slice_get (days_of its) 0))) }
 {
     match Recurrence::of(rule) {
         Ok(found) => DateResult::of_option(found.rule().days().next()),
@@ -41,10 +43,12 @@ pub extern "C" fn fots_rule_first(rule: &RuleParts<'_>) -> DateResult
 /// 2024-01-26, is 2460364, 2024-02-23.
 #[unsafe(no_mangle)]
 pub extern "C" fn fots_rule_next_after(rule: &RuleParts<'_>, date: i32) -> DateResult
-    ensures refused { ¬ IsRule rule.now → IsRuleStatus rule.now result.status × (result ≡ date_refused result.status) }
+    ensures refused { ¬ IsRule rule.now
+        → IsRuleStatus rule.now result.status × (result ≡ date_refused result.status) }
     ensures bad_date { IsRule rule.now → ¬ IsJulianDay date → result ≡ date_refused bad_date }
     ensures day { IsRule rule.now → IsJulianDay date
-        → ((its : Rule) × IsRuleOf rule.now its × (result ≡ date_if_any (slice_get (days_after its (day_of date)) 0))) }
+        → ((its : Rule) × IsRuleOf rule.now its
+        × (result ≡ date_if_any (slice_get (days_after its (day_of date)) 0))) }
 {
     let found = match Recurrence::of(rule) {
         Ok(found) => found,
@@ -59,10 +63,12 @@ pub extern "C" fn fots_rule_next_after(rule: &RuleParts<'_>, date: i32) -> DateR
 /// Whether the date is one of the rule's days: 1 where it is, else 0.
 #[unsafe(no_mangle)]
 pub extern "C" fn fots_rule_contains(rule: &RuleParts<'_>, date: i32) -> NumberResult
-    ensures refused { ¬ IsRule rule.now → IsRuleStatus rule.now result.status × (result ≡ number_refused result.status) }
+    ensures refused { ¬ IsRule rule.now
+        → IsRuleStatus rule.now result.status × (result ≡ number_refused result.status) }
     ensures bad_date { IsRule rule.now → ¬ IsJulianDay date → result ≡ number_refused bad_date }
     ensures value { IsRule rule.now → IsJulianDay date
-        → ((its : Rule) × IsRuleOf rule.now its × (result ≡ number_done (if is_on its (day_of date) then pos 1 else pos 0))) }
+        → ((its : Rule) × IsRuleOf rule.now its
+        × (result ≡ number_done (if is_on its (day_of date) then pos 1 else pos 0))) }
 {
     let found = match Recurrence::of(rule) {
         Ok(found) => found,
@@ -82,10 +88,14 @@ pub extern "C" fn fots_rule_days_after(
     date: i32,
     days: &mut [i32],
 ) -> DaysResult
-    ensures refused { ¬ IsRule rule.now → IsRuleStatus rule.now result.status × (result ≡ days_refused result.status) × (days.new ≡ days.old) }
-    ensures bad_date { IsRule rule.now → ¬ IsJulianDay date → (result ≡ days_refused bad_date) × (days.new ≡ days.old) }
+    ensures refused { ¬ IsRule rule.now
+        → IsRuleStatus rule.now result.status × (result ≡ days_refused result.status)
+        × (days.new ≡ days.old) }
+    ensures bad_date { IsRule rule.now → ¬ IsJulianDay date
+        → (result ≡ days_refused bad_date) × (days.new ≡ days.old) }
     ensures days { IsRule rule.now → IsJulianDay date
-        → ((its : Rule) × IsRuleOf rule.now its × (result ≡ days_done result.length) × AreWritten (days_after its (day_of date)) days.old days.new result.length) }
+        → ((its : Rule) × IsRuleOf rule.now its × (result ≡ days_done result.length)
+        × AreWritten (days_after its (day_of date)) days.old days.new result.length) }
 {
     let found = match Recurrence::of(rule) {
         Ok(found) => found,

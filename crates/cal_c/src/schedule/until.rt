@@ -17,8 +17,10 @@ use cal_schedule::{months_until, period_until, years_until};
 #[unsafe(no_mangle)]
 pub extern "C" fn fots_date_months_until(date: i32, other: i32) -> NumberResult
     ensures bad_date { ¬ (IsJulianDay date × IsJulianDay other) → result ≡ number_refused bad_date }
-    ensures on { IsJulianDay date → IsJulianDay other → date ≤ℤ other → IsNumberWith (IsGreatest (LeadsUpTo (day_of date) (day_of other))) result }
-    ensures back { IsJulianDay date → IsJulianDay other → other <ℤ date → IsNumberWith (IsLeast (LeadsBackTo (day_of date) (day_of other))) result }
+    ensures on { IsJulianDay date → IsJulianDay other → date ≤ℤ other
+        → IsNumberWith (IsGreatest (LeadsUpTo (day_of date) (day_of other))) result }
+    ensures back { IsJulianDay date → IsJulianDay other → other <ℤ date
+        → IsNumberWith (IsLeast (LeadsBackTo (day_of date) (day_of other))) result }
 {
     let Some(date) = date_of(date) else {
         return NumberResult::refused(BAD_DATE);
@@ -35,9 +37,11 @@ pub extern "C" fn fots_date_months_until(date: i32, other: i32) -> NumberResult
 pub extern "C" fn fots_date_years_until(date: i32, other: i32) -> NumberResult
     ensures bad_date { ¬ (IsJulianDay date × IsJulianDay other) → result ≡ number_refused bad_date }
     ensures on { IsJulianDay date → IsJulianDay other → date ≤ℤ other
-        → IsNumberWith (IsGreatest (λ years. LeadsUpTo (day_of date) (day_of other) (pos 12 *ℤ years))) result }
+        → IsNumberWith (IsGreatest (λ years.
+        LeadsUpTo (day_of date) (day_of other) (pos 12 *ℤ years))) result }
     ensures back { IsJulianDay date → IsJulianDay other → other <ℤ date
-        → IsNumberWith (IsLeast (λ years. LeadsBackTo (day_of date) (day_of other) (pos 12 *ℤ years))) result }
+        → IsNumberWith (IsLeast (λ years.
+        LeadsBackTo (day_of date) (day_of other) (pos 12 *ℤ years))) result }
 {
     let Some(date) = date_of(date) else {
         return NumberResult::refused(BAD_DATE);
@@ -54,15 +58,20 @@ pub extern "C" fn fots_date_years_until(date: i32, other: i32) -> NumberResult
 #[unsafe(no_mangle)]
 pub extern "C" fn fots_date_period_until(date: i32, other: i32) -> PeriodResult
     ensures bad_date { ¬ (IsJulianDay date × IsJulianDay other) → result ≡ period_refused bad_date }
-    ensures leads { IsJulianDay date → IsJulianDay other → IsPeriodWith (LeadsTo (day_of date) (day_of other)) result }
+    ensures leads { IsJulianDay date → IsJulianDay other
+        → IsPeriodWith (LeadsTo (day_of date) (day_of other)) result }
     ensures on { IsJulianDay date → IsJulianDay other → date ≤ℤ other
-        → IsPeriodWith (λ p. IsGreatest (LeadsUpTo (day_of date) (day_of other)) (months_of p)) result }
+        → IsPeriodWith (λ p. IsGreatest (LeadsUpTo (day_of date) (day_of other)) (months_of p))
+        result }
     ensures back { IsJulianDay date → IsJulianDay other → other <ℤ date
-        → IsPeriodWith (λ p. IsLeast (LeadsBackTo (day_of date) (day_of other)) (months_of p)) result }
+        → IsPeriodWith (λ p. IsLeast (LeadsBackTo (day_of date) (day_of other)) (months_of p))
+        result }
     ensures forward { IsJulianDay date → IsJulianDay other → date ≤ℤ other
-        → (pos 0 ≤ℤ result.years) × (pos 0 ≤ℤ result.months) × (result.months ≤ℤ pos 11) × (pos 0 ≤ℤ result.days) }
+        → (pos 0 ≤ℤ result.years) × (pos 0 ≤ℤ result.months) × (result.months ≤ℤ pos 11)
+        × (pos 0 ≤ℤ result.days) }
     ensures backward { IsJulianDay date → IsJulianDay other → other <ℤ date
-        → (result.years ≤ℤ pos 0) × (neg_ℤ (pos 11) ≤ℤ result.months) × (result.months ≤ℤ pos 0) × (result.days ≤ℤ pos 0) }
+        → (result.years ≤ℤ pos 0) × (neg_ℤ (pos 11) ≤ℤ result.months) × (result.months ≤ℤ pos 0)
+        × (result.days ≤ℤ pos 0) }
 {
     let Some(date) = date_of(date) else {
         return PeriodResult::refused(BAD_DATE);

@@ -22,11 +22,15 @@ pub extern "C" fn fots_date_nth_weekday_of_month(
 ) -> DateResult
     ensures month { ¬ IsMonth month → result ≡ date_refused month_refused }
     ensures bad_weekday { IsMonth month → ¬ IsWeekday weekday → result ≡ date_refused bad_weekday }
-    ensures bad_count { IsMonth month → IsWeekday weekday → 255 < n → result ≡ date_refused bad_count }
-    ensures year { IsMonth month → IsWeekday weekday → n ≤ 255 → ¬ IsYear year → result ≡ date_refused year_refused }
-    ensures weekday { IsMonth month → IsWeekday weekday → n ≤ 255 → IsYear year → NoDate (IsNthWeekday year month (weekday - 1) n)
+    ensures bad_count { IsMonth month → IsWeekday weekday → 255 < n
+        → result ≡ date_refused bad_count }
+    ensures year { IsMonth month → IsWeekday weekday → n ≤ 255 → ¬ IsYear year
+        → result ≡ date_refused year_refused }
+    ensures weekday { IsMonth month → IsWeekday weekday → n ≤ 255 → IsYear year
+        → NoDate (IsNthWeekday year month (weekday - 1) n)
         → result ≡ date_refused weekday_refused }
-    ensures day { IsMonth month → IsWeekday weekday → n ≤ 255 → (k : ℕ) → IsDate k → IsNthWeekday year month (weekday - 1) n k
+    ensures day { IsMonth month → IsWeekday weekday → n ≤ 255 → (k : ℕ) → IsDate k
+        → IsNthWeekday year month (weekday - 1) n k
         → result ≡ date_done (julian_day_at k) }
 {
     let Some(month) = month_of(month) else {
@@ -49,8 +53,10 @@ pub extern "C" fn fots_date_nth_weekday_of_month(
 pub extern "C" fn fots_date_last_weekday_of_month(year: i32, month: u32, weekday: u32) -> DateResult
     ensures month { ¬ IsMonth month → result ≡ date_refused month_refused }
     ensures bad_weekday { IsMonth month → ¬ IsWeekday weekday → result ≡ date_refused bad_weekday }
-    ensures year { IsMonth month → IsWeekday weekday → ¬ IsYear year → result ≡ date_refused year_refused }
-    ensures day { IsMonth month → IsWeekday weekday → (k : ℕ) → IsDate k → IsLastWeekday year month (weekday - 1) k
+    ensures year { IsMonth month → IsWeekday weekday → ¬ IsYear year
+        → result ≡ date_refused year_refused }
+    ensures day { IsMonth month → IsWeekday weekday → (k : ℕ) → IsDate k
+        → IsLastWeekday year month (weekday - 1) k
         → result ≡ date_done (julian_day_at k) }
 {
     let Some(month) = month_of(month) else {
@@ -70,7 +76,8 @@ pub extern "C" fn fots_date_last_weekday_of_month(year: i32, month: u32, weekday
 #[unsafe(no_mangle)]
 pub extern "C" fn fots_date_on_or_after(date: i32, weekday: u32) -> DateResult
     ensures bad_date { ¬ IsJulianDay date → result ≡ date_refused bad_date }
-    ensures bad_weekday { IsJulianDay date → ¬ IsWeekday weekday → result ≡ date_refused bad_weekday }
+    ensures bad_weekday { IsJulianDay date → ¬ IsWeekday weekday
+        → result ≡ date_refused bad_weekday }
     ensures day { IsJulianDay date → IsWeekday weekday
         → result ≡ date_if_any (slice_get (occurrences_from (weekday - 1) (day_of date)) 0) }
 {
@@ -88,7 +95,8 @@ pub extern "C" fn fots_date_on_or_after(date: i32, weekday: u32) -> DateResult
 #[unsafe(no_mangle)]
 pub extern "C" fn fots_date_on_or_before(date: i32, weekday: u32) -> DateResult
     ensures bad_date { ¬ IsJulianDay date → result ≡ date_refused bad_date }
-    ensures bad_weekday { IsJulianDay date → ¬ IsWeekday weekday → result ≡ date_refused bad_weekday }
+    ensures bad_weekday { IsJulianDay date → ¬ IsWeekday weekday
+        → result ≡ date_refused bad_weekday }
     ensures day { IsJulianDay date → IsWeekday weekday
         → result ≡ date_if_any (slice_get (occurrences_upto (weekday - 1) (day_of date)) 0) }
 {

@@ -26,10 +26,14 @@ use calendar::Calendar;
 pub extern "C" fn fots_date_is_workday(date: i32, week: u32, holidays: &[i32]) -> NumberResult
     ensures bad_date { ¬ IsJulianDay date → result ≡ number_refused bad_date }
     ensures bad_week { IsJulianDay date → ¬ IsMarks week → result ≡ number_refused bad_week }
-    ensures many_holidays { IsJulianDay date → IsMarks week → most_holidays < length holidays.now → result ≡ number_refused many_holidays }
-    ensures bad_holidays { IsJulianDay date → IsMarks week → length holidays.now ≤ most_holidays → ¬ AreHolidays holidays.now → result ≡ number_refused bad_holidays }
-    ensures value { IsJulianDay date → IsMarks week → length holidays.now ≤ most_holidays → AreHolidays holidays.now
-        → result ≡ number_done (if is_workday (work_week week holidays.now) (day_of date) then pos 1 else pos 0) }
+    ensures many_holidays { IsJulianDay date → IsMarks week → most_holidays < length holidays.now
+        → result ≡ number_refused many_holidays }
+    ensures bad_holidays { IsJulianDay date → IsMarks week → length holidays.now ≤ most_holidays
+        → ¬ AreHolidays holidays.now → result ≡ number_refused bad_holidays }
+    ensures value { IsJulianDay date → IsMarks week → length holidays.now ≤ most_holidays
+        → AreHolidays holidays.now
+        → result ≡ number_done (if is_workday (work_week week holidays.now)
+        (day_of date) then pos 1 else pos 0) }
 {
     let Some(date) = date_of(date) else {
         return NumberResult::refused(BAD_DATE);
@@ -46,10 +50,14 @@ pub extern "C" fn fots_date_is_workday(date: i32, week: u32, holidays: &[i32]) -
 pub extern "C" fn fots_date_next_workday(date: i32, week: u32, holidays: &[i32]) -> DateResult
     ensures bad_date { ¬ IsJulianDay date → result ≡ date_refused bad_date }
     ensures bad_week { IsJulianDay date → ¬ IsMarks week → result ≡ date_refused bad_week }
-    ensures many_holidays { IsJulianDay date → IsMarks week → most_holidays < length holidays.now → result ≡ date_refused many_holidays }
-    ensures bad_holidays { IsJulianDay date → IsMarks week → length holidays.now ≤ most_holidays → ¬ AreHolidays holidays.now → result ≡ date_refused bad_holidays }
-    ensures day { IsJulianDay date → IsMarks week → length holidays.now ≤ most_holidays → AreHolidays holidays.now
-        → result ≡ date_if_any (slice_get (workdays_from (work_week week holidays.now) (day_of date + 1)) 0) }
+    ensures many_holidays { IsJulianDay date → IsMarks week → most_holidays < length holidays.now
+        → result ≡ date_refused many_holidays }
+    ensures bad_holidays { IsJulianDay date → IsMarks week → length holidays.now ≤ most_holidays
+        → ¬ AreHolidays holidays.now → result ≡ date_refused bad_holidays }
+    ensures day { IsJulianDay date → IsMarks week → length holidays.now ≤ most_holidays
+        → AreHolidays holidays.now
+        → result ≡ date_if_any (slice_get
+        (workdays_from (work_week week holidays.now) (day_of date + 1)) 0) }
 {
     let Some(date) = date_of(date) else {
         return DateResult::refused(BAD_DATE);
@@ -66,10 +74,14 @@ pub extern "C" fn fots_date_next_workday(date: i32, week: u32, holidays: &[i32])
 pub extern "C" fn fots_date_previous_workday(date: i32, week: u32, holidays: &[i32]) -> DateResult
     ensures bad_date { ¬ IsJulianDay date → result ≡ date_refused bad_date }
     ensures bad_week { IsJulianDay date → ¬ IsMarks week → result ≡ date_refused bad_week }
-    ensures many_holidays { IsJulianDay date → IsMarks week → most_holidays < length holidays.now → result ≡ date_refused many_holidays }
-    ensures bad_holidays { IsJulianDay date → IsMarks week → length holidays.now ≤ most_holidays → ¬ AreHolidays holidays.now → result ≡ date_refused bad_holidays }
-    ensures day { IsJulianDay date → IsMarks week → length holidays.now ≤ most_holidays → AreHolidays holidays.now
-        → result ≡ date_if_any (slice_get (workdays_back (work_week week holidays.now) (day_of date)) 0) }
+    ensures many_holidays { IsJulianDay date → IsMarks week → most_holidays < length holidays.now
+        → result ≡ date_refused many_holidays }
+    ensures bad_holidays { IsJulianDay date → IsMarks week → length holidays.now ≤ most_holidays
+        → ¬ AreHolidays holidays.now → result ≡ date_refused bad_holidays }
+    ensures day { IsJulianDay date → IsMarks week → length holidays.now ≤ most_holidays
+        → AreHolidays holidays.now
+        → result ≡ date_if_any (slice_get
+        (workdays_back (work_week week holidays.now) (day_of date)) 0) }
 {
     let Some(date) = date_of(date) else {
         return DateResult::refused(BAD_DATE);
@@ -92,9 +104,12 @@ pub extern "C" fn fots_date_add_workdays(
 ) -> DateResult
     ensures bad_date { ¬ IsJulianDay date → result ≡ date_refused bad_date }
     ensures bad_week { IsJulianDay date → ¬ IsMarks week → result ≡ date_refused bad_week }
-    ensures many_holidays { IsJulianDay date → IsMarks week → most_holidays < length holidays.now → result ≡ date_refused many_holidays }
-    ensures bad_holidays { IsJulianDay date → IsMarks week → length holidays.now ≤ most_holidays → ¬ AreHolidays holidays.now → result ≡ date_refused bad_holidays }
-    ensures day { IsJulianDay date → IsMarks week → length holidays.now ≤ most_holidays → AreHolidays holidays.now
+    ensures many_holidays { IsJulianDay date → IsMarks week → most_holidays < length holidays.now
+        → result ≡ date_refused many_holidays }
+    ensures bad_holidays { IsJulianDay date → IsMarks week → length holidays.now ≤ most_holidays
+        → ¬ AreHolidays holidays.now → result ≡ date_refused bad_holidays }
+    ensures day { IsJulianDay date → IsMarks week → length holidays.now ≤ most_holidays
+        → AreHolidays holidays.now
         → result ≡ date_if_any (nth_workday (work_week week holidays.now) days (day_of date)) }
 {
     workdays_later(date, days, &Calendar::of(week, holidays))
@@ -103,8 +118,10 @@ pub extern "C" fn fots_date_add_workdays(
 /// The working day so many working days after the date, of a calendar that was read.
 fn workdays_later(date: i32, days: i32, calendar: &Result<Calendar, i32>) -> DateResult
     ensures bad_date { ¬ IsJulianDay date → result ≡ date_refused bad_date }
-    ensures refused { IsJulianDay date → IfErr calendar.now (λ status. result ≡ date_refused status) }
-    ensures day { IsJulianDay date → IfOk calendar.now (λ w. result ≡ date_if_any (nth_workday w days (day_of date))) }
+    ensures refused { IsJulianDay date
+        → IfErr calendar.now (λ status. result ≡ date_refused status) }
+    ensures day { IsJulianDay date → IfOk calendar.now
+        (λ w. result ≡ date_if_any (nth_workday w days (day_of date))) }
 {
     let Some(date) = date_of(date) else {
         return DateResult::refused(BAD_DATE);
@@ -127,11 +144,17 @@ pub extern "C" fn fots_date_workdays_between(
     holidays: &[i32],
 ) -> NumberResult
     ensures bad_date { ¬ (IsJulianDay date × IsJulianDay other) → result ≡ number_refused bad_date }
-    ensures bad_week { IsJulianDay date → IsJulianDay other → ¬ IsMarks week → result ≡ number_refused bad_week }
-    ensures many_holidays { IsJulianDay date → IsJulianDay other → IsMarks week → most_holidays < length holidays.now → result ≡ number_refused many_holidays }
-    ensures bad_holidays { IsJulianDay date → IsJulianDay other → IsMarks week → length holidays.now ≤ most_holidays → ¬ AreHolidays holidays.now → result ≡ number_refused bad_holidays }
-    ensures value { IsJulianDay date → IsJulianDay other → IsMarks week → length holidays.now ≤ most_holidays → AreHolidays holidays.now
-        → result ≡ number_done (workdays_number (work_week week holidays.now) (day_of date) (day_of other)) }
+    ensures bad_week { IsJulianDay date → IsJulianDay other → ¬ IsMarks week
+        → result ≡ number_refused bad_week }
+    ensures many_holidays { IsJulianDay date → IsJulianDay other → IsMarks week
+        → most_holidays < length holidays.now → result ≡ number_refused many_holidays }
+    ensures bad_holidays { IsJulianDay date → IsJulianDay other → IsMarks week
+        → length holidays.now ≤ most_holidays → ¬ AreHolidays holidays.now
+        → result ≡ number_refused bad_holidays }
+    ensures value { IsJulianDay date → IsJulianDay other → IsMarks week
+        → length holidays.now ≤ most_holidays → AreHolidays holidays.now
+        → result ≡ number_done (workdays_number (work_week week holidays.now) (day_of date)
+        (day_of other)) }
 {
     workdays_to(date, other, &Calendar::of(week, holidays))
 }
@@ -139,8 +162,11 @@ pub extern "C" fn fots_date_workdays_between(
 /// How many working days there are from the date to the day before the other, of a calendar that was read.
 fn workdays_to(date: i32, other: i32, calendar: &Result<Calendar, i32>) -> NumberResult
     ensures bad_date { ¬ (IsJulianDay date × IsJulianDay other) → result ≡ number_refused bad_date }
-    ensures refused { IsJulianDay date → IsJulianDay other → IfErr calendar.now (λ status. result ≡ number_refused status) }
-    ensures value { IsJulianDay date → IsJulianDay other → IfOk calendar.now (λ w. result ≡ number_done (workdays_number w (day_of date) (day_of other))) }
+    ensures refused { IsJulianDay date → IsJulianDay other
+        → IfErr calendar.now (λ status. result ≡ number_refused status) }
+    ensures value { IsJulianDay date → IsJulianDay other
+        → IfOk calendar.now (λ w. result
+        ≡ number_done (workdays_number w (day_of date) (day_of other))) }
 {
     let Some(date) = date_of(date) else {
         return NumberResult::refused(BAD_DATE);
@@ -156,7 +182,8 @@ fn workdays_to(date: i32, other: i32, calendar: &Result<Calendar, i32>) -> Numbe
 
 /// The convention that has the number, from `Unadjusted`, 0.
 fn convention_of(number: u32) -> Option<Convention>
-    ensures { MatchOption result (¬ IsConvention number) (λ found. IsConvention number × (convention_number found ≡ number)) }
+    ensures { MatchOption result (¬ IsConvention number)
+        (λ found. IsConvention number × (convention_number found ≡ number)) }
 {
     match number {
         0 => Some(Convention::Unadjusted),
@@ -179,13 +206,19 @@ pub extern "C" fn fots_date_adjusted(
     holidays: &[i32],
 ) -> DateResult
     ensures bad_date { ¬ IsJulianDay date → result ≡ date_refused bad_date }
-    ensures bad_convention { IsJulianDay date → ¬ IsConvention convention → result ≡ date_refused bad_convention }
-    ensures bad_week { IsJulianDay date → IsConvention convention → ¬ IsMarks week → result ≡ date_refused bad_week }
-    ensures many_holidays { IsJulianDay date → IsConvention convention → IsMarks week → most_holidays < length holidays.now → result ≡ date_refused many_holidays }
-    ensures bad_holidays { IsJulianDay date → IsConvention convention → IsMarks week → length holidays.now ≤ most_holidays → ¬ AreHolidays holidays.now
+    ensures bad_convention { IsJulianDay date → ¬ IsConvention convention
+        → result ≡ date_refused bad_convention }
+    ensures bad_week { IsJulianDay date → IsConvention convention → ¬ IsMarks week
+        → result ≡ date_refused bad_week }
+    ensures many_holidays { IsJulianDay date → IsConvention convention → IsMarks week
+        → most_holidays < length holidays.now → result ≡ date_refused many_holidays }
+    ensures bad_holidays { IsJulianDay date → IsConvention convention → IsMarks week
+        → length holidays.now ≤ most_holidays → ¬ AreHolidays holidays.now
         → result ≡ date_refused bad_holidays }
-    ensures day { IsJulianDay date → IsMarks week → length holidays.now ≤ most_holidays → AreHolidays holidays.now
-        → (c : Convention) → convention_number c ≡ convention → result ≡ date_if_any (adjusted (work_week week holidays.now) c (day_of date)) }
+    ensures day { IsJulianDay date → IsMarks week → length holidays.now ≤ most_holidays
+        → AreHolidays holidays.now
+        → (c : Convention) → convention_number c ≡ convention
+        → result ≡ date_if_any (adjusted (work_week week holidays.now) c (day_of date)) }
 {
     let Some(date) = date_of(date) else {
         return DateResult::refused(BAD_DATE);

@@ -75,10 +75,13 @@ pub extern "C" fn fots_date_julian_text(date: i32) -> TextResult
 pub extern "C" fn fots_moment_text(date: i32, time: u64, offset: i32) -> TextResult
     ensures bad_date { ¬ IsJulianDay date → result ≡ text_refused bad_date }
     ensures bad_time { IsJulianDay date → ¬ IsTime time → result ≡ text_refused bad_time }
-    ensures bad_offset { IsJulianDay date → IsTime time → ¬ IsOffset offset → result ≡ text_refused bad_offset }
-    ensures past_range { IsJulianDay date → IsTime time → IsOffset offset → ¬ HasMomentText (moment_of date time offset)
+    ensures bad_offset { IsJulianDay date → IsTime time → ¬ IsOffset offset
+        → result ≡ text_refused bad_offset }
+    ensures past_range { IsJulianDay date → IsTime time → IsOffset offset
+        → ¬ HasMomentText (moment_of date time offset)
         → result ≡ text_refused past_range }
-    ensures value { IsJulianDay date → IsTime time → IsOffset offset → HasMomentText (moment_of date time offset)
+    ensures value { IsJulianDay date → IsTime time → IsOffset offset
+        → HasMomentText (moment_of date time offset)
         → result ≡ text_done (moment_text (moment_of date time offset)) }
 {
     let Some(date) = date_of(date) else {
@@ -109,7 +112,8 @@ fn text_of(moment: OffsetDateTime) -> TextResult
 pub extern "C" fn fots_unix_text(date: i32, time: u64, offset: i32) -> TextResult
     ensures bad_date { ¬ IsJulianDay date → result ≡ text_refused bad_date }
     ensures bad_time { IsJulianDay date → ¬ IsTime time → result ≡ text_refused bad_time }
-    ensures bad_offset { IsJulianDay date → IsTime time → ¬ IsOffset offset → result ≡ text_refused bad_offset }
+    ensures bad_offset { IsJulianDay date → IsTime time → ¬ IsOffset offset
+        → result ≡ text_refused bad_offset }
     ensures value { IsJulianDay date → IsTime time → IsOffset offset
         → result ≡ text_done (unix_text (unix_nanoseconds (instant (moment_of date time offset)))) }
 {

@@ -43,7 +43,8 @@ pub extern "C" fn fots_date_read(text: &[u8]) -> ReadDateResult
 #[unsafe(no_mangle)]
 pub extern "C" fn fots_julian_day_read(text: &[u8]) -> ReadDateResult
     ensures date { (n : ℕ) → IsDate n → text.now ≡ julian_text n → result ≡ read_date_done n }
-    ensures form { ¬ HasSome IsJulianForm text.now → IsUnreadableDate (HasSome IsJulianForm) text.now result }
+    ensures form { ¬ HasSome IsJulianForm text.now
+        → IsUnreadableDate (HasSome IsJulianForm) text.now result }
     ensures component { (why : ComponentRange) → HasFault IsJulianForm IsJulianFault text.now why
         → result ≡ read_date_refused (component_status why.component) }
 {
@@ -71,7 +72,8 @@ pub extern "C" fn fots_moment_read(text: &[u8]) -> ReadMomentResult
 #[unsafe(no_mangle)]
 pub extern "C" fn fots_unix_read(text: &[u8]) -> ReadMomentResult
     ensures moment { (m : Shown) → IsUnixText text.now m → result ≡ read_moment_done m }
-    ensures form { ¬ HasSome HasUnixForm text.now → IsUnreadableMoment (HasSome HasUnixForm) text.now result }
+    ensures form { ¬ HasSome HasUnixForm text.now
+        → IsUnreadableMoment (HasSome HasUnixForm) text.now result }
     ensures component { (why : ComponentRange) → HasFault HasUnixForm IsUnixFault text.now why
         → result ≡ read_moment_refused (component_status why.component) }
 {
@@ -86,7 +88,8 @@ pub extern "C" fn fots_unix_read(text: &[u8]) -> ReadMomentResult
 pub extern "C" fn fots_unix_time(date: i32, time: u64, offset: i32) -> DurationResult
     ensures bad_date { ¬ IsJulianDay date → result ≡ duration_refused bad_date }
     ensures bad_time { IsJulianDay date → ¬ IsTime time → result ≡ duration_refused bad_time }
-    ensures bad_offset { IsJulianDay date → IsTime time → ¬ IsOffset offset → result ≡ duration_refused bad_offset }
+    ensures bad_offset { IsJulianDay date → IsTime time → ¬ IsOffset offset
+        → result ≡ duration_refused bad_offset }
     ensures value { IsJulianDay date → IsTime time → IsOffset offset
         → result ≡ duration_done (unix_nanoseconds (instant (moment_of date time offset))) }
 {
@@ -109,10 +112,13 @@ pub extern "C" fn fots_unix_time(date: i32, time: u64, offset: i32) -> DurationR
 #[unsafe(no_mangle)]
 pub extern "C" fn fots_unix_pair(duration: Duration, offset: i32) -> PairResult
     ensures bad_duration { ¬ IsDurationPair duration → result ≡ pair_refused bad_duration }
-    ensures bad_offset { IsDurationPair duration → ¬ IsOffset offset → result ≡ pair_refused bad_offset }
+    ensures bad_offset { IsDurationPair duration → ¬ IsOffset offset
+        → result ≡ pair_refused bad_offset }
     ensures past_range { IsDurationPair duration → IsOffset offset
-        → ¬ IsDateTime (local_at unix_epoch offset +ℤ nanoseconds_in duration) → result ≡ pair_refused past_range }
-    ensures pair { IsDurationPair duration → IsOffset offset → IsDateTime (local_at unix_epoch offset +ℤ nanoseconds_in duration)
+        → ¬ IsDateTime (local_at unix_epoch offset +ℤ nanoseconds_in duration)
+        → result ≡ pair_refused past_range }
+    ensures pair { IsDurationPair duration → IsOffset offset
+        → IsDateTime (local_at unix_epoch offset +ℤ nanoseconds_in duration)
         → result ≡ local_done (local_at unix_epoch offset +ℤ nanoseconds_in duration) }
 {
     let Some(duration) = duration_of(duration) else {

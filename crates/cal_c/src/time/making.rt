@@ -17,7 +17,8 @@ pub extern "C" fn fots_time_from_hms(hour: u32, minute: u32, second: u32) -> Tim
     ensures hour { 23 < hour → result ≡ time_refused hour_refused }
     ensures minute { hour ≤ 23 → 59 < minute → result ≡ time_refused minute_refused }
     ensures second { hour ≤ 23 → minute ≤ 59 → 59 < second → result ≡ time_refused second_refused }
-    ensures time { hour ≤ 23 → minute ≤ 59 → second ≤ 59 → result ≡ time_done (time_of hour minute second 0) }
+    ensures time { hour ≤ 23 → minute ≤ 59 → second ≤ 59
+        → result ≡ time_done (time_of hour minute second 0) }
 {
     match Time::from_hms(byte_of(hour), byte_of(minute), byte_of(second)) {
         Ok(time) => TimeResult::of(time),
@@ -38,8 +39,10 @@ pub extern "C" fn fots_time_from_hms_milli(
     ensures hour { 23 < hour → result ≡ time_refused hour_refused }
     ensures minute { hour ≤ 23 → 59 < minute → result ≡ time_refused minute_refused }
     ensures second { hour ≤ 23 → minute ≤ 59 → 59 < second → result ≡ time_refused second_refused }
-    ensures millisecond { hour ≤ 23 → minute ≤ 59 → second ≤ 59 → 999 < millisecond → result ≡ time_refused millisecond_refused }
-    ensures time { hour ≤ 23 → minute ≤ 59 → second ≤ 59 → millisecond ≤ 999 → result ≡ time_done (time_of hour minute second (millisecond * 1_000_000)) }
+    ensures millisecond { hour ≤ 23 → minute ≤ 59 → second ≤ 59 → 999 < millisecond
+        → result ≡ time_refused millisecond_refused }
+    ensures time { hour ≤ 23 → minute ≤ 59 → second ≤ 59 → millisecond ≤ 999
+        → result ≡ time_done (time_of hour minute second (millisecond * 1_000_000)) }
 {
     match Time::from_hms_milli(
         byte_of(hour),
@@ -65,8 +68,10 @@ pub extern "C" fn fots_time_from_hms_micro(
     ensures hour { 23 < hour → result ≡ time_refused hour_refused }
     ensures minute { hour ≤ 23 → 59 < minute → result ≡ time_refused minute_refused }
     ensures second { hour ≤ 23 → minute ≤ 59 → 59 < second → result ≡ time_refused second_refused }
-    ensures microsecond { hour ≤ 23 → minute ≤ 59 → second ≤ 59 → 999_999 < microsecond → result ≡ time_refused microsecond_refused }
-    ensures time { hour ≤ 23 → minute ≤ 59 → second ≤ 59 → microsecond ≤ 999_999 → result ≡ time_done (time_of hour minute second (microsecond * 1_000)) }
+    ensures microsecond { hour ≤ 23 → minute ≤ 59 → second ≤ 59 → 999_999 < microsecond
+        → result ≡ time_refused microsecond_refused }
+    ensures time { hour ≤ 23 → minute ≤ 59 → second ≤ 59 → microsecond ≤ 999_999
+        → result ≡ time_done (time_of hour minute second (microsecond * 1_000)) }
 {
     match Time::from_hms_micro(byte_of(hour), byte_of(minute), byte_of(second), microsecond) {
         Ok(time) => TimeResult::of(time),
@@ -87,8 +92,10 @@ pub extern "C" fn fots_time_from_hms_nano(
     ensures hour { 23 < hour → result ≡ time_refused hour_refused }
     ensures minute { hour ≤ 23 → 59 < minute → result ≡ time_refused minute_refused }
     ensures second { hour ≤ 23 → minute ≤ 59 → 59 < second → result ≡ time_refused second_refused }
-    ensures nanosecond { hour ≤ 23 → minute ≤ 59 → second ≤ 59 → 999_999_999 < nanosecond → result ≡ time_refused nanosecond_refused }
-    ensures time { hour ≤ 23 → minute ≤ 59 → second ≤ 59 → nanosecond ≤ 999_999_999 → result ≡ time_done (time_of hour minute second nanosecond) }
+    ensures nanosecond { hour ≤ 23 → minute ≤ 59 → second ≤ 59 → 999_999_999 < nanosecond
+        → result ≡ time_refused nanosecond_refused }
+    ensures time { hour ≤ 23 → minute ≤ 59 → second ≤ 59 → nanosecond ≤ 999_999_999
+        → result ≡ time_done (time_of hour minute second nanosecond) }
 {
     match Time::from_hms_nano(byte_of(hour), byte_of(minute), byte_of(second), nanosecond) {
         Ok(time) => TimeResult::of(time),

@@ -13,8 +13,10 @@ use crate::values::{duration_of, time_of};
 #[unsafe(no_mangle)]
 pub extern "C" fn fots_time_add(time: u64, duration: Duration) -> TimeResult
     ensures bad_time { ¬ IsTime time → result ≡ time_refused bad_time }
-    ensures bad_duration { IsTime time → ¬ IsDurationPair duration → result ≡ time_refused bad_duration }
-    ensures time { IsTime time → IsDurationPair duration → result ≡ time_done (modulo_day (pos time +ℤ nanoseconds_in duration)) }
+    ensures bad_duration { IsTime time → ¬ IsDurationPair duration
+        → result ≡ time_refused bad_duration }
+    ensures time { IsTime time → IsDurationPair duration
+        → result ≡ time_done (modulo_day (pos time +ℤ nanoseconds_in duration)) }
 {
     let Some(time) = time_of(time) else {
         return TimeResult::refused(BAD_TIME);
@@ -29,8 +31,10 @@ pub extern "C" fn fots_time_add(time: u64, duration: Duration) -> TimeResult
 #[unsafe(no_mangle)]
 pub extern "C" fn fots_time_adjusting_add(time: u64, duration: Duration) -> AdjustedTimeResult
     ensures bad_time { ¬ IsTime time → result ≡ adjusted_time_refused bad_time }
-    ensures bad_duration { IsTime time → ¬ IsDurationPair duration → result ≡ adjusted_time_refused bad_duration }
-    ensures time { IsTime time → IsDurationPair duration → IsAddAdjusted time (nanoseconds_in duration) result }
+    ensures bad_duration { IsTime time → ¬ IsDurationPair duration
+        → result ≡ adjusted_time_refused bad_duration }
+    ensures time { IsTime time → IsDurationPair duration
+        → IsAddAdjusted time (nanoseconds_in duration) result }
 {
     let Some(time) = time_of(time) else {
         return AdjustedTimeResult::refused(BAD_TIME);
@@ -46,8 +50,10 @@ pub extern "C" fn fots_time_adjusting_add(time: u64, duration: Duration) -> Adju
 #[unsafe(no_mangle)]
 pub extern "C" fn fots_time_sub(time: u64, duration: Duration) -> TimeResult
     ensures bad_time { ¬ IsTime time → result ≡ time_refused bad_time }
-    ensures bad_duration { IsTime time → ¬ IsDurationPair duration → result ≡ time_refused bad_duration }
-    ensures time { IsTime time → IsDurationPair duration → result ≡ time_done (modulo_day (pos time -ℤ nanoseconds_in duration)) }
+    ensures bad_duration { IsTime time → ¬ IsDurationPair duration
+        → result ≡ time_refused bad_duration }
+    ensures time { IsTime time → IsDurationPair duration
+        → result ≡ time_done (modulo_day (pos time -ℤ nanoseconds_in duration)) }
 {
     let Some(time) = time_of(time) else {
         return TimeResult::refused(BAD_TIME);
@@ -62,8 +68,10 @@ pub extern "C" fn fots_time_sub(time: u64, duration: Duration) -> TimeResult
 #[unsafe(no_mangle)]
 pub extern "C" fn fots_time_adjusting_sub(time: u64, duration: Duration) -> AdjustedTimeResult
     ensures bad_time { ¬ IsTime time → result ≡ adjusted_time_refused bad_time }
-    ensures bad_duration { IsTime time → ¬ IsDurationPair duration → result ≡ adjusted_time_refused bad_duration }
-    ensures time { IsTime time → IsDurationPair duration → IsSubAdjusted time (nanoseconds_in duration) result }
+    ensures bad_duration { IsTime time → ¬ IsDurationPair duration
+        → result ≡ adjusted_time_refused bad_duration }
+    ensures time { IsTime time → IsDurationPair duration
+        → IsSubAdjusted time (nanoseconds_in duration) result }
 {
     let Some(time) = time_of(time) else {
         return AdjustedTimeResult::refused(BAD_TIME);
@@ -79,7 +87,8 @@ pub extern "C" fn fots_time_adjusting_sub(time: u64, duration: Duration) -> Adju
 #[unsafe(no_mangle)]
 pub extern "C" fn fots_time_duration_until(time: u64, other: u64) -> DurationResult
     ensures bad_time { ¬ (IsTime time × IsTime other) → result ≡ duration_refused bad_time }
-    ensures value { IsTime time → IsTime other → result ≡ duration_done (pos (modulo_day (pos other -ℤ pos time))) }
+    ensures value { IsTime time → IsTime other
+        → result ≡ duration_done (pos (modulo_day (pos other -ℤ pos time))) }
 {
     let Some(time) = time_of(time) else {
         return DurationResult::refused(BAD_TIME);
@@ -94,7 +103,8 @@ pub extern "C" fn fots_time_duration_until(time: u64, other: u64) -> DurationRes
 #[unsafe(no_mangle)]
 pub extern "C" fn fots_time_duration_since(time: u64, other: u64) -> DurationResult
     ensures bad_time { ¬ (IsTime time × IsTime other) → result ≡ duration_refused bad_time }
-    ensures value { IsTime time → IsTime other → result ≡ duration_done (pos (modulo_day (pos time -ℤ pos other))) }
+    ensures value { IsTime time → IsTime other
+        → result ≡ duration_done (pos (modulo_day (pos time -ℤ pos other))) }
 {
     let Some(time) = time_of(time) else {
         return DurationResult::refused(BAD_TIME);

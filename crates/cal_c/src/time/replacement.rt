@@ -13,7 +13,8 @@ use crate::values::{byte_of, short_of, time_of};
 pub extern "C" fn fots_time_replace_hour(time: u64, hour: u32) -> TimeResult
     ensures bad_time { ¬ IsTime time → result ≡ time_refused bad_time }
     ensures hour { IsTime time → 23 < hour → result ≡ time_refused hour_refused }
-    ensures time { IsTime time → hour ≤ 23 → result ≡ time_done (time_of hour (minute_of time) (second_of time) (nanosecond_of time)) }
+    ensures time { IsTime time → hour ≤ 23
+        → result ≡ time_done (time_of hour (minute_of time) (second_of time) (nanosecond_of time)) }
 {
     let Some(time) = time_of(time) else {
         return TimeResult::refused(BAD_TIME);
@@ -29,7 +30,8 @@ pub extern "C" fn fots_time_replace_hour(time: u64, hour: u32) -> TimeResult
 pub extern "C" fn fots_time_replace_minute(time: u64, minute: u32) -> TimeResult
     ensures bad_time { ¬ IsTime time → result ≡ time_refused bad_time }
     ensures minute { IsTime time → 59 < minute → result ≡ time_refused minute_refused }
-    ensures time { IsTime time → minute ≤ 59 → result ≡ time_done (time_of (hour_of time) minute (second_of time) (nanosecond_of time)) }
+    ensures time { IsTime time → minute ≤ 59
+        → result ≡ time_done (time_of (hour_of time) minute (second_of time) (nanosecond_of time)) }
 {
     let Some(time) = time_of(time) else {
         return TimeResult::refused(BAD_TIME);
@@ -45,7 +47,8 @@ pub extern "C" fn fots_time_replace_minute(time: u64, minute: u32) -> TimeResult
 pub extern "C" fn fots_time_replace_second(time: u64, second: u32) -> TimeResult
     ensures bad_time { ¬ IsTime time → result ≡ time_refused bad_time }
     ensures second { IsTime time → 59 < second → result ≡ time_refused second_refused }
-    ensures time { IsTime time → second ≤ 59 → result ≡ time_done (time_of (hour_of time) (minute_of time) second (nanosecond_of time)) }
+    ensures time { IsTime time → second ≤ 59
+        → result ≡ time_done (time_of (hour_of time) (minute_of time) second (nanosecond_of time)) }
 {
     let Some(time) = time_of(time) else {
         return TimeResult::refused(BAD_TIME);
@@ -60,8 +63,11 @@ pub extern "C" fn fots_time_replace_second(time: u64, second: u32) -> TimeResult
 #[unsafe(no_mangle)]
 pub extern "C" fn fots_time_replace_millisecond(time: u64, millisecond: u32) -> TimeResult
     ensures bad_time { ¬ IsTime time → result ≡ time_refused bad_time }
-    ensures millisecond { IsTime time → 999 < millisecond → result ≡ time_refused millisecond_refused }
-    ensures time { IsTime time → millisecond ≤ 999 → result ≡ time_done (time_of (hour_of time) (minute_of time) (second_of time) (millisecond * 1_000_000)) }
+    ensures millisecond { IsTime time → 999 < millisecond
+        → result ≡ time_refused millisecond_refused }
+    ensures time { IsTime time → millisecond ≤ 999
+        → result ≡ time_done (time_of (hour_of time) (minute_of time) (second_of time)
+        (millisecond * 1_000_000)) }
 {
     let Some(time) = time_of(time) else {
         return TimeResult::refused(BAD_TIME);
@@ -76,8 +82,11 @@ pub extern "C" fn fots_time_replace_millisecond(time: u64, millisecond: u32) -> 
 #[unsafe(no_mangle)]
 pub extern "C" fn fots_time_replace_microsecond(time: u64, microsecond: u32) -> TimeResult
     ensures bad_time { ¬ IsTime time → result ≡ time_refused bad_time }
-    ensures microsecond { IsTime time → 999_999 < microsecond → result ≡ time_refused microsecond_refused }
-    ensures time { IsTime time → microsecond ≤ 999_999 → result ≡ time_done (time_of (hour_of time) (minute_of time) (second_of time) (microsecond * 1_000)) }
+    ensures microsecond { IsTime time → 999_999 < microsecond
+        → result ≡ time_refused microsecond_refused }
+    ensures time { IsTime time → microsecond ≤ 999_999
+        → result ≡ time_done (time_of (hour_of time) (minute_of time) (second_of time)
+        (microsecond * 1_000)) }
 {
     let Some(time) = time_of(time) else {
         return TimeResult::refused(BAD_TIME);
@@ -92,8 +101,10 @@ pub extern "C" fn fots_time_replace_microsecond(time: u64, microsecond: u32) -> 
 #[unsafe(no_mangle)]
 pub extern "C" fn fots_time_replace_nanosecond(time: u64, nanosecond: u32) -> TimeResult
     ensures bad_time { ¬ IsTime time → result ≡ time_refused bad_time }
-    ensures nanosecond { IsTime time → 999_999_999 < nanosecond → result ≡ time_refused nanosecond_refused }
-    ensures time { IsTime time → nanosecond ≤ 999_999_999 → result ≡ time_done (time_of (hour_of time) (minute_of time) (second_of time) nanosecond) }
+    ensures nanosecond { IsTime time → 999_999_999 < nanosecond
+        → result ≡ time_refused nanosecond_refused }
+    ensures time { IsTime time → nanosecond ≤ 999_999_999
+        → result ≡ time_done (time_of (hour_of time) (minute_of time) (second_of time) nanosecond) }
 {
     let Some(time) = time_of(time) else {
         return TimeResult::refused(BAD_TIME);

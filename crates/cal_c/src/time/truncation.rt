@@ -36,7 +36,8 @@ pub extern "C" fn fots_time_truncate_to_minute(time: u64) -> TimeResult
 #[unsafe(no_mangle)]
 pub extern "C" fn fots_time_truncate_to_second(time: u64) -> TimeResult
     ensures bad_time { ¬ IsTime time → result ≡ time_refused bad_time }
-    ensures value { IsTime time → result ≡ time_done (time_of (hour_of time) (minute_of time) (second_of time) 0) }
+    ensures value { IsTime time → result
+        ≡ time_done (time_of (hour_of time) (minute_of time) (second_of time) 0) }
 {
     match time_of(time) {
         Some(time) => TimeResult::of(time.truncate_to_second()),
@@ -48,7 +49,9 @@ pub extern "C" fn fots_time_truncate_to_second(time: u64) -> TimeResult
 #[unsafe(no_mangle)]
 pub extern "C" fn fots_time_truncate_to_millisecond(time: u64) -> TimeResult
     ensures bad_time { ¬ IsTime time → result ≡ time_refused bad_time }
-    ensures value { IsTime time → result ≡ time_done (time_of (hour_of time) (minute_of time) (second_of time) (millisecond_of time * 1_000_000)) }
+    ensures value { IsTime time → result
+        ≡ time_done (time_of (hour_of time) (minute_of time) (second_of time)
+        (millisecond_of time * 1_000_000)) }
 {
     match time_of(time) {
         Some(time) => TimeResult::of(time.truncate_to_millisecond()),
@@ -60,7 +63,9 @@ pub extern "C" fn fots_time_truncate_to_millisecond(time: u64) -> TimeResult
 #[unsafe(no_mangle)]
 pub extern "C" fn fots_time_truncate_to_microsecond(time: u64) -> TimeResult
     ensures bad_time { ¬ IsTime time → result ≡ time_refused bad_time }
-    ensures value { IsTime time → result ≡ time_done (time_of (hour_of time) (minute_of time) (second_of time) (microsecond_of time * 1_000)) }
+    ensures value { IsTime time → result
+        ≡ time_done (time_of (hour_of time) (minute_of time) (second_of time)
+        (microsecond_of time * 1_000)) }
 {
     match time_of(time) {
         Some(time) => TimeResult::of(time.truncate_to_microsecond()),

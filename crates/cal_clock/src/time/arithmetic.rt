@@ -35,7 +35,8 @@ impl Time {
     /// 23:00 and 26 hours more are 1:00, two days on: a whole day of the duration, and a carry to the `Next` day. The
     /// carry never goes against the sign of the duration.
     pub fn adjusting_add(self, duration: SignedDuration) -> (DateAdjustment, Self)
-        ensures equation { pos self +ℤ duration ≡ (whole_days duration +ℤ carry result.0) *ℤ pos day +ℤ pos result.1 }
+        ensures equation { pos self +ℤ duration
+            ≡ (whole_days duration +ℤ carry result.0) *ℤ pos day +ℤ pos result.1 }
         ensures below_day { result.1 < day }
         ensures forward { pos 0 ≤ℤ duration → pos 0 ≤ℤ carry result.0 }
         ensures backward { duration ≤ℤ pos 0 → carry result.0 ≤ℤ pos 0 }
@@ -48,7 +49,8 @@ impl Time {
     /// 1:00 less 26 hours is 23:00, two days back: a whole day of the duration, and a carry to the `Previous` day. The
     /// carry never goes along with the sign of the duration.
     pub fn adjusting_sub(self, duration: SignedDuration) -> (DateAdjustment, Self)
-        ensures equation { pos self -ℤ duration ≡ (carry result.0 -ℤ whole_days duration) *ℤ pos day +ℤ pos result.1 }
+        ensures equation { pos self -ℤ duration
+            ≡ (carry result.0 -ℤ whole_days duration) *ℤ pos day +ℤ pos result.1 }
         ensures below_day { result.1 < day }
         ensures backward { pos 0 ≤ℤ duration → carry result.0 ≤ℤ pos 0 }
         ensures forward { duration ≤ℤ pos 0 → pos 0 ≤ℤ carry result.0 }

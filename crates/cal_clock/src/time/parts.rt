@@ -106,7 +106,8 @@ impl Time {
     /// Refused with `hour`, unconditional, above 23.
     pub fn replace_hour(self, hour: u8) -> Result<Self, ComponentRange>
         ensures refused { IsRefused hour_out_of_range result ↔ (23 < hour) }
-        ensures value { hour ≤ 23 → result ≡ Ok (time_of hour (minute_of self) (second_of self) (nanosecond_of self)) }
+        ensures value { hour ≤ 23 → result
+            ≡ Ok (time_of hour (minute_of self) (second_of self) (nanosecond_of self)) }
     {
         if hour > 23 {
             return Err(ComponentRange::unconditional(Component::Hour));
@@ -160,7 +161,8 @@ impl Time {
     pub fn replace_millisecond(self, millisecond: u16) -> Result<Self, ComponentRange>
         ensures refused { IsRefused millisecond_out_of_range result ↔ (999 < millisecond) }
         ensures value { millisecond ≤ 999
-            → result ≡ Ok (time_of (hour_of self) (minute_of self) (second_of self) (millisecond * 1_000_000)) }
+            → result ≡ Ok (time_of (hour_of self) (minute_of self) (second_of self)
+            (millisecond * 1_000_000)) }
     {
         if millisecond > 999 {
             return Err(ComponentRange::unconditional(Component::Millisecond));
@@ -178,7 +180,8 @@ impl Time {
     pub fn replace_microsecond(self, microsecond: u32) -> Result<Self, ComponentRange>
         ensures refused { IsRefused microsecond_out_of_range result ↔ (999_999 < microsecond) }
         ensures value { microsecond ≤ 999_999
-            → result ≡ Ok (time_of (hour_of self) (minute_of self) (second_of self) (microsecond * 1_000)) }
+            → result ≡ Ok (time_of (hour_of self) (minute_of self) (second_of self)
+            (microsecond * 1_000)) }
     {
         if microsecond > 999_999 {
             return Err(ComponentRange::unconditional(Component::Microsecond));
@@ -236,7 +239,8 @@ impl Time {
 
     /// The whole milliseconds of the time, with all that lies below them zero: 1:02:03.004005006 becomes 1:02:03.004.
     pub fn truncate_to_millisecond(self) -> Self
-        ensures { result ≡ time_of (hour_of self) (minute_of self) (second_of self) (millisecond_of self * 1_000_000) }
+        ensures { result ≡ time_of (hour_of self) (minute_of self) (second_of self)
+            (millisecond_of self * 1_000_000) }
     {
         Self {
             nanoseconds: self.nanoseconds - self.nanoseconds % NANOSECONDS_PER_MILLISECOND,
@@ -245,7 +249,8 @@ impl Time {
 
     /// The whole microseconds of the time, with all that lies below them zero: 1:02:03.004005006 becomes 1:02:03.004005.
     pub fn truncate_to_microsecond(self) -> Self
-        ensures { result ≡ time_of (hour_of self) (minute_of self) (second_of self) (microsecond_of self * 1_000) }
+        ensures { result ≡ time_of (hour_of self) (minute_of self) (second_of self)
+            (microsecond_of self * 1_000) }
     {
         Self {
             nanoseconds: self.nanoseconds - self.nanoseconds % NANOSECONDS_PER_MICROSECOND,

@@ -14,9 +14,11 @@ impl Date {
     /// Only the whole days of the duration count, cut toward zero: 2020-12-31 and 47 hours more are 2021-01-01, and
     /// [`Self::MIN`] less 23 hours is still [`Self::MIN`].
     pub fn checked_add(self, duration: SignedDuration) -> Option<Self>
-        ensures day { SomeIff result (IsDateNumber (pos self +ℤ whole_days duration)) (date_nearest (pos self +ℤ whole_days duration)) }
+        ensures day { SomeIff result (IsDateNumber (pos self +ℤ whole_days duration))
+            (date_nearest (pos self +ℤ whole_days duration)) }
         ensures number { IfSome result (λ n. pos n ≡ pos self +ℤ whole_days duration) }
-        ensures same_year { IsOrdinalNumber (year_at self) (pos (ordinal_at self) +ℤ whole_days duration)
+        ensures same_year { IsOrdinalNumber (year_at self)
+            (pos (ordinal_at self) +ℤ whole_days duration)
             → IsSomeAnd result (λ n. (year_at n ≡ year_at self)
             × (pos (ordinal_at n) ≡ pos (ordinal_at self) +ℤ whole_days duration)) }
         ensures in_range { IsDate self }
@@ -28,9 +30,11 @@ impl Date {
     ///
     /// Only the whole days of the duration count, cut toward zero: 2020-12-31 less 47 hours is 2020-12-30.
     pub fn checked_sub(self, duration: SignedDuration) -> Option<Self>
-        ensures day { SomeIff result (IsDateNumber (pos self -ℤ whole_days duration)) (date_nearest (pos self -ℤ whole_days duration)) }
+        ensures day { SomeIff result (IsDateNumber (pos self -ℤ whole_days duration))
+            (date_nearest (pos self -ℤ whole_days duration)) }
         ensures number { IfSome result (λ n. pos n ≡ pos self -ℤ whole_days duration) }
-        ensures same_year { IsOrdinalNumber (year_at self) (pos (ordinal_at self) -ℤ whole_days duration)
+        ensures same_year { IsOrdinalNumber (year_at self)
+            (pos (ordinal_at self) -ℤ whole_days duration)
             → IsSomeAnd result (λ n. (year_at n ≡ year_at self)
             × (pos (ordinal_at n) ≡ pos (ordinal_at self) -ℤ whole_days duration)) }
         ensures in_range { IsDate self }
@@ -70,7 +74,8 @@ impl Date {
 
     /// The day so many days later, or earlier where they are below zero, or `None` where it is no day of the range.
     fn moved(self, days: i64) -> Option<Self>
-        ensures day { SomeIff result (IsDateNumber (pos self +ℤ days)) (date_nearest (pos self +ℤ days)) }
+        ensures day { SomeIff result (IsDateNumber (pos self +ℤ days))
+            (date_nearest (pos self +ℤ days)) }
         ensures in_range { IsDate self }
     {
         // Days below zero are taken as 2^64 more. So is a sum below zero, which is then far above the length of a year and the

@@ -42,14 +42,16 @@ impl Date {
     /// For the first component that is out of range: `year`, unconditionally, or `day`, conditionally, as its range depends
     /// on the month and the year.
     pub fn from_calendar_date(year: i32, month: Month, day: u8) -> Result<Self, ComponentRange>
-        ensures every { (n : ℕ) → IsDate n → HasCalendarDate year (number month) day n → result ≡ Ok n }
+        ensures every { (n : ℕ) → IsDate n → HasCalendarDate year (number month) day n
+            → result ≡ Ok n }
         ensures has { IfOk result (λ n. IsDate n × HasCalendarDate year (number month) day n) }
 
         // It is refused exactly where no day has it, for the first component that is out of range.
         ensures refused { IsErr result ↔ NoDate (HasCalendarDate year (number month) day) }
         ensures reason { IfErr result (λ e. (e ≡ year_out_of_range) ⊎ (e ≡ day_out_of_range)) }
         ensures year { IsRefused year_out_of_range result ↔ ¬ IsYear year }
-        ensures day { IsRefused day_out_of_range result ↔ IsYear year × ¬ IsDayOfMonth year (number month) day }
+        ensures day { IsRefused day_out_of_range result
+            ↔ IsYear year × ¬ IsDayOfMonth year (number month) day }
     {
         if !is_year(year) {
             return Err(ComponentRange::unconditional(Component::Year));
@@ -66,7 +68,8 @@ impl Date {
     pub fn month(self) -> Month
         ensures counted { number result ≡ month_at self }
         ensures range { (1 ≤ month_at self) × (month_at self ≤ 12) }
-        ensures closed_form { number result ≡ month_of_ordinal (is_leap_year (year_at self)) (ordinal_at self) }
+        ensures closed_form { number result
+            ≡ month_of_ordinal (is_leap_year (year_at self)) (ordinal_at self) }
         ensures in_range { IsDate self }
     {
         let (month, _) = self.month_and_day();
@@ -78,7 +81,8 @@ impl Date {
         ensures counted { result ≡ day_of_month_at self }
         ensures range { IsDayOfMonth (year_at self) (month_at self) result }
         ensures most { result ≤ 31 }
-        ensures closed_form { result ≡ day_of_ordinal (is_leap_year (year_at self)) (ordinal_at self) }
+        ensures closed_form { result ≡ day_of_ordinal (is_leap_year (year_at self))
+            (ordinal_at self) }
         ensures in_range { IsDate self }
     {
         let (_, day) = self.month_and_day();
@@ -90,8 +94,10 @@ impl Date {
     pub fn to_calendar_date(self) -> (i32, Month, u8)
         ensures date { HasCalendarDate result.0 (number result.1) result.2 self }
         ensures order { (n : ℕ) → IsDate n
-            → (n < self) ↔ IsBefore (calendar_date_at n) (result.0 ∷ pos (number result.1) ∷ pos result.2 ∷ []) }
-        ensures range { IsYear result.0 × IsDayOfMonth result.0 (number result.1) result.2 × (result.2 ≤ 31) }
+            → (n < self) ↔ IsBefore (calendar_date_at n)
+            (result.0 ∷ pos (number result.1) ∷ pos result.2 ∷ []) }
+        ensures range { IsYear result.0 × IsDayOfMonth result.0 (number result.1) result.2
+            × (result.2 ≤ 31) }
         ensures in_range { IsDate self }
     {
         let (month, day) = self.month_and_day();
@@ -107,8 +113,10 @@ impl Date {
         ensures day { result.1 ≡ day_of_month_at self }
         ensures range { IsDayOfMonth (year_at self) (month_at self) result.1 }
         ensures most { result.1 ≤ 31 }
-        ensures closed_month { number result.0 ≡ month_of_ordinal (is_leap_year (year_at self)) (ordinal_at self) }
-        ensures closed_day { result.1 ≡ day_of_ordinal (is_leap_year (year_at self)) (ordinal_at self) }
+        ensures closed_month { number result.0
+            ≡ month_of_ordinal (is_leap_year (year_at self)) (ordinal_at self) }
+        ensures closed_day { result.1 ≡ day_of_ordinal (is_leap_year (year_at self))
+            (ordinal_at self) }
         ensures in_range { IsDate self }
     {
         let (days, months) = self.index_in_part();
@@ -122,7 +130,8 @@ impl Date {
     #[tactic(auto, using(crate::proofs::Neighbours::parts_of_years))]
     fn index_in_part(self) -> (u32, u32)
         ensures days { result.0 ≡ days_in_part (is_leap_year (year_at self)) (ordinal_at self) }
-        ensures months { result.1 ≡ months_before_part (is_leap_year (year_at self)) (ordinal_at self) }
+        ensures months { result.1 ≡ months_before_part (is_leap_year (year_at self))
+            (ordinal_at self) }
         ensures in_range { IsDate self }
     {
         let ordinal = u32::from(self.ordinal());
@@ -138,7 +147,8 @@ impl Date {
 /// Whether the month has that day, in a leap year or in a common one: one of the days before the next month.
 #[tactic(auto, using(crate::proofs::Months::lengths_of_months))]
 fn has_day(month: Month, leap: bool, day: u8) -> bool
-    ensures { (year : ℤ) → leap ≡ is_leap_year year → IsTrue result ↔ IsDayOfMonth year (number month) day }
+    ensures { (year : ℤ) → leap ≡ is_leap_year year
+        → IsTrue result ↔ IsDayOfMonth year (number month) day }
 {
     let index = month.index();
     let ordinal = days_before_month(index, leap) + u16::from(day);

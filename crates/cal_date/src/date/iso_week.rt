@@ -30,12 +30,14 @@ impl Date {
     /// range depends on the year, or `weekday`, conditionally, where the day would come after [`Self::MAX`]: on Saturday and
     /// Sunday of week 52 of 999999 alone.
     pub fn from_iso_week_date(year: i32, week: u8, weekday: Weekday) -> Result<Self, ComponentRange>
-        ensures every { (n : ℕ) → IsDate n → HasIsoWeekDate year week (index weekday) n → result ≡ Ok n }
+        ensures every { (n : ℕ) → IsDate n → HasIsoWeekDate year week (index weekday) n
+            → result ≡ Ok n }
         ensures has { IfOk result (λ n. IsDate n × HasIsoWeekDate year week (index weekday) n) }
 
         // It is refused exactly where no day has it, for the first component that is out of range.
         ensures refused { IsErr result ↔ NoDate (HasIsoWeekDate year week (index weekday)) }
-        ensures reason { IfErr result (λ e. (e ≡ year_out_of_range) ⊎ (e ≡ week_out_of_range) ⊎ (e ≡ weekday_out_of_range)) }
+        ensures reason { IfErr result (λ e.
+            (e ≡ year_out_of_range) ⊎ (e ≡ week_out_of_range) ⊎ (e ≡ weekday_out_of_range)) }
         ensures year { IsRefused year_out_of_range result ↔ ¬ IsYear year }
         ensures week { IsRefused week_out_of_range result ↔ IsYear year × ¬ IsWeek year week }
         ensures weekday { IsRefused weekday_out_of_range result
@@ -84,8 +86,10 @@ impl Date {
         ensures range { IsYear result.0 × IsWeek result.0 result.1 × (result.1 ≤ 53) }
         ensures in_range { IsDate self }
         ensures order { (n : ℕ) → IsDate n
-            → (n < self) ↔ IsBefore (iso_week_date_at n) (result.0 ∷ pos result.1 ∷ pos (index result.2) ∷ []) }
-        ensures closed_form { IsWeekByForm (year_at self) (ordinal_at self) (weekday_at self + 1) result.0 result.1 }
+            → (n < self) ↔ IsBefore (iso_week_date_at n)
+            (result.0 ∷ pos result.1 ∷ pos (index result.2) ∷ []) }
+        ensures closed_form { IsWeekByForm (year_at self) (ordinal_at self)
+            (weekday_at self + 1) result.0 result.1 }
     {
         let weekday = self.weekday();
         let (iso_year, week) = iso_year_and_week(self.year(), self.ordinal(), weekday);

@@ -44,7 +44,8 @@ impl Date {
 
         // It comes in the n-th week after the day.
         ensures weekday { IfSome result (λ later. weekday_at later ≡ index weekday) }
-        ensures within { IfSome result (λ later. (self + 7 * (n - 1) < later) × (later ≤ self + 7 * n) × IsDate later) }
+        ensures within { IfSome result
+            (λ later. (self + 7 * (n - 1) < later) × (later ≤ self + 7 * n) × IsDate later) }
         ensures in_range { IsDate self }
     {
         let from = self.number();
@@ -69,7 +70,8 @@ impl Date {
 
         // It comes in the n-th week before the day.
         ensures weekday { IfSome result (λ earlier. weekday_at earlier ≡ index weekday) }
-        ensures within { IfSome result (λ earlier. (earlier + 7 * (n - 1) < self) × (self ≤ earlier + 7 * n)) }
+        ensures within { IfSome result
+            (λ earlier. (earlier + 7 * (n - 1) < self) × (self ≤ earlier + 7 * n)) }
         ensures in_range { IsDate self }
     {
         let number = self.number();

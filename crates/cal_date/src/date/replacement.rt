@@ -25,15 +25,19 @@ impl Date {
     /// As `year`, unconditionally, where the year is out of range, or else as `day`, conditionally, where the
     /// month is shorter in that year: on 29 February, for a common year.
     pub fn replace_year(self, year: i32) -> Result<Self, ComponentRange>
-        ensures every { (n : ℕ) → IsDate n → HasCalendarDate year (month_at self) (day_of_month_at self) n → result ≡ Ok n }
-        ensures has { IfOk result (λ n. IsDate n × HasCalendarDate year (month_at self) (day_of_month_at self) n) }
+        ensures every { (n : ℕ) → IsDate n
+            → HasCalendarDate year (month_at self) (day_of_month_at self) n → result ≡ Ok n }
+        ensures has { IfOk result (λ n.
+            IsDate n × HasCalendarDate year (month_at self) (day_of_month_at self) n) }
 
         // It is refused exactly where no day has it.
-        ensures refused { IsErr result ↔ NoDate (HasCalendarDate year (month_at self) (day_of_month_at self)) }
+        ensures refused { IsErr result
+            ↔ NoDate (HasCalendarDate year (month_at self) (day_of_month_at self)) }
         ensures reason { IfErr result (λ e. (e ≡ year_out_of_range) ⊎ (e ≡ day_out_of_range)) }
         ensures in_range { IsDate self }
         ensures year { IsRefused year_out_of_range result ↔ ¬ IsYear year }
-        ensures day { IsRefused day_out_of_range result ↔ IsYear year × ¬ IsDayOfMonth year (month_at self) (day_of_month_at self) }
+        ensures day { IsRefused day_out_of_range result
+            ↔ IsYear year × ¬ IsDayOfMonth year (month_at self) (day_of_month_at self) }
     {
         self.is_in_range();
         if !is_year(year) {
@@ -49,14 +53,19 @@ impl Date {
     ///
     /// It is refused as `day`, conditionally, where the month has no such day: 2022-01-30 leads to no day of February.
     pub fn replace_month(self, month: Month) -> Result<Self, ComponentRange>
-        ensures every { (n : ℕ) → IsDate n → HasCalendarDate (year_at self) (number month) (day_of_month_at self) n → result ≡ Ok n }
-        ensures has { IfOk result (λ n. IsDate n × HasCalendarDate (year_at self) (number month) (day_of_month_at self) n) }
+        ensures every { (n : ℕ) → IsDate n
+            → HasCalendarDate (year_at self) (number month) (day_of_month_at self) n
+            → result ≡ Ok n }
+        ensures has { IfOk result (λ n.
+            IsDate n × HasCalendarDate (year_at self) (number month) (day_of_month_at self) n) }
 
         // It is refused exactly where no day has it.
-        ensures refused { IsErr result ↔ NoDate (HasCalendarDate (year_at self) (number month) (day_of_month_at self)) }
+        ensures refused { IsErr result
+            ↔ NoDate (HasCalendarDate (year_at self) (number month) (day_of_month_at self)) }
         ensures reason { IfErr result (λ e. e ≡ day_out_of_range) }
         ensures in_range { IsDate self }
-        ensures day { IsRefused day_out_of_range result ↔ ¬ IsDayOfMonth (year_at self) (number month) (day_of_month_at self) }
+        ensures day { IsRefused day_out_of_range result
+            ↔ ¬ IsDayOfMonth (year_at self) (number month) (day_of_month_at self) }
     {
         Self::from_calendar_date(self.year(), month, self.day())
     }
@@ -67,14 +76,18 @@ impl Date {
     /// It is refused as `day`, conditionally, where the month has no such day, as 0 and 30 in February.
     #[tactic(auto, using(crate::proofs::Replacements::parts_kept))]
     pub fn replace_day(self, day: u8) -> Result<Self, ComponentRange>
-        ensures every { (n : ℕ) → IsDate n → HasCalendarDate (year_at self) (month_at self) day n → result ≡ Ok n }
-        ensures has { IfOk result (λ n. IsDate n × HasCalendarDate (year_at self) (month_at self) day n) }
+        ensures every { (n : ℕ) → IsDate n → HasCalendarDate (year_at self) (month_at self) day n
+            → result ≡ Ok n }
+        ensures has { IfOk result (λ n.
+            IsDate n × HasCalendarDate (year_at self) (month_at self) day n) }
 
         // It is refused exactly where no day has it.
-        ensures refused { IsErr result ↔ NoDate (HasCalendarDate (year_at self) (month_at self) day) }
+        ensures refused { IsErr result
+            ↔ NoDate (HasCalendarDate (year_at self) (month_at self) day) }
         ensures reason { IfErr result (λ e. e ≡ day_out_of_range) }
         ensures in_range { IsDate self }
-        ensures day { IsRefused day_out_of_range result ↔ ¬ IsDayOfMonth (year_at self) (month_at self) day }
+        ensures day { IsRefused day_out_of_range result
+            ↔ ¬ IsDayOfMonth (year_at self) (month_at self) day }
     {
         Self::from_calendar_date(self.year(), self.month(), day)
     }
@@ -85,14 +98,16 @@ impl Date {
     /// It is refused as `ordinal`, conditionally, where the year has no such ordinal, as 366 in 2022.
     #[tactic(auto, using(crate::proofs::Replacements::parts_kept))]
     pub fn replace_ordinal(self, ordinal: u16) -> Result<Self, ComponentRange>
-        ensures every { (n : ℕ) → IsDate n → HasOrdinalDate (year_at self) ordinal n → result ≡ Ok n }
+        ensures every { (n : ℕ) → IsDate n → HasOrdinalDate (year_at self) ordinal n
+            → result ≡ Ok n }
         ensures has { IfOk result (λ n. IsDate n × HasOrdinalDate (year_at self) ordinal n) }
 
         // It is refused exactly where no day has it.
         ensures refused { IsErr result ↔ NoDate (HasOrdinalDate (year_at self) ordinal) }
         ensures reason { IfErr result (λ e. e ≡ ordinal_out_of_range) }
         ensures in_range { IsDate self }
-        ensures ordinal { IsRefused ordinal_out_of_range result ↔ ¬ IsOrdinal (year_at self) ordinal }
+        ensures ordinal { IsRefused ordinal_out_of_range result
+            ↔ ¬ IsOrdinal (year_at self) ordinal }
     {
         let (year, _) = self.to_ordinal_date();
         Self::from_ordinal_date(year, ordinal)

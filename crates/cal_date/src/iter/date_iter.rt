@@ -70,9 +70,11 @@ impl DateIter {
         ensures left { self.new ≡ without_first (n + 1) self.old }
 
         // Where the front day and the back day are of one year, the ordinals say it.
-        ensures same_year { (back : ℕ) → IsInOneYear self.old back → ordinal_at self.old.front + n ≤ ordinal_at back
+        ensures same_year { (back : ℕ) → IsInOneYear self.old back
+            → ordinal_at self.old.front + n ≤ ordinal_at back
             → IsSomeAnd result (HasOrdinalDate (year_at back) (ordinal_at self.old.front + n)) }
-        ensures past_back { (back : ℕ) → IsInOneYear self.old back → ordinal_at back < ordinal_at self.old.front + n
+        ensures past_back { (back : ℕ) → IsInOneYear self.old back
+            → ordinal_at back < ordinal_at self.old.front + n
             → result ≡ None }
     {
         let back = self.back?;
@@ -94,9 +96,11 @@ impl DateIter {
         ensures left { self.new ≡ without_last (n + 1) self.old }
 
         // Where the front day and the back day are of one year, the ordinals say it.
-        ensures same_year { (back : ℕ) → IsInOneYear self.old back → ordinal_at self.old.front + n ≤ ordinal_at back
+        ensures same_year { (back : ℕ) → IsInOneYear self.old back
+            → ordinal_at self.old.front + n ≤ ordinal_at back
             → IsSomeAnd result (HasOrdinalDate (year_at back) (ordinal_at back - n)) }
-        ensures past_front { (back : ℕ) → IsInOneYear self.old back → ordinal_at back < ordinal_at self.old.front + n
+        ensures past_front { (back : ℕ) → IsInOneYear self.old back
+            → ordinal_at back < ordinal_at self.old.front + n
             → result ≡ None }
     {
         let back = self.back?;
@@ -226,7 +230,8 @@ impl Iterator for DateIter {
     type Item = Date;
 
     // The first of the days that are left, which the walk then goes on without.
-    ghost next_gives = { λ old result new. YieldsFirst days_of old result new × TakesFirst old result new };
+    ghost next_gives = { λ old result new.
+        YieldsFirst days_of old result new × TakesFirst old result new };
 
     ghost remaining = { item_count days_of };
 
@@ -251,7 +256,8 @@ impl Iterator for DateIter {
 
 impl DoubleEndedIterator for DateIter {
     // The last of the days that are left, which the walk then goes on without.
-    ghost next_back_gives = { λ old result new. YieldsLast days_of old result new × TakesLast old result new };
+    ghost next_back_gives = { λ old result new.
+        YieldsLast days_of old result new × TakesLast old result new };
 
     /// The last of the days that are left, which is taken from the walk, or `None`.
     fn next_back(&mut self) -> Option<Date> {

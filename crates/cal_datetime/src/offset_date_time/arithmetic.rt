@@ -15,7 +15,8 @@ impl OffsetDateTime {
     pub fn checked_add(self, duration: SignedDuration) -> Option<Self>
         ensures value { let local = self.local +ℤ duration
             in SomeIff result (IsDateTime local) (record { local = local; offset = self.offset }) }
-        ensures every { (to : Shown) → IsDateTime to.local → to.offset ≡ self.offset → duration ≡ instant to -ℤ instant self
+        ensures every { (to : Shown) → IsDateTime to.local → to.offset ≡ self.offset
+            → duration ≡ instant to -ℤ instant self
             → result ≡ Some to }
         ensures instant { IfSome result (λ later. instant later ≡ instant self +ℤ duration) }
     {
@@ -30,7 +31,8 @@ impl OffsetDateTime {
     pub fn checked_sub(self, duration: SignedDuration) -> Option<Self>
         ensures value { let local = self.local -ℤ duration
             in SomeIff result (IsDateTime local) (record { local = local; offset = self.offset }) }
-        ensures every { (to : Shown) → IsDateTime to.local → to.offset ≡ self.offset → duration ≡ instant self -ℤ instant to
+        ensures every { (to : Shown) → IsDateTime to.local → to.offset ≡ self.offset
+            → duration ≡ instant self -ℤ instant to
             → result ≡ Some to }
         ensures instant { IfSome result (λ earlier. instant earlier ≡ instant self -ℤ duration) }
     {
@@ -42,7 +44,11 @@ impl OffsetDateTime {
 
     /// The date-time that much later, or the end of the range that is nearest to it, at the same offset.
     pub fn saturating_add(self, duration: SignedDuration) -> Self
-        ensures { result ≡ record { local = nearest (self.local +ℤ duration); offset = self.offset } }
+        ensures { result ≡ record {
+          local = nearest
+              (self.local +ℤ duration);
+          offset = self.offset;
+        } }
     {
         self.local()
             .saturating_add(duration)
@@ -51,7 +57,11 @@ impl OffsetDateTime {
 
     /// The date-time that much earlier, or the end of the range that is nearest to it, at the same offset.
     pub fn saturating_sub(self, duration: SignedDuration) -> Self
-        ensures { result ≡ record { local = nearest (self.local -ℤ duration); offset = self.offset } }
+        ensures { result ≡ record {
+          local = nearest
+              (self.local -ℤ duration);
+          offset = self.offset;
+        } }
     {
         self.local()
             .saturating_sub(duration)
@@ -64,7 +74,9 @@ impl Add<SignedDuration> for OffsetDateTime {
 
     ghost can_add = { λ m v. IsDateTime (m.local +ℤ v) };
 
-    ghost add_gives = { λ m v moved. (moved ≡ record { local = m.local +ℤ v; offset = m.offset }) × (instant moved ≡ instant m +ℤ v) };
+    ghost add_gives = { λ m v moved.
+        (moved ≡ record { local = m.local +ℤ v; offset = m.offset })
+        × (instant moved ≡ instant m +ℤ v) };
 
     /// The date-time that much later, for a caller who knows that it is in the range.
     fn add(self, duration: SignedDuration) -> Self {
@@ -75,7 +87,9 @@ impl Add<SignedDuration> for OffsetDateTime {
 impl AddAssign<SignedDuration> for OffsetDateTime {
     ghost can_add_assign = { λ m v. IsDateTime (m.local +ℤ v) };
 
-    ghost add_assign_gives = { λ m v moved. (moved ≡ record { local = m.local +ℤ v; offset = m.offset }) × (instant moved ≡ instant m +ℤ v) };
+    ghost add_assign_gives = { λ m v moved.
+        (moved ≡ record { local = m.local +ℤ v; offset = m.offset })
+        × (instant moved ≡ instant m +ℤ v) };
 
     fn add_assign(&mut self, duration: SignedDuration) {
         *self = *self + duration;
@@ -87,7 +101,9 @@ impl Sub<SignedDuration> for OffsetDateTime {
 
     ghost can_sub = { λ m v. IsDateTime (m.local -ℤ v) };
 
-    ghost sub_gives = { λ m v moved. (moved ≡ record { local = m.local -ℤ v; offset = m.offset }) × (instant moved ≡ instant m -ℤ v) };
+    ghost sub_gives = { λ m v moved.
+        (moved ≡ record { local = m.local -ℤ v; offset = m.offset })
+        × (instant moved ≡ instant m -ℤ v) };
 
     /// The date-time that much earlier, for a caller who knows that it is in the range.
     fn sub(self, duration: SignedDuration) -> Self {
@@ -98,7 +114,9 @@ impl Sub<SignedDuration> for OffsetDateTime {
 impl SubAssign<SignedDuration> for OffsetDateTime {
     ghost can_sub_assign = { λ m v. IsDateTime (m.local -ℤ v) };
 
-    ghost sub_assign_gives = { λ m v moved. (moved ≡ record { local = m.local -ℤ v; offset = m.offset }) × (instant moved ≡ instant m -ℤ v) };
+    ghost sub_assign_gives = { λ m v moved.
+        (moved ≡ record { local = m.local -ℤ v; offset = m.offset })
+        × (instant moved ≡ instant m -ℤ v) };
 
     fn sub_assign(&mut self, duration: SignedDuration) {
         *self = *self - duration;
@@ -108,7 +126,8 @@ impl SubAssign<SignedDuration> for OffsetDateTime {
 impl Sub for OffsetDateTime {
     type Output = SignedDuration;
 
-    ghost sub_gives = { λ a b v. (v ≡ instant a -ℤ instant b) × IsDateTime a.local × IsDateTime b.local × IsDuration v };
+    ghost sub_gives = { λ a b v. (v ≡ instant a -ℤ instant b) × IsDateTime a.local
+        × IsDateTime b.local × IsDuration v };
 
     /// The duration from the other instant to this one, below zero where the other is later.
     #[tactic(auto, unfolding(crate::specs::OffsetDateTime::instant))]

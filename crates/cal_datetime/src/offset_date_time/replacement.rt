@@ -14,14 +14,16 @@ use cal_time::{Date, Month, Time, UtcOffset};
 impl OffsetDateTime {
     /// The same time of day on that date, at the same offset.
     pub fn replace_date(self, date: Date) -> Self
-        ensures value { result ≡ record { local = date_time date (time_at self.local); offset = self.offset } }
+        ensures value { result ≡ record
+            { local = date_time date (time_at self.local); offset = self.offset } }
     {
         self.local().replace_date(date).assume_offset(self.offset())
     }
 
     /// That time of day on the same date, at the same offset.
     pub fn replace_time(self, time: Time) -> Self
-        ensures value { result ≡ record { local = date_time (date_at self.local) time; offset = self.offset } }
+        ensures value { result ≡ record
+            { local = date_time (date_at self.local) time; offset = self.offset } }
     {
         self.local().replace_time(time).assume_offset(self.offset())
     }
@@ -44,12 +46,30 @@ impl OffsetDateTime {
     ///
     /// Refused as [`Date::replace_year`](cal_time::Date::replace_year) is: with `year`, or with `day` on 29 February for a common year.
     pub fn replace_year(self, year: i32) -> Result<Self, ComponentRange>
-        ensures every { (n : ℕ) → IsDate n → HasCalendarDate year (month_at (date_at self.local)) (day_of_month_at (date_at self.local)) n → result ≡ Ok (record { local = date_time n (time_at self.local); offset = self.offset }) }
-        ensures has { IfOk result (λ m. IsDate (date_at m.local) × HasCalendarDate year (month_at (date_at self.local)) (day_of_month_at (date_at self.local)) (date_at m.local) × (m ≡ record { local = date_time (date_at m.local) (time_at self.local); offset = self.offset })) }
-        ensures refused { IsErr result ↔ NoDate (HasCalendarDate year (month_at (date_at self.local)) (day_of_month_at (date_at self.local))) }
+        ensures every { (n : ℕ) → IsDate n
+            → HasCalendarDate year (month_at (date_at self.local))
+            (day_of_month_at (date_at self.local)) n
+            → result ≡ Ok (record {
+              local = date_time n
+                  (time_at self.local);
+              offset = self.offset;
+            }) }
+        ensures has { IfOk result (λ m.
+            IsDate (date_at m.local) × HasCalendarDate year (month_at (date_at self.local))
+            (day_of_month_at (date_at self.local)) (date_at m.local)
+            × (m ≡ record {
+              local = date_time (date_at m.local)
+                  (time_at self.local);
+              offset = self.offset;
+            })) }
+        ensures refused { IsErr result
+            ↔ NoDate (HasCalendarDate year (month_at (date_at self.local))
+            (day_of_month_at (date_at self.local))) }
         ensures reason { IfErr result (λ e. (e ≡ year_out_of_range) ⊎ (e ≡ day_out_of_range)) }
         ensures year { IsRefused year_out_of_range result ↔ ¬ IsYear year }
-        ensures day { IsRefused day_out_of_range result ↔ IsYear year × ¬ IsDayOfMonth year (month_at (date_at self.local)) (day_of_month_at (date_at self.local)) }
+        ensures day { IsRefused day_out_of_range result
+            ↔ IsYear year × ¬ IsDayOfMonth year (month_at (date_at self.local))
+            (day_of_month_at (date_at self.local)) }
     {
         match self.local().replace_year(year) {
             Ok(local) => Ok(local.assume_offset(self.offset())),
@@ -61,11 +81,29 @@ impl OffsetDateTime {
     ///
     /// Refused with `day`, conditionally, where the month has no such day.
     pub fn replace_month(self, month: Month) -> Result<Self, ComponentRange>
-        ensures every { (n : ℕ) → IsDate n → HasCalendarDate (year_at (date_at self.local)) (number month) (day_of_month_at (date_at self.local)) n → result ≡ Ok (record { local = date_time n (time_at self.local); offset = self.offset }) }
-        ensures has { IfOk result (λ m. IsDate (date_at m.local) × HasCalendarDate (year_at (date_at self.local)) (number month) (day_of_month_at (date_at self.local)) (date_at m.local) × (m ≡ record { local = date_time (date_at m.local) (time_at self.local); offset = self.offset })) }
-        ensures refused { IsErr result ↔ NoDate (HasCalendarDate (year_at (date_at self.local)) (number month) (day_of_month_at (date_at self.local))) }
+        ensures every { (n : ℕ) → IsDate n
+            → HasCalendarDate (year_at (date_at self.local)) (number month)
+            (day_of_month_at (date_at self.local)) n
+            → result ≡ Ok (record {
+              local = date_time n
+                  (time_at self.local);
+              offset = self.offset;
+            }) }
+        ensures has { IfOk result (λ m.
+            IsDate (date_at m.local) × HasCalendarDate (year_at (date_at self.local)) (number month)
+            (day_of_month_at (date_at self.local)) (date_at m.local)
+            × (m ≡ record {
+              local = date_time (date_at m.local)
+                  (time_at self.local);
+              offset = self.offset;
+            })) }
+        ensures refused { IsErr result
+            ↔ NoDate (HasCalendarDate (year_at (date_at self.local)) (number month)
+            (day_of_month_at (date_at self.local))) }
         ensures reason { IfErr result (λ e. e ≡ day_out_of_range) }
-        ensures day { IsRefused day_out_of_range result ↔ ¬ IsDayOfMonth (year_at (date_at self.local)) (number month) (day_of_month_at (date_at self.local)) }
+        ensures day { IsRefused day_out_of_range result
+            ↔ ¬ IsDayOfMonth (year_at (date_at self.local)) (number month)
+            (day_of_month_at (date_at self.local)) }
     {
         match self.local().replace_month(month) {
             Ok(local) => Ok(local.assume_offset(self.offset())),
@@ -77,11 +115,27 @@ impl OffsetDateTime {
     ///
     /// Refused with `day`, conditionally, where the month has no such day.
     pub fn replace_day(self, day: u8) -> Result<Self, ComponentRange>
-        ensures every { (n : ℕ) → IsDate n → HasCalendarDate (year_at (date_at self.local)) (month_at (date_at self.local)) day n → result ≡ Ok (record { local = date_time n (time_at self.local); offset = self.offset }) }
-        ensures has { IfOk result (λ m. IsDate (date_at m.local) × HasCalendarDate (year_at (date_at self.local)) (month_at (date_at self.local)) day (date_at m.local) × (m ≡ record { local = date_time (date_at m.local) (time_at self.local); offset = self.offset })) }
-        ensures refused { IsErr result ↔ NoDate (HasCalendarDate (year_at (date_at self.local)) (month_at (date_at self.local)) day) }
+        ensures every { (n : ℕ) → IsDate n
+            → HasCalendarDate (year_at (date_at self.local)) (month_at (date_at self.local)) day n
+            → result ≡ Ok (record {
+              local = date_time n
+                  (time_at self.local);
+              offset = self.offset;
+            }) }
+        ensures has { IfOk result (λ m.
+            IsDate (date_at m.local) × HasCalendarDate (year_at (date_at self.local))
+            (month_at (date_at self.local)) day (date_at m.local)
+            × (m ≡ record {
+              local = date_time (date_at m.local)
+                  (time_at self.local);
+              offset = self.offset;
+            })) }
+        ensures refused { IsErr result
+            ↔ NoDate (HasCalendarDate (year_at (date_at self.local))
+            (month_at (date_at self.local)) day) }
         ensures reason { IfErr result (λ e. e ≡ day_out_of_range) }
-        ensures day { IsRefused day_out_of_range result ↔ ¬ IsDayOfMonth (year_at (date_at self.local)) (month_at (date_at self.local)) day }
+        ensures day { IsRefused day_out_of_range result
+            ↔ ¬ IsDayOfMonth (year_at (date_at self.local)) (month_at (date_at self.local)) day }
     {
         match self.local().replace_day(day) {
             Ok(local) => Ok(local.assume_offset(self.offset())),
@@ -93,11 +147,21 @@ impl OffsetDateTime {
     ///
     /// Refused with `ordinal`, conditionally, where the year has no such ordinal.
     pub fn replace_ordinal(self, ordinal: u16) -> Result<Self, ComponentRange>
-        ensures every { (n : ℕ) → IsDate n → HasOrdinalDate (year_at (date_at self.local)) ordinal n → result ≡ Ok (record { local = date_time n (time_at self.local); offset = self.offset }) }
-        ensures has { IfOk result (λ m. IsDate (date_at m.local) × HasOrdinalDate (year_at (date_at self.local)) ordinal (date_at m.local) × (m ≡ record { local = date_time (date_at m.local) (time_at self.local); offset = self.offset })) }
-        ensures refused { IsErr result ↔ NoDate (HasOrdinalDate (year_at (date_at self.local)) ordinal) }
+        ensures every { (n : ℕ) → IsDate n → HasOrdinalDate (year_at (date_at self.local)) ordinal n
+            → result ≡ Ok (record {
+              local = date_time n
+                  (time_at self.local);
+              offset = self.offset;
+            }) }
+        ensures has { IfOk result (λ m.
+            IsDate (date_at m.local) × HasOrdinalDate (year_at (date_at self.local)) ordinal
+            (date_at m.local) × (m ≡ record
+            { local = date_time (date_at m.local) (time_at self.local); offset = self.offset })) }
+        ensures refused { IsErr result
+            ↔ NoDate (HasOrdinalDate (year_at (date_at self.local)) ordinal) }
         ensures reason { IfErr result (λ e. e ≡ ordinal_out_of_range) }
-        ensures ordinal { IsRefused ordinal_out_of_range result ↔ ¬ IsOrdinal (year_at (date_at self.local)) ordinal }
+        ensures ordinal { IsRefused ordinal_out_of_range result
+            ↔ ¬ IsOrdinal (year_at (date_at self.local)) ordinal }
     {
         match self.local().replace_ordinal(ordinal) {
             Ok(local) => Ok(local.assume_offset(self.offset())),
@@ -111,7 +175,13 @@ impl OffsetDateTime {
     pub fn replace_hour(self, hour: u8) -> Result<Self, ComponentRange>
         ensures refused { IsRefused hour_out_of_range result ↔ (23 < hour) }
         ensures reason { IfErr result (λ e. e ≡ hour_out_of_range) }
-        ensures value { hour ≤ 23 → result ≡ Ok (record { local = date_time (date_at self.local) (time_of hour (minute_of (time_at self.local)) (second_of (time_at self.local)) (nanosecond_of (time_at self.local))); offset = self.offset }) }
+        ensures value { hour ≤ 23 → result
+            ≡ Ok (record {
+              local = date_time (date_at self.local)
+                  (time_of hour (minute_of (time_at self.local)) (second_of (time_at self.local))
+                  (nanosecond_of (time_at self.local)));
+              offset = self.offset;
+            }) }
     {
         match self.local().replace_hour(hour) {
             Ok(local) => Ok(local.assume_offset(self.offset())),
@@ -125,7 +195,13 @@ impl OffsetDateTime {
     pub fn replace_minute(self, minute: u8) -> Result<Self, ComponentRange>
         ensures refused { IsRefused minute_out_of_range result ↔ (59 < minute) }
         ensures reason { IfErr result (λ e. e ≡ minute_out_of_range) }
-        ensures value { minute ≤ 59 → result ≡ Ok (record { local = date_time (date_at self.local) (time_of (hour_of (time_at self.local)) minute (second_of (time_at self.local)) (nanosecond_of (time_at self.local))); offset = self.offset }) }
+        ensures value { minute ≤ 59 → result
+            ≡ Ok (record {
+              local = date_time (date_at self.local)
+                  (time_of (hour_of (time_at self.local)) minute (second_of (time_at self.local))
+                  (nanosecond_of (time_at self.local)));
+              offset = self.offset;
+            }) }
     {
         match self.local().replace_minute(minute) {
             Ok(local) => Ok(local.assume_offset(self.offset())),
@@ -139,7 +215,13 @@ impl OffsetDateTime {
     pub fn replace_second(self, second: u8) -> Result<Self, ComponentRange>
         ensures refused { IsRefused second_out_of_range result ↔ (59 < second) }
         ensures reason { IfErr result (λ e. e ≡ second_out_of_range) }
-        ensures value { second ≤ 59 → result ≡ Ok (record { local = date_time (date_at self.local) (time_of (hour_of (time_at self.local)) (minute_of (time_at self.local)) second (nanosecond_of (time_at self.local))); offset = self.offset }) }
+        ensures value { second ≤ 59 → result
+            ≡ Ok (record {
+              local = date_time (date_at self.local)
+                  (time_of (hour_of (time_at self.local)) (minute_of (time_at self.local)) second
+                  (nanosecond_of (time_at self.local)));
+              offset = self.offset;
+            }) }
     {
         match self.local().replace_second(second) {
             Ok(local) => Ok(local.assume_offset(self.offset())),
@@ -153,7 +235,13 @@ impl OffsetDateTime {
     pub fn replace_millisecond(self, millisecond: u16) -> Result<Self, ComponentRange>
         ensures refused { IsRefused millisecond_out_of_range result ↔ (999 < millisecond) }
         ensures reason { IfErr result (λ e. e ≡ millisecond_out_of_range) }
-        ensures value { millisecond ≤ 999 → result ≡ Ok (record { local = date_time (date_at self.local) (time_of (hour_of (time_at self.local)) (minute_of (time_at self.local)) (second_of (time_at self.local)) (millisecond * 1_000_000)); offset = self.offset }) }
+        ensures value { millisecond ≤ 999
+            → result ≡ Ok (record {
+              local = date_time (date_at self.local)
+                  (time_of (hour_of (time_at self.local)) (minute_of (time_at self.local))
+                  (second_of (time_at self.local)) (millisecond * 1_000_000));
+              offset = self.offset;
+            }) }
     {
         match self.local().replace_millisecond(millisecond) {
             Ok(local) => Ok(local.assume_offset(self.offset())),
@@ -167,7 +255,13 @@ impl OffsetDateTime {
     pub fn replace_microsecond(self, microsecond: u32) -> Result<Self, ComponentRange>
         ensures refused { IsRefused microsecond_out_of_range result ↔ (999_999 < microsecond) }
         ensures reason { IfErr result (λ e. e ≡ microsecond_out_of_range) }
-        ensures value { microsecond ≤ 999_999 → result ≡ Ok (record { local = date_time (date_at self.local) (time_of (hour_of (time_at self.local)) (minute_of (time_at self.local)) (second_of (time_at self.local)) (microsecond * 1_000)); offset = self.offset }) }
+        ensures value { microsecond ≤ 999_999
+            → result ≡ Ok (record {
+              local = date_time (date_at self.local)
+                  (time_of (hour_of (time_at self.local)) (minute_of (time_at self.local))
+                  (second_of (time_at self.local)) (microsecond * 1_000));
+              offset = self.offset;
+            }) }
     {
         match self.local().replace_microsecond(microsecond) {
             Ok(local) => Ok(local.assume_offset(self.offset())),
@@ -181,7 +275,13 @@ impl OffsetDateTime {
     pub fn replace_nanosecond(self, nanosecond: u32) -> Result<Self, ComponentRange>
         ensures refused { IsRefused nanosecond_out_of_range result ↔ (999_999_999 < nanosecond) }
         ensures reason { IfErr result (λ e. e ≡ nanosecond_out_of_range) }
-        ensures value { nanosecond ≤ 999_999_999 → result ≡ Ok (record { local = date_time (date_at self.local) (time_of (hour_of (time_at self.local)) (minute_of (time_at self.local)) (second_of (time_at self.local)) nanosecond); offset = self.offset }) }
+        ensures value { nanosecond ≤ 999_999_999
+            → result ≡ Ok (record {
+              local = date_time (date_at self.local)
+                  (time_of (hour_of (time_at self.local)) (minute_of (time_at self.local))
+                  (second_of (time_at self.local)) nanosecond);
+              offset = self.offset;
+            }) }
     {
         match self.local().replace_nanosecond(nanosecond) {
             Ok(local) => Ok(local.assume_offset(self.offset())),
@@ -191,14 +291,23 @@ impl OffsetDateTime {
 
     /// The one at its whole hours, with all that lies below them zero.
     pub fn truncate_to_hour(self) -> Self
-        ensures { result ≡ record { local = date_time (date_at self.local) (time_of (hour_of (time_at self.local)) 0 0 0); offset = self.offset } }
+        ensures { result ≡ record {
+          local = date_time (date_at self.local)
+              (time_of (hour_of (time_at self.local)) 0 0 0);
+          offset = self.offset;
+        } }
     {
         self.local().truncate_to_hour().assume_offset(self.offset())
     }
 
     /// The one at its whole minutes, with all that lies below them zero.
     pub fn truncate_to_minute(self) -> Self
-        ensures { result ≡ record { local = date_time (date_at self.local) (time_of (hour_of (time_at self.local)) (minute_of (time_at self.local)) 0 0); offset = self.offset } }
+        ensures { result ≡ record {
+          local = date_time (date_at self.local)
+              (time_of (hour_of (time_at self.local)) (minute_of (time_at self.local)) 0 0);
+          offset =
+              self.offset;
+        } }
     {
         self.local()
             .truncate_to_minute()
@@ -207,7 +316,12 @@ impl OffsetDateTime {
 
     /// The one at its whole seconds, with all that lies below them zero.
     pub fn truncate_to_second(self) -> Self
-        ensures { result ≡ record { local = date_time (date_at self.local) (time_of (hour_of (time_at self.local)) (minute_of (time_at self.local)) (second_of (time_at self.local)) 0); offset = self.offset } }
+        ensures { result ≡ record {
+          local = date_time (date_at self.local)
+              (time_of (hour_of (time_at self.local)) (minute_of (time_at self.local))
+              (second_of (time_at self.local)) 0);
+          offset = self.offset;
+        } }
     {
         self.local()
             .truncate_to_second()
@@ -216,7 +330,13 @@ impl OffsetDateTime {
 
     /// The one at its whole milliseconds, with all that lies below them zero.
     pub fn truncate_to_millisecond(self) -> Self
-        ensures { result ≡ record { local = date_time (date_at self.local) (time_of (hour_of (time_at self.local)) (minute_of (time_at self.local)) (second_of (time_at self.local)) (millisecond_of (time_at self.local) * 1_000_000)); offset = self.offset } }
+        ensures { result ≡ record {
+          local = date_time (date_at self.local)
+              (time_of (hour_of (time_at self.local)) (minute_of (time_at self.local))
+              (second_of (time_at self.local))
+              (millisecond_of (time_at self.local) * 1_000_000));
+          offset = self.offset;
+        } }
     {
         self.local()
             .truncate_to_millisecond()
@@ -225,7 +345,13 @@ impl OffsetDateTime {
 
     /// The one at its whole microseconds, with all that lies below them zero.
     pub fn truncate_to_microsecond(self) -> Self
-        ensures { result ≡ record { local = date_time (date_at self.local) (time_of (hour_of (time_at self.local)) (minute_of (time_at self.local)) (second_of (time_at self.local)) (microsecond_of (time_at self.local) * 1_000)); offset = self.offset } }
+        ensures { result ≡ record {
+          local = date_time (date_at self.local)
+              (time_of (hour_of (time_at self.local)) (minute_of (time_at self.local))
+              (second_of (time_at self.local))
+              (microsecond_of (time_at self.local) * 1_000));
+          offset = self.offset;
+        } }
     {
         self.local()
             .truncate_to_microsecond()

@@ -36,7 +36,8 @@ impl OffsetDateTime {
         ensures value { let local = unix_epoch +ℤ timestamp *ℤ pos second
             in IsDateTime local → result ≡ Ok (record { local = local; offset = pos 0 }) }
         ensures instant { IfOk result (λ m. instant m ≡ unix_epoch +ℤ timestamp *ℤ pos second) }
-        ensures refused { IsRefused timestamp_out_of_range result ↔ ¬ IsDateTime (unix_epoch +ℤ timestamp *ℤ pos second) }
+        ensures refused { IsRefused timestamp_out_of_range result
+            ↔ ¬ IsDateTime (unix_epoch +ℤ timestamp *ℤ pos second) }
         ensures reason { IfErr result (λ e. e ≡ timestamp_out_of_range) }
     {
         at_utc(timestamp, 0)
@@ -47,7 +48,8 @@ impl OffsetDateTime {
         ensures value { let local = unix_epoch +ℤ timestamp
             in IsDateTime local → result ≡ Ok (record { local = local; offset = pos 0 }) }
         ensures instant { IfOk result (λ m. instant m ≡ unix_epoch +ℤ timestamp) }
-        ensures refused { IsRefused timestamp_out_of_range result ↔ ¬ IsDateTime (unix_epoch +ℤ timestamp) }
+        ensures refused { IsRefused timestamp_out_of_range result
+            ↔ ¬ IsDateTime (unix_epoch +ℤ timestamp) }
         ensures reason { IfErr result (λ e. e ≡ timestamp_out_of_range) }
     {
         let nanoseconds = timestamp.rem_euclid(NANOSECONDS_PER_SECOND) as i32;
@@ -61,7 +63,8 @@ impl OffsetDateTime {
     /// there.
     pub fn unix_timestamp(self) -> i64
         ensures value { result ≡ unix_seconds (instant self) }
-        ensures whole { (seconds : ℤ) → instant self ≡ unix_epoch +ℤ seconds *ℤ pos second → result ≡ seconds }
+        ensures whole { (seconds : ℤ) → instant self ≡ unix_epoch +ℤ seconds *ℤ pos second
+            → result ≡ seconds }
     {
         let seconds = days_since_epoch(self.date()) * SECONDS_PER_DAY + whole_seconds(self.time());
         seconds - seconds_of(self.offset())
@@ -150,7 +153,8 @@ fn at_utc(seconds: i64, nanoseconds: i32) -> Result<OffsetDateTime, ComponentRan
     requires { pos 0 ≤ℤ nanoseconds × nanoseconds <ℤ pos second }
     ensures value { let local = unix_epoch +ℤ (seconds *ℤ pos second +ℤ nanoseconds)
         in IsDateTime local → result ≡ Ok (record { local = local; offset = pos 0 }) }
-    ensures instant { IfOk result (λ m. instant m ≡ unix_epoch +ℤ (seconds *ℤ pos second +ℤ nanoseconds)) }
+    ensures instant { IfOk result (λ m.
+        instant m ≡ unix_epoch +ℤ (seconds *ℤ pos second +ℤ nanoseconds)) }
     ensures refused { IsRefused timestamp_out_of_range result
         ↔ ¬ IsDateTime (unix_epoch +ℤ (seconds *ℤ pos second +ℤ nanoseconds)) }
     ensures reason { IfErr result (λ e. e ≡ timestamp_out_of_range) }

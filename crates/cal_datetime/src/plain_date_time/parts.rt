@@ -79,7 +79,8 @@ impl PlainDateTime {
     /// The year, the month and the day of the month: the calendar date of ISO 8601. That of 2024-02-29 23:59:59.25 is (2024, February, 29).
     pub fn to_calendar_date(self) -> (i32, Month, u8)
         ensures date { HasCalendarDate result.0 (number result.1) result.2 (date_at self) }
-        ensures range { IsYear result.0 × IsDayOfMonth result.0 (number result.1) result.2 × (result.2 ≤ 31) }
+        ensures range { IsYear result.0 × IsDayOfMonth result.0 (number result.1) result.2
+            × (result.2 ≤ 31) }
         ensures in_range { IsDate (date_at self) }
     {
         self.date().to_calendar_date()
@@ -121,28 +122,51 @@ impl PlainDateTime {
 
     /// The hour, minute and second: those of 2024-02-29 23:59:59.25 are 23, 59 and 59.
     pub fn as_hms(self) -> (u8, u8, u8)
-        ensures { result ≡ (hour_of (time_at self), minute_of (time_at self), second_of (time_at self)) }
+        ensures { result ≡ (
+          hour_of (time_at self),
+          minute_of (time_at self),
+          second_of
+              (time_at self),
+        ) }
     {
         self.time().as_hms()
     }
 
     /// The hour, minute, second and millisecond: those of 2024-02-29 23:59:59.25 are 23, 59, 59 and 250.
     pub fn as_hms_milli(self) -> (u8, u8, u8, u16)
-        ensures { result ≡ (hour_of (time_at self), minute_of (time_at self), second_of (time_at self), millisecond_of (time_at self)) }
+        ensures { result ≡ (
+          hour_of (time_at self),
+          minute_of (time_at self),
+          second_of
+              (time_at self),
+          millisecond_of (time_at self),
+        ) }
     {
         self.time().as_hms_milli()
     }
 
     /// The hour, minute, second and microsecond: those of 2024-02-29 23:59:59.25 are 23, 59, 59 and 250000.
     pub fn as_hms_micro(self) -> (u8, u8, u8, u32)
-        ensures { result ≡ (hour_of (time_at self), minute_of (time_at self), second_of (time_at self), microsecond_of (time_at self)) }
+        ensures { result ≡ (
+          hour_of (time_at self),
+          minute_of (time_at self),
+          second_of
+              (time_at self),
+          microsecond_of (time_at self),
+        ) }
     {
         self.time().as_hms_micro()
     }
 
     /// The hour, minute, second and nanosecond: those of 2024-02-29 23:59:59.25 are 23, 59, 59 and 250000000.
     pub fn as_hms_nano(self) -> (u8, u8, u8, u32)
-        ensures { result ≡ (hour_of (time_at self), minute_of (time_at self), second_of (time_at self), nanosecond_of (time_at self)) }
+        ensures { result ≡ (
+          hour_of (time_at self),
+          minute_of (time_at self),
+          second_of
+              (time_at self),
+          nanosecond_of (time_at self),
+        ) }
     {
         self.time().as_hms_nano()
     }

@@ -73,7 +73,8 @@ impl Rule<'_> {
     fn days_on(&self, day: Date) -> u8
         ensures least { 1 ≤ result }
         ensures most { result ≤ 7 }
-        ensures none { (k : ℕ) → day < k → k < day + result → takes_weekday self.now (weekday_at k) ≡ false }
+        ensures none { (k : ℕ) → day < k → k < day + result
+            → takes_weekday self.now (weekday_at k) ≡ false }
     {
         let mut days = 1;
         while days < 7 {

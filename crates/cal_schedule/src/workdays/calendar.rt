@@ -36,7 +36,8 @@ impl<'a> Workdays<'a> {
     /// `None` exactly where the holidays do not rise: where one is not before the next. A holiday on a day of the week that is
     /// not marked changes nothing.
     pub fn new(marks: [bool; 7], holidays: &'a [Date]) -> Option<Self>
-        ensures { SomeIff result (IsRising julian_day_at holidays.now) (record { marks = marks; holidays = holidays.now }) }
+        ensures { SomeIff result (IsRising julian_day_at holidays.now)
+            (record { marks = marks; holidays = holidays.now }) }
     {
         if is_rising(holidays) {
             Some(Workdays { marks, holidays })

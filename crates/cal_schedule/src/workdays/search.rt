@@ -53,7 +53,8 @@ impl Workdays<'_> {
     /// The marked days before the working day that has so many others from the day of that number on before it: those before this
     /// day, so many more, and one for each marked holiday in between.
     fn marked_before_nth_from(&self, from: u32, n: u32) -> u64
-        ensures day { (x : ℕ) → is_marked self.now x ≡ true → count_before (is_marked self.now) x ≡ result → IsNthFrom self.now from n x }
+        ensures day { (x : ℕ) → is_marked self.now x ≡ true
+            → count_before (is_marked self.now) x ≡ result → IsNthFrom self.now from n x }
         ensures most { result ≤ from + n + last_day + 1 }
     {
         let start = self.holidays_before(from);
@@ -73,7 +74,8 @@ impl Workdays<'_> {
     fn marked_before_nth_back(&self, to: u32, n: u32) -> Option<u32>
         requires { to ≤ last_day + 1 }
         ensures day { MatchOption result (count_before (is_workday self.now) to ≤ n)
-            (λ before. (x : ℕ) → is_marked self.now x ≡ true → count_before (is_marked self.now) x ≡ before → IsNthBack self.now to n x) }
+            (λ before. (x : ℕ) → is_marked self.now x ≡ true
+            → count_before (is_marked self.now) x ≡ before → IsNthBack self.now to n x) }
         ensures most { IfSome result (λ before. before < to) }
     {
         let end = self.holidays_before(to);
@@ -103,7 +105,8 @@ impl Workdays<'_> {
     pub(super) fn nth_from(&self, from: u32, n: u32) -> Option<Date>
         requires { from ≤ last_day + 1 }
         ensures day { result ≡ slice_get (workdays_from self.now from) n }
-        ensures found { IfSome result (λ day. (is_workday self.now day ≡ true) × (from ≤ day) × IsDate day) }
+        ensures found { IfSome result (λ day.
+            (is_workday self.now day ≡ true) × (from ≤ day) × IsDate day) }
     {
         if self.marked_in_week(7) == 0 {
             return None;
@@ -115,7 +118,8 @@ impl Workdays<'_> {
     pub(super) fn nth_before(&self, to: u32, n: u32) -> Option<Date>
         requires { to ≤ last_day + 1 }
         ensures day { result ≡ slice_get (workdays_back self.now to) n }
-        ensures found { IfSome result (λ day. (is_workday self.now day ≡ true) × (day < to) × IsDate day) }
+        ensures found { IfSome result (λ day.
+            (is_workday self.now day ≡ true) × (day < to) × IsDate day) }
     {
         if self.marked_in_week(7) == 0 {
             return None;

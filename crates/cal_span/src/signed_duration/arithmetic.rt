@@ -42,7 +42,8 @@ impl SignedDuration {
     /// than one.
     pub(super) fn checked_new(seconds: i64, nanoseconds: i32) -> Option<Self>
         requires { CanCarry seconds nanoseconds }
-        ensures { SomeIff result (IsDuration (seconds *ℤ pos second +ℤ nanoseconds)) (seconds *ℤ pos second +ℤ nanoseconds) }
+        ensures { SomeIff result (IsDuration (seconds *ℤ pos second +ℤ nanoseconds))
+            (seconds *ℤ pos second +ℤ nanoseconds) }
     {
         let carry = carry_of(seconds, nanoseconds);
         Some(Self {
@@ -106,7 +107,9 @@ impl SignedDuration {
     /// The duration of that sign and magnitude, or `None` where there is none.
     fn checked_of_magnitude(is_negative: bool, seconds: u64, nanoseconds: u32) -> Option<Self>
         requires { nanoseconds < second }
-        ensures { SomeIff result (IsDuration (with_sign is_negative (seconds * second + nanoseconds))) (with_sign is_negative (seconds * second + nanoseconds)) }
+        ensures { SomeIff result (IsDuration
+            (with_sign is_negative (seconds * second + nanoseconds))) (with_sign is_negative
+            (seconds * second + nanoseconds)) }
     {
         if seconds > i64::MAX as u64 + u64::from(is_negative) {
             return None;
@@ -210,7 +213,8 @@ fn checked_times(seconds: i64, factor: i64, carry: i64) -> Option<i64>
     requires small { unsigned_abs carry ≤ unsigned_abs factor }
     requires positive { pos 0 <ℤ (seconds *ℤ factor) → pos 0 ≤ℤ carry }
     requires negative { (seconds *ℤ factor) <ℤ pos 0 → carry ≤ℤ pos 0 }
-    ensures { SomeIff result (FitsSigned w64 (seconds *ℤ factor +ℤ carry)) (seconds *ℤ factor +ℤ carry) }
+    ensures { SomeIff result (FitsSigned w64 (seconds *ℤ factor +ℤ carry))
+        (seconds *ℤ factor +ℤ carry) }
 {
     if seconds.unsigned_abs() < GREATEST_OPERAND && factor.unsigned_abs() <= 1 << 31 {
         return Some(seconds * factor + carry);

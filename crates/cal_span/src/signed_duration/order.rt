@@ -44,7 +44,8 @@ impl Ord for SignedDuration {
 impl PartialOrd for SignedDuration {
     ghost partial_cmp = { as_partial_cmp int_cmp };
 
-    ghost laws = { partial_order_from_own_ties (Prim.search (comparing, rules)) (Prim.search (comparing, rules)) };
+    ghost laws = { partial_order_from_own_ties (Prim.search (comparing, rules))
+        (Prim.search (comparing, rules)) };
 
     fn partial_cmp(&self, other: &Self) -> Option<Ordering> {
         Some(self.cmp(other))

@@ -65,7 +65,8 @@ fn further(error: Unreadable, text: &[u8]) -> Unreadable
     requires first { (get_or text.now 0 0 ≢ 74) × (get_or text.now 0 0 ≢ 64) }
     requires separator { IsSeparator (get_or text.now 10 0) }
     ensures component { component_of result ≡ component_of error }
-    ensures position { IsAtStop (HasSome HasMomentForm) text.now error → IsAtStop HasAnyForm text.now result }
+    ensures position { IsAtStop (HasSome HasMomentForm) text.now error
+        → IsAtStop HasAnyForm text.now result }
 {
     let mut scanner = Scanner { rest: text };
     match error {

@@ -31,10 +31,12 @@ pub(super) fn date_of(form: Form) -> Result<Date, ComponentRange>
 pub(crate) fn calendar_date(year: i32, month: u8, day: u8) -> Result<Date, ComponentRange>
     ensures every { (n : ℕ) → IsDate n → HasCalendarDate year month day n → result ≡ Ok n }
     ensures has { IfOk result (λ n. IsDate n × HasCalendarDate year month day n) }
-    ensures reason { IfErr result (λ e. (e ≡ month_out_of_range) ⊎ (e ≡ year_out_of_range) ⊎ (e ≡ day_out_of_range)) }
+    ensures reason { IfErr result (λ e.
+        (e ≡ month_out_of_range) ⊎ (e ≡ year_out_of_range) ⊎ (e ≡ day_out_of_range)) }
     ensures month { IsRefused month_out_of_range result ↔ ¬ IsMonth month }
     ensures year { IsRefused year_out_of_range result ↔ IsMonth month × ¬ IsYear year }
-    ensures day { IsRefused day_out_of_range result ↔ IsMonth month × IsYear year × ¬ IsDayOfMonth year month day }
+    ensures day { IsRefused day_out_of_range result
+        ↔ IsMonth month × IsYear year × ¬ IsDayOfMonth year month day }
 {
     match Month::try_from(month) {
         Ok(month) => Date::from_calendar_date(year, month, day),
@@ -47,7 +49,8 @@ fn week_date(year: i32, week: u8, weekday: u8) -> Result<Date, ComponentRange>
     requires { (1 ≤ weekday) × (weekday ≤ 7) }
     ensures every { (n : ℕ) → IsDate n → HasIsoWeekDate year week (weekday - 1) n → result ≡ Ok n }
     ensures has { IfOk result (λ n. IsDate n × HasIsoWeekDate year week (weekday - 1) n) }
-    ensures reason { IfErr result (λ e. (e ≡ year_out_of_range) ⊎ (e ≡ week_out_of_range) ⊎ (e ≡ weekday_out_of_range)) }
+    ensures reason { IfErr result (λ e.
+        (e ≡ year_out_of_range) ⊎ (e ≡ week_out_of_range) ⊎ (e ≡ weekday_out_of_range)) }
     ensures year { IsRefused year_out_of_range result ↔ ¬ IsYear year }
     ensures week { IsRefused week_out_of_range result ↔ IsYear year × ¬ IsWeek year week }
     ensures weekday { IsRefused weekday_out_of_range result

@@ -14,7 +14,9 @@ pub(crate) fn form_of(scanner: &mut Scanner) -> Option<Form>
     ensures every { (form : Form) → HasForm scanner.old.rest.now form → result ≡ Some form }
     ensures has { IfSome result (HasForm scanner.old.rest.now) }
     ensures within { IfNone result (length scanner.new.rest.now ≤ length scanner.old.rest.now) }
-    ensures position { IfNone result (IsPosition (HasSome HasForm) scanner.old.rest.now (length scanner.old.rest.now - length scanner.new.rest.now)) }
+    ensures position { IfNone result
+        (IsPosition (HasSome HasForm) scanner.old.rest.now
+        (length scanner.old.rest.now - length scanner.new.rest.now)) }
 {
     date(scanner)
 }
@@ -31,7 +33,8 @@ fn date(scanner: &mut Scanner) -> Option<Form>
 fn after_year(scanner: &mut Scanner, year: i32) -> Option<Form>
     requires { IsWrittenYear year }
     ensures scans { ScansWhole after_year scanner.old.rest.now scanner.new.rest.now result }
-    ensures has { IfSome result (λ form. DigitsFit form × (year_of form ≡ year) × (scanner.old.rest.now ≡ rest_of form)) }
+    ensures has { IfSome result (λ form.
+        DigitsFit form × (year_of form ≡ year) × (scanner.old.rest.now ≡ rest_of form)) }
 {
     match scanner.byte(b'W') {
         Some(()) => week(scanner, year),
@@ -43,7 +46,8 @@ fn after_year(scanner: &mut Scanner, year: i32) -> Option<Form>
 fn week(scanner: &mut Scanner, year: i32) -> Option<Form>
     requires { IsWrittenYear year }
     ensures scans { ScansWhole week scanner.old.rest.now scanner.new.rest.now result }
-    ensures has { IfSome result (λ form. DigitsFit form × (year_of form ≡ year) × (87 ∷ scanner.old.rest.now ≡ rest_of form)) }
+    ensures has { IfSome result (λ form.
+        DigitsFit form × (year_of form ≡ year) × (87 ∷ scanner.old.rest.now ≡ rest_of form)) }
 {
     let week = scanner.two_digits()?;
     scanner.byte(b'-')?;
@@ -56,7 +60,8 @@ fn week(scanner: &mut Scanner, year: i32) -> Option<Form>
 fn month_or_ordinal(scanner: &mut Scanner, year: i32) -> Option<Form>
     requires { IsWrittenYear year }
     ensures scans { ScansWhole month_or_ordinal scanner.old.rest.now scanner.new.rest.now result }
-    ensures has { IfSome result (λ form. DigitsFit form × (year_of form ≡ year) × (scanner.old.rest.now ≡ rest_of form)) }
+    ensures has { IfSome result (λ form.
+        DigitsFit form × (year_of form ≡ year) × (scanner.old.rest.now ≡ rest_of form)) }
 {
     let front = scanner.two_digits()?;
     match scanner.byte(b'-') {

@@ -16,7 +16,9 @@ pub(super) fn numbers_of(scanner: &mut Scanner) -> Option<Numbers>
     ensures every { (m : Numbers) → HasMomentForm scanner.old.rest.now m → result ≡ Some m }
     ensures has { IfSome result (HasMomentForm scanner.old.rest.now) }
     ensures within { IfNone result (length scanner.new.rest.now ≤ length scanner.old.rest.now) }
-    ensures position { IfNone result (IsPosition (HasSome HasMomentForm) scanner.old.rest.now (length scanner.old.rest.now - length scanner.new.rest.now)) }
+    ensures position { IfNone result
+        (IsPosition (HasSome HasMomentForm) scanner.old.rest.now
+        (length scanner.old.rest.now - length scanner.new.rest.now)) }
 {
     moment(scanner)
 }
@@ -47,7 +49,9 @@ fn moment(scanner: &mut Scanner) -> Option<Numbers>
 fn two_numbers(scanner: &mut Scanner, byte: u8) -> Option<(u8, u8)>
     ensures scans { Scans (TwoNumbers byte) scanner.old.rest.now scanner.new.rest.now result }
     ensures numbers { IfSome result (λ found. (found.0 < 100) × (found.1 < 100)
-        × (scanner.old.rest.now ≡ byte ∷ (digits_at_least 2 found.0 ++ byte ∷ (digits_at_least 2 found.1 ++ scanner.new.rest.now)))) }
+        × (scanner.old.rest.now ≡ byte
+        ∷ (digits_at_least 2 found.0 ++ byte
+        ∷ (digits_at_least 2 found.1 ++ scanner.new.rest.now)))) }
 {
     scanner.byte(byte)?;
     let first = scanner.two_digits()?;
@@ -59,7 +63,8 @@ fn two_numbers(scanner: &mut Scanner, byte: u8) -> Option<(u8, u8)>
 /// The byte between the date and the time.
 fn separator(scanner: &mut Scanner) -> Option<()>
     ensures scans { Scans Separator scanner.old.rest.now scanner.new.rest.now result }
-    ensures byte { IfSome result (λ _. (b : ℕ) × IsSeparator b × (scanner.old.rest.now ≡ b ∷ scanner.new.rest.now)) }
+    ensures byte { IfSome result (λ _.
+        (b : ℕ) × IsSeparator b × (scanner.old.rest.now ≡ b ∷ scanner.new.rest.now)) }
 {
     match scanner.byte(b'T') {
         Some(()) => Some(()),
@@ -81,8 +86,11 @@ pub(crate) fn is_separator(byte: u8) -> bool
 
 /// The fraction of a second, of any length, and the offset.
 fn fraction_and_offset(scanner: &mut Scanner) -> Option<(u32, TimeOffset)>
-    ensures scans { ScansLarge (λ more. Fraction more time_offset) scanner.old.rest.now scanner.new.rest.now result }
-    ensures has { IfSome result (λ found. (offset : List ℕ) × HasFractionBefore offset (length scanner.old.rest.now) scanner.old.rest.now found.0 × IsTimeOffset offset found.1) }
+    ensures scans { ScansLarge (λ more. Fraction more time_offset) scanner.old.rest.now
+        scanner.new.rest.now result }
+    ensures has { IfSome result (λ found.
+        (offset : List ℕ) × HasFractionBefore offset
+        (length scanner.old.rest.now) scanner.old.rest.now found.0 × IsTimeOffset offset found.1) }
 {
     let most = scanner.rest.len();
     let nanosecond = fraction(scanner, most)?;

@@ -22,16 +22,23 @@ pub(super) fn moment_of(numbers: Numbers) -> Result<OffsetDateTime, ComponentRan
     requires { NumbersFit numbers }
     ensures every { (m : Shown) → IsAt numbers m → result ≡ Ok m }
     ensures has { IfOk result (IsAt numbers) }
-    ensures reason { IfErr result (λ e. (e ≡ month_out_of_range) ⊎ (e ≡ day_out_of_range) ⊎ (e ≡ hour_out_of_range) ⊎ (e ≡ minute_out_of_range)
-        ⊎ (e ≡ second_out_of_range) ⊎ (e ≡ offset_hour_out_of_range) ⊎ (e ≡ offset_minute_out_of_range)) }
+    ensures reason { IfErr result (λ e.
+        (e ≡ month_out_of_range) ⊎ (e ≡ day_out_of_range) ⊎ (e ≡ hour_out_of_range)
+        ⊎ (e ≡ minute_out_of_range)
+        ⊎ (e ≡ second_out_of_range) ⊎ (e ≡ offset_hour_out_of_range)
+        ⊎ (e ≡ offset_minute_out_of_range)) }
     ensures month { IsRefused month_out_of_range result ↔ ¬ IsMonth numbers.month }
-    ensures day { IsRefused day_out_of_range result ↔ IsMonth numbers.month × ¬ IsDayOfMonth (pos numbers.year) numbers.month numbers.day }
+    ensures day { IsRefused day_out_of_range result
+        ↔ IsMonth numbers.month × ¬ IsDayOfMonth (pos numbers.year) numbers.month numbers.day }
     ensures hour { IsRefused hour_out_of_range result ↔ HasDay numbers × (23 < numbers.hour) }
-    ensures minute { IsRefused minute_out_of_range result ↔ HasDay numbers × (numbers.hour ≤ 23) × (59 < numbers.minute) }
+    ensures minute { IsRefused minute_out_of_range result
+        ↔ HasDay numbers × (numbers.hour ≤ 23) × (59 < numbers.minute) }
     ensures second { IsRefused second_out_of_range result
         ↔ HasDay numbers × (numbers.hour ≤ 23) × (numbers.minute ≤ 59) × (59 < numbers.second) }
-    ensures offset_hour { IsRefused offset_hour_out_of_range result ↔ HasClock numbers × IsPastHours numbers.offset }
-    ensures offset_minute { IsRefused offset_minute_out_of_range result ↔ HasClock numbers × IsPastMinutes numbers.offset }
+    ensures offset_hour { IsRefused offset_hour_out_of_range result
+        ↔ HasClock numbers × IsPastHours numbers.offset }
+    ensures offset_minute { IsRefused offset_minute_out_of_range result
+        ↔ HasClock numbers × IsPastMinutes numbers.offset }
 {
     let date = match calendar_date(i32::from(numbers.year), numbers.month, numbers.day) {
         Ok(date) => date,
@@ -56,7 +63,8 @@ pub(super) fn moment_of(numbers: Numbers) -> Result<OffsetDateTime, ComponentRan
 fn offset_of(offset: TimeOffset) -> Result<UtcOffset, ComponentRange>
     ensures every { (o : ℤ) → IsOffsetOf offset o → result ≡ Ok o }
     ensures has { IfOk result (IsOffsetOf offset) }
-    ensures reason { IfErr result (λ e. (e ≡ offset_hour_out_of_range) ⊎ (e ≡ offset_minute_out_of_range)) }
+    ensures reason { IfErr result (λ e.
+        (e ≡ offset_hour_out_of_range) ⊎ (e ≡ offset_minute_out_of_range)) }
     ensures hour { IsRefused offset_hour_out_of_range result ↔ IsPastHours offset }
     ensures minute { IsRefused offset_minute_out_of_range result ↔ IsPastMinutes offset }
 {
@@ -69,8 +77,10 @@ fn offset_of(offset: TimeOffset) -> Result<UtcOffset, ComponentRange>
 /// The offset of so many hours and minutes west or east of UTC.
 fn offset_at(hours: u8, minutes: u8, is_west: bool) -> Result<UtcOffset, ComponentRange>
     ensures value { hours ≤ 23 → minutes ≤ 59
-        → result ≡ Ok (if is_west then neg_ℤ (pos (3600 * hours + 60 * minutes)) else pos (3600 * hours + 60 * minutes)) }
-    ensures reason { IfErr result (λ e. (e ≡ offset_hour_out_of_range) ⊎ (e ≡ offset_minute_out_of_range)) }
+        → result ≡ Ok (if is_west then neg_ℤ (pos (3600 * hours + 60 * minutes)) else pos
+        (3600 * hours + 60 * minutes)) }
+    ensures reason { IfErr result (λ e.
+        (e ≡ offset_hour_out_of_range) ⊎ (e ≡ offset_minute_out_of_range)) }
     ensures hour { IsRefused offset_hour_out_of_range result ↔ (23 < hours) }
     ensures minute { IsRefused offset_minute_out_of_range result ↔ (hours ≤ 23) × (59 < minutes) }
 {

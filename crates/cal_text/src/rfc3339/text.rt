@@ -31,10 +31,16 @@ impl Text {
     /// seconds, as `+05:30:15`.
     pub fn new(moment: OffsetDateTime) -> Option<Self>
         ensures parts { SomeIff result (HasMomentText moment)
-            (record { date = date_at moment.local; time = time_at moment.local; offset = moment.offset }) }
+            (record {
+              date = date_at moment.local;
+              time = time_at moment.local;
+              offset =
+                  moment.offset;
+            }) }
 
         // What it prints reads back.
-        ensures text { IfSome result (λ text. IsMomentText (parts_text text.date text.time text.offset) moment) }
+        ensures text { IfSome result (λ text.
+            IsMomentText (parts_text text.date text.time text.offset) moment) }
     {
         let date = moment.date();
         let time = moment.time();
@@ -64,7 +70,8 @@ impl Text {
 /// The hour, the minute and the second.
 fn push_clock(text: &mut ShortText, time: Time)
     requires { HasRoom 8 text.old }
-    ensures text { text.new ≡ text.old ++ digits_at_least 2 (hour_of time) ++ codes ":" ++ digits_at_least 2 (minute_of time)
+    ensures text { text.new ≡ text.old ++ digits_at_least 2 (hour_of time) ++ codes ":"
+        ++ digits_at_least 2 (minute_of time)
         ++ codes ":" ++ digits_at_least 2 (second_of time) }
     ensures longer { length text.new ≡ length text.old + 8 }
 {

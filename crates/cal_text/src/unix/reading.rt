@@ -16,7 +16,9 @@ pub(super) fn unix_of(scanner: &mut Scanner) -> Option<i128>
     ensures every { (v : ℤ) → HasUnixForm scanner.old.rest.now v → result ≡ Some v }
     ensures has { IfSome result (HasUnixForm scanner.old.rest.now) }
     ensures within { IfNone result (length scanner.new.rest.now ≤ length scanner.old.rest.now) }
-    ensures position { IfNone result (IsPosition (HasSome HasUnixForm) scanner.old.rest.now (length scanner.old.rest.now - length scanner.new.rest.now)) }
+    ensures position { IfNone result
+        (IsPosition (HasSome HasUnixForm) scanner.old.rest.now
+        (length scanner.old.rest.now - length scanner.new.rest.now)) }
 {
     unix_time(scanner)
 }

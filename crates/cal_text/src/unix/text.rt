@@ -24,7 +24,8 @@ impl Text {
         ensures value { result.since_epoch ≡ unix_nanoseconds (instant moment) }
 
         // What it prints says this time.
-        ensures text { HasUnixForm (unix_text result.since_epoch) (unix_nanoseconds (instant moment)) }
+        ensures text { HasUnixForm (unix_text result.since_epoch)
+            (unix_nanoseconds (instant moment)) }
     {
         // How far it is from the epoch at most is known from the calls of its parts alone. These cost nothing.
         let _ = moment.date();

@@ -50,7 +50,8 @@ impl<C: Cycle> Rev<CycleIter<C>> {
     ///
     /// `nth(0)` is `next()`. From June back, `nth(2)` is April, and then `next()` is March.
     pub fn nth(&mut self, n: usize) -> Option<C>
-        ensures { IsSomeAnd result (λ x. IsBack C.Cycle n self.old x × IsBack C.Cycle 1 x self.new) }
+        ensures { IsSomeAnd result (λ x.
+            IsBack C.Cycle n self.old x × IsBack C.Cycle 1 x self.new) }
     {
         let value = nth_back_in(self.forward.next, n);
         self.forward.next = nth_back_in(value, 1);

@@ -59,7 +59,8 @@ impl<C: Cycle> CycleIter<C> {
     ///
     /// `nth(0)` is `next()`. From June on, `nth(2)` is August, and then `next()` is September.
     pub fn nth(&mut self, n: usize) -> Option<C>
-        ensures { IsSomeAnd result (λ x. IsAhead C.Cycle n self.old x × IsAhead C.Cycle 1 x self.new) }
+        ensures { IsSomeAnd result (λ x.
+            IsAhead C.Cycle n self.old x × IsAhead C.Cycle 1 x self.new) }
     {
         let value = nth_in(self.next, n);
         self.next = nth_in(value, 1);

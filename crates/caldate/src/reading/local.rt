@@ -18,10 +18,12 @@ const TO_THE_SECOND: usize = 19;
 
 /// The moment that a clock at this offset shows so.
 pub fn read_local(offset: UtcOffset, text: &[u8]) -> Result<DateOrMoment, Unreadable>
-    ensures every { (found : DateOrMoment) → IsTextIn (Local offset) text.now found → result ≡ Ok found }
+    ensures every { (found : DateOrMoment) → IsTextIn (Local offset) text.now found
+        → result ≡ Ok found }
     ensures has { IfOk result (IsTextIn (Local offset) text.now) }
     ensures form { IsRefusedForForm result ↔ ¬ HasFormIn (Local offset) text.now }
-    ensures component { (why : ComponentRange) → IsRefusedFor why result ↔ IsFaultIn (Local offset) text.now why }
+    ensures component { (why : ComponentRange)
+        → IsRefusedFor why result ↔ IsFaultIn (Local offset) text.now why }
 {
     if text.len() > LONGEST {
         return Err(Unreadable::UnexpectedByte(first_wrong_byte(&text[..LONGEST])));

@@ -20,10 +20,12 @@ const TOO_MANY: u128 = 1_000_000_000_000_000_000_000_000_000;
 
 /// The moment at UTC that is so many units after 1970-01-01.
 pub fn read_number(unit: UnixUnit, text: &[u8]) -> Result<DateOrMoment, Unreadable>
-    ensures every { (found : DateOrMoment) → IsTextIn (Unix unit) text.now found → result ≡ Ok found }
+    ensures every { (found : DateOrMoment) → IsTextIn (Unix unit) text.now found
+        → result ≡ Ok found }
     ensures has { IfOk result (IsTextIn (Unix unit) text.now) }
     ensures form { IsRefusedForForm result ↔ ¬ HasFormIn (Unix unit) text.now }
-    ensures component { (why : ComponentRange) → IsRefusedFor why result ↔ IsFaultIn (Unix unit) text.now why }
+    ensures component { (why : ComponentRange)
+        → IsRefusedFor why result ↔ IsFaultIn (Unix unit) text.now why }
 {
     let Some(number) = number_of(text) else {
         return Err(Unreadable::UnexpectedByte(first_wrong_byte(text)));

@@ -64,10 +64,12 @@ pub fn read_parts(
     text: &[u8],
     shape: &[u8],
 ) -> Result<DateOrMoment, Unreadable>
-    ensures every { (found : DateOrMoment) → IsSomeAnd calendar (λ date. IsTextOf date found) → result ≡ Ok found }
+    ensures every { (found : DateOrMoment) → IsSomeAnd calendar (λ date. IsTextOf date found)
+        → result ≡ Ok found }
     ensures has { IfOk result (λ found. IsSomeAnd calendar (λ date. IsTextOf date found)) }
     ensures form { IsRefusedForForm result ↔ ¬ IsSomeAnd calendar HasAnyForm }
-    ensures component { (why : ComponentRange) → IsRefusedFor why result ↔ IsSomeAnd calendar (λ date. IsFault date why) }
+    ensures component { (why : ComponentRange)
+        → IsRefusedFor why result ↔ IsSomeAnd calendar (λ date. IsFault date why) }
 {
     let Some(date) = calendar else {
         return Err(Unreadable::UnexpectedByte(first_wrong_byte(text, shape)));

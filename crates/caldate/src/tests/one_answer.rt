@@ -19,11 +19,14 @@ fn runs<R: Read, W: Write>(
     other: &mut W,
 ) -> (Result<(), Fault>, Result<(), Fault>)
     ensures { MatchOption (bounds_kept filter.now.request)
-        ((before : ℕ) (text words others : List ℕ) → IsAllowed filter.now before text words → IsAllowed filter.now before text others
+        ((before : ℕ) (text words others : List ℕ) → IsAllowed filter.now before text words
+        → IsAllowed filter.now before text others
         → words ≡ others)
-        (λ bounds. (before : ℕ) (line reply other : List ℕ) → IsKept filter.now bounds before line reply
+        (λ bounds. (before : ℕ) (line reply other : List ℕ)
+        → IsKept filter.now bounds before line reply
         → IsKept filter.now bounds before line other → reply ≡ other)
-        → (input held : List ℕ) → R.remaining reader.old ≡ Some input → R.remaining twin.old ≡ Some input
+        → (input held : List ℕ) → R.remaining reader.old ≡ Some input
+        → R.remaining twin.old ≡ Some input
         → W.contents writer.old ≡ Some held → W.contents other.old ≡ Some held
         → IsOk result.0 → IsOk result.1 → W.contents writer.new ≡ W.contents other.new }
 {

@@ -31,17 +31,25 @@ pub extern "C" fn fots_dates_calendar_texts(
     bounds: &mut [i32],
     statuses: &mut [u8],
 ) -> usize
-    ensures unlike { ¬ (Bounded2 (length dates.now) (length bounds.old) (length statuses.old) × HasRoomFor 13 (length dates.now) (length bytes.old))
-        → (result ≡ usize.MAX) × (bytes.new ≡ bytes.old) × (bounds.new ≡ bounds.old) × (statuses.new ≡ statuses.old) }
-    ensures rows { Bounded2 (length dates.now) (length bounds.old) (length statuses.old) × HasRoomFor 13 (length dates.now) (length bytes.old)
+    ensures unlike { ¬ (Bounded2 (length dates.now) (length bounds.old) (length statuses.old)
+        × HasRoomFor 13 (length dates.now) (length bytes.old))
+        → (result ≡ usize.MAX) × (bytes.new ≡ bytes.old) × (bounds.new ≡ bounds.old)
+        × (statuses.new ≡ statuses.old) }
+    ensures rows { Bounded2 (length dates.now) (length bounds.old) (length statuses.old)
+        × HasRoomFor 13 (length dates.now) (length bytes.old)
         → (k : ℕ) → k < length dates.now
         → ArePartOf bytes.new (get_or bounds.new k (pos 0)) (get_or bounds.new (k + 1) (pos 0))
-        × IsTextOfDate (get_or dates.now k (pos 0)) (text_at bytes.new bounds.new k) (get_or statuses.new k 0) }
-    ensures first { Bounded2 (length dates.now) (length bounds.old) (length statuses.old) × HasRoomFor 13 (length dates.now) (length bytes.old)
+        × IsTextOfDate (get_or dates.now k (pos 0)) (text_at bytes.new bounds.new k)
+        (get_or statuses.new k 0) }
+    ensures first { Bounded2 (length dates.now) (length bounds.old) (length statuses.old)
+        × HasRoomFor 13 (length dates.now) (length bytes.old)
         → get_or bounds.new 0 (pos 0) ≡ pos 0 }
-    ensures rest { Bounded2 (length dates.now) (length bounds.old) (length statuses.old) × HasRoomFor 13 (length dates.now) (length bytes.old)
-        → drop (unsigned_abs (get_or bounds.new (length dates.now) (pos 0))) bytes.new ≡ drop (unsigned_abs (get_or bounds.new (length dates.now) (pos 0))) bytes.old }
-    ensures count { Bounded2 (length dates.now) (length bounds.old) (length statuses.old) × HasRoomFor 13 (length dates.now) (length bytes.old)
+    ensures rest { Bounded2 (length dates.now) (length bounds.old) (length statuses.old)
+        × HasRoomFor 13 (length dates.now) (length bytes.old)
+        → drop (unsigned_abs (get_or bounds.new (length dates.now) (pos 0))) bytes.new
+        ≡ drop (unsigned_abs (get_or bounds.new (length dates.now) (pos 0))) bytes.old }
+    ensures count { Bounded2 (length dates.now) (length bounds.old) (length statuses.old)
+        × HasRoomFor 13 (length dates.now) (length bytes.old)
         → result ≡ count_by is_refused statuses.new }
 {
     let rows = dates.len();
@@ -74,7 +82,8 @@ fn put(bytes: &mut [u8], end: usize, text: &[u8]) -> usize
     ensures length { length bytes.new ≡ length bytes.old }
     ensures before { take end bytes.new ≡ take end bytes.old }
     ensures text { between end (end + length text.now) bytes.new ≡ text.now }
-    ensures after { drop (end + length text.now) bytes.new ≡ drop (end + length text.now) bytes.old }
+    ensures after { drop (end + length text.now) bytes.new
+        ≡ drop (end + length text.now) bytes.old }
 {
     let last = end + text.len();
     bytes[end..last].copy_from_slice(text);
@@ -103,21 +112,30 @@ pub extern "C" fn fots_moments_texts(
     bounds: &mut [i32],
     statuses: &mut [u8],
 ) -> usize
-    ensures unlike { ¬ (Bounded4 (length dates.now) (length bounds.old) (length times.now) (length offsets.now) (length statuses.old)
+    ensures unlike { ¬ (Bounded4 (length dates.now) (length bounds.old) (length times.now)
+        (length offsets.now) (length statuses.old)
         × HasRoomFor 38 (length dates.now) (length bytes.old))
-        → (result ≡ usize.MAX) × (bytes.new ≡ bytes.old) × (bounds.new ≡ bounds.old) × (statuses.new ≡ statuses.old) }
-    ensures rows { Bounded4 (length dates.now) (length bounds.old) (length times.now) (length offsets.now) (length statuses.old)
+        → (result ≡ usize.MAX) × (bytes.new ≡ bytes.old) × (bounds.new ≡ bounds.old)
+        × (statuses.new ≡ statuses.old) }
+    ensures rows { Bounded4 (length dates.now) (length bounds.old) (length times.now)
+        (length offsets.now) (length statuses.old)
         × HasRoomFor 38 (length dates.now) (length bytes.old)
         → (k : ℕ) → k < length dates.now
         → ArePartOf bytes.new (get_or bounds.new k (pos 0)) (get_or bounds.new (k + 1) (pos 0))
-        × IsTextOfMoment (get_or dates.now k (pos 0)) (get_or times.now k 0) (get_or offsets.now k (pos 0)) (text_at bytes.new bounds.new k) (get_or statuses.new k 0) }
-    ensures first { Bounded4 (length dates.now) (length bounds.old) (length times.now) (length offsets.now) (length statuses.old)
+        × IsTextOfMoment (get_or dates.now k (pos 0)) (get_or times.now k 0)
+        (get_or offsets.now k (pos 0)) (text_at bytes.new bounds.new k)
+        (get_or statuses.new k 0) }
+    ensures first { Bounded4 (length dates.now) (length bounds.old) (length times.now)
+        (length offsets.now) (length statuses.old)
         × HasRoomFor 38 (length dates.now) (length bytes.old)
         → get_or bounds.new 0 (pos 0) ≡ pos 0 }
-    ensures rest { Bounded4 (length dates.now) (length bounds.old) (length times.now) (length offsets.now) (length statuses.old)
+    ensures rest { Bounded4 (length dates.now) (length bounds.old) (length times.now)
+        (length offsets.now) (length statuses.old)
         × HasRoomFor 38 (length dates.now) (length bytes.old)
-        → drop (unsigned_abs (get_or bounds.new (length dates.now) (pos 0))) bytes.new ≡ drop (unsigned_abs (get_or bounds.new (length dates.now) (pos 0))) bytes.old }
-    ensures count { Bounded4 (length dates.now) (length bounds.old) (length times.now) (length offsets.now) (length statuses.old)
+        → drop (unsigned_abs (get_or bounds.new (length dates.now) (pos 0))) bytes.new
+        ≡ drop (unsigned_abs (get_or bounds.new (length dates.now) (pos 0))) bytes.old }
+    ensures count { Bounded4 (length dates.now) (length bounds.old) (length times.now)
+        (length offsets.now) (length statuses.old)
         × HasRoomFor 38 (length dates.now) (length bytes.old)
         → result ≡ count_by is_refused statuses.new }
 {
@@ -144,11 +162,15 @@ pub extern "C" fn fots_moments_texts(
 /// The text of RFC 3339, which has no bytes where there is none, and the status.
 fn text_of_moment(date: i32, time: u64, offset: i32) -> (ShortText, u8)
     ensures bad_date { ¬ IsJulianDay date → (result.0 ≡ []) × (pos result.1 ≡ bad_date) }
-    ensures bad_time { IsJulianDay date → ¬ IsTime time → (result.0 ≡ []) × (pos result.1 ≡ bad_time) }
-    ensures bad_offset { IsJulianDay date → IsTime time → ¬ IsOffset offset → (result.0 ≡ []) × (pos result.1 ≡ bad_offset) }
-    ensures past_range { IsJulianDay date → IsTime time → IsOffset offset → ¬ HasMomentText (moment_of date time offset)
+    ensures bad_time { IsJulianDay date → ¬ IsTime time
+        → (result.0 ≡ []) × (pos result.1 ≡ bad_time) }
+    ensures bad_offset { IsJulianDay date → IsTime time → ¬ IsOffset offset
+        → (result.0 ≡ []) × (pos result.1 ≡ bad_offset) }
+    ensures past_range { IsJulianDay date → IsTime time → IsOffset offset
+        → ¬ HasMomentText (moment_of date time offset)
         → (result.0 ≡ []) × (pos result.1 ≡ past_range) }
-    ensures value { IsJulianDay date → IsTime time → IsOffset offset → HasMomentText (moment_of date time offset)
+    ensures value { IsJulianDay date → IsTime time → IsOffset offset
+        → HasMomentText (moment_of date time offset)
         → (result.0 ≡ moment_text (moment_of date time offset)) × (pos result.1 ≡ done) }
     ensures short { length result.0 ≤ 38 }
 {

@@ -23,7 +23,8 @@ pub extern "C" fn fots_dates_read(
         → (result ≡ usize.MAX) × (dates.new ≡ dates.old) × (statuses.new ≡ statuses.old) }
     ensures rows { Bounded2 (length dates.old) (length bounds.now) (length statuses.old)
         → (k : ℕ) → k < length dates.old
-        → IsDateOfPart bytes.now (get_or bounds.now k (pos 0)) (get_or bounds.now (k + 1) (pos 0)) (date_row (get_or dates.new k (pos 0)) (get_or statuses.new k 0)) }
+        → IsDateOfPart bytes.now (get_or bounds.now k (pos 0)) (get_or bounds.now (k + 1) (pos 0))
+        (date_row (get_or dates.new k (pos 0)) (get_or statuses.new k 0)) }
     ensures count { Bounded2 (length dates.old) (length bounds.now) (length statuses.old)
         → result ≡ count_by is_refused statuses.new }
 {
@@ -49,13 +50,18 @@ pub extern "C" fn fots_moments_read(
     offsets: &mut [i32],
     statuses: &mut [u8],
 ) -> usize
-    ensures unlike { ¬ Bounded4 (length dates.old) (length bounds.now) (length times.old) (length offsets.old) (length statuses.old)
-        → (result ≡ usize.MAX) × (dates.new ≡ dates.old) × (times.new ≡ times.old) × (offsets.new ≡ offsets.old) × (statuses.new ≡ statuses.old) }
-    ensures rows { Bounded4 (length dates.old) (length bounds.now) (length times.old) (length offsets.old) (length statuses.old)
+    ensures unlike { ¬ Bounded4 (length dates.old) (length bounds.now) (length times.old)
+        (length offsets.old) (length statuses.old)
+        → (result ≡ usize.MAX) × (dates.new ≡ dates.old) × (times.new ≡ times.old)
+        × (offsets.new ≡ offsets.old) × (statuses.new ≡ statuses.old) }
+    ensures rows { Bounded4 (length dates.old) (length bounds.now) (length times.old)
+        (length offsets.old) (length statuses.old)
         → (k : ℕ) → k < length dates.old
         → IsMomentOfPart bytes.now (get_or bounds.now k (pos 0)) (get_or bounds.now (k + 1) (pos 0))
-        (moment_row (get_or dates.new k (pos 0)) (get_or times.new k 0) (get_or offsets.new k (pos 0)) (get_or statuses.new k 0)) }
-    ensures count { Bounded4 (length dates.old) (length bounds.now) (length times.old) (length offsets.old) (length statuses.old)
+        (moment_row (get_or dates.new k (pos 0)) (get_or times.new k 0)
+        (get_or offsets.new k (pos 0)) (get_or statuses.new k 0)) }
+    ensures count { Bounded4 (length dates.old) (length bounds.now) (length times.old)
+        (length offsets.old) (length statuses.old)
         → result ≡ count_by is_refused statuses.new }
 {
     let rows = dates.len();
@@ -85,7 +91,8 @@ pub(super) fn are_bounds(bounds: &[i32], rows: usize) -> bool
 
 /// The bytes from the one bound to the other, where both lie in the array, one after the other.
 fn part(bytes: &[u8], from: i32, to: i32) -> Option<&[u8]>
-    ensures { MatchOption result (¬ ArePartOf bytes.now from to) (λ text. ArePartOf bytes.now from to × (text.now ≡ part bytes.now from to)) }
+    ensures { MatchOption result (¬ ArePartOf bytes.now from to)
+        (λ text. ArePartOf bytes.now from to × (text.now ≡ part bytes.now from to)) }
 {
     let Ok(from) = usize::try_from(from) else {
         return None;
@@ -120,7 +127,8 @@ fn date_of_text(text: &[u8]) -> (i32, u8)
 
 /// The moment of the text between the bounds, and the status.
 fn moment_in(bytes: &[u8], from: i32, to: i32) -> (Moment, u8)
-    ensures { IsMomentOfPart bytes.now from to (moment_row result.0.date result.0.time result.0.offset result.1) }
+    ensures { IsMomentOfPart bytes.now from to
+        (moment_row result.0.date result.0.time result.0.offset result.1) }
 {
     match part(bytes, from, to) {
         Some(text) => moment_of_text(text),
@@ -130,7 +138,8 @@ fn moment_in(bytes: &[u8], from: i32, to: i32) -> (Moment, u8)
 
 /// The moment of the text, and the status.
 fn moment_of_text(text: &[u8]) -> (Moment, u8)
-    ensures { IsMomentOfText text.now (moment_row result.0.date result.0.time result.0.offset result.1) }
+    ensures { IsMomentOfText text.now
+        (moment_row result.0.date result.0.time result.0.offset result.1) }
 {
     let read = fots_moment_read(text);
     let moment = Moment {

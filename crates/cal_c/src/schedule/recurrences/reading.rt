@@ -20,7 +20,8 @@ pub(super) struct Recurrence<'a> {
 
 /// The frequency that has the number, from daily, 1.
 fn frequency_of(number: u32) -> Option<Frequency>
-    ensures { MatchOption result (¬ IsFrequency number) (λ found. IsFrequency number × (frequency_number found ≡ number)) }
+    ensures { MatchOption result (¬ IsFrequency number)
+        (λ found. IsFrequency number × (frequency_number found ≡ number)) }
 {
     match number {
         1 => Some(Frequency::Daily),
@@ -33,7 +34,8 @@ fn frequency_of(number: u32) -> Option<Frequency>
 
 /// The rule of the parts but for its months and its weekdays, or the status that they are refused with.
 fn plain_rule_of<'a>(parts: &RuleParts<'a>) -> Result<Rule<'a>, i32>
-    ensures refused { IfErr result (λ status. (¬ IsRule parts.now) × IsRuleStatus parts.now status) }
+    ensures refused { IfErr result (λ status.
+        (¬ IsRule parts.now) × IsRuleStatus parts.now status) }
     ensures rule { IfOk result (λ rule. ArePlain parts.now × IsPlainRuleOf parts.now rule) }
 {
     let Some(start) = date_of(parts.start) else {
@@ -63,8 +65,11 @@ fn plain_rule_of<'a>(parts: &RuleParts<'a>) -> Result<Rule<'a>, i32>
 impl<'a> Recurrence<'a> {
     /// What the parts stand for, or the status that they are refused with.
     pub(super) fn of(parts: &RuleParts<'a>) -> Result<Self, i32>
-        ensures refused { IfErr result (λ status. (¬ IsRule parts.now) × IsRuleStatus parts.now status) }
-        ensures rule { IfOk result (λ found. IsRule parts.now × IsPlainRuleOf parts.now found.plain × (found.months ≡ months_in parts.now.months.now)
+        ensures refused { IfErr result
+            (λ status. (¬ IsRule parts.now) × IsRuleStatus parts.now status) }
+        ensures rule { IfOk result (λ found.
+            IsRule parts.now × IsPlainRuleOf parts.now found.plain
+            × (found.months ≡ months_in parts.now.months.now)
             × (found.weekdays ≡ weekdays_in parts.now.weekdays.now)) }
     {
         let plain = match plain_rule_of(parts) {
@@ -89,7 +94,9 @@ impl<'a> Recurrence<'a> {
 
     /// The rule.
     pub(super) fn rule(&self) -> Rule<'_>
-        ensures { (p : RuleParts) → IsPlainRuleOf p self.now.plain → self.now.months ≡ months_in p.months.now → self.now.weekdays ≡ weekdays_in p.weekdays.now
+        ensures { (p : RuleParts) → IsPlainRuleOf p self.now.plain
+            → self.now.months ≡ months_in p.months.now
+            → self.now.weekdays ≡ weekdays_in p.weekdays.now
             → IsRuleOf p result }
     {
         Rule {

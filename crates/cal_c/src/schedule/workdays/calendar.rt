@@ -50,9 +50,12 @@ impl Calendar {
     /// The working days of the marks and the holidays, or the status that they are refused with.
     pub fn of(week: u32, holidays: &[i32]) -> Result<Self, i32>
         ensures bad_week { ¬ IsMarks week → result ≡ Err bad_week }
-        ensures many { IsMarks week → most_holidays < length holidays.now → result ≡ Err many_holidays }
-        ensures bad { IsMarks week → length holidays.now ≤ most_holidays → ¬ AreHolidays holidays.now → result ≡ Err bad_holidays }
-        ensures value { IsMarks week → length holidays.now ≤ most_holidays → AreHolidays holidays.now → result ≡ Ok (work_week week holidays.now) }
+        ensures many { IsMarks week → most_holidays < length holidays.now
+            → result ≡ Err many_holidays }
+        ensures bad { IsMarks week → length holidays.now ≤ most_holidays
+            → ¬ AreHolidays holidays.now → result ≡ Err bad_holidays }
+        ensures value { IsMarks week → length holidays.now ≤ most_holidays
+            → AreHolidays holidays.now → result ≡ Ok (work_week week holidays.now) }
     {
         let Some(marks) = marks_of(week) else {
             return Err(BAD_WEEK);

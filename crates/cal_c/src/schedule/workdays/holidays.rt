@@ -62,8 +62,10 @@ impl Holidays {
     #[tactic(auto, using(crate::proofs::Holidays::days_more, crate::proofs::Holidays::dates_more, crate::proofs::Holidays::all_days, crate::proofs::Holidays::all_dates, crate::proofs::Holidays::no_date))]
     pub(super) fn of(julian_days: &[i32]) -> Result<Self, i32>
         ensures many { most_holidays < length julian_days.now → result ≡ Err many_holidays }
-        ensures bad { length julian_days.now ≤ most_holidays → ¬ All IsJulianDay julian_days.now → result ≡ Err bad_holidays }
-        ensures days { length julian_days.now ≤ most_holidays → All IsJulianDay julian_days.now → result ≡ Ok (holidays_in julian_days.now) }
+        ensures bad { length julian_days.now ≤ most_holidays → ¬ All IsJulianDay julian_days.now
+            → result ≡ Err bad_holidays }
+        ensures days { length julian_days.now ≤ most_holidays → All IsJulianDay julian_days.now
+            → result ≡ Ok (holidays_in julian_days.now) }
     {
         if julian_days.len() > MOST {
             return Err(MANY_HOLIDAYS);

@@ -49,7 +49,8 @@ fn back_nth<C: Cycle>(start: C, n: usize) -> Twice<(Option<C>, Rev<CycleIter<C>>
 
 fn all_once<C: Cycle, F: FnMut(C) -> bool + Copy>(start: C, f: F) -> Twice<bool>
     requires callable { F.IsAlwaysCallable f }
-    requires steps { (x : C) (a b c : F) (p q : Bool) → F.step a x p b → F.step a x q c → (p ≡ q) × (b ≡ c) }
+    requires steps { (x : C) (a b c : F) (p q : Bool) → F.step a x p b → F.step a x q c
+        → (p ≡ q) × (b ≡ c) }
     ensures { result.0 ≡ result.1 }
 {
     twice!(CycleIter::new(start).all_once(f))
@@ -57,7 +58,8 @@ fn all_once<C: Cycle, F: FnMut(C) -> bool + Copy>(start: C, f: F) -> Twice<bool>
 
 fn back_all_once<C: Cycle, F: FnMut(C) -> bool + Copy>(start: C, f: F) -> Twice<bool>
     requires callable { F.IsAlwaysCallable f }
-    requires steps { (x : C) (a b c : F) (p q : Bool) → F.step a x p b → F.step a x q c → (p ≡ q) × (b ≡ c) }
+    requires steps { (x : C) (a b c : F) (p q : Bool) → F.step a x p b → F.step a x q c
+        → (p ≡ q) × (b ≡ c) }
     ensures { result.0 ≡ result.1 }
 {
     twice!(CycleIter::new(start).rev().all_once(f))
@@ -65,7 +67,8 @@ fn back_all_once<C: Cycle, F: FnMut(C) -> bool + Copy>(start: C, f: F) -> Twice<
 
 fn any_once<C: Cycle, F: FnMut(C) -> bool + Copy>(start: C, f: F) -> Twice<bool>
     requires callable { F.IsAlwaysCallable f }
-    requires steps { (x : C) (a b c : F) (p q : Bool) → F.step a x p b → F.step a x q c → (p ≡ q) × (b ≡ c) }
+    requires steps { (x : C) (a b c : F) (p q : Bool) → F.step a x p b → F.step a x q c
+        → (p ≡ q) × (b ≡ c) }
     ensures { result.0 ≡ result.1 }
 {
     twice!(CycleIter::new(start).any_once(f))
@@ -73,7 +76,8 @@ fn any_once<C: Cycle, F: FnMut(C) -> bool + Copy>(start: C, f: F) -> Twice<bool>
 
 fn back_any_once<C: Cycle, F: FnMut(C) -> bool + Copy>(start: C, f: F) -> Twice<bool>
     requires callable { F.IsAlwaysCallable f }
-    requires steps { (x : C) (a b c : F) (p q : Bool) → F.step a x p b → F.step a x q c → (p ≡ q) × (b ≡ c) }
+    requires steps { (x : C) (a b c : F) (p q : Bool) → F.step a x p b → F.step a x q c
+        → (p ≡ q) × (b ≡ c) }
     ensures { result.0 ≡ result.1 }
 {
     twice!(CycleIter::new(start).rev().any_once(f))
