@@ -95,8 +95,7 @@ pub extern "C" fn fots_moment_saturating_add(moment: Moment, duration: Duration)
     ensures moment { IsMoment moment → IsDurationPair duration
         → result ≡ moment_done (record {
           local = nearest (local_in moment +ℤ nanoseconds_in duration);
-          offset =
-              moment.offset;
+          offset = moment.offset;
         }) }
 {
     let Some(moment) = moment_of(moment) else {
@@ -117,8 +116,7 @@ pub extern "C" fn fots_moment_saturating_sub(moment: Moment, duration: Duration)
     ensures moment { IsMoment moment → IsDurationPair duration
         → result ≡ moment_done (record {
           local = nearest (local_in moment -ℤ nanoseconds_in duration);
-          offset =
-              moment.offset;
+          offset = moment.offset;
         }) }
 {
     let Some(moment) = moment_of(moment) else {

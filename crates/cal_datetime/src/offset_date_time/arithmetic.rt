@@ -45,8 +45,7 @@ impl OffsetDateTime {
     /// The date-time that much later, or the end of the range that is nearest to it, at the same offset.
     pub fn saturating_add(self, duration: SignedDuration) -> Self
         ensures { result ≡ record {
-          local = nearest
-              (self.local +ℤ duration);
+          local = nearest (self.local +ℤ duration);
           offset = self.offset;
         } }
     {
@@ -58,8 +57,7 @@ impl OffsetDateTime {
     /// The date-time that much earlier, or the end of the range that is nearest to it, at the same offset.
     pub fn saturating_sub(self, duration: SignedDuration) -> Self
         ensures { result ≡ record {
-          local = nearest
-              (self.local -ℤ duration);
+          local = nearest (self.local -ℤ duration);
           offset = self.offset;
         } }
     {

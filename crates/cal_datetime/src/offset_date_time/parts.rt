@@ -126,8 +126,7 @@ impl OffsetDateTime {
         ensures { result ≡ (
           hour_of (time_at self.local),
           minute_of (time_at self.local),
-          second_of
-              (time_at self.local),
+          second_of (time_at self.local),
         ) }
     {
         self.time().as_hms()
@@ -138,8 +137,7 @@ impl OffsetDateTime {
         ensures { result ≡ (
           hour_of (time_at self.local),
           minute_of (time_at self.local),
-          second_of
-              (time_at self.local),
+          second_of (time_at self.local),
           millisecond_of (time_at self.local),
         ) }
     {
@@ -151,8 +149,7 @@ impl OffsetDateTime {
         ensures { result ≡ (
           hour_of (time_at self.local),
           minute_of (time_at self.local),
-          second_of
-              (time_at self.local),
+          second_of (time_at self.local),
           microsecond_of (time_at self.local),
         ) }
     {
@@ -164,8 +161,7 @@ impl OffsetDateTime {
         ensures { result ≡ (
           hour_of (time_at self.local),
           minute_of (time_at self.local),
-          second_of
-              (time_at self.local),
+          second_of (time_at self.local),
           nanosecond_of (time_at self.local),
         ) }
     {

@@ -50,16 +50,14 @@ impl OffsetDateTime {
             → HasCalendarDate year (month_at (date_at self.local))
             (day_of_month_at (date_at self.local)) n
             → result ≡ Ok (record {
-              local = date_time n
-                  (time_at self.local);
+              local = date_time n (time_at self.local);
               offset = self.offset;
             }) }
         ensures has { IfOk result (λ m.
             IsDate (date_at m.local) × HasCalendarDate year (month_at (date_at self.local))
             (day_of_month_at (date_at self.local)) (date_at m.local)
             × (m ≡ record {
-              local = date_time (date_at m.local)
-                  (time_at self.local);
+              local = date_time (date_at m.local) (time_at self.local);
               offset = self.offset;
             })) }
         ensures refused { IsErr result
@@ -85,16 +83,14 @@ impl OffsetDateTime {
             → HasCalendarDate (year_at (date_at self.local)) (number month)
             (day_of_month_at (date_at self.local)) n
             → result ≡ Ok (record {
-              local = date_time n
-                  (time_at self.local);
+              local = date_time n (time_at self.local);
               offset = self.offset;
             }) }
         ensures has { IfOk result (λ m.
             IsDate (date_at m.local) × HasCalendarDate (year_at (date_at self.local)) (number month)
             (day_of_month_at (date_at self.local)) (date_at m.local)
             × (m ≡ record {
-              local = date_time (date_at m.local)
-                  (time_at self.local);
+              local = date_time (date_at m.local) (time_at self.local);
               offset = self.offset;
             })) }
         ensures refused { IsErr result
@@ -118,16 +114,14 @@ impl OffsetDateTime {
         ensures every { (n : ℕ) → IsDate n
             → HasCalendarDate (year_at (date_at self.local)) (month_at (date_at self.local)) day n
             → result ≡ Ok (record {
-              local = date_time n
-                  (time_at self.local);
+              local = date_time n (time_at self.local);
               offset = self.offset;
             }) }
         ensures has { IfOk result (λ m.
             IsDate (date_at m.local) × HasCalendarDate (year_at (date_at self.local))
             (month_at (date_at self.local)) day (date_at m.local)
             × (m ≡ record {
-              local = date_time (date_at m.local)
-                  (time_at self.local);
+              local = date_time (date_at m.local) (time_at self.local);
               offset = self.offset;
             })) }
         ensures refused { IsErr result
@@ -149,8 +143,7 @@ impl OffsetDateTime {
     pub fn replace_ordinal(self, ordinal: u16) -> Result<Self, ComponentRange>
         ensures every { (n : ℕ) → IsDate n → HasOrdinalDate (year_at (date_at self.local)) ordinal n
             → result ≡ Ok (record {
-              local = date_time n
-                  (time_at self.local);
+              local = date_time n (time_at self.local);
               offset = self.offset;
             }) }
         ensures has { IfOk result (λ m.
@@ -292,8 +285,7 @@ impl OffsetDateTime {
     /// The one at its whole hours, with all that lies below them zero.
     pub fn truncate_to_hour(self) -> Self
         ensures { result ≡ record {
-          local = date_time (date_at self.local)
-              (time_of (hour_of (time_at self.local)) 0 0 0);
+          local = date_time (date_at self.local) (time_of (hour_of (time_at self.local)) 0 0 0);
           offset = self.offset;
         } }
     {
@@ -305,8 +297,7 @@ impl OffsetDateTime {
         ensures { result ≡ record {
           local = date_time (date_at self.local)
               (time_of (hour_of (time_at self.local)) (minute_of (time_at self.local)) 0 0);
-          offset =
-              self.offset;
+          offset = self.offset;
         } }
     {
         self.local()

@@ -125,8 +125,7 @@ impl PlainDateTime {
         ensures { result ≡ (
           hour_of (time_at self),
           minute_of (time_at self),
-          second_of
-              (time_at self),
+          second_of (time_at self),
         ) }
     {
         self.time().as_hms()
@@ -137,8 +136,7 @@ impl PlainDateTime {
         ensures { result ≡ (
           hour_of (time_at self),
           minute_of (time_at self),
-          second_of
-              (time_at self),
+          second_of (time_at self),
           millisecond_of (time_at self),
         ) }
     {
@@ -150,8 +148,7 @@ impl PlainDateTime {
         ensures { result ≡ (
           hour_of (time_at self),
           minute_of (time_at self),
-          second_of
-              (time_at self),
+          second_of (time_at self),
           microsecond_of (time_at self),
         ) }
     {
@@ -163,8 +160,7 @@ impl PlainDateTime {
         ensures { result ≡ (
           hour_of (time_at self),
           minute_of (time_at self),
-          second_of
-              (time_at self),
+          second_of (time_at self),
           nanosecond_of (time_at self),
         ) }
     {

@@ -34,8 +34,7 @@ impl Text {
             (record {
               date = date_at moment.local;
               time = time_at moment.local;
-              offset =
-                  moment.offset;
+              offset = moment.offset;
             }) }
 
         // What it prints reads back.
