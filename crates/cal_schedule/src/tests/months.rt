@@ -56,7 +56,7 @@ fn months_later(rt: HostRuntime) {
         ((2007, 3, 31), 1, (2007, 4, 30)),
         // ISO 8601: the year 0 comes after the year -1.
         ((0, 1, 1), -1, (-1, 12, 1)),
-        // The range: twelve months in each of 1,999,999 years.
+        // The range has 23,999,988 months.
         (MIN, 23_999_987, (999999, 12, 1)),
         (MAX, -23_999_987, (-999999, 1, 31)),
         (MIN, 0, MIN),
@@ -68,6 +68,7 @@ fn months_later(rt: HostRuntime) {
     }
 }
 
+/// The range has 23,999,988 months: twelve in each of 1,999,999 years.
 #[test]
 fn months_past_an_end(rt: HostRuntime) {
     for (from, months, end) in [
