@@ -490,6 +490,13 @@ fn ends_of_the_range(rt: HostRuntime) {
         &[999999_12_30, 999999_12_31],
         true,
     );
+    begins(
+        rt,
+        "FREQ=MONTHLY;BYMONTHDAY=1,-1",
+        -999999_01_01,
+        &[-999999_01_01, -999999_01_31, -999999_02_01, -999999_02_28],
+        false,
+    );
     for (text, has_first, has_last, after_first) in [
         ("FREQ=DAILY;INTERVAL=2", true, false, -999999_01_03),
         ("FREQ=WEEKLY", true, false, -999999_01_08),
