@@ -85,6 +85,17 @@ fn thanksgiving(year: i32) -> Result<Date, ComponentRange>
     nth_weekday_of_month(year, Month::November, Weekday::Thursday, 4)
 }
 
+/// Labor Day in the United States, for a caller who knows that the range has the year: each month has four Mondays.
+fn labor_day(year: i32) -> Date
+    requires { IsYear year }
+    ensures { IsNthWeekday year 9 0 1 result }
+{
+    match nth_weekday_of_month(year, Month::September, Weekday::Monday, 1) {
+        Ok(date) => date,
+        Err(_) => unreachable!(),
+    }
+}
+
 pub fn show(rt: &impl Print) -> io::Result<()> {
     let Ok(born) = Date::from_calendar_date(1980, Month::June, 1) else {
         return Ok(());
@@ -92,9 +103,7 @@ pub fn show(rt: &impl Print) -> io::Result<()> {
     let Ok(billed) = Date::from_calendar_date(2024, Month::July, 31) else {
         return Ok(());
     };
-    let Ok(labor_day) = Date::from_calendar_date(2024, Month::September, 2) else {
-        return Ok(());
-    };
+    let labor_day = labor_day(2024);
     let holidays = [labor_day];
     if !is_rising(&holidays) {
         return Ok(());
