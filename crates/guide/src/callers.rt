@@ -1,6 +1,6 @@
 //! Callers that know the clauses alone: what the documentation says of a call is provable here.
-ghost use Rattle.std.specs.Prelude.{◌≡◌, ℕ, ◌+◌, ◌-◌, ◌<◌, ◌≤◌, ◌+ℤ◌, ◌-ℤ◌, ◌≤ℤ◌, ◌==◌, ◌⊎◌, pos, IfOk, IfSome, IsNone, IsSome, ◌↔◌, Some, Ok};
-ghost use Rattle.cal_time.specs.Date.{last_day, year_at, month_at, day_of_month_at, ordinal_at, weekday_at, HasCalendarDate};
+ghost use Rattle.std.specs.Prelude.{◌≡◌, ℕ, ◌+◌, ◌-◌, ◌<◌, ◌≤◌, ◌+ℤ◌, ◌-ℤ◌, ◌≤ℤ◌, ◌==◌, ◌⊎◌, pos, IfOk, IfSome, IfNone, IsNone, IsSome, ◌↔◌, Some, Ok};
+ghost use Rattle.cal_time.specs.Date.{last_day, year_at, month_at, day_of_month_at, ordinal_at, weekday_at, HasCalendarDate, IsYear};
 ghost use Rattle.cal_time.specs.Lengths.{days_in_year, days_in_month};
 ghost use Rattle.cal_time.specs.Month.{number};
 
@@ -142,11 +142,12 @@ fn weeks_gone(date: Date) -> u8 {
     date.iso_week() - 1
 }
 
-/// The last Friday of the month: the one of its last seven days.
+/// The last Friday of the month: the one of its last seven days. `None` where the range does not have the year.
 fn last_friday(year: i32, month: Month) -> Option<Date>
-    ensures { IfSome result (λ day. (weekday_at day ≡ 4) × (end : ℕ)
+    ensures day { IfSome result (λ day. (weekday_at day ≡ 4) × (end : ℕ)
         × HasCalendarDate year (number month) (days_in_month year (number month)) end
         × (day ≤ end) × (end < day + 7)) }
+    ensures none { IfNone result (¬ IsYear year) }
 {
     let Ok(last) = Date::from_calendar_date(year, month, days_in_month(month, year)) else {
         return None;
