@@ -200,26 +200,26 @@ void recurrences()
     };
     Rule mondays(Date::read("1997-09-22"), Frequency::Monthly);
     mondays.weekdays = {{-2, Weekday::Monday}};
-    check(mondays.take(6) == dates({"1997-09-22", "1997-10-20", "1997-11-17", "1997-12-22", "1998-01-19", "1998-02-16"}), "BYDAY=-2MO");
+    check(mondays.first_days(6) == dates({"1997-09-22", "1997-10-20", "1997-11-17", "1997-12-22", "1998-01-19", "1998-02-16"}), "BYDAY=-2MO");
     check(mondays.next_after(Date::read("1997-12-22")) == Date::read("1998-01-19") && mondays.contains(Date::read("1998-02-16"))
         && !mondays.contains(Date::read("1998-02-23")), "one at a time");
-    check(mondays.take(0).empty() && mondays.days_after(Date::read("1997-11-17"), 1) == dates({"1997-12-22"}), "after a day");
+    check(mondays.first_days(0).empty() && mondays.days_after(Date::read("1997-11-17"), 1) == dates({"1997-12-22"}), "after a day");
     Rule election(Date::read("1996-11-05"), Frequency::Yearly);
     election.interval = 4;
     election.months = {Month::November};
     election.weekdays = {Weekday::Tuesday};
     election.month_days = {2, 3, 4, 5, 6, 7, 8};
-    check(election.take(3) == dates({"1996-11-05", "2000-11-07", "2004-11-02"}), "BYMONTH=11;BYDAY=TU;BYMONTHDAY=2,3,4,5,6,7,8");
+    check(election.first_days(3) == dates({"1996-11-05", "2000-11-07", "2004-11-02"}), "BYMONTH=11;BYDAY=TU;BYMONTHDAY=2,3,4,5,6,7,8");
     Rule weeks(Date::read("1997-08-05"), Frequency::Weekly);
     weeks.interval = 2;
     weeks.weekdays = {Weekday::Tuesday, Weekday::Sunday};
-    check(weeks.take(4) == dates({"1997-08-05", "1997-08-10", "1997-08-19", "1997-08-24"}), "WKST=MO");
+    check(weeks.first_days(4) == dates({"1997-08-05", "1997-08-10", "1997-08-19", "1997-08-24"}), "WKST=MO");
     weeks.week_start = Weekday::Sunday;
-    check(weeks.take(4) == dates({"1997-08-05", "1997-08-17", "1997-08-19", "1997-08-31"}), "WKST=SU");
+    check(weeks.first_days(4) == dates({"1997-08-05", "1997-08-17", "1997-08-19", "1997-08-31"}), "WKST=SU");
     weeks.until = Date::read("1997-08-18");
-    check(weeks.take(4) == dates({"1997-08-05", "1997-08-17"}), "an end");
+    check(weeks.first_days(4) == dates({"1997-08-05", "1997-08-17"}), "an end");
     weeks.until = Date::min();
-    check(weeks.first() == std::nullopt && weeks.take(4).empty(), "no day");
+    check(weeks.first() == std::nullopt && weeks.first_days(4).empty(), "no day");
     weeks.weekdays.assign(65, Weekday::Sunday);
     throws([&] { weeks.first(); }, FOTS_MANY_PARTS, "many parts", "65 weekdays");
 }
