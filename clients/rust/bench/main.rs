@@ -175,6 +175,31 @@ fn main() {
         ],
     );
     compare(
+        "next_day",
+        vec![
+            ("ours", over(&ours, |date| date.next_day())),
+            #[cfg(has_time)]
+            ("time", over(&times, |date| date.next_day())),
+            #[cfg(has_chrono)]
+            ("chrono", over(&chronos, |date| date.succ_opt())),
+        ],
+    );
+    compare(
+        "next_occurrence",
+        vec![
+            ("ours", over(&ours, |date| date.checked_next_occurrence(black_box(fotsevindre::Weekday::Friday)))),
+            #[cfg(has_chrono)]
+            (
+                "chrono",
+                over(&chronos, |date| {
+                    let friday = black_box(chrono::Weekday::Fri).num_days_from_monday();
+                    let past = (friday + 6 - date.weekday().num_days_from_monday()) % 7 + 1;
+                    date.checked_add_days(chrono::Days::new(past.into()))
+                }),
+            ),
+        ],
+    );
+    compare(
         "checked_add",
         vec![
             ("ours", over(&ours_moved, |(date, duration)| date.checked_add(*duration))),

@@ -19,11 +19,13 @@ pub struct Date {
 }
 
 /// The date that a call made, or the component that it refused.
+#[inline]
 fn made(answer: Answer<i32>) -> Result<Date, ComponentRange> {
     or_refused(answer).map(Date::of_c)
 }
 
 /// The date that a call led to, or `None` past the range.
+#[inline]
 fn moved(answer: Answer<i32>) -> Option<Date> {
     or_none(answer).map(Date::of_c)
 }
@@ -39,16 +41,19 @@ impl Date {
     pub(crate) const UNIX_EPOCH: Self = Self { julian_day: 2_440_588 };
 
     /// The date that the library answered.
+    #[inline]
     pub(crate) fn of_c(julian_day: i32) -> Self {
         Self { julian_day }
     }
 
     /// The Julian day, as the date crosses.
+    #[inline]
     pub(crate) fn to_c(self) -> i32 {
         self.julian_day
     }
 
     /// The day that comes so many days later, or earlier where they are below 0, or `None` past the range.
+    #[inline]
     pub(crate) fn days_later(self, days: i64) -> Option<Self> {
         moved(ffi::fots_date_add_days(self.julian_day, days))
     }
@@ -61,6 +66,7 @@ impl Date {
     /// # Errors
     ///
     /// For the first component that is out of range: `year`, unconditionally, or `day`, conditionally.
+    #[inline]
     pub fn from_calendar_date(year: i32, month: Month, day: u8) -> Result<Self, ComponentRange> {
         made(ffi::fots_date_from_calendar_date(year, month.number(), day.into()))
     }
@@ -72,6 +78,7 @@ impl Date {
     /// # Errors
     ///
     /// For the first component that is out of range: `year`, unconditionally, or `ordinal`, conditionally.
+    #[inline]
     pub fn from_ordinal_date(year: i32, ordinal: u16) -> Result<Self, ComponentRange> {
         made(ffi::fots_date_from_ordinal_date(year, ordinal.into()))
     }
@@ -85,6 +92,7 @@ impl Date {
     ///
     /// For the first component that is out of range: `year`, unconditionally, or `week`, conditionally, or `weekday`,
     /// conditionally, where the day would come after [`Self::MAX`]: on Saturday and Sunday of week 52 of 999999 alone.
+    #[inline]
     pub fn from_iso_week_date(year: i32, week: u8, weekday: Weekday) -> Result<Self, ComponentRange> {
         made(ffi::fots_date_from_iso_week_date(year, week.into(), weekday.number()))
     }
@@ -94,63 +102,75 @@ impl Date {
     /// # Errors
     ///
     /// `julian_day`, unconditional, where no day of the range has it.
+    #[inline]
     pub fn from_julian_day(julian_day: i32) -> Result<Self, ComponentRange> {
         made(ffi::fots_date_from_julian_day(julian_day.into()))
     }
 
     /// The year, from -999999 to 999999. That of [`Self::MIN`] is -999999.
+    #[inline]
     pub fn year(self) -> i32 {
         certain(ffi::fots_date_year(self.julian_day))
     }
 
     /// The month. That of 2020-02-29 is February.
+    #[inline]
     pub fn month(self) -> Month {
         Month::of_number(certain(ffi::fots_date_month(self.julian_day)))
     }
 
     /// The day of the month, from 1 to the length of the month, at most 31. That of 2020-02-29 is 29.
+    #[inline]
     pub fn day(self) -> u8 {
         certain(ffi::fots_date_day(self.julian_day)) as u8
     }
 
     /// The number of the day in its year, from 1 to 365, or 366 in a leap year. That of 2020-12-31 is 366.
+    #[inline]
     pub fn ordinal(self) -> u16 {
         certain(ffi::fots_date_ordinal(self.julian_day)) as u16
     }
 
     /// The week of the ISO week date, from 1 to 53. That of 2021-01-01 is 53, as its week belongs to 2020.
+    #[inline]
     pub fn iso_week(self) -> u8 {
         certain(ffi::fots_date_iso_week(self.julian_day)) as u8
     }
 
     /// The Sundays of the year up to the day, from 0 to 53. Those of 2019-01-01 are 0, and those of 2020-12-31 are 52.
+    #[inline]
     pub fn sunday_based_week(self) -> u8 {
         certain(ffi::fots_date_sunday_based_week(self.julian_day)) as u8
     }
 
     /// The Mondays of the year up to the day, from 0 to 53. Those of 2019-01-01 are 0, and those of 2020-12-31 are 52.
+    #[inline]
     pub fn monday_based_week(self) -> u8 {
         certain(ffi::fots_date_monday_based_week(self.julian_day)) as u8
     }
 
     /// The weekday. That of 2021-01-01 is Friday.
+    #[inline]
     pub fn weekday(self) -> Weekday {
         Weekday::of_number(certain(ffi::fots_date_weekday(self.julian_day)))
     }
 
     /// The year, the month and the day of the month. Those of the Julian day 2451545 are (2000, January, 1).
+    #[inline]
     pub fn to_calendar_date(self) -> (i32, Month, u8) {
         let (year, month, day) = certain(ffi::fots_date_to_calendar_date(self.julian_day));
         (year, Month::of_number(month), day as u8)
     }
 
     /// The year and the ordinal. Those of 2020-12-31 are (2020, 366).
+    #[inline]
     pub fn to_ordinal_date(self) -> (i32, u16) {
         let (year, ordinal) = certain(ffi::fots_date_to_ordinal_date(self.julian_day));
         (year, ordinal as u16)
     }
 
     /// The ISO year, the week and the weekday. Those of 2021-01-01 are (2020, 53, Friday).
+    #[inline]
     pub fn to_iso_week_date(self) -> (i32, u8, Weekday) {
         let (year, week, weekday) = certain(ffi::fots_date_to_iso_week_date(self.julian_day));
         (year, week as u8, Weekday::of_number(weekday))
@@ -162,11 +182,13 @@ impl Date {
     }
 
     /// The day after, or `None` after [`Self::MAX`] alone. That of 2019-12-31 is 2020-01-01.
+    #[inline]
     pub fn next_day(self) -> Option<Self> {
         moved(ffi::fots_date_next_day(self.julian_day))
     }
 
     /// The day before, or `None` before [`Self::MIN`] alone. That of 2020-01-01 is 2019-12-31.
+    #[inline]
     pub fn previous_day(self) -> Option<Self> {
         moved(ffi::fots_date_previous_day(self.julian_day))
     }
@@ -174,6 +196,7 @@ impl Date {
     /// The day that many whole days later, cut toward zero, or `None` where it is no day of the range.
     ///
     /// 2020-12-31 and 47 hours are 2021-01-01.
+    #[inline]
     pub fn checked_add(self, duration: SignedDuration) -> Option<Self> {
         moved(ffi::fots_date_checked_add(self.julian_day, duration.to_c()))
     }
@@ -181,40 +204,47 @@ impl Date {
     /// The day that many whole days earlier, cut toward zero, or `None` where it is no day of the range.
     ///
     /// 2020-12-31 less 47 hours is 2020-12-30.
+    #[inline]
     pub fn checked_sub(self, duration: SignedDuration) -> Option<Self> {
         moved(ffi::fots_date_checked_sub(self.julian_day, duration.to_c()))
     }
 
     /// The day that many whole days later, or the end of the range that is nearest to it: [`Self::MAX`] and one day more are
     /// [`Self::MAX`].
+    #[inline]
     pub fn saturating_add(self, duration: SignedDuration) -> Self {
         Self::of_c(certain(ffi::fots_date_saturating_add(self.julian_day, duration.to_c())))
     }
 
     /// The day that many whole days earlier, or the end of the range that is nearest to it: [`Self::MIN`] less one day is
     /// [`Self::MIN`].
+    #[inline]
     pub fn saturating_sub(self, duration: SignedDuration) -> Self {
         Self::of_c(certain(ffi::fots_date_saturating_sub(self.julian_day, duration.to_c())))
     }
 
     /// The first day after this one that has the weekday, or `None` where it is past [`Self::MAX`].
+    #[inline]
     pub fn checked_next_occurrence(self, weekday: Weekday) -> Option<Self> {
         moved(ffi::fots_date_next_occurrence(self.julian_day, weekday.number()))
     }
 
     /// The last day before this one that has the weekday, or `None` where it is before [`Self::MIN`].
+    #[inline]
     pub fn checked_prev_occurrence(self, weekday: Weekday) -> Option<Self> {
         moved(ffi::fots_date_prev_occurrence(self.julian_day, weekday.number()))
     }
 
     /// The `n`-th of the days after this one that have the weekday, counted from 1, or `None` where it is past [`Self::MAX`], or
     /// `n` is 0. The fifth Monday after 2023-06-25 is 2023-07-24.
+    #[inline]
     pub fn checked_nth_next_occurrence(self, weekday: Weekday, n: u8) -> Option<Self> {
         moved(ffi::fots_date_nth_next_occurrence(self.julian_day, weekday.number(), n.into()))
     }
 
     /// The `n`-th of the days before this one that have the weekday, counted from 1 at the nearest, or `None` where it is before
     /// [`Self::MIN`], or `n` is 0. The third Monday before 2023-06-27 is 2023-06-12.
+    #[inline]
     pub fn checked_nth_prev_occurrence(self, weekday: Weekday, n: u8) -> Option<Self> {
         moved(ffi::fots_date_nth_prev_occurrence(self.julian_day, weekday.number(), n.into()))
     }
@@ -225,6 +255,7 @@ impl Date {
     ///
     /// Where it is past [`Self::MAX`].
     #[track_caller]
+    #[inline]
     pub fn next_occurrence(self, weekday: Weekday) -> Self {
         self.checked_next_occurrence(weekday).expect("overflow calculating the next occurrence of a weekday")
     }
@@ -235,6 +266,7 @@ impl Date {
     ///
     /// Where it is before [`Self::MIN`].
     #[track_caller]
+    #[inline]
     pub fn prev_occurrence(self, weekday: Weekday) -> Self {
         self.checked_prev_occurrence(weekday).expect("overflow calculating the previous occurrence of a weekday")
     }
@@ -245,6 +277,7 @@ impl Date {
     ///
     /// Where it is past [`Self::MAX`], or `n` is 0.
     #[track_caller]
+    #[inline]
     pub fn nth_next_occurrence(self, weekday: Weekday, n: u8) -> Self {
         self.checked_nth_next_occurrence(weekday, n).expect("overflow calculating the next occurrence of a weekday")
     }
@@ -256,6 +289,7 @@ impl Date {
     ///
     /// Where it is before [`Self::MIN`], or `n` is 0.
     #[track_caller]
+    #[inline]
     pub fn nth_prev_occurrence(self, weekday: Weekday, n: u8) -> Self {
         self.checked_nth_prev_occurrence(weekday, n).expect("overflow calculating the previous occurrence of a weekday")
     }
@@ -265,6 +299,7 @@ impl Date {
     /// # Errors
     ///
     /// `year`, unconditional, where the year is out of range, or else `day`, conditional, on 29 February for a common year.
+    #[inline]
     pub fn replace_year(self, year: i32) -> Result<Self, ComponentRange> {
         made(ffi::fots_date_replace_year(self.julian_day, year))
     }
@@ -274,6 +309,7 @@ impl Date {
     /// # Errors
     ///
     /// `day`, conditional, where the month has no such day.
+    #[inline]
     pub fn replace_month(self, month: Month) -> Result<Self, ComponentRange> {
         made(ffi::fots_date_replace_month(self.julian_day, month.number()))
     }
@@ -283,6 +319,7 @@ impl Date {
     /// # Errors
     ///
     /// `day`, conditional, where the month has no such day, as 0 and 30 in February.
+    #[inline]
     pub fn replace_day(self, day: u8) -> Result<Self, ComponentRange> {
         made(ffi::fots_date_replace_day(self.julian_day, day.into()))
     }
@@ -292,6 +329,7 @@ impl Date {
     /// # Errors
     ///
     /// `ordinal`, conditional, where the year has no such ordinal, as 366 in 2022.
+    #[inline]
     pub fn replace_ordinal(self, ordinal: u16) -> Result<Self, ComponentRange> {
         made(ffi::fots_date_replace_ordinal(self.julian_day, ordinal.into()))
     }

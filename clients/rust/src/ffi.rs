@@ -2,7 +2,8 @@
 //!
 //! A call of one value takes numbers and returns numbers. It takes no pointer, answers for each argument whatever its bits, and keeps
 //! no state. A call that reads a text, a rule, columns or holidays takes slices, each of them passed on with its own length. So each is safe
-//! to call wherever the declaration here is that of the header.
+//! to call wherever the declaration here is that of the header. Those of one value are `#[inline]`, as are the methods of a date: else
+//! a program would make a call to make the call.
 
 use crate::columns::Refusal;
 use crate::error::{ComponentRange, Unreadable};
@@ -112,6 +113,7 @@ macro_rules! results {
             impl Returned for $name {
                 type Value = $value;
 
+                #[inline]
                 fn answer(self) -> Answer<$value> {
                     if self.status == DONE {
                         Ok(($(self.$field),*))
@@ -166,6 +168,7 @@ macro_rules! calls {
         }
 
         $(
+            #[inline]
             pub(crate) fn $name($($argument: $kind),*) -> Answer<<$result as Returned>::Value> {
                 unsafe { declared::$name($($argument),*) }.answer()
             }
@@ -327,6 +330,7 @@ macro_rules! calls_of_workdays {
         }
 
         $(
+            #[inline]
             pub(crate) fn $name($($argument: $kind,)* week: u32, holidays: &[Date]) -> Answer<<$result as Returned>::Value> {
                 let holidays = julian_days(holidays);
                 unsafe { declared_of_workdays::$name($($argument,)* week, holidays.as_ptr(), holidays.len()) }.answer()
@@ -367,6 +371,7 @@ macro_rules! calls_of_rules {
         }
 
         $(
+            #[inline]
             pub(crate) fn $name(rule: &Rule<'_> $(, $argument: $kind)*) -> Answer<<$result as Returned>::Value> {
                 with_parts(rule, |rule| unsafe { declared_of_rules::$name(rule $(, $argument)*) }.answer())
             }
@@ -423,6 +428,7 @@ macro_rules! calls_of_years {
         }
 
         $(
+            #[inline]
             pub(crate) fn $name(year: i32) -> u32 {
                 unsafe { declared_of_years::$name(year) }
             }
@@ -448,6 +454,7 @@ macro_rules! calls_that_read {
         }
 
         $(
+            #[inline]
             pub(crate) fn $name(text: &[u8]) -> Result<<$result as Returned>::Value, Unreadable> {
                 let result = unsafe { declared_reading::$name(text.as_ptr(), text.len()) };
                 let position = result.position;
@@ -480,6 +487,7 @@ macro_rules! calls_over_columns {
             /// How many rows have no answer.
             #[allow(clippy::too_many_arguments)]
             #[track_caller]
+            #[inline]
             pub(crate) fn $name($($column: &[$kind],)* $($written: &mut [$to]),*) -> usize {
                 let refused = unsafe {
                     declared_over_columns::$name(
@@ -525,6 +533,7 @@ macro_rules! calls_over_columns_of_workdays {
         $(
             /// How many rows have no answer.
             #[track_caller]
+            #[inline]
             pub(crate) fn $name($($column: &[$kind],)* week: u32, holidays: &[Date], $($written: &mut [$to]),*) -> usize {
                 let holidays = julian_days(holidays);
                 let refused = unsafe {

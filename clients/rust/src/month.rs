@@ -43,11 +43,13 @@ const MONTHS: [Month; 12] = [
 
 impl Month {
     /// The month with this number, which is from 1 to 12.
+    #[inline]
     pub(crate) fn of_number(number: u32) -> Self {
         MONTHS[number as usize - 1]
     }
 
     /// The number, from 1 to 12, as it crosses.
+    #[inline]
     pub(crate) fn number(self) -> u32 {
         self as u32
     }

@@ -27,11 +27,13 @@ const WEEKDAYS: [Weekday; 7] =
 
 impl Weekday {
     /// The weekday with this number, which is from Monday, 1, to Sunday, 7.
+    #[inline]
     pub(crate) fn of_number(number: u32) -> Self {
         WEEKDAYS[number as usize - 1]
     }
 
     /// The number, from Monday, 1, to Sunday, 7, as it crosses.
+    #[inline]
     pub(crate) fn number(self) -> u32 {
         self as u32 + 1
     }
@@ -61,6 +63,7 @@ impl Weekday {
     }
 
     /// The number of the weekday from Monday, 1, to Sunday, 7, as in ISO 8601. That of Friday is 5.
+    #[inline]
     pub fn number_from_monday(self) -> u8 {
         self as u8 + 1
     }
@@ -71,6 +74,7 @@ impl Weekday {
     }
 
     /// The number of days since Monday, from Monday, 0, to Sunday, 6. On Friday it is 4.
+    #[inline]
     pub fn number_days_from_monday(self) -> u8 {
         self as u8
     }

@@ -2,7 +2,10 @@ pub mod Counts
 pub mod Days
 pub mod Durations
 pub mod MarchYears
+pub mod MarchDays
 pub mod Rows
+pub mod WeekParts
+pub mod HeldDays
 pub mod TextBytes
 pub mod Thursdays
 pub mod Equals

@@ -12,7 +12,7 @@ use Rattle.cal_c.specs.Values.{IsJulianDay, IsMonth, day_of}
 use Rattle.cal_c.proofs.Days.{days_in_month_most, day_of-julian_day_at, IsJulianDay-at}
 
 -- what holds of each of the twelve months, by the months before it
-each_month : (P : ℕ → Type 0) → P 0 → P 1 → P 2 → P 3 → P 4 → P 5 → P 6 → P 7 → P 8 → P 9 → P 10 → P 11 → (i : ℕ) → i < 12 → P i
+pub each_month : (P : ℕ → Type 0) → P 0 → P 1 → P 2 → P 3 → P 4 → P 5 → P 6 → P 7 → P 8 → P 9 → P 10 → P 11 → (i : ℕ) → i < 12 → P i
 each_month P p0 _ _ _ _ _ _ _ _ _ _ _ zero low = p0
 each_month P _ p1 _ _ _ _ _ _ _ _ _ _ (suc zero) low = p1
 each_month P _ _ p2 _ _ _ _ _ _ _ _ _ (suc (suc zero)) low = p2
@@ -52,7 +52,7 @@ other_month y m month other =
     subst (λ k. 30 + (k + k / 8) % 2 ≡ days_in_month y k) same at
 
 -- the days of the first months of a year
-unfoldable before : ℤ → ℕ → ℕ
+unfoldable pub before : ℤ → ℕ → ℕ
 before y zero = 0
 before y (suc k) = before y k + days_in_month y (suc k)
 
@@ -79,7 +79,7 @@ early_months y i early low =
     (λ h. absurd (omega arith))
     i low early
 
-late_months : (y : ℤ) (i : ℕ) → 2 ≤ i → i < 12 → (979 * (i + 1) - 2919) / 32 + days_in_year y ≡ before y i + 306
+pub late_months : (y : ℤ) (i : ℕ) → 2 ≤ i → i < 12 → (979 * (i + 1) - 2919) / 32 + days_in_year y ≡ before y i + 306
 unfolding before days_in_month
 late_months y i late low =
     each_month (λ k. 2 ≤ k → (979 * (k + 1) - 2919) / 32 + days_in_year y ≡ before y k + 306)
@@ -112,7 +112,7 @@ months_follow y n (suc i) e low =
 abbrev pub years_days : ℕ → ℕ
 years_days k = 1461 * k / 4 - k / 100 + k / 100 / 4
 
-leap_year-step : (k : ℕ) → days_in_year (first_year +ℤ pos k) + (k + 1) / 100 + k / 4 + k / 400 ≡ 365 + k / 100 + (k + 1) / 4 + (k + 1) / 400
+pub leap_year-step : (k : ℕ) → days_in_year (first_year +ℤ pos k) + (k + 1) / 100 + k / 4 + k / 400 ≡ 365 + k / 100 + (k + 1) / 4 + (k + 1) / 400
 leap_year-step k = grind (arith, ints, nat_tests)
 
 years_days-step : (k l : ℕ) → l + (k + 1) / 100 + k / 4 + k / 400 ≡ 365 + k / 100 + (k + 1) / 4 + (k + 1) / 400 → years_days (k + 1) ≡ years_days k + l
@@ -136,10 +136,10 @@ year_first (suc k) =
 abbrev pub years_before : ℤ → ℕ
 years_before y = unsigned_abs (y -ℤ first_year)
 
-abbrev number_with : ℤ → ℕ → ℕ → ℕ
+abbrev pub number_with : ℤ → ℕ → ℕ → ℕ
 number_with y m d = years_days (years_before y) + before y (m - 1) + (d - 1)
 
-has_number : (y : ℤ) (m d : ℕ) → first_year ≤ℤ y → IsMonth m → IsDayOfMonth y m d → HasCalendarDate y m d (number_with y m d)
+pub has_number : (y : ℤ) (m d : ℕ) → first_year ≤ℤ y → IsMonth m → IsDayOfMonth y m d → HasCalendarDate y m d (number_with y m d)
 has_number y m d h month day =
     let low : 1 ≤ m = month.0 in
     let high : m ≤ 12 = month.1 in
@@ -186,7 +186,7 @@ late_number y m d h month day late =
 abbrev pub march_sum : ℕ → ℕ → ℕ → ℕ → ℕ
 march_sum years m mark d = years_days years + ((979 * (m + 12 * mark) - 2919) / 32 + d)
 
-march_number : (y : ℤ) (m d mark years : ℕ) → first_year ≤ℤ y → IsMonth m → IsDayOfMonth y m d → IsMarked m mark → years + mark ≡ years_before y + 1
+pub march_number : (y : ℤ) (m d mark years : ℕ) → first_year ≤ℤ y → IsMonth m → IsDayOfMonth y m d → IsMarked m mark → years + mark ≡ years_before y + 1
     → march_sum years m mark d ≡ number_with y m d + 307
 march_number y m d mark years h month day marked e =
     elim (cases_lt 2 m) [

@@ -2,6 +2,13 @@
 use Rattle.std.proofs.Common.{◌≢◌, ℕ, ◌+◌, ◌<◌, List, length, get_or, arith, below_more, get_or-set_other, get_or-set_same}
 use Rattle.std.proofs.Math.ListN.{set}
 
+pub rows_one : {A : Type 0} (R : ℕ → A → Type 0) (xs : List A) (i : ℕ) (x : A) (x0 : A)
+    → i < length xs → ((k : ℕ) → k < i → R k (get_or xs k x0)) → R i x → (k : ℕ) → k < i + 1 → R k (get_or (set xs i x) k x0)
+rows_one R xs i x x0 h rows here =
+    below_more (λ k. R k (get_or (set xs i x) k x0)) i
+    (λ k below. let ne : k ≢ i = omega arith in rw get_or-set_other (rows k below))
+    (rw get_or-set_same here)
+
 pub rows_two : {A B : Type 0} (R : ℕ → A → B → Type 0) (xs : List A) (ys : List B) (i : ℕ) (x : A) (x0 : A) (y : B) (y0 : B)
     → i < length xs → i < length ys → ((k : ℕ) → k < i → R k (get_or xs k x0) (get_or ys k y0)) → R i x y
     → (k : ℕ) → k < i + 1 → R k (get_or (set xs i x) k x0) (get_or (set ys i y) k y0)

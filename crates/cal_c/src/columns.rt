@@ -6,7 +6,6 @@ ghost use Rattle.std.specs.Prelude.{◌≡◌, ◌≤◌, ◌↔◌, IsTrue, cou
 ghost use Rattle.cal_c.specs.Columns.{is_refused};
 ghost use Rattle.cal_c.specs.Values.{IsJulianDay};
 
-mod days;
 mod making;
 mod months;
 mod moves;

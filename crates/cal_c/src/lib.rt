@@ -17,6 +17,7 @@ mod pair;
 mod results;
 mod schedule;
 mod status;
+mod sums;
 mod texts;
 mod time;
 mod values;

@@ -1,5 +1,5 @@
 //! Dates by their Julian days alone, where a call asks for no part of a date.
-ghost use Rattle.std.specs.Prelude.{◌≡◌, ◌+◌, IsTrue, ◌↔◌, ◌+ℤ◌, ◌-ℤ◌, ◌*ℤ◌, pos, Some, None, SomeIff, nat_le, if◌then◌else◌};
+ghost use Rattle.std.specs.Prelude.{◌≡◌, ◌+◌, ◌%◌, ◌≤◌, IsTrue, ◌↔◌, ◌+ℤ◌, ◌-ℤ◌, ◌*ℤ◌, pos, Some, None, SomeIff, nat_le, if◌then◌else◌};
 ghost use Rattle.cal_time.specs.Date.{last_day, weekday_at};
 ghost use Rattle.cal_time.specs.SignedDuration.{day};
 ghost use Rattle.cal_c.specs.Results.{date_done, date_refused, date_if_any};
@@ -21,17 +21,14 @@ pub const DAY_ZERO: i32 = 363_521_074;
 /// The number of the last day.
 pub const LAST_NUMBER: u32 = 730_484_633;
 
+/// 2^32 / 7, rounded up: a day times this is its weeks, in parts of 2^32.
+const WEEK_FACTOR: u32 = 613_566_757;
+
 /// Says whether a day of the range has the Julian day.
 pub fn is_julian_day(julian_day: i32) -> bool
     ensures { IsTrue result ↔ IsJulianDay julian_day }
 {
-    is_in_range(i64::from(julian_day))
-}
-
-fn is_in_range(julian_day: i64) -> bool
-    ensures { IsTrue result ↔ IsJulianDay julian_day }
-{
-    FIRST_JULIAN_DAY <= julian_day && julian_day <= LAST_JULIAN_DAY
+    julian_day >= FIRST_JULIAN_DAY as i32 && julian_day <= LAST_JULIAN_DAY as i32
 }
 
 /// The number of the day of the range that has the Julian day.
@@ -49,7 +46,7 @@ pub fn date_with(julian_day: i64) -> DateResult
     ensures past_range { ¬ IsJulianDay julian_day → result ≡ date_refused past_range }
     ensures day { IsJulianDay julian_day → result ≡ date_done julian_day }
 {
-    if !is_in_range(julian_day) {
+    if julian_day < FIRST_JULIAN_DAY || julian_day > LAST_JULIAN_DAY {
         return DateResult::refused(PAST_RANGE);
     }
     DateResult {
@@ -63,10 +60,8 @@ pub fn days_later(julian_day: i32, days: i64) -> DateResult
     ensures past_range { ¬ IsJulianDay (julian_day +ℤ days) → result ≡ date_refused past_range }
     ensures day { IsJulianDay (julian_day +ℤ days) → result ≡ date_done (julian_day +ℤ days) }
 {
-    match i64::from(julian_day).checked_add(days) {
-        Some(julian_day) => date_with(julian_day),
-        None => DateResult::refused(PAST_RANGE),
-    }
+    // A sum past 64 bits wraps to one that is past the range as well.
+    date_with(i64::from(julian_day).wrapping_add(days))
 }
 
 /// The date so many days earlier.
@@ -74,10 +69,7 @@ pub fn days_earlier(julian_day: i32, days: i64) -> DateResult
     ensures past_range { ¬ IsJulianDay (julian_day -ℤ days) → result ≡ date_refused past_range }
     ensures day { IsJulianDay (julian_day -ℤ days) → result ≡ date_done (julian_day -ℤ days) }
 {
-    match i64::from(julian_day).checked_sub(days) {
-        Some(julian_day) => date_with(julian_day),
-        None => DateResult::refused(PAST_RANGE),
-    }
+    date_with(i64::from(julian_day).wrapping_sub(days))
 }
 
 /// The date that is nearest to so many days later.
@@ -124,9 +116,20 @@ pub fn days_between(from: i32, to: i32) -> SignedDuration
     SignedDuration::days(i64::from(to) - i64::from(from))
 }
 
-/// The weekday of day `number`, from Monday, 1. The first day of the range is a Monday.
+/// The weekday of day `number`, from Monday, 1.
 pub fn weekday_of_number(number: u32) -> u8
+    requires { number ≤ last_day }
     ensures { result ≡ weekday_at number + 1 }
 {
-    (number % 7) as u8 + 1
+    days_since_monday(number) as u8 + 1
+}
+
+/// The days from the last Monday to day `number`, from 0 to 6. The first day of the range is a Monday.
+pub fn days_since_monday(number: u32) -> u32
+    requires { number ≤ last_day }
+    ensures { result ≡ number % 7 }
+{
+    // The low half of the product is the part of the week that has gone by. Seven eighths of that, in parts of 2^29, are its days.
+    let part = number.wrapping_mul(WEEK_FACTOR);
+    (part - part / 8) >> 29
 }

@@ -8,9 +8,9 @@ ghost use Rattle.cal_c.specs.Results.{date_done, date_if_any, date_refused, IsDa
 ghost use Rattle.cal_c.specs.Statuses.{bad_weekday, julian_day_refused, year_refused, month_refused, day_refused, ordinal_refused, week_refused, weekday_refused};
 ghost use Rattle.cal_c.specs.Values.{IsJulianDay, IsMonth, IsWeekday};
 
-use super::days::{has_day, julian_day_at};
 use super::statuses::{BAD_WEEKDAY, DAY, DONE, JULIAN_DAY, MONTH, PAST_RANGE, YEAR, status_of};
 use super::{NOTHING, UNLIKE, is_date, refused_in};
+use crate::sums::{has_day, julian_day_at};
 use crate::values;
 use cal_time::{Date, Weekday};
 

@@ -8,11 +8,11 @@ ghost use Rattle.cal_c.specs.Results.{date_refused, IsDayWith};
 ghost use Rattle.cal_c.specs.Statuses.{bad_date, past_range};
 ghost use Rattle.cal_c.specs.Values.{IsJulianDay, day_of};
 
-use super::days::{julian_day_at, length_of};
 use super::making::refused;
 use super::statuses::{BAD_DATE, DONE, PAST_RANGE};
 use super::{UNLIKE, refused_in};
 use crate::number::is_julian_day;
+use crate::sums::{julian_day_at, length_of};
 use crate::values::date_of;
 use cal_time::Cycle;
 use cal_time::util::is_leap_year;

@@ -1,5 +1,6 @@
 //! Columns of dates that are moved.
 ghost use Rattle.std.specs.Prelude.{◌≡◌, ℕ, ◌<◌, ◌≤◌, ◌+ℤ◌, length, get_or, count_by, pos};
+ghost use Rattle.std.specs.Int.{int_min, int_max};
 ghost use Rattle.cal_time.specs.Date.{last_day};
 ghost use Rattle.cal_time.specs.Move.{IsDateNumber};
 ghost use Rattle.cal_c.specs.Columns.{Alike4, date_row, is_refused, IsDateMoved};
@@ -7,10 +8,10 @@ ghost use Rattle.cal_c.specs.Results.{date_done, date_refused};
 ghost use Rattle.cal_c.specs.Statuses.{bad_date, past_range};
 ghost use Rattle.cal_c.specs.Values.{IsJulianDay};
 
-use super::days::number_held;
 use super::statuses::{BAD_DATE, DONE, PAST_RANGE};
 use super::{NOTHING, UNLIKE, refused_in};
 use crate::number::{DAY_ZERO, LAST_NUMBER, is_julian_day};
+use crate::sums::number_held;
 
 /// The dates of a column, each moved by the days of another column, row by row as `fots_date_add_days`, and how many rows have none.
 #[unsafe(no_mangle)]
@@ -36,16 +37,31 @@ pub extern "C" fn fots_dates_add_days(
     if days.len() != rows || moved.len() != rows || statuses.len() != rows {
         return UNLIKE;
     }
+    hold_days(days, moved);
     for row in 0..rows {
-        let (date, status) = moved_date(dates[row], days[row]);
+        let (date, status) = moved_date(dates[row], moved[row]);
         moved[row] = date;
         statuses[row] = status;
     }
     refused_in(statuses)
 }
 
+/// The days of each row in 32 bits, or the nearest number to them, which leads past the range as well. This loop alone has rows of
+/// 64 bits, so the next one takes twice as many of them at a time.
+fn hold_days(days: &[i64], held: &mut [i32])
+    requires { length held.old ≡ length days.now }
+    ensures length { length held.new ≡ length held.old }
+    ensures rows { (k : ℕ) → k < length days.now
+        → get_or held.new k (pos 0)
+        ≡ int_min (int_max (get_or days.now k (pos 0)) i32.MIN) i32.MAX }
+{
+    for row in 0..days.len() {
+        held[row] = days[row].max(i64::from(i32::MIN)).min(i64::from(i32::MAX)) as i32;
+    }
+}
+
 /// The day so many days later, and the status.
-fn moved_date(date: i32, days: i64) -> (i32, u8)
+fn moved_date(date: i32, days: i32) -> (i32, u8)
     ensures bad_date { ¬ IsJulianDay date → date_row result.0 result.1 ≡ date_refused bad_date }
     ensures past_range { IsJulianDay date → ¬ IsJulianDay (date +ℤ days)
         → date_row result.0 result.1 ≡ date_refused past_range }
@@ -63,16 +79,11 @@ fn moved_date(date: i32, days: i64) -> (i32, u8)
 }
 
 /// The number of the day so many days later, or a number past the last one where there is none.
-fn moved_number(number: u32, days: i64) -> u32
+fn moved_number(number: u32, days: i32) -> u32
     requires { number ≤ last_day }
     ensures within { IsDateNumber (pos number +ℤ days) → pos result ≡ pos number +ℤ days }
     ensures past { ¬ IsDateNumber (pos number +ℤ days) → last_day < result }
 {
-    // A sum below zero wraps, and then its upper half is not zero either.
-    let sum = days.cast_unsigned().wrapping_add(u64::from(number));
-    if (sum >> 32) as u32 == 0 {
-        sum as u32
-    } else {
-        u32::MAX
-    }
+    // A sum below zero wraps, far above the last number.
+    number.wrapping_add(days.cast_unsigned())
 }

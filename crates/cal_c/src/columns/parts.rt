@@ -6,11 +6,11 @@ ghost use Rattle.cal_c.specs.Results.{calendar_date_done, calendar_date_refused,
 ghost use Rattle.cal_c.specs.Statuses.{done, bad_date, year_refused, month_refused, day_refused};
 ghost use Rattle.cal_c.specs.Values.{IsJulianDay, IsMonth, day_of};
 
-use super::days::{iso_week_date_at, julian_day_at};
 use super::making::status_of_calendar_date;
 use super::statuses::{BAD_DATE, DONE};
 use super::{NOTHING, UNLIKE, refused_in};
 use crate::number::{is_julian_day, number_of, weekday_of_number};
+use crate::sums::{calendar_date_at, iso_week_date_at, julian_day_at, number_held};
 use crate::values::date_of;
 
 /// The calendar dates of a column of dates, row by row as `fots_date_to_calendar_date`, and how many rows have none.
@@ -210,11 +210,12 @@ fn calendar_date_of(date: i32) -> (i32, u8, u8, u8)
     ensures value { IsJulianDay date
         → calendar_date_row result.0 result.1 result.2 result.3 ≡ calendar_date_done (day_of date) }
 {
-    let Some(date) = date_of(date) else {
-        return (NOTHING, 0, 0, BAD_DATE);
-    };
-    let (year, month, day) = date.to_calendar_date();
-    (year, month as u8, day, DONE)
+    let (year, month, day) = calendar_date_at(number_held(date));
+    if is_julian_day(date) {
+        (year, month as u8, day as u8, DONE)
+    } else {
+        (NOTHING, 0, 0, BAD_DATE)
+    }
 }
 
 /// The year and the ordinal of a date, and the status.

@@ -7,8 +7,9 @@ ghost use Rattle.cal_c.specs.Statuses.{bad_weekday, year_refused, month_refused,
 ghost use Rattle.cal_c.specs.Values.{IsJulianDay, IsMonth, IsWeekday};
 
 use crate::results::DateResult;
-use crate::status::{BAD_WEEKDAY, JULIAN_DAY, MONTH, date_status};
-use crate::values::{date_at, day_of_month_of, month_of, ordinal_of, week_of, weekday_of};
+use crate::status::{BAD_WEEKDAY, DAY, DONE, JULIAN_DAY, MONTH, YEAR, date_status};
+use crate::sums::{has_day, julian_day_at};
+use crate::values::{date_at, day_of_month_of, ordinal_of, week_of, weekday_of};
 use cal_time::Date;
 
 /// The date that has the Julian day, from -363521074 to 366963559, which it is itself.
@@ -37,12 +38,19 @@ pub extern "C" fn fots_date_from_calendar_date(year: i32, month: u32, day: u32) 
     ensures date { IsMonth month → IsYear year → IsDayOfMonth year month day
         → IsDayWith (HasCalendarDate year month day) result }
 {
-    let Some(month) = month_of(month) else {
+    if month == 0 || month > 12 {
         return DateResult::refused(MONTH);
-    };
-    match Date::from_calendar_date(year, month, day_of_month_of(day)) {
-        Ok(date) => DateResult::of(date),
-        Err(error) => DateResult::refused(date_status(error)),
+    }
+    if year < -999_999 || year > 999_999 {
+        return DateResult::refused(YEAR);
+    }
+    let (month, day) = (month as u8, day_of_month_of(day));
+    if !has_day(year, month, day) {
+        return DateResult::refused(DAY);
+    }
+    DateResult {
+        status: DONE,
+        date: julian_day_at(year, month, day),
     }
 }
 

@@ -1,12 +1,12 @@
 //! The days with a weekday after a date, and before it.
-ghost use Rattle.std.specs.Prelude.{◌≡◌, ◌-◌, ◌<◌, ◌≤◌};
+ghost use Rattle.std.specs.Prelude.{◌≡◌, ◌+◌, ◌-◌, ◌%◌, ◌<◌, ◌≤◌};
 ghost use Rattle.cal_time.specs.Date.{IsDate};
 ghost use Rattle.cal_time.specs.Occurrence.{next_occurrences, prev_occurrences, kth};
 ghost use Rattle.cal_c.specs.Results.{date_refused, date_if_any};
 ghost use Rattle.cal_c.specs.Statuses.{bad_date, bad_weekday, bad_count};
 ghost use Rattle.cal_c.specs.Values.{IsJulianDay, IsWeekday, day_of};
 
-use crate::number::{day_if_any, number_of};
+use crate::number::{day_if_any, days_since_monday, number_of};
 use crate::results::DateResult;
 use crate::status::{BAD_COUNT, BAD_DATE, BAD_WEEKDAY, PAST_RANGE};
 
@@ -105,8 +105,7 @@ fn occurrence_after(number: u32, weekday: u32, count: u32) -> DateResult
         return DateResult::refused(PAST_RANGE);
     }
 
-    // The first day of the range is a Monday.
-    let first = (weekday + 12 - number % 7) % 7 + 1;
+    let first = days_until(days_since_monday(number) + 1, weekday);
     day_if_any(number + first + 7 * (count - 1))
 }
 
@@ -120,9 +119,22 @@ fn occurrence_before(number: u32, weekday: u32, count: u32) -> DateResult
     if count == 0 {
         return DateResult::refused(PAST_RANGE);
     }
-    let first = (number % 7 + 7 - weekday) % 7 + 1;
+    let first = days_until(weekday, days_since_monday(number) + 1);
     match number.checked_sub(first + 7 * (count - 1)) {
         Some(number) => day_if_any(number),
         None => DateResult::refused(PAST_RANGE),
+    }
+}
+
+/// The days from a day that has the one weekday to the next one that has the other, from 1 to 7.
+fn days_until(weekday: u32, other: u32) -> u32
+    requires is_weekday { IsWeekday weekday }
+    requires is_other { IsWeekday other }
+    ensures { result ≡ (other + 6 - weekday) % 7 + 1 }
+{
+    if other > weekday {
+        other - weekday
+    } else {
+        other + 7 - weekday
     }
 }

@@ -6,9 +6,10 @@ ghost use Rattle.cal_c.specs.Results.{number_done, number_refused, calendar_date
 ghost use Rattle.cal_c.specs.Statuses.{bad_date};
 ghost use Rattle.cal_c.specs.Values.{IsJulianDay, day_of};
 
-use crate::number::{number_of, weekday_of_number};
+use crate::number::{is_julian_day, number_of, weekday_of_number};
 use crate::results::{CalendarDateResult, IsoWeekDateResult, NumberResult, OrdinalDateResult};
 use crate::status::{BAD_DATE, DONE};
+use crate::sums::{calendar_date_at, iso_week_date_at};
 use crate::values::date_of;
 
 /// The year, the month and the day of the month of a date. Those of 2451604 are 2000, 2 and 29.
@@ -17,15 +18,15 @@ pub extern "C" fn fots_date_to_calendar_date(date: i32) -> CalendarDateResult
     ensures bad_date { ¬ IsJulianDay date → result ≡ calendar_date_refused bad_date }
     ensures value { IsJulianDay date → result ≡ calendar_date_done (day_of date) }
 {
-    let Some(date) = date_of(date) else {
+    let Some(number) = number_of(date) else {
         return CalendarDateResult::refused(BAD_DATE);
     };
-    let (year, month, day) = date.to_calendar_date();
+    let (year, month, day) = calendar_date_at(number);
     CalendarDateResult {
         status: DONE,
         year,
-        month: u32::from(month as u8),
-        day: u32::from(day),
+        month,
+        day,
     }
 }
 
@@ -52,15 +53,15 @@ pub extern "C" fn fots_date_to_iso_week_date(date: i32) -> IsoWeekDateResult
     ensures bad_date { ¬ IsJulianDay date → result ≡ iso_week_date_refused bad_date }
     ensures value { IsJulianDay date → result ≡ iso_week_date_done (day_of date) }
 {
-    let Some(date) = date_of(date) else {
+    if !is_julian_day(date) {
         return IsoWeekDateResult::refused(BAD_DATE);
-    };
-    let (year, week, weekday) = date.to_iso_week_date();
+    }
+    let (year, week, weekday) = iso_week_date_at(date);
     IsoWeekDateResult {
         status: DONE,
         year,
         week: u32::from(week),
-        weekday: u32::from(weekday.number_from_monday()),
+        weekday: u32::from(weekday),
     }
 }
 

@@ -2,7 +2,7 @@ use Rattle.std.proofs.Common.{◌≡◌, ◌≢◌, ◌+◌, ◌/◌, ◌%◌, �
 use Rattle.std.proofs.lemmas.Bool.Decides.{nat_tests}
 use Rattle.cal_time.specs.Lengths.{days_in_month}
 use Rattle.cal_c.proofs.MarchYears.{other_month}
-use Rattle.cal_c.proofs.columns.days.length_of.Goals as goal
+use Rattle.cal_c.proofs.sums.length_of.Goals as goal
 
 pub returns-then-leap-clause-value : goal.returns-then-leap-clause-value
 unfolding days_in_month

@@ -1,7 +1,7 @@
 use Rattle.std.proofs.Common.{◌≡◌, subst, arith}
 use Rattle.std.proofs.lemmas.Int.{ints}
 use Rattle.cal_time.specs.Date.{HasOrdinalDate}
-use Rattle.cal_c.proofs.columns.days.ordinal_date_at.Goals as goal
+use Rattle.cal_c.proofs.sums.ordinal_date_at.Goals as goal
 
 pub returns-in-Ok-clause-date : goal.returns-in-Ok-clause-date
 returns-in-Ok-clause-date c =

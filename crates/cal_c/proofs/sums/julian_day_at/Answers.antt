@@ -3,7 +3,7 @@ use Rattle.std.proofs.lemmas.Int.{ints, to_z-of_z}
 use Rattle.cal_time.specs.Date.{IsYear, IsDayOfMonth, HasCalendarDate}
 use Rattle.cal_c.specs.Values.{IsJulianDay, IsMonth, day_of}
 use Rattle.cal_c.proofs.MarchYears.{years_before, march_sum, julian_day_in, marked, made}
-use Rattle.cal_c.proofs.columns.days.julian_day_at.Goals as goal
+use Rattle.cal_c.proofs.sums.julian_day_at.Goals as goal
 
 answer : (c : goal.After-from-4) → IsYear c.args.year → IsMonth c.args.month → IsDayOfMonth c.args.year c.args.month c.args.day
     → let z = julian_day_in (march_sum c.min-years.result c.from-2.result c.from-3.result c.from-4.result) in

@@ -1,10 +1,10 @@
-use Rattle.std.proofs.Common.{◌+◌, ◌%◌, ◌∙◌, sym, ap, rules, FitsSigned, w32}
+use Rattle.std.proofs.Common.{◌≡◌, ◌+◌, ◌*◌, ◌/◌, ◌%◌, ◌∙◌, sym, ap, arith, rules, FitsSigned, w32}
 use Rattle.std.proofs.lemmas.Int.{to_z-of_z}
 use Rattle.cal_time.specs.IsoWeekDate.{iso_year_at, iso_week_at}
 use Rattle.cal_time.specs.Laws.{weekday_at-is}
 use Rattle.cal_c.specs.Values.{day_of}
 use Rattle.cal_c.proofs.Thursdays.{iso_week-thursday}
-use Rattle.cal_c.proofs.columns.days.iso_week_date_at.Goals as goal
+use Rattle.cal_c.proofs.sums.iso_week_date_at.Goals as goal
 
 pub returns-clause-year : goal.returns-clause-year
 returns-clause-year c = λ h.
@@ -19,7 +19,8 @@ returns-clause-week c = λ h.
     let f = c.ranges.date in
     let number = simp to_z-of_z at c.number_held-number.ensures.day in
     let week = iso_week-thursday c.number_held-number.result _ _ c.ordinal_date_at-year.ensures.date in
-    sym week.1 ∙ ap iso_week_at (number h)
+    let sevenths : (c.ordinal_date_at-year.result.1 + 6) * 9363 / 65536 ≡ (c.ordinal_date_at-year.result.1 + 6) / 7 = omega (arith, c.ordinal_date_at-year.ensures.most) in
+    ap (λ k. (k + 6) * 9363 / 65536) c.from.ensures ∙ sevenths ∙ sym week.1 ∙ ap iso_week_at (number h)
 
 pub returns-clause-weekday : goal.returns-clause-weekday
 returns-clause-weekday c = λ h.

@@ -1,0 +1,24 @@
+-- Moves by days that are held in 32 bits: they lead to the same dates, and past the range where the days do.
+use Rattle.std.proofs.Common.{◌≡◌, sym, subst, arith, ℤ, pos, neg_ℤ, ◌+ℤ◌}
+use Rattle.std.specs.Int.{int_min, int_max}
+use Rattle.std.proofs.lemmas.Int.{ints, clamps}
+use Rattle.cal_c.specs.Columns.{IsDateMoved}
+use Rattle.cal_c.specs.Values.{IsJulianDay}
+use Rattle.cal_c.specs.declared.results.DateResult.{DateResult}
+
+abbrev pub held : ℤ → ℤ
+held days = int_min (int_max days (neg_ℤ (pos 2_147_483_648))) (pos 2_147_483_647)
+
+same_if_held : (date days : ℤ) → IsJulianDay date → IsJulianDay (date +ℤ held days) → held days ≡ days
+same_if_held date days is moved = omega (arith, ints, clamps, is.not_before, is.not_after, moved.not_before, moved.not_after)
+
+same_if_moved : (date days : ℤ) → IsJulianDay date → IsJulianDay (date +ℤ days) → held days ≡ days
+same_if_moved date days is moved = omega (arith, ints, clamps, is.not_before, is.not_after, moved.not_before, moved.not_after)
+
+pub IsDateMoved-held : (date days : ℤ) (r : DateResult) → IsDateMoved date (held days) r → IsDateMoved date days r
+IsDateMoved-held date days r moved = record {
+  bad_date = moved.bad_date;
+  past_range = λ is none. moved.past_range is (λ h. none (subst (λ d. IsJulianDay (date +ℤ d)) (same_if_held date days is h) h));
+  day = λ is h. let same = same_if_moved date days is h in
+      subst (λ d. r ≡ record { status = pos 0; date = date +ℤ d }) same (moved.day is (subst (λ d. IsJulianDay (date +ℤ d)) (sym same) h));
+}
