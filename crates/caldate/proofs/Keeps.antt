@@ -18,7 +18,6 @@ use Rattle.caldate.specs.declared.request.Bounds.{Bounds}
 use Rattle.caldate.specs.declared.request.Filter.{Filter}
 use Rattle.caldate.specs.declared.request.Request.{Request}
 use Rattle.caldate.specs.declared.request.Request.TheVariants.{Keep}
-use Rattle.caldate.specs.declared.unanswered.UnansweredLine.{UnansweredLine}
 use Rattle.caldate.proofs.Lacks.{lacks_none}
 use Rattle.caldate.proofs.OneAnswer.{some_one}
 use Rattle.caldate.proofs.Replied.{is_too_long, of_whole}
@@ -90,9 +89,9 @@ never_allowed true filter before kept line text held e strict none words = stric
 never_allowed false filter before kept line text held e strict none words =
     of_whole (λ text. (words : List ℕ) → ¬ IsAllowed filter before text words) kept line text held e (none refl) words
 
-pub on_ok : {P Q : Type 0} (r : Result Unit UnansweredLine) → (P → Q) → OnOk r P → OnOk r Q
+pub on_ok : {P Q : Type 0} (r : Result Unit ℕ) → (P → Q) → OnOk r P → OnOk r Q
 on_ok (Ok done) f h = f h
-on_ok (Err told) f h = h
+on_ok (Err start) f h = h
 
 -- ---- a text of which a part is asked about, or none
 pub without_field : (filter : Filter) (before : ℕ) (text : List ℕ) → length text ≤ 4096 → filter.skip ≤ before → asked_text filter.field text ≡ None

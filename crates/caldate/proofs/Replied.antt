@@ -5,10 +5,14 @@ use Rattle.std.proofs.lemmas.List.{get_or-append-add}
 use Rattle.caldate.specs.Answers.{IsTooLong}
 use Rattle.caldate.specs.Lines.{has_return, text_of, end_of}
 use Rattle.caldate.specs.Runs.{AppendsThat}
-use Rattle.caldate.specs.Standing.{IsHeld, IsReply, IsShown}
+use Rattle.caldate.specs.Standing.{IsHeld, IsReply, IsShown, counted}
 use Rattle.caldate.specs.Shown.{shown, words_shown}
+use Rattle.caldate.specs.Unanswered.{IsReason}
+use Rattle.caldate.specs.declared.progress.Progress.{Progress}
+use Rattle.caldate.specs.declared.request.Filter.{Filter}
 use Rattle.caldate.specs.declared.shown.ShownText.{ShownText}
-use Rattle.caldate.proofs.Steps.{shown_front}
+use Rattle.caldate.specs.declared.unanswered.UnansweredLine.{UnansweredLine}
+use Rattle.caldate.proofs.Steps.{Tells, shown_front}
 
 -- ---- a line of which a front was let go
 same_return : (kept line : List ℕ) → 0 < length line → has_return (kept ++ line) ≡ has_return line
@@ -19,10 +23,9 @@ same_return kept line some =
     tests : ℕ → Bool
     tests byte = eqb byte 13
 
-same_end : (b : Bool) (kept line : List ℕ) → IsHeld b kept line → end_of (kept ++ line) ≡ end_of line
-same_end false kept line h = ap (λ k. end_of (k ++ line)) h
-same_end true kept line h =
-    ap (λ b. cond b (13 ∷ 10 ∷ []) (10 ∷ [])) (same_return kept line (omega (arith, ap length h.2.2)))
+same_cut : (b : Bool) (kept line : List ℕ) → IsHeld b kept line → has_return (kept ++ line) ≡ has_return line
+same_cut false kept line h = ap (λ k. has_return (k ++ line)) h
+same_cut true kept line h = same_return kept line (omega (arith, ap length h.2.2))
 
 text_long : (b : Bool) (line : List ℕ) (n : ℕ) → n + 1 < length line → n < length (cond b (take (length line - 1) line) line)
 text_long true line n h = omega (arith, h, length-take (length line - 1) line)
@@ -37,12 +40,13 @@ pub of_whole : (P : List ℕ → Type 0) (kept line text : List ℕ) → IsHeld 
 of_whole P kept line text h e p = subst P (e ∙ ap (λ k. text_of (k ++ line)) (sym h)) p
 
 -- ---- the words, and the end of the line
-pub replied : (Says : List ℕ → List ℕ → Type 0) (b : Bool) (kept line old mid new end : List ℕ) → IsHeld b kept line
-    → AppendsThat (Says (text_of (kept ++ line))) old mid → end ≡ end_of line → new ≡ mid ++ end
+pub replied : (Says : List ℕ → List ℕ → Type 0) (b : Bool) (kept line old mid new : List ℕ) (cut : Bool) → IsHeld b kept line
+    → AppendsThat (Says (text_of (kept ++ line))) old mid → cut ≡ has_return line → new ≡ mid ++ cond cut (13 ∷ 10 ∷ []) (10 ∷ [])
     → AppendsThat (IsReply Says (kept ++ line)) old new
-replied Says b kept line old mid new end h a e f = (
+replied Says b kept line old mid new cut h a e f = (
   a.0 ++ end_of (kept ++ line),
-  f ∙ ap (λ l. l ++ end) a.1 ∙ append_assoc old a.0 end ∙ ap (λ l. old ++ (a.0 ++ l)) (e ∙ sym (same_end b kept line h)),
+  f ∙ ap (λ l. l ++ cond cut (13 ∷ 10 ∷ []) (10 ∷ [])) a.1 ∙ append_assoc old a.0 (cond cut (13 ∷ 10 ∷ []) (10 ∷ []))
+      ∙ ap (λ cut. old ++ (a.0 ++ cond cut (13 ∷ 10 ∷ []) (10 ∷ []))) (e ∙ sym (same_cut b kept line h)),
   (a.0, a.2, refl),
 )
 
@@ -66,3 +70,16 @@ pub text_shown : (b : Bool) (front : ShownText) (kept line text : List ℕ) (tol
 text_shown false front kept line text told held is e whole long = whole refl ∙ ap shown (e ∙ ap (λ k. text_of (k ++ line)) (sym held))
 text_shown true front kept line text told held is e whole long =
     ap words_shown (long refl) ∙ is ∙ sym (shown_long (has_return (kept ++ line)) kept line (omega (arith, held.0)) (omega (arith, ap length held.2.2)))
+
+-- ---- what is told of a line without an answer
+pub tells : (filter : Filter) (progress : Progress) (line words : List ℕ) (told : UnansweredLine)
+    → ((kept : List ℕ) (before : ℕ) → IsHeld progress.is_long kept line → progress.number ≡ counted before → IsReason filter before (text_of (kept ++ line)) words)
+    → told.number ≡ counted (progress.number + 1) → words_shown told.reason ≡ shown words
+    → (progress.is_long ≡ false → words_shown told.text ≡ shown (text_of line)) → (progress.is_long ≡ true → told.text ≡ progress.front)
+    → Tells filter progress line told
+tells filter progress line words told why number reason whole long = λ kept before held front at.
+    record {
+      reason = (words, why kept before held at, reason);
+      number_is = omega (arith, number, at);
+      text_is = text_shown progress.is_long progress.front kept line (text_of line) told.text held front refl whole long;
+    }

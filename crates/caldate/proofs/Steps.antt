@@ -187,7 +187,7 @@ failed filter input start now new gathered pending progress f s = record {
 }
 
 -- ---- a line without an answer
-abbrev Tells : Filter → Progress → List ℕ → UnansweredLine → Type 0
+abbrev pub Tells : Filter → Progress → List ℕ → UnansweredLine → Type 0
 Tells filter progress line told = (kept : List ℕ) (before : ℕ) → IsHeld progress.is_long kept line → IsShown progress.is_long progress.front kept
     → progress.number ≡ counted before → IsUnanswered filter before (kept ++ line) told
 

@@ -1,5 +1,5 @@
 //! Replies that go out in one write.
-ghost use Rattle.std.specs.Prelude.{◌≡◌, ◌↔◌, ◌+◌, ◌≤◌, ◌++◌, [], length, decimal, drop, take, IsTrue};
+ghost use Rattle.std.specs.Prelude.{◌≡◌, ◌↔◌, ◌+◌, ◌≤◌, ◌++◌, ◌∷◌, [], length, decimal, drop, take, IsTrue, if◌then◌else◌};
 ghost use Rattle.caldate.specs.Room.{HasRoom, longest_reply};
 
 use cal_time::ShortText;
@@ -78,6 +78,19 @@ impl Buffer {
         let end = self.filled + bytes.len();
         self.bytes[self.filled..end].copy_from_slice(bytes);
         self.filled = end;
+    }
+
+    /// Appends the end of a line: a line feed, or a carriage return and a line feed.
+    // A copy of a length that the compiler knows is no call.
+    pub fn push_end(&mut self, has_return: bool)
+        requires { HasRoom 2 self.old }
+        ensures { self.new ≡ self.old ++ (if has_return then 13 ∷ 10 ∷ [] else 10 ∷ []) }
+    {
+        if has_return {
+            self.push(b"\r\n");
+        } else {
+            self.push(b"\n");
+        }
     }
 
     /// Appends the digits of a number.

@@ -1,52 +1,49 @@
 //! The lines that are kept.
-ghost use Rattle.std.specs.Prelude.{◌≡◌, ◌++◌, ◌≤◌, ℕ, List, None, Some, false, true, length, IfErr, IfSome, OnOk, OnSome};
+ghost use Rattle.std.specs.Prelude.{◌≡◌, ◌++◌, ◌≤◌, ℕ, List, None, Some, false, true, drop, length, IfErr, IfSome, OnOk, OnSome};
 ghost use Rattle.caldate.specs.Answers.{HasAnswer, LacksAnswer};
 ghost use Rattle.caldate.specs.Kept.{IsDecided, IsKept, IsTold};
+ghost use Rattle.caldate.specs.Lines.{text_of};
 ghost use Rattle.caldate.specs.Room.{HasRoom, longest_reply, longest_text};
 ghost use Rattle.caldate.specs.Runs.{AppendsThat, IsAllowed, IsReplyTo};
-ghost use Rattle.caldate.specs.Standing.{IsHeld, IsShown, counted};
-ghost use Rattle.caldate.specs.Unanswered.{IsReason, IsUnanswered};
+ghost use Rattle.caldate.specs.Standing.{IsHeld, counted};
+ghost use Rattle.caldate.specs.Unanswered.{IsReason, Stopped};
 ghost use Rattle.caldate.specs.declared.request.Request.TheVariants.{Keep};
 
 use crate::answer::LONGEST_TEXT;
 use crate::bounds::lies_in;
 use crate::buffer::Buffer;
 use crate::fields::asked_text;
-use crate::lines::text_and_end;
+use crate::lines::cut_return;
 use crate::progress::Progress;
 use crate::reading::read_in;
 use crate::reply::push_reply;
 use crate::request::{Bounds, Filter, Request};
-use crate::unanswered::UnansweredLine;
 
 /// Gathers the reply to a line: where lines are kept it is the line itself or nothing, and else its answer. In a strict run it gathers
-/// nothing for a line that has no answer, and returns what is told of it.
+/// the reason for a line that has no answer, and returns where that begins.
 pub fn push_line(
     buffer: &mut Buffer,
     filter: &Filter,
     progress: &Progress,
     line: &[u8],
-) -> Result<(), UnansweredLine>
+) -> Result<(), usize>
     requires { HasRoom longest_reply buffer.old }
     ensures replied { OnOk result ((kept : List ℕ) (before : ℕ)
         → IsHeld progress.now.is_long kept line.now → progress.now.number ≡ counted before
         → AppendsThat (IsReplyTo filter.now before (kept ++ line.now)) buffer.old buffer.new) }
-    ensures strict { IfErr result (λ told.
-        (filter.now.is_strict ≡ true) × (buffer.new ≡ buffer.old)) }
-    ensures told { IfErr result (λ told. (kept : List ℕ) (before : ℕ)
-        → IsHeld progress.now.is_long kept line.now
-        → IsShown progress.now.is_long progress.now.front kept
-        → progress.now.number ≡ counted before
-        → IsUnanswered filter.now before (kept ++ line.now) told) }
+    ensures strict { IfErr result (Stopped filter.now buffer.old buffer.new) }
+    ensures reason { IfErr result (λ start. (kept : List ℕ) (before : ℕ)
+        → IsHeld progress.now.is_long kept line.now → progress.now.number ≡ counted before
+        → IsReason filter.now before (text_of (kept ++ line.now)) (drop start buffer.new)) }
 {
     match &filter.request {
-        Request::Keep(bounds) => push_kept(buffer, filter, bounds, progress, line)?,
-        _ => push_reply(buffer, filter, progress, line)?,
+        Request::Keep(bounds) => push_kept(buffer, filter, bounds, progress, line),
+        _ => push_reply(buffer, filter, progress, line),
     }
-    Ok(())
 }
 
-/// Gathers the line itself where it lies within the bounds. In a strict run it returns what is told of a line that has no answer.
+/// Gathers the line itself where it lies within the bounds. In a strict run it gathers the reason for a line that has no answer, and
+/// returns where that begins.
 // Apart, so that its room on the stack is not prepared for other requests.
 #[inline(never)]
 fn push_kept(
@@ -55,26 +52,23 @@ fn push_kept(
     bounds: &Bounds,
     progress: &Progress,
     line: &[u8],
-) -> Result<(), UnansweredLine>
+) -> Result<(), usize>
     requires room { HasRoom longest_reply buffer.old }
     requires keep { filter.now.request ≡ Keep bounds.now }
     ensures replied { OnOk result ((kept : List ℕ) (before : ℕ)
         → IsHeld progress.now.is_long kept line.now → progress.now.number ≡ counted before
         → AppendsThat (IsKept filter.now bounds.now before (kept ++ line.now)) buffer.old
         buffer.new) }
-    ensures strict { IfErr result (λ told.
-        (filter.now.is_strict ≡ true) × (buffer.new ≡ buffer.old)) }
-    ensures told { IfErr result (λ told. (kept : List ℕ) (before : ℕ)
-        → IsHeld progress.now.is_long kept line.now
-        → IsShown progress.now.is_long progress.now.front kept
-        → progress.now.number ≡ counted before
-        → IsUnanswered filter.now before (kept ++ line.now) told) }
+    ensures strict { IfErr result (Stopped filter.now buffer.old buffer.new) }
+    ensures reason { IfErr result (λ start. (kept : List ℕ) (before : ℕ)
+        → IsHeld progress.now.is_long kept line.now → progress.now.number ≡ counted before
+        → IsReason filter.now before (text_of (kept ++ line.now)) (drop start buffer.new)) }
 {
-    let (text, end) = text_and_end(line);
+    let (text, has_return) = cut_return(line);
     match is_kept(filter, bounds, progress, text) {
         Some(true) => {
             buffer.push(text);
-            buffer.push(end);
+            buffer.push_end(has_return);
             Ok(())
         }
         Some(false) => Ok(()),

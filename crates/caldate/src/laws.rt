@@ -7,7 +7,7 @@ ghost use Rattle.caldate.specs.declared.request.Bounds.{Bounds};
 ghost use Rattle.caldate.specs.declared.request.Request.TheVariants.{Keep};
 
 use crate::fields::asked_text;
-use crate::lines::text_and_end;
+use crate::lines::cut_return;
 use crate::reading::read_in;
 use crate::request::Filter;
 use cal_text::{DateOrMoment, Unreadable};
@@ -30,6 +30,6 @@ pub(crate) fn one_kept(filter: &Filter, line: &[u8]) -> Option<Result<DateOrMome
         → IsKept filter.now bounds before line.now reply
         → IsKept filter.now bounds before line.now other → reply ≡ other }
 {
-    let (text, _end) = text_and_end(line);
+    let (text, _has_return) = cut_return(line);
     Some(read_in(filter.reading, asked_text(filter.field, text)?))
 }

@@ -1,6 +1,6 @@
 //! The lines of the input.
 ghost use Rattle.std.specs.Prelude.{◌≡◌, ◌∷◌, ◌++◌, ◌<◌, ◌≤◌, ◌==◌, length, position, MatchOption};
-ghost use Rattle.caldate.specs.Lines.{end_of, text_of};
+ghost use Rattle.caldate.specs.Lines.{has_return, text_of};
 ghost use Rattle.caldate.specs.Standing.{NoEnd};
 
 /// The first line that ends, without its line feed, and what comes after that.
@@ -15,15 +15,14 @@ pub fn first_line(bytes: &[u8]) -> Option<(&[u8], &[u8])>
     Some((&bytes[..at], &bytes[at + 1..]))
 }
 
-/// The text of a line, without its carriage return, and how the line ends.
-pub fn text_and_end(line: &[u8]) -> (&[u8], &'static [u8])
+/// The text of a line, without its carriage return, and whether it has one.
+pub fn cut_return(line: &[u8]) -> (&[u8], bool)
     ensures text { result.0.now ≡ text_of line.now }
-    ensures end { result.1.now ≡ end_of line.now }
-    ensures short { length result.1.now ≤ 2 }
+    ensures cut { result.1 ≡ has_return line.now }
 {
     match line {
-        [text @ .., b'\r'] => (text, b"\r\n".as_slice()),
-        _ => (line, b"\n".as_slice()),
+        [text @ .., b'\r'] => (text, true),
+        _ => (line, false),
     }
 }
 

@@ -2,76 +2,69 @@
 ghost use Rattle.std.specs.Prelude.{◌≡◌, ◌+◌, ◌≤◌, ◌++◌, ℕ, List, Some, false, true, codes, drop, length, take, IfErr, OnOk};
 ghost use Rattle.caldate.specs.Answers.{LacksAnswer};
 ghost use Rattle.caldate.specs.Fields.{asked_text};
-ghost use Rattle.caldate.specs.Lines.{text_of, end_of};
+ghost use Rattle.caldate.specs.Lines.{text_of};
 ghost use Rattle.caldate.specs.Room.{HasRoom, longest_answer, longest_reply, longest_text};
 ghost use Rattle.caldate.specs.Runs.{Allowed, AllowedFor, AppendsThat, IsAllowed};
 ghost use Rattle.caldate.specs.Shown.{shown, words_shown};
-ghost use Rattle.caldate.specs.Standing.{IsHeld, IsReply, IsShown, counted};
-ghost use Rattle.caldate.specs.Unanswered.{IsReason, IsUnanswered, IsWhy, Stopped};
+ghost use Rattle.caldate.specs.Standing.{IsHeld, IsReply, counted};
+ghost use Rattle.caldate.specs.Unanswered.{IsReason, IsWhy, Stopped};
 
 use crate::answer::{LONGEST_TEXT, push_answer};
 use crate::buffer::Buffer;
 use crate::fields::cut_field;
-use crate::lines::text_and_end;
+use crate::lines::cut_return;
 use crate::progress::Progress;
 use crate::request::{Field, Filter};
 use crate::shown::ShownText;
 use crate::unanswered::UnansweredLine;
 
-/// Gathers the reply to a line, of which a front may have been let go as the line is too long. In a strict run it gathers nothing
-/// for a line that has no answer, and returns what is told of it.
+/// Gathers the reply to a line, of which a front may have been let go as the line is too long. In a strict run it gathers the reason
+/// for a line that has no answer, and returns where that begins.
 pub fn push_reply(
     buffer: &mut Buffer,
     filter: &Filter,
     progress: &Progress,
     line: &[u8],
-) -> Result<(), UnansweredLine>
+) -> Result<(), usize>
     requires { HasRoom longest_reply buffer.old }
     ensures replied { OnOk result ((kept : List ℕ) (before : ℕ)
         → IsHeld progress.now.is_long kept line.now → progress.now.number ≡ counted before
         → AppendsThat (IsReply (IsAllowed filter.now before) (kept ++ line.now)) buffer.old
         buffer.new) }
-    ensures strict { IfErr result (λ told.
-        (filter.now.is_strict ≡ true) × (buffer.new ≡ buffer.old)) }
-    ensures told { IfErr result (λ told. (kept : List ℕ) (before : ℕ)
-        → IsHeld progress.now.is_long kept line.now
-        → IsShown progress.now.is_long progress.now.front kept
-        → progress.now.number ≡ counted before
-        → IsUnanswered filter.now before (kept ++ line.now) told) }
+    ensures strict { IfErr result (Stopped filter.now buffer.old buffer.new) }
+    ensures reason { IfErr result (λ start. (kept : List ℕ) (before : ℕ)
+        → IsHeld progress.now.is_long kept line.now → progress.now.number ≡ counted before
+        → IsReason filter.now before (text_of (kept ++ line.now)) (drop start buffer.new)) }
 {
-    let (text, end) = text_and_end(line);
-    let before = buffer.len();
-    let said = if progress.is_long {
-        push_too_long(buffer, filter)
+    let (text, has_return) = cut_return(line);
+    if progress.is_long {
+        push_too_long(buffer, filter)?;
     } else {
-        push_text(buffer, filter, progress.number, text)
-    };
-    match said {
-        Ok(()) => {
-            buffer.push(end);
-            Ok(())
-        }
-        Err(start) => Err(take_back(buffer, before, start, progress, text)),
+        push_text(buffer, filter, progress.number, text)?;
     }
+    buffer.push_end(has_return);
+    Ok(())
 }
 
 /// Takes back what was gathered after so many bytes, and tells the line: the reason begins at `start`.
 #[cold]
-fn take_back(
+pub fn take_back(
     buffer: &mut Buffer,
     before: usize,
     start: usize,
     progress: &Progress,
-    text: &[u8],
+    line: &[u8],
 ) -> UnansweredLine
     requires before { before ≤ length buffer.old }
     requires start { start ≤ length buffer.old }
     ensures kept { buffer.new ≡ take before buffer.old }
     ensures number { result.number ≡ counted (progress.now.number + 1) }
     ensures reason { words_shown result.reason ≡ shown (drop start buffer.old) }
-    ensures whole { progress.now.is_long ≡ false → words_shown result.text ≡ shown text.now }
+    ensures whole { progress.now.is_long ≡ false
+        → words_shown result.text ≡ shown (text_of line.now) }
     ensures long { progress.now.is_long ≡ true → result.text ≡ progress.now.front }
 {
+    let (text, _has_return) = cut_return(line);
     let reason = ShownText::new(buffer.after(start));
     buffer.truncate(before);
     UnansweredLine {

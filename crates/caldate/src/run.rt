@@ -14,6 +14,7 @@ use crate::keep::push_line;
 use crate::lines::first_line;
 use crate::output::write_all;
 use crate::progress::Progress;
+use crate::reply::take_back;
 use crate::request::Filter;
 use crate::shown::ShownText;
 use crate::unanswered::UnansweredLine;
@@ -90,9 +91,13 @@ fn answer_lines<W: Write>(
     let mut rest = bytes;
     while let Some((line, after)) = first_line(rest) {
         make_room(buffer, writer)?;
+        let before = buffer.len();
         match push_line(buffer, filter, progress, line) {
             Ok(()) => {}
-            Err(told) => return Err(stop(told, buffer, writer)),
+            Err(start) => {
+                let told = take_back(buffer, before, start, progress, line);
+                return Err(stop(told, buffer, writer));
+            }
         }
         progress.number = progress.number.saturating_add(1);
         progress.is_long = false;
@@ -140,7 +145,10 @@ fn answer_last<W: Write>(
     }
     match push_line(buffer, filter, progress, line) {
         Ok(()) => write_all(writer, buffer.as_bytes()),
-        Err(told) => Err(Fault::Unanswered(told)),
+        Err(start) => {
+            let told = take_back(buffer, 0, start, progress, line);
+            Err(Fault::Unanswered(told))
+        }
     }
 }
 

@@ -1,11 +1,11 @@
-use Rattle.std.proofs.Common.{◌≡◌, ◌<◌, ◌++◌, [], length, rules, subst}
+use Rattle.std.proofs.Common.{◌≡◌, ◌<◌, [], length, rules, subst}
 use Rattle.std.specs.Io.KnownBytes.{Appends}
 use Rattle.std.proofs.lemmas.Result.{on_ok_weaker}
 use Rattle.caldate.specs.Runs.{AppendsFront, EndsFrom, IsReplyTo}
 use Rattle.caldate.specs.Standing.{Stands}
-use Rattle.caldate.specs.Unanswered.{IsUnanswered}
 use Rattle.caldate.proofs.Ends.{empty, same_line, write_failed}
-use Rattle.caldate.proofs.Steps.{Replies, all_answered, last_answered, last_failed, last_stopped}
+use Rattle.caldate.proofs.Replied.{tells}
+use Rattle.caldate.proofs.Steps.{Replies, Tells, all_answered, last_answered, last_failed, last_stopped}
 use Rattle.caldate.proofs.run.answer_last.Goals as goal
 
 pub returns-then-is_empty-clause-ok : goal.returns-then-is_empty-clause-ok
@@ -18,7 +18,9 @@ pub returns-in-Err-clause-unanswered : goal.returns-in-Err-clause-unanswered
 returns-in-Err-clause-unanswered g c = λ told e input start s.
     let some : 0 < length c.args.line.now = search rules in
     last_stopped c.args.filter.now input start _ c.args.line.now c.args.progress.now told c.requires.no_end some c.in-Err.ensures.strict.0
-    (λ kept before held shown number. subst (λ t. IsUnanswered c.args.filter.now before (kept ++ c.args.line.now) t) (same_line c.in-Err.told told e) (c.in-Err.ensures.told kept before held shown number)) s
+    (subst (Tells c.args.filter.now c.args.progress.now c.args.line.now) (same_line c.take_back-told.result told e)
+    (tells c.args.filter.now c.args.progress.now c.args.line.now _ c.take_back-told.result c.in-Err.ensures.reason c.take_back-told.ensures.number
+    c.take_back-told.ensures.reason c.take_back-told.ensures.whole c.take_back-told.ensures.long)) s
 
 pub returns-in-Ok-clause-ok : goal.returns-in-Ok-clause-ok
 returns-in-Ok-clause-ok g c =
