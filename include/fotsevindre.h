@@ -89,7 +89,7 @@ typedef struct fots_moment {
 #define FOTS_NO_TIME UINT64_MAX
 
 /* The status of a call. From 16 on it is a refusal, by the name of the component that is out of range; from 64 on the range of that
- * component depends on others: that of a day on the month and the year. */
+ * component depends on others: that of a day on the month and the year. Those from 32 to 36 are of the text of a recurrence. */
 enum fots_status {
     FOTS_DONE = 0,
     FOTS_PAST_RANGE = 1, /* the exact result is no value of its type */
@@ -122,6 +122,11 @@ enum fots_status {
     FOTS_SECONDS = 28,
     FOTS_TIMESTAMP = 29, /* a Unix time of no day of the range */
     FOTS_BOUNDS = 30, /* those of a text do not lie in the bytes, one after the other */
+    FOTS_UNKNOWN_PART = 32, /* a part of the text of a recurrence has no name that is read */
+    FOTS_PART_TWICE = 33, /* it comes again, or is a second end */
+    FOTS_MANY_VALUES = 34, /* its value has more than 62 words with commas between them */
+    FOTS_PART_VALUE = 35, /* it has no value that is read */
+    FOTS_NO_FREQUENCY = 36, /* there is no FREQ */
     FOTS_DAY = 64,
     FOTS_ORDINAL = 65,
     FOTS_WEEK = 66,
@@ -164,6 +169,11 @@ static inline const char *fots_status_name(int32_t status)
     case FOTS_SECONDS: return "seconds";
     case FOTS_TIMESTAMP: return "timestamp";
     case FOTS_BOUNDS: return "bounds";
+    case FOTS_UNKNOWN_PART: return "unknown part";
+    case FOTS_PART_TWICE: return "part twice";
+    case FOTS_MANY_VALUES: return "many values";
+    case FOTS_PART_VALUE: return "part value";
+    case FOTS_NO_FREQUENCY: return "no frequency";
     case FOTS_DAY: return "day";
     case FOTS_ORDINAL: return "ordinal";
     case FOTS_WEEK: return "week";
@@ -310,6 +320,15 @@ typedef struct fots_days_result {
     int32_t status;
     size_t length; /* or 0 */
 } fots_days_result;
+
+/* How many days of a recurrence were written, or the part of its text that is at fault. */
+typedef struct fots_recurrence_result {
+    int32_t status;
+    uint32_t part; /* a fots_rule_part where the status is FOTS_PART_TWICE, FOTS_MANY_VALUES or FOTS_PART_VALUE, else 0 */
+    size_t length; /* or 0 */
+    size_t position; /* from FOTS_UNKNOWN_PART to FOTS_NO_FREQUENCY that from 0 of the first byte of the part, or of FOTS_NO_FREQUENCY
+                      * the length of the text; else SIZE_MAX */
+} fots_recurrence_result;
 
 /* A fraction of a year: what was counted, over what a year counts. */
 typedef struct fots_year_fraction_result {
@@ -544,6 +563,27 @@ fots_part_result fots_rule_contains(const fots_rule *rule, fots_date date);
 /* Writes the days of the rule after the date, in order, as many as there is room for, and answers how many they are: fewer where the range
  * has no more. The array must be there, also one of length 0, and shares no memory with the rule. */
 fots_days_result fots_rule_days_after(const fots_rule *rule, fots_date date, fots_date *days, size_t days_length);
+
+/* The parts of the text of a recurrence. */
+enum fots_rule_part {
+    FOTS_RULE_FREQ = 1,
+    FOTS_RULE_INTERVAL = 2,
+    FOTS_RULE_WKST = 3,
+    FOTS_RULE_BYMONTH = 4,
+    FOTS_RULE_BYMONTHDAY = 5,
+    FOTS_RULE_BYDAY = 6,
+    FOTS_RULE_UNTIL = 7,
+    FOTS_RULE_COUNT = 8
+};
+
+/* Writes the days of the recurrence that the text says, with this start, from a date on, in order, as many as there is room for, and answers
+ * how many they are: fewer where there are no more. COUNT counts from the start. The text is what RFC 5545 writes behind RRULE:, of the parts
+ * above. It is refused for the first part at fault as FOTS_UNKNOWN_PART, FOTS_MANY_VALUES, FOTS_PART_TWICE or FOTS_PART_VALUE, or as
+ * FOTS_NO_FREQUENCY, and after that FOTS_BAD_DATE of the start and the date, also with no room. The array must be there, also one of
+ * length 0, and shares no memory with the text. Those of "FREQ=MONTHLY;BYDAY=-1FR;COUNT=3" with the start 2460311, 2024-01-01, from
+ * 2460350 on are 2460364 and 2460399. */
+fots_recurrence_result fots_recurrence_days(const char *text, size_t text_length, fots_date start, fots_date from, fots_date *days,
+    size_t days_length);
 
 /* ---- day counts */
 

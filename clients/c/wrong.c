@@ -583,6 +583,78 @@ static void drawn_texts(void)
     }
 }
 
+/* How many of the texts were those of a recurrence. */
+static unsigned long long recurrences_read;
+
+/* Days in order, or a part at fault, which begins the text or follows a semicolon, after parts that are right; and no day. */
+static void read_recurrence(const char *bytes, size_t length)
+{
+    const fots_date start = date_at(2460311);
+    fots_date days[3] = {{-1}, {-1}, {-1}};
+    const fots_recurrence_result found = fots_recurrence_days(bytes, length, start, start, days, 2);
+    check(days[2].julian_day == -1, "a day past the room", found.status, (long long)length);
+    if (found.status == FOTS_DONE) {
+        recurrences_read++;
+        check(found.part == 0 && found.position == SIZE_MAX && found.length <= 2, "a recurrence", found.part, (long long)found.length);
+        check(found.length == 0 || (is_date(days[0]) && days[0].julian_day >= start.julian_day), "its first day", days[0].julian_day, (long long)length);
+        check(found.length < 2 || (is_date(days[1]) && days[1].julian_day > days[0].julian_day), "its second day", days[1].julian_day, (long long)length);
+        return;
+    }
+    const int names_part = found.status >= FOTS_PART_TWICE && found.status <= FOTS_PART_VALUE;
+    check(names_part ? found.part >= FOTS_RULE_FREQ && found.part <= FOTS_RULE_COUNT : found.part == 0, "its part", found.status, found.part);
+    check(found.length == 0 && days[0].julian_day == -1, "no day", found.status, (long long)found.length);
+    if (found.status == FOTS_NO_FREQUENCY) {
+        check(found.position == length, "no frequency", (long long)found.position, (long long)length);
+        return;
+    }
+    check(names_part || found.status == FOTS_UNKNOWN_PART, "the status of a recurrence", found.status, (long long)length);
+    if (!check(found.position == 0 || (found.position <= length && bytes[found.position - 1] == ';'), "the position of a part", (long long)found.position,
+            (long long)length) || found.position == 0) {
+        return;
+    }
+    const int32_t before = fots_recurrence_days(bytes, found.position - 1, start, start, days, 0).status;
+    check(before == FOTS_DONE || before == FOTS_NO_FREQUENCY, "the parts before", before, (long long)found.position);
+}
+
+/* Right texts of recurrences, each cut at each length, and with a byte changed, left out or put in; and drawn parts, one after another. */
+static void recurrence_texts(void)
+{
+    static const char *const texts[] = {"FREQ=MONTHLY;COUNT=12;BYDAY=-1FR", "freq=yearly;until=20261231;bymonth=2,11;bymonthday=-1,29",
+        "INTERVAL=2;WKST=SU;FREQ=WEEKLY;BYDAY=TU,SU"};
+    static const char *const pieces[] = {"FREQ=", "INTERVAL=", "WKST=", "BYMONTH=", "BYMONTHDAY=", "BYDAY=", "UNTIL=", "COUNT=", "DAILY",
+        "YEARLY", "MO", "-1", "20", "4294967296", "20240229", ",", ";", ";", "\0", "\xff"};
+    for (int k = 0; k < COUNT(texts); k++) {
+        const size_t length = strlen(texts[k]);
+        for (size_t position = 0; position <= length; position++) {
+            char changed[LONGEST], longer[LONGEST], shorter[LONGEST];
+            memcpy(changed, texts[k], length + 1);
+            memcpy(shorter, texts[k], position);
+            memcpy(shorter + position, texts[k] + position + 1, length - position);
+            memcpy(longer, texts[k], position);
+            memcpy(longer + position + 1, texts[k] + position, length - position);
+            read_recurrence(texts[k], position);
+            read_recurrence(shorter, length - 1);
+            for (int byte = 0; byte < 256; byte++) {
+                changed[position] = longer[position] = (char)byte;
+                read_recurrence(changed, length);
+                read_recurrence(longer, length + 1);
+            }
+        }
+    }
+    for (int k = 0; k < 100000; k++) {
+        char bytes[16 * LONGEST] = "FREQ=DAILY;";
+        size_t length = k % 2 == 0 ? strlen(bytes) : 0;
+        for (uint64_t left = drawn() % 16; left > 0; left--) {
+            const char *piece = pieces[drawn() % (uint64_t)COUNT(pieces)];
+            const size_t size = *piece == 0 ? 1 : strlen(piece);
+            memcpy(bytes + length, piece, size);
+            length += size;
+        }
+        read_recurrence(bytes, length);
+    }
+    check(recurrences_read > 1000, "recurrences that were read", (long long)recurrences_read, 0);
+}
+
 static const int32_t border_dates[] = {INT32_MIN, INT32_MIN + 1, FOTS_MIN_JULIAN_DAY - 1, FOTS_MIN_JULIAN_DAY,
     FOTS_MIN_JULIAN_DAY + 1, -93600, -93599,
     -1, 0, 1, 93599, 93600, 1721059, 1721060, 2451545, 5373484, 5373485, FOTS_MAX_JULIAN_DAY - 1, FOTS_MAX_JULIAN_DAY,
@@ -700,6 +772,7 @@ static void everything(void)
     }
     nearly_texts();
     drawn_texts();
+    recurrence_texts();
 }
 
 /* With no argument everything but the walks over all 32 bits, which 'low' and 'high' make, of the numbers below 0 and the others. */

@@ -222,6 +222,20 @@ void recurrences()
     check(weeks.first() == std::nullopt && weeks.take(4).empty(), "no day");
     weeks.weekdays.assign(65, Weekday::Sunday);
     throws([&] { weeks.first(); }, FOTS_MANY_PARTS, "many parts", "65 weekdays");
+
+    const Recurrence by_text = Recurrence::parse("FREQ=MONTHLY;COUNT=6;BYDAY=-2MO");
+    const Date start = Date::read("1997-09-22");
+    check(by_text.days(start, 9) == mondays.take(6) && by_text.days(start, 2) == mondays.take(2), "by its text");
+    check(by_text.days_from(start, Date::read("1998-01-01"), 9) == dates({"1998-01-19", "1998-02-16"}), "from a day on");
+    check(by_text.days(start, 0).empty() && by_text.days_from(start, Date::max(), 9).empty(), "none of them");
+    throws([] { Recurrence::parse("FREQ=DAILY;UNTIL=20241231;COUNT=3"); }, FOTS_PART_TWICE, "part twice at 26", "two ends");
+    throws([] { Recurrence::parse(""); }, FOTS_UNKNOWN_PART, "unknown part at 0", "no text");
+    try {
+        Recurrence::parse("FREQ=DAILY;BYDAY=XX");
+        check(false, "no weekday");
+    } catch (const rule_fault &fault) {
+        check(fault.part() == FOTS_RULE_BYDAY && fault.position() == 11 && fault.status() == FOTS_PART_VALUE, "the part at fault");
+    }
 }
 
 void plain_moments()

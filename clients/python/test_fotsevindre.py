@@ -1032,6 +1032,9 @@ class Header(Cases):
 
     def test_statuses(self):
         refusals = {number: self.names[name] for name, number in self.statuses.items() if number >= 16}
+        reasons = {number: refusals.pop(number) for number in fotsevindre._REASONS}
+        self.assertEqual({number: reason.value for number, reason in fotsevindre._REASONS.items()}, reasons)
+        self.assertEqual(fotsevindre._PARTS[1:], tuple(re.findall(r"FOTS_RULE_(\w+) = \d", self.TEXT)))
         self.assertEqual(fotsevindre._REFUSALS, refusals)
         self.assertEqual(fotsevindre._FIRST_CONDITIONAL, self.statuses["FOTS_DAY"])
         self.assertEqual(fotsevindre._PAST_RANGE, self.statuses["FOTS_PAST_RANGE"])

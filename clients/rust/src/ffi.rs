@@ -6,6 +6,7 @@
 
 use crate::columns::Refusal;
 use crate::error::{ComponentRange, Unreadable};
+use crate::recurrence::RuleFault;
 use crate::rule::{ByDay, Rule};
 use crate::Date;
 
@@ -150,6 +151,7 @@ results! {
     PeriodResult { years: i32, months: i32, days: i32 } => (i32, i32, i32);
     YearFractionResult { denominator: u32, numerator: i64 } => (u32, i64);
     TextResult { length: u32, bytes: [u8; 40] } => (u32, [u8; 40]);
+    RecurrenceResult { part: u32, length: usize, position: usize } => (u32, usize, usize);
     ReadDateResult { date: i32, position: usize } => (i32, usize);
     ReadMomentResult { date: i32, time: u64, offset: i32, position: usize } => (i32, u64, i32, usize);
 }
@@ -345,14 +347,32 @@ calls_of_workdays! {
 }
 
 mod declared_alone {
+    use super::RecurrenceResult;
+
     extern "C" {
         pub(super) fn fots_version() -> u32;
+        pub(super) fn fots_recurrence_days(
+            text: *const u8,
+            text_length: usize,
+            start: i32,
+            from: i32,
+            days: *mut i32,
+            days_length: usize,
+        ) -> RecurrenceResult;
     }
 }
 
 /// The version of the library.
 pub(crate) fn fots_version() -> u32 {
     unsafe { declared_alone::fots_version() }
+}
+
+/// How many days of the recurrence that the text says were written, of those from a date on.
+pub(crate) fn fots_recurrence_days(text: &[u8], start: i32, from: i32, days: &mut [i32]) -> Result<usize, RuleFault> {
+    let result =
+        unsafe { declared_alone::fots_recurrence_days(text.as_ptr(), text.len(), start, from, days.as_mut_ptr(), days.len()) };
+    let RecurrenceResult { part, position, .. } = result;
+    result.answer().map(|(_, length, _)| length).map_err(|status| RuleFault::of_status(status, part, position))
 }
 
 /// Calls of rules.

@@ -14,3 +14,4 @@ pub mod PrintedRows
 pub mod TextRows
 pub mod Unreads
 pub mod Recurring
+pub mod Walks

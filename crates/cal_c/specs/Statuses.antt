@@ -109,6 +109,23 @@ timestamp_refused = pos 29
 abbrev pub bounds_refused : ℤ
 bounds_refused = pos 30
 
+-- a part of the text of a recurrence has no name that is read, comes again, has more values than are read, or none that is; or there
+-- is no frequency
+abbrev pub unknown_part : ℤ
+unknown_part = pos 32
+
+abbrev pub part_twice : ℤ
+part_twice = pos 33
+
+abbrev pub many_values : ℤ
+many_values = pos 34
+
+abbrev pub part_value : ℤ
+part_value = pos 35
+
+abbrev pub no_frequency : ℤ
+no_frequency = pos 36
+
 -- those whose range depends on the arguments before
 abbrev pub day_refused : ℤ
 day_refused = pos 64

@@ -78,6 +78,21 @@ pub const TIMESTAMP: i32 = 29;
 /// The bounds of a text do not lie in the bytes, one after the other.
 pub const BOUNDS: i32 = 30;
 
+/// A part of the text of a recurrence has no name that is read.
+pub const UNKNOWN_PART: i32 = 32;
+
+/// A part of the text comes again.
+pub const PART_TWICE: i32 = 33;
+
+/// A part of the text has more values than are read.
+pub const MANY_VALUES: i32 = 34;
+
+/// A part of the text has no value that is read.
+pub const PART_VALUE: i32 = 35;
+
+/// The text has no frequency.
+pub const NO_FREQUENCY: i32 = 36;
+
 pub const DAY: i32 = 64;
 
 pub const ORDINAL: i32 = 65;

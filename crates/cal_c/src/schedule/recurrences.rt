@@ -13,6 +13,8 @@ ghost use Rattle.cal_c.specs.Values.{IsJulianDay, day_of};
 mod months;
 mod parts;
 mod reading;
+mod results;
+mod texts;
 mod weekdays;
 
 use crate::results::{DateResult, NumberResult};
