@@ -1,4 +1,5 @@
-/* The calendar of Fotsevindre, for C and C++: dates, times of day, moments, offsets from UTC, durations, months and weekdays.
+/* The calendar of Fotsevindre, for C and C++: dates, times of day, moments, offsets from UTC, durations, months, weekdays, working days,
+ * recurrences, and their texts.
  *
  * Values are plain numbers, and each is checked by each call that it is passed to:
  *
@@ -23,7 +24,8 @@
  * year of no date either. So a call that asks for one of these refuses what was not looked at.
  *
  * Other calls take every number, and so what was not looked at, too: fots_is_leap_year, fots_days_in_year, fots_weeks_in_year and
- * fots_month_length as a year; those that make or scale a duration; the n of fots_month_nth_next and its like. A refused
+ * fots_month_length as a year; those that make or scale a duration; the n of fots_month_nth_next and its like; the months of
+ * fots_date_saturating_add_months, of which FOTS_NOTHING leads to the first day. A refused
  * fots_duration_compare or fots_moment_compare is below 0, as less is. There the status comes first. A struct of zero bytes is a
  * value: the date {0} is -4713-11-24, and a result of zero bytes has the status FOTS_DONE.
  *
@@ -886,8 +888,8 @@ fots_read_moment_result fots_unix_read(const char *text, size_t length);
  *
  * A column is one array for each part of a value: Julian days and years as int32_t, ordinals as uint16_t, months, days of the month, weeks
  * and weekdays as uint8_t. Each call answers row by row what its single call does, and writes the status of row k to statuses[k]: each
- * status is below 256. A row with no answer has the numbers of the single call, which the next call refuses too: FOTS_NOTHING for a date or
- * a year, and 0 for each other part. So what one call writes is what the next one takes.
+ * status is below 256. A row with no answer has numbers that the next call refuses too: FOTS_NOTHING for a date, a year, an offset or a count
+ * of working days, FOTS_NO_TIME for a time, and 0 for a part in 8 or 16 bits. So what one call writes is what the next one takes.
  *
  * It returns how many rows have no answer. Each array is followed by its length; where these are not the same, nothing is written and the
  * answer is FOTS_UNLIKE. Each array must be there, also one of no rows, and an array that is written may share no memory with another. */

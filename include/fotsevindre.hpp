@@ -546,7 +546,7 @@ public:
         return detail::first_dates(room, written.length);
     }
     // The first days of the rule: a rule that ends after a number of times.
-    std::vector<Date> take(std::size_t count) const
+    std::vector<Date> first_days(std::size_t count) const
     {
         const std::optional<Date> one = first();
         if (count == 0 || !one) {

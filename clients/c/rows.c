@@ -649,6 +649,8 @@ static void refused_next(void)
     is_part(fots_month_length(2, calendar.year), 29, "a year of no date, which each year call takes");
     check(fots_duration_compare(fots_duration_days(INT64_MAX).duration, zero).number < 0, "no duration, which is below as less is", 0,
         0);
+    is_date(fots_date_saturating_add_months(date_at(0), fots_date_months_until(date_at(FOTS_NOTHING), date_at(0)).number),
+        date_at(FOTS_MIN_JULIAN_DAY), "months of no date, which lead to the first day");
     is_date(fots_date_next_day(date_at(0)), date_at(1), "a date of zero bytes, which is one");
 }
 

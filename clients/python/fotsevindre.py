@@ -1855,7 +1855,7 @@ class Rule:
     from the end where the number is below 0.
 
     >>> last_fridays = Rule(Date.read("2024-01-01"), Frequency.Monthly, weekdays=[(-1, Weekday.Friday)])
-    >>> last_fridays.take(2), last_fridays.next_after(Date.read("2024-08-30")), Date.read("2024-05-31") in last_fridays
+    >>> last_fridays.first_days(2), last_fridays.next_after(Date.read("2024-08-30")), Date.read("2024-05-31") in last_fridays
     ([2024-01-26, 2024-02-23], 2024-09-27, True)
     """
 
@@ -1890,7 +1890,7 @@ class Rule:
         """The days of the rule after the day, in order."""
         return self._walk(_is(date, Date)._key)
 
-    def take(self, count: SupportsIndex) -> List[Date]:
+    def first_days(self, count: SupportsIndex) -> List[Date]:
         """The first days of the rule, so many where there are so many: a rule that ends after a number of times."""
         return list(itertools.islice(self, operator.index(count)))
 

@@ -141,7 +141,7 @@ class Recurrences(unittest.TestCase):
         for text, start, frequency, parts, wanted in self.ROWS:
             rule = Rule(numbered(start), frequency, **parts)
             wanted = [numbered(number) for number in wanted]
-            self.assertEqual(rule.take(len(wanted)), wanted, text)
+            self.assertEqual(rule.first_days(len(wanted)), wanted, text)
             self.assertEqual([rule.next_after(one) for one in wanted[:-1]], wanted[1:], text)
             span = wanted[0].iter_to(wanted[-1])
             self.assertEqual([date for date in span if date in rule], wanted, text)
@@ -154,7 +154,7 @@ class Recurrences(unittest.TestCase):
         rule = Rule(numbered(19970902), Frequency.Weekly, week_start=SU, weekdays=[TU, TH], until=numbered(19971006))
         self.assertEqual([date.day() for date in rule], [2, 4, 9, 11, 16, 18, 23, 25, 30, 2])
         never = Rule(day(2024, 1, 1), Frequency.Yearly, months=[2], month_days=[30])
-        self.assertEqual((list(never), never.take(3), never.next_after(Date.MIN)), ([], [], None))
+        self.assertEqual((list(never), never.first_days(3), never.next_after(Date.MIN)), ([], [], None))
         daily = Rule(day(999999, 12, 30), Frequency.Daily)
         self.assertEqual(list(Recurrence.parse("freq=daily").days(daily.start)), [day(999999, 12, 30), Date.MAX])
         self.assertEqual(list(Recurrence.parse("freq=daily").days(Date.MAX - SignedDuration.days(63)))[-1], Date.MAX)
@@ -164,7 +164,7 @@ class Recurrences(unittest.TestCase):
 
     def test_long_walks(self):
         rule = Rule(day(2000, 1, 1), Frequency.Daily, interval=3)
-        days = rule.take(1000)
+        days = rule.first_days(1000)
         self.assertEqual(days, [Date.from_julian_day(2451545 + 3 * index) for index in range(1000)])
         self.assertEqual(list(itertools.islice(rule.days_after(days[70]), 200)), days[71:271])
         ended = Rule(day(2000, 1, 1), Frequency.Daily, interval=3, until=days[128])
@@ -178,7 +178,7 @@ class Recurrences(unittest.TestCase):
         rule = Rule(day(2024, 1, 1), Frequency.Monthly, weekdays=[FR, (-1, SA)], months=iter([1, 2]))
         same = Rule(start=day(2024, 1, 1), frequency=Frequency.Monthly, interval=1, months=(1, 2), weekdays=(FR, (-1, SA)))
         for copied in (same, copy.deepcopy(rule), pickle.loads(pickle.dumps(rule)), dataclasses.replace(rule, interval=1)):
-            self.assertEqual((copied, hash(copied), list(copied.take(9))), (rule, hash(rule), rule.take(9)))
+            self.assertEqual((copied, hash(copied), list(copied.first_days(9))), (rule, hash(rule), rule.first_days(9)))
         self.assertRaises(dataclasses.FrozenInstanceError, setattr, rule, "interval", 2)
 
     def test_refusals(self):

@@ -27,7 +27,7 @@ shown: Optional[OffsetDateTime] = moment.checked_to_utc()
 since: SignedDuration = moment - OffsetDateTime.UNIX_EPOCH
 is_later: bool = local > PlainDateTime.MIN and moment >= OffsetDateTime.from_datetime(moment.to_datetime())
 rule: Rule = Rule(day, Frequency.Monthly, months=[Month.June, 7], weekdays=[Weekday.Monday, (-1, Weekday.Friday)], until=last)
-of_rule: List[Date] = [date for date in rule] + rule.take(3) + list(rule.days_after(day))
+of_rule: List[Date] = [date for date in rule] + rule.first_days(3) + list(rule.days_after(day))
 next_of_rule: Optional[Date] = rule.next_after(day)
 by_text: List[Date] = list(Recurrence.parse("FREQ=DAILY;COUNT=2").days(day)) + list(Recurrence("FREQ=DAILY;COUNT=2").days_from(day, last))
 fault: Tuple[int, Optional[str]] = (RuleFault(1, RuleReason.Missing).position, RuleFault(1, RuleReason.Missing).part)

@@ -2,7 +2,8 @@
 //!
 //! A column is one slice for each part of a value: Julian days and years as `i32`, ordinals as `u16`, months, days of the month, weeks and
 //! weekdays by number as `u8`. A call writes its answer into slices of the caller's, with a status byte for each row, and returns how many
-//! rows have none. Such a row has numbers that the next call refuses too: `i32::MIN` for a date or a year, and 0 for each other part.
+//! rows have none. Such a row has numbers that the next call refuses too: `i32::MIN` for a date, a year, an offset or a count of working
+//! days, `u64::MAX` for a time, and 0 for a part in 8 or 16 bits.
 //! [`refusal`] says what a status means. So what one call writes is what the next one takes:
 //!
 //! ```

@@ -1,5 +1,5 @@
-//! The calendar of Fotsevindre for Rust: dates, times of day, date-times, offsets from UTC, durations, months and weekdays, under the
-//! names of the crate `time`.
+//! The calendar of Fotsevindre for Rust: dates, times of day, date-times, offsets from UTC, durations, months, weekdays, working days and
+//! recurrences, under the names of the crate `time` where it has them.
 //!
 //! Each answer comes from the library of Fotsevindre, which is proved, through its C calls. This crate is the caller alone: it is
 //! safe but for one module that declares these calls, and it is tested, not proved.

@@ -2,7 +2,7 @@
 
 use crate::ffi::{self, certain, or_none};
 use crate::{Date, Month, Weekday};
-use core::iter::FusedIterator;
+use core::iter::{FusedIterator, Take};
 
 /// What a rule counts by: its interval is so many of them, and a rule that names no day takes that of its start.
 #[derive(Clone, Copy, Debug, PartialEq, Eq)]
@@ -89,10 +89,14 @@ impl<'a> Rule<'a> {
         or_none(ffi::fots_rule_next_after(self, date.to_c())).map(Date::of_c)
     }
 
-    /// The walk over the days of the rule, the first one first. A rule that ends after a number of times is the first so many of them, as
-    /// `rule.days().take(12)`.
+    /// The walk over the days of the rule, the first one first.
     pub fn days<'r>(&'r self) -> RuleDays<'r, 'a> {
         RuleDays { rule: self, front: or_none(ffi::fots_rule_first(self)).map(Date::of_c) }
+    }
+
+    /// The walk over the first days of the rule, so many where there are so many: a rule that ends after a number of times.
+    pub fn first_days<'r>(&'r self, count: u32) -> Take<RuleDays<'r, 'a>> {
+        self.days().take(count as usize)
     }
 }
 

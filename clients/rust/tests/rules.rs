@@ -20,7 +20,7 @@ fn rule(frequency: Frequency, start: i32) -> Rule<'static> {
 /// The days by the walk, one after the other, and one day at a time; and where the rule ends with them, there is no other.
 fn begins(text: &str, rule: &Rule<'_>, days: &[i32], ends: bool) {
     let days: Vec<_> = days.iter().map(|number| date(*number)).collect();
-    assert_eq!(rule.days().take(days.len()).collect::<Vec<_>>(), days, "{text}");
+    assert_eq!(rule.first_days(days.len() as u32).collect::<Vec<_>>(), days, "{text}");
     for pair in days.windows(2) {
         assert_eq!(rule.next_after(pair[0]), Some(pair[1]), "{text}");
     }

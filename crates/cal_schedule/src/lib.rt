@@ -1,5 +1,5 @@
-//! Schedules over the calendar: months and years added and counted, the ends of periods, weekdays of a month, and the days that
-//! interest is counted by.
+//! Schedules over the calendar: months and years added and counted, the ends of periods, weekdays of a month, working days, days that
+//! come back by a rule, and the days that interest is counted by.
 //!
 //! Every call is exact on every day of the calendar, and refuses exactly where the range of years has no answer.
 #![tactic(auto)]

@@ -1,36 +1,71 @@
 //! Bills, ages, holidays and interest.
-ghost use Rattle.std.specs.Prelude.{◌≡◌, ℕ, ◌≤◌, ◌≤ℤ◌, ◌*ℤ◌, pos, IfOk, IfSome, true};
-ghost use Rattle.cal_time.specs.Date.{year_at, month_at, HasCalendarDate};
+ghost use Rattle.std.specs.Prelude.{◌≡◌, ℕ, ◌≤◌, ◌≤ℤ◌, ◌+ℤ◌, ◌*ℤ◌, pos, IfOk, IfSome, IfNone, None, Ok, true, false, [], ◌∷◌};
+ghost use Rattle.cal_time.specs.Counted.{IsRising};
+ghost use Rattle.cal_time.specs.Date.{julian_day_at, year_at, month_at, HasCalendarDate, IsDate, IsYear};
 ghost use Rattle.cal_time.specs.Lengths.{days_in_month};
-ghost use Rattle.cal_schedule.specs.Months.{IsMonthsLater};
+ghost use Rattle.cal_schedule.specs.Months.{month_number_at, IsMonthNumber, IsMonthsLater};
 ghost use Rattle.cal_schedule.specs.Until.{IsGreatest, LeadsUpTo};
 ghost use Rattle.cal_schedule.specs.Weekdays.{IsNthWeekday};
-ghost use Rattle.cal_schedule.specs.Workdays.{is_workday};
+ghost use Rattle.cal_schedule.specs.WorkdaysConvention.{adjusted};
+ghost use Rattle.cal_schedule.specs.declared.workdays.convention.Convention.TheVariants.{ModifiedFollowing};
 
 use cal_schedule::{
-    Convention, DayCount, Workdays, checked_add_months, day_count, last_of_month,
-    nth_weekday_of_month, years_until,
+    Convention, DayCount, Workdays, checked_add_months, checked_add_years, day_count,
+    last_of_month, nth_weekday_of_month, years_until,
 };
 use cal_time::error::ComponentRange;
-use cal_time::{Date, Month, Weekday};
+use cal_time::{Date, Month, Weekday, is_rising};
 use std::io;
 
-/// The end of the month after that of the day.
+/// The end of the month after that of the day, where the range has that month.
 fn end_of_next_month(date: Date) -> Option<Date>
-    ensures { IfSome result (λ end. (later : ℕ) × IsMonthsLater date (pos 1) later
+    ensures day { IfSome result (λ end. (later : ℕ) × IsMonthsLater date (pos 1) later
         × HasCalendarDate (year_at later) (month_at later)
         (days_in_month (year_at later) (month_at later)) end) }
+    ensures some { IfSome result (λ _. IsMonthNumber (month_number_at date +ℤ pos 1)) }
+    ensures none { IfNone result (¬ IsMonthNumber (month_number_at date +ℤ pos 1)) }
 {
     let later = checked_add_months(date, 1)?;
     Some(last_of_month(later))
 }
 
-/// The day that a bill is due: the end of the month after, moved to a working day of that month.
+/// The day that a bill is due: the end of the month after, or where that is no working day, the last working day before it.
 fn due(workdays: &Workdays<'_>, billed: Date) -> Option<Date>
-    ensures { IfSome result (λ day. is_workday workdays.now day ≡ true) }
+    ensures within { IsMonthNumber (month_number_at billed +ℤ pos 1)
+        → (later : ℕ) × IsMonthsLater billed (pos 1) later
+        × (end : ℕ) × HasCalendarDate (year_at later) (month_at later)
+        (days_in_month (year_at later) (month_at later)) end
+        × (result ≡ adjusted workdays.now ModifiedFollowing end) }
+    ensures past { ¬ IsMonthNumber (month_number_at billed +ℤ pos 1) → result ≡ None }
 {
     let end = end_of_next_month(billed)?;
     workdays.adjusted(end, Convention::ModifiedFollowing)
+}
+
+/// The same day a year later, or 28 February for the 29th, for a caller who knows that there is a later year.
+fn a_year_on(date: Date) -> Date
+    requires { IsYear (year_at date +ℤ pos 1) }
+    ensures { IsMonthsLater date (pos 12) result }
+{
+    match checked_add_years(date, 1) {
+        Some(later) => later,
+        None => unreachable!(),
+    }
+}
+
+/// The working days from Monday to Friday but for the holidays, for a caller who knows that these rise.
+fn office(holidays: &[Date]) -> Workdays<'_>
+    requires { IsRising julian_day_at holidays.now }
+    ensures { result ≡ record {
+      marks = true ∷ true ∷ true ∷ true ∷ true ∷ false ∷ false ∷ [];
+      holidays = holidays.now;
+    } }
+{
+    let marks = [true, true, true, true, true, false, false];
+    match Workdays::new(marks, holidays) {
+        Some(workdays) => workdays,
+        None => unreachable!(),
+    }
 }
 
 /// The age on a day of someone who was born on another, that day or an earlier one.
@@ -42,28 +77,38 @@ fn age(born: Date, today: Date) -> i32
     years_until(born, today)
 }
 
-/// Thanksgiving in the United States.
+/// Thanksgiving in the United States, in each year of the range.
 fn thanksgiving(year: i32) -> Result<Date, ComponentRange>
-    ensures { IfOk result (IsNthWeekday year 11 3 4) }
+    ensures every { (k : ℕ) → IsDate k → IsNthWeekday year 11 3 4 k → result ≡ Ok k }
+    ensures has { IfOk result (IsNthWeekday year 11 3 4) }
 {
     nth_weekday_of_month(year, Month::November, Weekday::Thursday, 4)
 }
 
+/// Labor Day in the United States, for a caller who knows that the range has the year: each month has four Mondays.
+fn labor_day(year: i32) -> Date
+    requires { IsYear year }
+    ensures { IsNthWeekday year 9 0 1 result }
+{
+    match nth_weekday_of_month(year, Month::September, Weekday::Monday, 1) {
+        Ok(date) => date,
+        Err(_) => unreachable!(),
+    }
+}
+
 pub fn show(rt: &impl Print) -> io::Result<()> {
-    let office = [true, true, true, true, true, false, false];
     let Ok(born) = Date::from_calendar_date(1980, Month::June, 1) else {
         return Ok(());
     };
     let Ok(billed) = Date::from_calendar_date(2024, Month::July, 31) else {
         return Ok(());
     };
-    let Ok(labor_day) = Date::from_calendar_date(2024, Month::September, 2) else {
-        return Ok(());
-    };
+    let labor_day = labor_day(2024);
     let holidays = [labor_day];
-    let Some(workdays) = Workdays::new(office, &holidays) else {
+    if !is_rising(&holidays) {
         return Ok(());
-    };
+    }
+    let workdays = office(&holidays);
     println!(rt; "{:?}", due(&workdays, billed))?;
     println!(rt;
         "{:?} {}",
@@ -72,6 +117,9 @@ pub fn show(rt: &impl Print) -> io::Result<()> {
     )?;
     if born <= billed {
         println!(rt; "{}", age(born, billed))?;
+    }
+    if billed.year() < 999_999 {
+        println!(rt; "{}", a_year_on(billed))?;
     }
     println!(rt; "{:?}", thanksgiving(2024))?;
     let interest = day_count(born, billed, DayCount::Thirty360);

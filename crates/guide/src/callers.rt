@@ -1,16 +1,24 @@
 //! Callers that know the clauses alone: what the documentation says of a call is provable here.
-ghost use Rattle.std.specs.Prelude.{◌≡◌, ℕ, ◌+◌, ◌-◌, ◌<◌, ◌≤◌, ◌+ℤ◌, ◌-ℤ◌, ◌≤ℤ◌, ◌==◌, pos, IfOk, IfSome, IsNone, IsSome, ◌↔◌, Some, Ok};
-ghost use Rattle.cal_time.specs.Date.{last_day, year_at, month_at, day_of_month_at, ordinal_at, weekday_at};
+ghost use Rattle.std.specs.Prelude.{◌≡◌, ℕ, ◌+◌, ◌-◌, ◌<◌, ◌≤◌, ◌+ℤ◌, ◌-ℤ◌, ◌≤ℤ◌, ◌==◌, ◌⊎◌, pos, IfOk, IfSome, IfNone, IsNone, IsSome, ◌↔◌, Some, Ok};
+ghost use Rattle.cal_time.specs.Date.{last_day, year_at, month_at, day_of_month_at, ordinal_at, weekday_at, HasCalendarDate, IsYear};
 ghost use Rattle.cal_time.specs.Lengths.{days_in_year, days_in_month};
+ghost use Rattle.cal_time.specs.Month.{number};
 
 use cal_time::util::{days_in_month, days_in_year, weeks_in_year};
 use cal_time::{Date, Month, SignedDuration, Time, Weekday, add_to_pair};
 use std::io;
 
-/// How many whole years someone who was born on the one day has lived on the other, that day or a later one.
+/// How many whole years someone who was born on the one day has lived on the other, that day or a later one: those between the
+/// two years, and one less before the birthday, which for 29 February is 1 March in a year that has no 29th.
 fn age(born: Date, at: Date) -> i32
     requires { born ≤ at }
-    ensures { pos 0 ≤ℤ result }
+    ensures before { (month_at at < month_at born) ⊎ ((month_at at ≡ month_at born)
+        × (day_of_month_at at < day_of_month_at born))
+        → result ≡ year_at at -ℤ year_at born -ℤ pos 1 }
+    ensures since { (month_at born < month_at at) ⊎ ((month_at at ≡ month_at born)
+        × (day_of_month_at born ≤ day_of_month_at at))
+        → result ≡ year_at at -ℤ year_at born }
+    ensures least { pos 0 ≤ℤ result }
 {
     let years = at.year() - born.year();
     if at.month() < born.month() || (at.month() == born.month() && at.day() < born.day()) {
@@ -134,11 +142,16 @@ fn weeks_gone(date: Date) -> u8 {
     date.iso_week() - 1
 }
 
-/// The last Friday of the month.
+/// The last Friday of the month: the one of its last seven days. `None` where the range does not have the year.
 fn last_friday(year: i32, month: Month) -> Option<Date>
-    ensures { IfSome result (λ day. weekday_at day ≡ 4) }
+    ensures day { IfSome result (λ day. (weekday_at day ≡ 4) × (end : ℕ)
+        × HasCalendarDate year (number month) (days_in_month year (number month)) end
+        × (day ≤ end) × (end < day + 7)) }
+    ensures none { IfNone result (¬ IsYear year) }
 {
-    let last = Date::from_calendar_date(year, month, days_in_month(month, year)).ok()?;
+    let Ok(last) = Date::from_calendar_date(year, month, days_in_month(month, year)) else {
+        return None;
+    };
     if last.weekday() == Weekday::Friday {
         Some(last)
     } else {

@@ -1,14 +1,17 @@
 //! Recurrences by their texts, against the lists of the days that RFC 5545 gives with its own examples, and against other calendars.
+//!
+//! Times of day are not read. So where an example has a day with a time of day in `UNTIL`, as `19971224T000000Z`, a date stands here:
+//! that day, or the day before it where the rule has that day at a later time.
 use crate::{Recurrence, parse};
 use cal_time::{Date, Month};
 use std::process::Abort;
 
-/// The day with the number of eight digits, as `1997_09_02`.
+/// The day with the number of eight digits or more, as `1997_09_02`.
 fn date(rt: &impl Abort, number: i64) -> Date {
     let parts = (
         i32::try_from(number / 10_000),
-        u8::try_from(number / 100 % 100),
-        u8::try_from(number % 100),
+        u8::try_from((number / 100 % 100).abs()),
+        u8::try_from((number % 100).abs()),
     );
     let (Ok(year), Ok(month), Ok(day)) = parts else {
         panic!(rt; "{number} is no date");
@@ -411,10 +414,10 @@ fn yearly_rules(rt: HostRuntime) {
     );
 }
 
-/// A weekday with a number and one without; Thanksgivings, last Fridays; the ends of the range; rules with few days or none.
 #[test]
 fn other_rules(rt: HostRuntime) {
     let rt = &rt;
+    // RFC 5545, `BYDAY`: each value adds its days; the Sundays and the last Mondays of Python's `calendar`.
     begins(
         rt,
         "FREQ=MONTHLY;BYDAY=SU,-1MO",
@@ -426,6 +429,7 @@ fn other_rules(rt: HostRuntime) {
         ],
         false,
     );
+    // Thanksgivings, last Fridays, and a day that 1900 does not have: `rrule` of Python's `dateutil`.
     begins(
         rt,
         "FREQ=YEARLY;BYMONTH=11;BYDAY=4TH",
@@ -450,6 +454,7 @@ fn other_rules(rt: HostRuntime) {
         &[1896_02_29, 1904_02_29, 1908_02_29],
         false,
     );
+    // No year has a 30 February.
     begins(
         rt,
         "FREQ=YEARLY;BYMONTH=2;BYMONTHDAY=30",
@@ -464,6 +469,20 @@ fn other_rules(rt: HostRuntime) {
         &[],
         true,
     );
+    // The next year would be past the range.
+    begins(
+        rt,
+        "FREQ=YEARLY;INTERVAL=4294967295",
+        2024_01_01,
+        &[2024_01_01],
+        true,
+    );
+}
+
+/// The range goes from Monday, -999999-01-01, to Friday, 999999-12-31, which is an odd number of days later.
+#[test]
+fn ends_of_the_range(rt: HostRuntime) {
+    let rt = &rt;
     begins(
         rt,
         "FREQ=DAILY",
@@ -473,9 +492,27 @@ fn other_rules(rt: HostRuntime) {
     );
     begins(
         rt,
-        "FREQ=YEARLY;INTERVAL=4294967295",
-        2024_01_01,
-        &[2024_01_01],
-        true,
+        "FREQ=MONTHLY;BYMONTHDAY=1,-1",
+        -999999_01_01,
+        &[-999999_01_01, -999999_01_31, -999999_02_01, -999999_02_28],
+        false,
     );
+    for (text, has_first, has_last, after_first) in [
+        ("FREQ=DAILY;INTERVAL=2", true, false, -999999_01_03),
+        ("FREQ=WEEKLY", true, false, -999999_01_08),
+        ("FREQ=WEEKLY;BYDAY=FR", false, true, -999999_01_05),
+        ("FREQ=MONTHLY;BYDAY=-1FR", false, true, -999999_01_26),
+        ("FREQ=MONTHLY;BYMONTHDAY=-1", false, true, -999999_01_31),
+        ("FREQ=YEARLY", true, false, -999998_01_01),
+    ] {
+        let recurrence = read(rt, text);
+        let rule = recurrence.rule(Date::MIN);
+        assert!(rt; rule.contains(Date::MIN) == has_first, "{text}");
+        assert!(rt; rule.contains(Date::MAX) == has_last, "{text}");
+        let after = rule.next_after(Date::MIN);
+        gives(rt, text, after, Some(date(rt, after_first)));
+        let last = if has_last { Some(Date::MAX) } else { None };
+        gives(rt, text, rule.next_after(date(rt, 999999_12_30)), last);
+        gives(rt, text, rule.next_after(Date::MAX), None);
+    }
 }

@@ -44,16 +44,19 @@ fn same<T: Copy + Debug + PartialEq, P: Copy + Debug>(
 #[test]
 fn months_later(rt: HostRuntime) {
     for (from, months, to) in [
+        // `relativedelta` of Python's `dateutil`.
         ((2023, 1, 31), 1, (2023, 2, 28)),
         ((2024, 1, 31), 1, (2024, 2, 29)),
         ((2024, 3, 31), -1, (2024, 2, 29)),
+        ((2023, 12, 31), 2, (2024, 2, 29)),
         // The documentation of chrono.
         ((2022, 2, 20), 6, (2022, 8, 20)),
         ((2022, 7, 31), 2, (2022, 9, 30)),
         // That of java.time.
         ((2007, 3, 31), 1, (2007, 4, 30)),
-        ((2023, 12, 31), 2, (2024, 2, 29)),
+        // ISO 8601: the year 0 comes after the year -1.
         ((0, 1, 1), -1, (-1, 12, 1)),
+        // The range has 23,999,988 months.
         (MIN, 23_999_987, (999999, 12, 1)),
         (MAX, -23_999_987, (-999999, 1, 31)),
         (MIN, 0, MIN),
@@ -65,6 +68,7 @@ fn months_later(rt: HostRuntime) {
     }
 }
 
+/// The range has 23,999,988 months: twelve in each of 1,999,999 years.
 #[test]
 fn months_past_an_end(rt: HostRuntime) {
     for (from, months, end) in [
@@ -86,8 +90,10 @@ fn years_later(rt: HostRuntime) {
     for (from, years, to) in [
         // The documentation of java.time.
         ((2008, 2, 29), 1, (2009, 2, 28)),
+        // `relativedelta` of Python's `dateutil`.
         ((2024, 2, 29), 4, (2028, 2, 29)),
         ((2024, 2, 29), -1, (2023, 2, 28)),
+        // The range: 1,999,999 years.
         (MIN, 1_999_998, (999999, 1, 1)),
         (MAX, -1_999_998, (-999999, 12, 31)),
     ] {
@@ -109,7 +115,7 @@ fn months_years_and_periods_until(rt: HostRuntime) {
     for (from, to, months, (years, past_years, days)) in [
         // The documentation of java.time.
         ((2010, 1, 15), (2011, 3, 18), 14, (1, 2, 3)),
-        // The day before a birthday, and the birthday.
+        // `relativedelta` of Python's `dateutil`: the day before a birthday, the birthday, and days that a month does not have.
         ((1980, 6, 1), (2024, 5, 31), 527, (43, 11, 30)),
         ((1980, 6, 1), (2024, 6, 1), 528, (44, 0, 0)),
         ((2020, 2, 29), (2021, 2, 27), 11, (0, 11, 29)),
@@ -120,6 +126,7 @@ fn months_years_and_periods_until(rt: HostRuntime) {
         ((2023, 1, 31), (2022, 12, 30), -1, (0, -1, -1)),
         ((2023, 3, 31), (2023, 2, 28), -1, (0, -1, 0)),
         ((2024, 2, 29), (2024, 2, 29), 0, (0, 0, 0)),
+        // The range: from the first month to the last, and from the 1st to the 31st.
         (MIN, MAX, 23_999_987, (1_999_998, 11, 30)),
         (MAX, MIN, -23_999_987, (-1_999_998, -11, -30)),
     ] {
@@ -138,9 +145,11 @@ fn months_years_and_periods_until(rt: HostRuntime) {
 #[test]
 fn first_and_last_days(rt: HostRuntime) {
     for (day, month, of_quarter, number) in [
+        // `monthrange` of Python's `calendar`; a quarter has three months.
         ((2024, 2, 29), (1, 29), ((2024, 1, 1), (2024, 3, 31)), 1),
         ((2023, 4, 1), (1, 30), ((2023, 4, 1), (2023, 6, 30)), 2),
         ((2023, 9, 30), (1, 30), ((2023, 7, 1), (2023, 9, 30)), 3),
+        // The range: January and December have 31 days.
         (MIN, (1, 31), (MIN, (-999999, 3, 31)), 1),
         (MAX, (1, 31), ((999999, 10, 1), MAX), 4),
     ] {
@@ -181,6 +190,7 @@ fn mondays_and_sundays(rt: HostRuntime) {
         ((2021, 1, 1), (2020, 12, 28), (2021, 1, 3)),
         ((2008, 12, 29), (2008, 12, 29), (2009, 1, 4)),
         ((2010, 1, 3), (2009, 12, 28), (2010, 1, 3)),
+        // The range begins on a Monday, and ends on a Friday.
         (MIN, MIN, (-999999, 1, 7)),
     ] {
         let day = date(&rt, day);
@@ -193,7 +203,14 @@ fn mondays_and_sundays(rt: HostRuntime) {
         last_of_iso_week(date(&rt, (999999, 12, 26))),
         Some(date(&rt, (999999, 12, 26))),
     );
-    same(&rt, 27, last_of_iso_week(date(&rt, (999999, 12, 27))), None);
+    for day in [27, 31] {
+        same(
+            &rt,
+            day,
+            last_of_iso_week(date(&rt, (999999, 12, day))),
+            None,
+        );
+    }
     same(
         &rt,
         31,
@@ -213,7 +230,9 @@ fn weekdays_of_months(rt: HostRuntime) {
         // Labor Day and the day of Martin Luther King in the United States.
         ((2024, 9), Weekday::Monday, 1, 2),
         ((2024, 1), Weekday::Monday, 3, 15),
+        // Python's `calendar`.
         ((2024, 3), Weekday::Friday, 5, 29),
+        // The range begins on a Monday, and ends on a Friday.
         ((-999999, 1), Weekday::Monday, 1, 1),
         ((999999, 12), Weekday::Friday, 5, 31),
     ] {
@@ -229,10 +248,12 @@ fn weekdays_of_months(rt: HostRuntime) {
 #[test]
 fn weekdays_that_a_month_does_not_have(rt: HostRuntime) {
     for (year, weekday, n, name) in [
+        // Python's `calendar`: this February has five Thursdays, and four of each other weekday.
         (2024, Weekday::Friday, 5, "weekday"),
         (2024, Weekday::Thursday, 6, "weekday"),
         (2024, Weekday::Friday, 0, "weekday"),
         (2024, Weekday::Friday, 255, "weekday"),
+        // The range ends with the year 999999.
         (1000000, Weekday::Friday, 0, "year"),
         (i32::MIN, Weekday::Friday, 1, "year"),
     ] {
@@ -250,6 +271,7 @@ fn weekdays_that_a_month_does_not_have(rt: HostRuntime) {
     }
 }
 
+/// Python's `calendar`.
 #[test]
 fn last_fridays_of_2024(rt: HostRuntime) {
     for (month, day) in [
@@ -274,9 +296,28 @@ fn last_fridays_of_2024(rt: HostRuntime) {
     }
 }
 
+/// The range begins on a Monday, and ends on a Friday: 31 January -999999 is a Wednesday, and 25 December 999999 a Saturday.
+#[test]
+fn last_weekdays_at_the_ends(rt: HostRuntime) {
+    for (month, weekday, day) in [
+        ((-999999, 1), Weekday::Monday, 29),
+        ((-999999, 1), Weekday::Wednesday, 31),
+        ((999999, 12), Weekday::Friday, 31),
+        ((999999, 12), Weekday::Saturday, 25),
+    ] {
+        let (year, number) = month;
+        let wanted = date(&rt, (year, number, day));
+        let Ok(found) = last_weekday_of_month(year, wanted.month(), weekday) else {
+            panic!(rt; "{year} {number} {weekday} is refused");
+        };
+        same(&rt, wanted, found, wanted);
+    }
+}
+
 #[test]
 fn days_next_to_a_day(rt: HostRuntime) {
     for (day, weekday, before, after) in [
+        // Python's `calendar`.
         ((2024, 3, 1), Weekday::Friday, (2024, 3, 1), (2024, 3, 1)),
         ((2024, 3, 1), Weekday::Monday, (2024, 2, 26), (2024, 3, 4)),
         ((2024, 3, 1), Weekday::Thursday, (2024, 2, 29), (2024, 3, 7)),
@@ -299,6 +340,9 @@ fn days_next_to_a_day(rt: HostRuntime) {
             (2024, 10, 29),
             (2024, 11, 5),
         ),
+        // The range begins on a Monday, and ends on a Friday.
+        (MIN, Weekday::Monday, MIN, MIN),
+        (MAX, Weekday::Friday, MAX, MAX),
     ] {
         let day = date(&rt, day);
         same(
@@ -309,26 +353,15 @@ fn days_next_to_a_day(rt: HostRuntime) {
         );
         same(&rt, day, on_or_after(day, weekday), Some(date(&rt, after)));
     }
-    same(
-        &rt,
-        0,
-        on_or_before(Date::MIN, Weekday::Monday),
-        Some(Date::MIN),
-    );
-    same(&rt, 1, on_or_before(Date::MIN, Weekday::Sunday), None);
-    same(
-        &rt,
-        2,
-        on_or_after(Date::MAX, Weekday::Friday),
-        Some(Date::MAX),
-    );
-    same(&rt, 3, on_or_after(Date::MAX, Weekday::Saturday), None);
+    same(&rt, 0, on_or_before(Date::MIN, Weekday::Sunday), None);
+    same(&rt, 1, on_or_after(Date::MAX, Weekday::Saturday), None);
 }
 
 #[test]
 fn days_of_thirty(rt: HostRuntime) {
-    // The examples that are published with the 2006 ISDA Definitions: by the bond basis, by the Eurobond basis, and the days.
+    // By the bond basis, by the Eurobond basis, and the days.
     for (from, to, bond, eurobond, days) in [
+        // The examples that are published with the 2006 ISDA Definitions.
         ((2006, 8, 20), (2007, 2, 20), 180, 180, 184),
         ((2006, 8, 31), (2007, 2, 28), 178, 178, 181),
         ((2007, 2, 28), (2007, 8, 31), 183, 182, 184),
@@ -339,6 +372,9 @@ fn days_of_thirty(rt: HostRuntime) {
         ((2006, 9, 30), (2006, 10, 31), 30, 30, 31),
         ((2007, 2, 26), (2008, 2, 29), 363, 363, 368),
         ((2008, 2, 28), (2008, 3, 31), 33, 32, 32),
+        // The range: 1,999,998 years and 11 months, and from the 1st to the 31st, or the 30th; Julian days -363521074 to 366963559.
+        (MIN, MAX, 719_999_640, 719_999_639, 730_484_633),
+        (MAX, MIN, -719_999_639, -719_999_639, -730_484_633),
     ] {
         let (from, to) = (date(&rt, from), date(&rt, to));
         for (convention, numerator, denominator) in [
@@ -356,8 +392,9 @@ fn days_of_thirty(rt: HostRuntime) {
 
 #[test]
 fn days_of_years_of_both_lengths(rt: HostRuntime) {
-    // The examples of the ISDA's memorandum on actual/actual: the days in years of 365 days, and those in years of 366.
+    // The days in years of 365 days, and those in years of 366.
     for (from, to, of_365, of_366) in [
+        // The examples of the ISDA's memorandum on actual/actual.
         ((2003, 11, 1), (2004, 5, 1), 61, 121),
         ((1999, 2, 1), (1999, 7, 1), 150, 0),
         ((1999, 7, 1), (2000, 7, 1), 184, 182),
@@ -366,7 +403,9 @@ fn days_of_years_of_both_lengths(rt: HostRuntime) {
         ((1999, 7, 30), (2000, 1, 30), 155, 29),
         ((2000, 1, 30), (2000, 6, 30), 0, 152),
         ((1999, 11, 30), (2000, 4, 30), 32, 120),
+        // The range: of its 1,999,999 years 484,999 are leap years, and its last day does not count.
         (MIN, (-999995, 1, 1), 1095, 366),
+        (MIN, MAX, 552_974_999, 177_509_634),
     ] {
         let wanted = of_365 * 366 + of_366 * 365;
         let (from, to) = (date(&rt, from), date(&rt, to));

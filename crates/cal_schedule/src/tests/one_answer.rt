@@ -3,7 +3,7 @@
 //! A proof knows nothing of a call but its clauses. So where they let a second answer through, the line of that call stays open.
 ghost use Rattle.std.specs.Prelude.{◌≡◌};
 
-use crate::Period;
+use crate::{DayCount, Period, YearFraction};
 use cal_time::error::ComponentRange;
 use cal_time::{Date, Month, Weekday};
 
@@ -58,6 +58,18 @@ fn first_of_quarter(date: Date) -> Twice<Date>
     twice!(crate::first_of_quarter(date))
 }
 
+fn last_of_quarter(date: Date) -> Twice<Date>
+    ensures { result.0 ≡ result.1 }
+{
+    twice!(crate::last_of_quarter(date))
+}
+
+fn first_of_year(date: Date) -> Twice<Date>
+    ensures { result.0 ≡ result.1 }
+{
+    twice!(crate::first_of_year(date))
+}
+
 fn last_of_year(date: Date) -> Twice<Date>
     ensures { result.0 ≡ result.1 }
 {
@@ -89,4 +101,10 @@ fn last_weekday_of_month(
     ensures { result.0 ≡ result.1 }
 {
     twice!(crate::last_weekday_of_month(year, month, weekday))
+}
+
+fn day_count(from: Date, to: Date, convention: DayCount) -> Twice<YearFraction>
+    ensures { result.0 ≡ result.1 }
+{
+    twice!(crate::day_count(from, to, convention))
 }

@@ -156,7 +156,8 @@ fn rows_of_numpy(rt: HostRuntime) {
     }
 }
 
-/// A holiday on a Saturday changes nothing; a slice that does not rise is refused; a million working days are 200,000 weeks.
+/// A holiday on a Saturday changes nothing; a slice that does not rise is refused; a million working days are 200,000 weeks, which
+/// `datetime` of Python adds.
 #[test]
 fn lists_and_weeks(rt: HostRuntime) {
     let christmas = date(&rt, (2021, 12, 25));
@@ -194,6 +195,9 @@ fn ends(rt: HostRuntime) {
         office.workdays_between(Date::MAX, Date::MIN),
         -521_774_739,
     );
+    for end in [Date::MIN, Date::MAX] {
+        same(&rt, office.is_workday(end), true);
+    }
     same(&rt, office.next_workday(Date::MAX), None);
     same(&rt, office.previous_workday(Date::MIN), None);
     same(
@@ -222,6 +226,7 @@ fn ends(rt: HostRuntime) {
     let last = [Date::MAX];
     let closed = workdays(&rt, OFFICE, &last);
     let thursday = Some(date(&rt, (999_999, 12, 30)));
+    same(&rt, closed.is_workday(Date::MAX), false);
     same(&rt, closed.adjusted(Date::MAX, Convention::Following), None);
     same(
         &rt,
@@ -231,6 +236,7 @@ fn ends(rt: HostRuntime) {
     let first = [Date::MIN];
     let late = workdays(&rt, OFFICE, &first);
     let tuesday = Some(date(&rt, (-999_999, 1, 2)));
+    same(&rt, late.is_workday(Date::MIN), false);
     same(&rt, late.adjusted(Date::MIN, Convention::Preceding), None);
     same(
         &rt,
