@@ -2000,7 +2000,7 @@ class Recurrence:
         result = _C.recurrence_days(text, len(text), start, key, room, len(room))
         if result.status in _REASONS:
             raise RuleFault(result.position, _REASONS[result.status], _PARTS[result.part])
-        return cast(int, _done(result).length)
+        return _done(result).length
 
 
 def _rule_weekday(weekday: Union[Weekday, Tuple[int, Weekday]]) -> _CRuleWeekday:
