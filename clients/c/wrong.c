@@ -292,6 +292,15 @@ static void rules(int32_t julian_day, uint32_t number, int32_t count)
     DATE(first_of(wrong, FOTS_MANY_PARTS), fots_rule_first(&rule));
 }
 
+/* Of each day, the first one from a date on is that date, or the start where that comes later. */
+static void recurrences(int32_t julian_day, int32_t from)
+{
+    fots_date start = date_at(julian_day), day = date_at(FOTS_NOTHING);
+    const fots_recurrence_result found = fots_recurrence_days("FREQ=DAILY", 10, start, date_at(from), &day, 1);
+    status_is(first_of(of_date(start), of_date(date_at(from))), found.status, found.length == 1 && is_date(day), "recurrence_days", julian_day, from);
+    check(day.julian_day == (found.status == FOTS_DONE ? (julian_day > from ? julian_day : from) : FOTS_NOTHING), "the first day", julian_day, from);
+}
+
 static void times(fots_time time, uint32_t number, fots_duration duration)
 {
     int32_t wrong = of_time(time), with_duration = first_of(wrong, of_duration(duration));
@@ -768,6 +777,7 @@ static void everything(void)
             cycles(drawn_first, drawn_with);
             offsets(seconds, (int32_t)drawn_with);
             rules(day, drawn_first, seconds);
+            recurrences(day, seconds);
         }
     }
     nearly_texts();
