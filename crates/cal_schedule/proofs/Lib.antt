@@ -1,4 +1,5 @@
 pub mod MonthMoves
+pub mod Ordinals
 pub mod RulePeriods
 pub mod Rules
 pub mod Untils
