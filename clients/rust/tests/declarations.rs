@@ -155,7 +155,8 @@ fn refusals_are_those_of_the_header() {
         let text = rest.split_once('"').unwrap().0;
         let number = plain.split_once(&format!("FOTS_{name} = ")).unwrap().1;
         let number: i32 = number.split(|c: char| !c.is_ascii_digit()).next().unwrap().parse().unwrap();
-        if number >= 16 {
+        // An unexpected end is no refusal of a component.
+        if number >= 16 && name != "UNEXPECTED_END" {
             assert!(ERRORS.contains(&format!("            {number} => \"{text}\",\n")), "{name}");
             count += 1;
         }

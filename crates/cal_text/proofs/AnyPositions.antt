@@ -13,6 +13,7 @@ use Rattle.cal_text.specs.declared.error.Unreadable.{Unreadable}
 use Rattle.cal_text.specs.declared.error.Unreadable.TheVariants.{UnexpectedEnd}
 use Rattle.cal_text.specs.declared.form.Form.TheVariants.{Calendar}
 use Rattle.cal_text.specs.declared.rfc3339.numbers.Numbers.{Numbers}
+use Rattle.cal_text.proofs.AnyForms.{of_four, julian-any, unix-any}
 use Rattle.cal_text.proofs.Positions.{begins_less, carried}
 use Rattle.cal_text.proofs.Shapes.{date-shape, moment-shape, julian-first, unix-first, date_digits-long}
 use Rattle.cal_text.proofs.YearTexts.{year-plain}
@@ -33,38 +34,12 @@ widened IsText text e into back = carried IsText HasAnyForm text e (λ p h. reco
 })
 
 pub julian : (text : List ℕ) (e : Unreadable) → get_or text 0 0 ≡ 74 → IsAtStop (HasSome IsJulianForm) text e → IsAtStop HasAnyForm text e
-julian text e first = widened (HasSome IsJulianForm) text e (λ bytes h. inr (inl h)) back
-  where
-    back : (q : ℕ) → 0 < q → q ≤ length text → Begins HasAnyForm (take q text) → Begins (HasSome IsJulianForm) (take q text)
-    back q some few b =
-        let at = at_same text b.more 0 q some few ∙ first in
-        elim b.text as (λ _. Begins (HasSome IsJulianForm) (take q text)) [
-          | inl date ↦ absurd ((date-shape (take q text ++ b.more) date.0 date.1).first.0 at)
-          | inr other ↦ elim other as (λ _. Begins (HasSome IsJulianForm) (take q text)) [
-            | inl here ↦ record { more = b.more; text = here }
-            | inr other ↦ elim other as (λ _. Begins (HasSome IsJulianForm) (take q text)) [
-              | inl moment ↦ absurd ((moment-shape (take q text ++ b.more) moment.0 moment.1).first.0 at)
-              | inr unix ↦ absurd (omega (arith, at, unix-first (take q text ++ b.more) unix.0 unix.1))
-            ]
-          ]
-        ]
+julian text e first = widened (HasSome IsJulianForm) text e (λ bytes h. inr (inl h))
+    (λ q some few b. record { more = b.more; text = julian-any (take q text ++ b.more) (at_same text b.more 0 q some few ∙ first) b.text })
 
 pub unix : (text : List ℕ) (e : Unreadable) → get_or text 0 0 ≡ 64 → IsAtStop (HasSome HasUnixForm) text e → IsAtStop HasAnyForm text e
-unix text e first = widened (HasSome HasUnixForm) text e (λ bytes h. inr (inr (inr h))) back
-  where
-    back : (q : ℕ) → 0 < q → q ≤ length text → Begins HasAnyForm (take q text) → Begins (HasSome HasUnixForm) (take q text)
-    back q some few b =
-        let at = at_same text b.more 0 q some few ∙ first in
-        elim b.text as (λ _. Begins (HasSome HasUnixForm) (take q text)) [
-          | inl date ↦ absurd ((date-shape (take q text ++ b.more) date.0 date.1).first.1 at)
-          | inr other ↦ elim other as (λ _. Begins (HasSome HasUnixForm) (take q text)) [
-            | inl julian ↦ absurd (omega (arith, at, julian-first (take q text ++ b.more) julian.0 julian.1))
-            | inr other ↦ elim other as (λ _. Begins (HasSome HasUnixForm) (take q text)) [
-              | inl moment ↦ absurd ((moment-shape (take q text ++ b.more) moment.0 moment.1).first.1 at)
-              | inr here ↦ record { more = b.more; text = here }
-            ]
-          ]
-        ]
+unix text e first = widened (HasSome HasUnixForm) text e (λ bytes h. inr (inr (inr h)))
+    (λ q some few b. record { more = b.more; text = unix-any (take q text ++ b.more) (at_same text b.more 0 q some few ∙ first) b.text })
 
 -- ---- dates and moments
 -- the date of a moment has the form of one
@@ -97,16 +72,8 @@ BeginsEither bytes = Begins (HasSome HasForm) bytes ⊎ Begins (HasSome HasMomen
 either : (text : List ℕ) (q : ℕ) → IsOther text → 0 < q → q ≤ length text → Begins HasAnyForm (take q text) → BeginsEither (take q text)
 either text q other some few b =
     let at = at_same text b.more 0 q some few in
-    elim b.text as (λ _. BeginsEither (take q text)) [
-      | inl date ↦ inl (record { more = b.more; text = date })
-      | inr rest ↦ elim rest as (λ _. BeginsEither (take q text)) [
-        | inl julian ↦ absurd (other.0 (sym at ∙ julian-first (take q text ++ b.more) julian.0 julian.1))
-        | inr rest ↦ elim rest as (λ _. BeginsEither (take q text)) [
-          | inl moment ↦ inr (record { more = b.more; text = moment })
-          | inr unix ↦ absurd (other.1 (sym at ∙ unix-first (take q text ++ b.more) unix.0 unix.1))
-        ]
-      ]
-    ]
+    of_four b.text (λ date. inl (record { more = b.more; text = date })) (λ julian. absurd (other.0 (sym at ∙ julian-first (take q text ++ b.more) julian.0 julian.1)))
+    (λ moment. inr (record { more = b.more; text = moment })) (λ unix. absurd (other.1 (sym at ∙ unix-first (take q text ++ b.more) unix.0 unix.1)))
 
 pub date : (text : List ℕ) (e : Unreadable) → IsOther text → ¬ IsSeparator (get_or text 10 0) → IsAtStop (HasSome HasForm) text e → IsAtStop HasAnyForm text e
 date text e other none = widened (HasSome HasForm) text e (λ bytes h. inl h) back
