@@ -45,7 +45,8 @@ public:
     // Whether the range of the component depends on other components.
     bool is_conditional() const noexcept { return fots_status_is_conditional(status_) != 0; }
 
-    // Where the status is FOTS_UNREADABLE, the position of the first byte that no text has there; of a rule_fault that of the part.
+    // Where the status is FOTS_UNREADABLE, the position of the first byte that no text has there; where it is FOTS_UNEXPECTED_END, the
+    // length of the text; of a rule_fault that of the part.
     std::size_t position() const noexcept { return position_; }
 
 private:
@@ -53,6 +54,9 @@ private:
     {
         if (status == FOTS_UNREADABLE) {
             return "unexpected byte at " + std::to_string(position);
+        }
+        if (status == FOTS_UNEXPECTED_END) {
+            return "unexpected end at " + std::to_string(position);
         }
         if (status >= FOTS_UNKNOWN_PART && status <= FOTS_NO_FREQUENCY) {
             return fots_status_name(status) + (" at " + std::to_string(position));

@@ -73,9 +73,10 @@ void dates()
 void refusals()
 {
     throws([] { Date::from_calendar_date(2023, 2, 29); }, FOTS_DAY, "day was not in range", "29 February of 2023");
-    throws([] { Date::read("2024-02-3"); }, FOTS_UNREADABLE, "unexpected byte at 9", "a text that ends too early");
-    throws([] { Date::read(""); }, FOTS_UNREADABLE, "unexpected byte at 0", "no text");
-    throws([] { Date::read(std::string_view()); }, FOTS_UNREADABLE, "unexpected byte at 0", "no text at all");
+    throws([] { Date::read("2024-02-3"); }, FOTS_UNEXPECTED_END, "unexpected end at 9", "a text that ends too early");
+    throws([] { Date::read("2024x"); }, FOTS_UNREADABLE, "unexpected byte at 4", "a wrong byte");
+    throws([] { Date::read(""); }, FOTS_UNEXPECTED_END, "unexpected end at 0", "no text");
+    throws([] { Date::read(std::string_view()); }, FOTS_UNEXPECTED_END, "unexpected end at 0", "no text at all");
     throws([] { Date::max() + Duration::days(1); }, FOTS_PAST_RANGE, "past the range", "a day after the last one");
     throws([] { Date(fots_date{FOTS_NOTHING}); }, FOTS_BAD_DATE, "bad date", "no date");
     throws([] { Time::from_hms(24, 0, 0); }, FOTS_HOUR, "hour was not in range", "hour 24");

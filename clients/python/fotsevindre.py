@@ -292,6 +292,7 @@ _C: Any = type("_C", (), _calls)
 _PAST_RANGE = 1
 _BAD_COUNT = 7
 _UNREADABLE = 8
+_UNEXPECTED_END = 31
 _REFUSALS = {
     16: "year", 17: "month", 18: "julian_day", 19: "hour", 20: "minute", 21: "second", 22: "millisecond", 23: "microsecond",
     24: "nanosecond", 25: "offset hour", 26: "offset minute", 27: "offset second", 28: "seconds", 29: "timestamp",
@@ -327,21 +328,26 @@ class ComponentRange(ValueError):
 class Unreadable(ValueError):
     """A text has no form that is read: `position` is that, from 0, of the first character that no text of the forms has there.
 
-    It is the length of a text that ends too early.
+    Where the text ends too early, so that some more characters make one that is read, `is_end` is true, and `position` its length.
 
     >>> Date.read("2024x")
     Traceback (most recent call last):
     fotsevindre.Unreadable: unexpected byte at 4
+    >>> Date.read("2024-02-2")
+    Traceback (most recent call last):
+    fotsevindre.Unreadable: unexpected end at 9
     """
 
     position: int
+    is_end: bool
 
-    def __init__(self, position: int) -> None:
-        super().__init__(position)
+    def __init__(self, position: int, is_end: bool) -> None:
+        super().__init__(position, is_end)
         self.position = position
+        self.is_end = is_end
 
     def __str__(self) -> str:
-        return f"unexpected byte at {self.position}"
+        return f"unexpected {'end' if self.is_end else 'byte'} at {self.position}"
 
 
 def _error(status: int) -> Exception:
@@ -354,6 +360,8 @@ def _error(status: int) -> Exception:
         return OverflowError("a count of occurrences is from 0 to 255")
     if status == _UNREADABLE:
         return ValueError("the text has no form that is read")
+    if status == _UNEXPECTED_END:
+        return ValueError("the text ends too early")
     return ValueError(f"the library refused a value, with status {status}")
 
 
@@ -376,8 +384,8 @@ def _read(call: Callable[..., _Result], text: str) -> _Result:
     # Every byte before the first wrong one is ASCII, so its position is the same among the characters. A lone surrogate is a wrong byte.
     encoded = _is(text, str).encode("utf-8", "surrogatepass")
     result = call(encoded, len(encoded))
-    if result.status == _UNREADABLE:
-        raise Unreadable(result.position)
+    if result.status in (_UNREADABLE, _UNEXPECTED_END):
+        raise Unreadable(result.position, result.status == _UNEXPECTED_END)
     return _done(result)
 
 

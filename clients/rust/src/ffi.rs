@@ -24,6 +24,7 @@ const BAD_OFFSET: i32 = 4;
 const BAD_WEEKDAY: i32 = 6;
 /// The status of a call that was given bytes of none of its forms.
 const UNREADABLE: i32 = 8;
+const UNEXPECTED_END: i32 = 31;
 
 /// What a call over columns returns where these are not of one length.
 const UNLIKE: usize = usize::MAX;
@@ -473,6 +474,7 @@ macro_rules! calls_that_read {
                 let position = result.position;
                 result.answer().map_err(|status| match status {
                     UNREADABLE => Unreadable::UnexpectedByte(position),
+                    UNEXPECTED_END => Unreadable::UnexpectedEnd(position),
                     status => Unreadable::OutOfRange(ComponentRange::of_status(status)),
                 })
             }
@@ -583,6 +585,7 @@ pub(crate) fn refusal_of(status: i32) -> Option<Refusal> {
         BAD_TIME => Some(Refusal::NoTime),
         BAD_OFFSET => Some(Refusal::NoOffset),
         UNREADABLE => Some(Refusal::Unreadable),
+        UNEXPECTED_END => Some(Refusal::UnexpectedEnd),
         status => Some(Refusal::OutOfRange(ComponentRange::of_status(status))),
     }
 }

@@ -24,7 +24,7 @@ pub const BAD_WEEKDAY: i32 = 6;
 
 pub const BAD_COUNT: i32 = 7;
 
-/// The bytes are no text that the call reads.
+/// The bytes are no text that the call reads, and one of them is wrong.
 pub const UNREADABLE: i32 = 8;
 
 pub const BAD_MOMENT: i32 = 9;
@@ -77,6 +77,9 @@ pub const TIMESTAMP: i32 = 29;
 
 /// The bounds of a text do not lie in the bytes, one after the other.
 pub const BOUNDS: i32 = 30;
+
+/// The bytes are no text that the call reads, and some more make one.
+pub const UNEXPECTED_END: i32 = 31;
 
 /// A part of the text of a recurrence has no name that is read.
 pub const UNKNOWN_PART: i32 = 32;
