@@ -90,8 +90,8 @@ typedef struct fots_moment {
 #define FOTS_NO_PART UINT32_C(2147483648)
 #define FOTS_NO_TIME UINT64_MAX
 
-/* The status of a call. From 16 on it is a refusal, by the name of the component that is out of range; from 64 on the range of that
- * component depends on others: that of a day on the month and the year. */
+/* The status of a call. From 16 to 29 and from 64 on it is a refusal, by the name of the component that is out of range; from 64 on the
+ * range of that component depends on others: that of a day on the month and the year. Those from 32 to 36 are of the text of a recurrence. */
 enum fots_status {
     FOTS_DONE = 0,
     FOTS_PAST_RANGE = 1, /* the exact result is no value of its type */
@@ -101,7 +101,7 @@ enum fots_status {
     FOTS_BAD_DURATION = 5,
     FOTS_BAD_WEEKDAY = 6,
     FOTS_BAD_COUNT = 7, /* a count above 255 */
-    FOTS_UNREADABLE = 8, /* the bytes have none of the forms that the call reads */
+    FOTS_UNREADABLE = 8, /* the bytes have none of the forms that the call reads: one is wrong */
     FOTS_BAD_MOMENT = 9,
     FOTS_BAD_FREQUENCY = 10, /* a number of no frequency */
     FOTS_MANY_PARTS = 11, /* a rule of more than 12 months or 64 weekdays */
@@ -124,6 +124,12 @@ enum fots_status {
     FOTS_SECONDS = 28,
     FOTS_TIMESTAMP = 29, /* a Unix time of no day of the range */
     FOTS_BOUNDS = 30, /* those of a text do not lie in the bytes, one after the other */
+    FOTS_UNEXPECTED_END = 31, /* the bytes end too early: some more make a text that the call reads */
+    FOTS_UNKNOWN_PART = 32, /* a part of the text of a recurrence has no name that is read */
+    FOTS_PART_TWICE = 33, /* it comes again, or is a second end */
+    FOTS_MANY_VALUES = 34, /* its value has more than 62 words with commas between them */
+    FOTS_PART_VALUE = 35, /* it has no value that is read */
+    FOTS_NO_FREQUENCY = 36, /* there is no FREQ */
     FOTS_DAY = 64,
     FOTS_ORDINAL = 65,
     FOTS_WEEK = 66,
@@ -166,6 +172,12 @@ static inline const char *fots_status_name(int32_t status)
     case FOTS_SECONDS: return "seconds";
     case FOTS_TIMESTAMP: return "timestamp";
     case FOTS_BOUNDS: return "bounds";
+    case FOTS_UNEXPECTED_END: return "unexpected end";
+    case FOTS_UNKNOWN_PART: return "unknown part";
+    case FOTS_PART_TWICE: return "part twice";
+    case FOTS_MANY_VALUES: return "many values";
+    case FOTS_PART_VALUE: return "part value";
+    case FOTS_NO_FREQUENCY: return "no frequency";
     case FOTS_DAY: return "day";
     case FOTS_ORDINAL: return "ordinal";
     case FOTS_WEEK: return "week";
@@ -286,8 +298,8 @@ typedef struct fots_text_result {
 typedef struct fots_read_date_result {
     int32_t status;
     fots_date date; /* or {FOTS_NOTHING} */
-    size_t position; /* where the status is FOTS_UNREADABLE, that from 0 of the first byte that no such text has there, or the length
-                      * of a text that ends too early; else SIZE_MAX */
+    size_t position; /* where the status is FOTS_UNREADABLE, that from 0 of the first byte that no such text has there; where it is
+                      * FOTS_UNEXPECTED_END, the length; else SIZE_MAX */
 } fots_read_date_result;
 
 /* A date, a time of day and an offset that were read. */
@@ -312,6 +324,15 @@ typedef struct fots_days_result {
     int32_t status;
     size_t length; /* or 0 */
 } fots_days_result;
+
+/* How many days of a recurrence were written, or the part of its text that is at fault. */
+typedef struct fots_recurrence_result {
+    int32_t status;
+    uint32_t part; /* a fots_rule_part where the status is FOTS_PART_TWICE, FOTS_MANY_VALUES or FOTS_PART_VALUE, else 0 */
+    size_t length; /* or 0 */
+    size_t position; /* from FOTS_UNKNOWN_PART to FOTS_NO_FREQUENCY that from 0 of the first byte of the part, or of FOTS_NO_FREQUENCY
+                      * the length of the text; else SIZE_MAX */
+} fots_recurrence_result;
 
 /* A fraction of a year: what was counted, over what a year counts. */
 typedef struct fots_year_fraction_result {
@@ -546,6 +567,27 @@ fots_part_result fots_rule_contains(const fots_rule *rule, fots_date date);
 /* Writes the days of the rule after the date, in order, as many as there is room for, and answers how many they are: fewer where the range
  * has no more. The array must be there, also one of length 0, and shares no memory with the rule. */
 fots_days_result fots_rule_days_after(const fots_rule *rule, fots_date date, fots_date *days, size_t days_length);
+
+/* The parts of the text of a recurrence. */
+enum fots_rule_part {
+    FOTS_RULE_FREQ = 1,
+    FOTS_RULE_INTERVAL = 2,
+    FOTS_RULE_WKST = 3,
+    FOTS_RULE_BYMONTH = 4,
+    FOTS_RULE_BYMONTHDAY = 5,
+    FOTS_RULE_BYDAY = 6,
+    FOTS_RULE_UNTIL = 7,
+    FOTS_RULE_COUNT = 8
+};
+
+/* Writes the days of the recurrence that the text says, with this start, from a date on, in order, as many as there is room for, and answers
+ * how many they are: fewer where there are no more. COUNT counts from the start. The text is what RFC 5545 writes behind RRULE:, of the parts
+ * above. It is refused for the first part at fault as FOTS_UNKNOWN_PART, FOTS_MANY_VALUES, FOTS_PART_TWICE or FOTS_PART_VALUE, or as
+ * FOTS_NO_FREQUENCY, and after that FOTS_BAD_DATE of the start and the date, also with no room. The array must be there, also one of
+ * length 0, and shares no memory with the text. Those of "FREQ=MONTHLY;BYDAY=-1FR;COUNT=3" with the start 2460311, 2024-01-01, from
+ * 2460350 on are 2460364 and 2460399. */
+fots_recurrence_result fots_recurrence_days(const char *text, size_t text_length, fots_date start, fots_date from, fots_date *days,
+    size_t days_length);
 
 /* ---- day counts */
 
@@ -823,25 +865,28 @@ fots_text_result fots_weekday_name(uint32_t weekday);
  *
  * Each call takes bytes and their number, and looks at no byte after them; no zero byte need be there. The bytes must be there, also where
  * their number is 0. The whole of them must be the text: no spaces, and nothing before or after it. A text that has not the form is
- * FOTS_UNREADABLE, with a position; one that has the form is refused for the first component that is out of range. */
+ * FOTS_UNREADABLE with the position of the wrong byte, or FOTS_UNEXPECTED_END where it ends too early; one that has the form is refused
+ * for the first component that is out of range. */
 
 /* The day of a calendar date, an ordinal date or an ISO week date, as "2024-02-29", "2024-060" and "2024-W09-4", just as they are
- * printed: years from 0 to 9999 in four digits, others with their sign. Refused as FOTS_UNREADABLE, FOTS_MONTH, FOTS_YEAR, FOTS_DAY,
- * FOTS_ORDINAL, FOTS_WEEK, or as FOTS_WEEKDAY after the last day. "2024-02-3" is unreadable at 9, and "2023-02-29" has no such day. */
+ * printed: years from 0 to 9999 in four digits, others with their sign. Refused as FOTS_UNREADABLE, FOTS_UNEXPECTED_END, FOTS_MONTH,
+ * FOTS_YEAR, FOTS_DAY, FOTS_ORDINAL, FOTS_WEEK, or as FOTS_WEEKDAY after the last day. "2024x" is unreadable at 4, "2024-02-3" ends too
+ * early, and "2023-02-29" has no such day. */
 fots_read_date_result fots_date_read(const char *text, size_t length);
 
-/* The day of a Julian day after a letter J, as "J2460370" and "J-1". Refused as FOTS_UNREADABLE, or as FOTS_JULIAN_DAY where no day of
- * the range has it. */
+/* The day of a Julian day after a letter J, as "J2460370" and "J-1". Refused as FOTS_UNREADABLE, FOTS_UNEXPECTED_END, or as
+ * FOTS_JULIAN_DAY where no day of the range has it. */
 fots_read_date_result fots_julian_day_read(const char *text, size_t length);
 
 /* The date, the time of day and the offset of a text of RFC 3339, as "2024-02-29T23:59:59.25+01:00". A T, a t or one space is before the
  * time; of a fraction the first nine digits count; the offset is Z, z, or a sign, hours and minutes. Refused as FOTS_UNREADABLE,
- * FOTS_MONTH, FOTS_DAY, FOTS_HOUR, FOTS_MINUTE, FOTS_SECOND (60 too), FOTS_OFFSET_HOUR above 23, or FOTS_OFFSET_MINUTE. */
+ * FOTS_UNEXPECTED_END, FOTS_MONTH, FOTS_DAY, FOTS_HOUR, FOTS_MINUTE, FOTS_SECOND (60 too), FOTS_OFFSET_HOUR above 23, or
+ * FOTS_OFFSET_MINUTE. */
 fots_read_moment_result fots_moment_read(const char *text, size_t length);
 
 /* The date and the time of day at UTC, so with an offset of 0, of a Unix time in text, as "@1709164800.5": an @, at most 18 digits, with a
- * minus sign below 0, and a fraction of at most nine. Refused as FOTS_UNREADABLE, or as FOTS_TIMESTAMP where no day of the range has
- * it. */
+ * minus sign below 0, and a fraction of at most nine. Refused as FOTS_UNREADABLE, FOTS_UNEXPECTED_END, or as FOTS_TIMESTAMP where no day
+ * of the range has it. */
 fots_read_moment_result fots_unix_read(const char *text, size_t length);
 
 /* ---- whole columns

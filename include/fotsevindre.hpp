@@ -2,7 +2,8 @@
 //
 // Values compare, copy as plain numbers and have no default. A call that has no answer throws an error, which says why; one that returns a
 // std::optional returns an empty one past the range. What each call takes and refuses is said at the call of the same name in
-// fotsevindre.h; the calls of PlainDateTime and OffsetDateTime are those of fots_moment, and those of Rule of fots_rule.
+// fotsevindre.h; the calls of PlainDateTime and OffsetDateTime are those of fots_moment, those of Rule of fots_rule, and those of Recurrence
+// of fots_recurrence.
 #ifndef FOTSEVINDRE_HPP
 #define FOTSEVINDRE_HPP
 
@@ -44,7 +45,8 @@ public:
     // Whether the range of the component depends on other components.
     bool is_conditional() const noexcept { return fots_status_is_conditional(status_) != 0; }
 
-    // Where the status is FOTS_UNREADABLE, the position of the first byte that no text has there.
+    // Where the status is FOTS_UNREADABLE, the position of the first byte that no text has there; where it is FOTS_UNEXPECTED_END, the
+    // length of the text; of a rule_fault that of the part.
     std::size_t position() const noexcept { return position_; }
 
 private:
@@ -53,11 +55,29 @@ private:
         if (status == FOTS_UNREADABLE) {
             return "unexpected byte at " + std::to_string(position);
         }
+        if (status == FOTS_UNEXPECTED_END) {
+            return "unexpected end at " + std::to_string(position);
+        }
+        if (status >= FOTS_UNKNOWN_PART && status <= FOTS_NO_FREQUENCY) {
+            return fots_status_name(status) + (" at " + std::to_string(position));
+        }
         return status >= FOTS_YEAR ? std::string(fots_status_name(status)) + " was not in range" : fots_status_name(status);
     }
 
     std::int32_t status_;
     std::size_t position_;
+};
+
+// The first part at fault of a text that is none of a recurrence.
+class rule_fault : public error {
+public:
+    explicit rule_fault(fots_recurrence_result result) : error(result.status, result.position), part_(result.part) {}
+
+    // The part, as FOTS_RULE_BYDAY, or 0 where the status is FOTS_UNKNOWN_PART or FOTS_NO_FREQUENCY.
+    std::uint32_t part() const noexcept { return part_; }
+
+private:
+    std::uint32_t part_;
 };
 
 namespace detail {
@@ -470,6 +490,21 @@ private:
     std::vector<fots_date> holidays_;
 };
 
+namespace detail {
+
+// The dates that a call has written, so many.
+inline std::vector<Date> first_dates(const std::vector<fots_date> &written, std::size_t length)
+{
+    std::vector<Date> dates;
+    dates.reserve(length);
+    for (std::size_t index = 0; index < length; ++index) {
+        dates.push_back(Date(written[index], {}));
+    }
+    return dates;
+}
+
+} // namespace detail
+
 enum class Frequency : std::uint32_t { Daily = FOTS_DAILY, Weekly = FOTS_WEEKLY, Monthly = FOTS_MONTHLY, Yearly = FOTS_YEARLY };
 
 // A weekday of a rule: each one, or the so-and-so-many-th, from the end where the number is below 0; 0 stands for each one.
@@ -512,12 +547,7 @@ public:
         std::vector<fots_date> room(count + 1);
         const fots_days_result written = detail::done(
             with([&](const fots_rule *rule) { return fots_rule_days_after(rule, date.c(), room.data(), count); }));
-        std::vector<Date> days;
-        days.reserve(written.length);
-        for (std::size_t index = 0; index < written.length; ++index) {
-            days.push_back(Date(room[index], {}));
-        }
-        return days;
+        return detail::first_dates(room, written.length);
     }
     // The first days of the rule: a rule that ends after a number of times.
     std::vector<Date> first_days(std::size_t count) const
@@ -562,6 +592,37 @@ private:
         }
         return call(&rule);
     }
+};
+
+// What RFC 5545 writes behind RRULE:, by its text, as "FREQ=MONTHLY;BYDAY=-1FR;COUNT=12".
+class Recurrence {
+public:
+    // What the text says. It throws a rule_fault.
+    static Recurrence parse(std::string_view text)
+    {
+        const Recurrence recurrence(text);
+        recurrence.days(Date::max(), 0);
+        return recurrence;
+    }
+
+    // The days from a start on, in order: so many, or fewer where there are no more.
+    std::vector<Date> days(Date start, std::size_t count) const { return days_from(start, start, count); }
+    // Those of them from a date on.
+    std::vector<Date> days_from(Date start, Date from, std::size_t count) const
+    {
+        // One more than there are, so that the array is there.
+        std::vector<fots_date> room(count + 1);
+        const fots_recurrence_result written = fots_recurrence_days(text_.data(), text_.size(), start.c(), from.c(), room.data(), count);
+        if (written.status != FOTS_DONE) {
+            throw rule_fault(written);
+        }
+        return detail::first_dates(room, written.length);
+    }
+
+private:
+    explicit Recurrence(std::string_view text) : text_(text) {}
+
+    std::string text_;
 };
 
 // The date and the time so much later, to the nanosecond, or none past the range.

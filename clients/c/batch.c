@@ -273,14 +273,14 @@ static void bad_texts(void)
     static const char text[] = "2024-02-292024-02-30";
     const int32_t wrong[] = {0, 10, 20, 10, 21, -1, 10, INT32_MIN, INT32_MAX, 0, 0};
     const uint8_t expected[] = {FOTS_DONE, FOTS_DAY, FOTS_BOUNDS, FOTS_BOUNDS, FOTS_BOUNDS, FOTS_BOUNDS, FOTS_BOUNDS,
-        FOTS_BOUNDS, FOTS_BOUNDS, FOTS_UNREADABLE};
+        FOTS_BOUNDS, FOTS_BOUNDS, FOTS_UNEXPECTED_END};
     check(fots_dates_read(text, 20, wrong, 11, found, 10, statuses, 10) == 9, "texts that are none", 0, 0);
     for (size_t k = 0; k < 10; k++) {
         check(statuses[k] == expected[k] && found[k] == (k == 0 ? 2460370 : FOTS_NOTHING), "a text that is none", (long long)k, statuses[k]);
     }
     check(fots_moments_read(text, 20, wrong, 11, found, 10, found_times, 10, found_offsets, 10, statuses, 10) == 10, "no moments", 0, 0);
     for (size_t k = 0; k < 10; k++) {
-        check(statuses[k] == (k == 0 || k == 1 || k == 9 ? FOTS_UNREADABLE : FOTS_BOUNDS) && found_times[k] == FOTS_NO_TIME,
+        check(statuses[k] == (k == 0 || k == 1 || k == 9 ? FOTS_UNEXPECTED_END : FOTS_BOUNDS) && found_times[k] == FOTS_NO_TIME,
             "a moment that is none", (long long)k, statuses[k]);
     }
     statuses[0] = 77;

@@ -101,7 +101,7 @@ static void is_read(fots_read_date_result result, fots_date date, const char *wh
         result.date.julian_day);
 }
 
-/* What is refused, with its position where it is unreadable. */
+/* What is refused, with its position where it is unreadable or ends too early. */
 static void is_not_read(fots_read_date_result result, int32_t status, size_t position, const char *what)
 {
     check(result.status == status && result.date.julian_day == FOTS_NOTHING && result.position == position, what, result.status,
@@ -456,10 +456,10 @@ static void refused_texts_of_days(void)
         int32_t status;
         size_t position;
     } rows[] = {
-        {"", FOTS_UNREADABLE, 0}, {"2024x", FOTS_UNREADABLE, 4}, {"2024", FOTS_UNREADABLE, 4}, {"20240229", FOTS_UNREADABLE, 4},
+        {"", FOTS_UNEXPECTED_END, 0}, {"2024x", FOTS_UNREADABLE, 4}, {"2024", FOTS_UNEXPECTED_END, 4}, {"20240229", FOTS_UNREADABLE, 4},
         {"12345-01-01", FOTS_UNREADABLE, 4}, {"+2024-01-01", FOTS_UNREADABLE, 5}, {"+02024-01-01", FOTS_UNREADABLE, 1},
-        {"-0000-01-01", FOTS_UNREADABLE, 4}, {"-12345678901-001", FOTS_UNREADABLE, 10}, {"2024-60", FOTS_UNREADABLE, 7},
-        {"2024-02-2", FOTS_UNREADABLE, 9}, {"2024-02-29 ", FOTS_UNREADABLE, 10}, {"2024-w09-4", FOTS_UNREADABLE, 5},
+        {"-0000-01-01", FOTS_UNREADABLE, 4}, {"-12345678901-001", FOTS_UNREADABLE, 10}, {"2024-60", FOTS_UNEXPECTED_END, 7},
+        {"2024-02-2", FOTS_UNEXPECTED_END, 9}, {"2024-02-29 ", FOTS_UNREADABLE, 10}, {"2024-w09-4", FOTS_UNREADABLE, 5},
         {"2024-W09-0", FOTS_UNREADABLE, 9}, {"2024-W09-8", FOTS_UNREADABLE, 9}, {"2024-02-29T", FOTS_UNREADABLE, 10},
         {"2024-13-01", FOTS_MONTH, SIZE_MAX}, {"+1000000-13-01", FOTS_MONTH, SIZE_MAX}, {"+1000000-001", FOTS_YEAR, SIZE_MAX},
         {"2023-02-29", FOTS_DAY, SIZE_MAX}, {"2023-366", FOTS_ORDINAL, SIZE_MAX}, {"2021-W53-1", FOTS_WEEK, SIZE_MAX},
@@ -470,7 +470,7 @@ static void refused_texts_of_days(void)
         int32_t status;
         size_t position;
     } julian_days[] = {
-        {"", FOTS_UNREADABLE, 0}, {"2460370", FOTS_UNREADABLE, 0}, {"J", FOTS_UNREADABLE, 1}, {"J-", FOTS_UNREADABLE, 2},
+        {"", FOTS_UNEXPECTED_END, 0}, {"2460370", FOTS_UNREADABLE, 0}, {"J", FOTS_UNEXPECTED_END, 1}, {"J-", FOTS_UNEXPECTED_END, 2},
         {"J+1", FOTS_UNREADABLE, 1}, {"J-0", FOTS_UNREADABLE, 2}, {"J02", FOTS_UNREADABLE, 2}, {"J24603700000", FOTS_UNREADABLE, 10},
         {"J2460370 ", FOTS_UNREADABLE, 8}, {"J366963560", FOTS_JULIAN_DAY, SIZE_MAX}, {"J-363521075", FOTS_JULIAN_DAY, SIZE_MAX},
     };
@@ -509,9 +509,9 @@ static void texts_of_moments(void)
         {"2024-00-99T99:99:99Z", FOTS_MONTH, SIZE_MAX}, {"2023-02-29T24:00:00Z", FOTS_DAY, SIZE_MAX},
         {"2024-02-29T24:60:60Z", FOTS_HOUR, SIZE_MAX}, {"2024-02-29T23:60:60+24:00", FOTS_MINUTE, SIZE_MAX},
         {"2024-02-29T23:59:59+24:60", FOTS_OFFSET_HOUR, SIZE_MAX}, {"2024-02-29T23:59:59-23:60", FOTS_OFFSET_MINUTE, SIZE_MAX},
-        {"", FOTS_UNREADABLE, 0}, {"-2024-02-29T00:00:00Z", FOTS_UNREADABLE, 0}, {"2024-02-29", FOTS_UNREADABLE, 10},
+        {"", FOTS_UNEXPECTED_END, 0}, {"-2024-02-29T00:00:00Z", FOTS_UNREADABLE, 0}, {"2024-02-29", FOTS_UNEXPECTED_END, 10},
         {"2024-02-29  00:00:00Z", FOTS_UNREADABLE, 11}, {"2024-02-29T00:00Z", FOTS_UNREADABLE, 16},
-        {"2024-02-29T00:00:00.Z", FOTS_UNREADABLE, 20}, {"2024-02-29T00:00:00.5", FOTS_UNREADABLE, 21},
+        {"2024-02-29T00:00:00.Z", FOTS_UNREADABLE, 20}, {"2024-02-29T00:00:00.5", FOTS_UNEXPECTED_END, 21},
         {"2024-02-29T00:00:00Z ", FOTS_UNREADABLE, 20}, {"2024-02-29T00:00:00+0100", FOTS_UNREADABLE, 22},
     };
     for (int k = 0; k < COUNT(rows); k++) {
@@ -562,9 +562,9 @@ static void unix_times(void)
         size_t position;
     } refused[] = {
         {"@31494784780800", FOTS_TIMESTAMP, SIZE_MAX}, {"@-31619087596800.000000001", FOTS_TIMESTAMP, SIZE_MAX},
-        {"@999999999999999999", FOTS_TIMESTAMP, SIZE_MAX}, {"", FOTS_UNREADABLE, 0}, {"@", FOTS_UNREADABLE, 1},
-        {"@+1", FOTS_UNREADABLE, 1}, {"@01", FOTS_UNREADABLE, 2}, {"@-0", FOTS_UNREADABLE, 3}, {"@-0.0", FOTS_UNREADABLE, 5},
-        {"@1.", FOTS_UNREADABLE, 3}, {"@1.1234567890", FOTS_UNREADABLE, 12}, {"@1000000000000000000", FOTS_UNREADABLE, 19},
+        {"@999999999999999999", FOTS_TIMESTAMP, SIZE_MAX}, {"", FOTS_UNEXPECTED_END, 0}, {"@", FOTS_UNEXPECTED_END, 1},
+        {"@+1", FOTS_UNREADABLE, 1}, {"@01", FOTS_UNREADABLE, 2}, {"@-0", FOTS_UNEXPECTED_END, 3}, {"@-0.0", FOTS_UNEXPECTED_END, 5},
+        {"@1.", FOTS_UNEXPECTED_END, 3}, {"@1.1234567890", FOTS_UNREADABLE, 12}, {"@1000000000000000000", FOTS_UNREADABLE, 19},
     };
     fots_pair_result pair;
     for (int k = 0; k < COUNT(rows); k++) {
@@ -619,6 +619,7 @@ static void names(void)
     check(strcmp(fots_status_name(FOTS_OFFSET_HOUR), "offset hour") == 0, "the name of a refusal", FOTS_OFFSET_HOUR, 0);
     check(strcmp(fots_status_name(FOTS_PAST_RANGE), "past the range") == 0, "the name of a status", FOTS_PAST_RANGE, 0);
     check(strcmp(fots_status_name(FOTS_UNREADABLE), "unreadable") == 0, "the name of a status", FOTS_UNREADABLE, 0);
+    check(strcmp(fots_status_name(FOTS_UNEXPECTED_END), "unexpected end") == 0, "the name of a status", FOTS_UNEXPECTED_END, 0);
     check(strcmp(fots_status_name(FOTS_TIMESTAMP), "timestamp") == 0, "the name of a refusal", FOTS_TIMESTAMP, 0);
     check(!fots_status_is_conditional(FOTS_TIMESTAMP) && !fots_status_is_conditional(FOTS_UNREADABLE), "the marks", 0, 0);
     check(strcmp(fots_status_name(-1), "unknown") == 0, "the name of no status", -1, 0);

@@ -1,5 +1,8 @@
 /* Months, the ends of periods, working days, recurrences and day counts: rows whose values are not from this library, wrong values, and
  * drawn values against a count of one day at a time. */
+#include <stdlib.h>
+#include <string.h>
+
 #include "fotsevindre.h"
 #include "testing.h"
 
@@ -238,11 +241,44 @@ static const recurrence recurrences[] = {
         {19961105, 20001107, 20041102}, 0},
 };
 
+static fots_recurrence_result of_text(const char *text, fots_date start, fots_date from, fots_date *days, size_t length)
+{
+    return fots_recurrence_days(text, strlen(text), start, from, days, length);
+}
+
+/* The same by its text: all from the start on, up to its COUNT, and each of them from the day after the one before. */
+static void by_its_text(const recurrence *its)
+{
+    const fots_date start = of_number(its->start);
+    fots_date found[COUNT(its->days)], from = start;
+    const fots_recurrence_result written = of_text(its->text, start, start, found, COUNT(found));
+    check(written.status == FOTS_DONE && written.part == 0 && written.position == SIZE_MAX, its->text, written.status, (long long)written.position);
+    size_t length = 0;
+    for (; length < (size_t)COUNT(found) && its->days[length] != 0; length++) {
+        const fots_date wanted = of_number(its->days[length]);
+        check(length < written.length && found[length].julian_day == wanted.julian_day, its->text, (long long)length, (long long)written.length);
+        fots_date one;
+        const fots_recurrence_result next = of_text(its->text, start, from, &one, 1);
+        check(next.status == FOTS_DONE && next.length == 1 && one.julian_day == wanted.julian_day, its->text, from.julian_day, wanted.julian_day);
+        from = date_at(wanted.julian_day + 1);
+    }
+    const char *count = strstr(its->text, "COUNT=");
+    if (its->ends || count != NULL) {
+        const size_t wanted = its->ends ? length : (size_t)atoi(count + strlen("COUNT="));
+        check(written.length == wanted, its->text, (long long)written.length, (long long)wanted);
+        from = date_at(found[written.length - 1].julian_day);
+        check(of_text(its->text, start, from, found, COUNT(found)).length == 1, its->text, from.julian_day, 0);
+        from.julian_day++;
+        check(of_text(its->text, start, from, found, COUNT(found)).length == 0, its->text, from.julian_day, 0);
+    }
+}
+
 /* Against the first day, the next ones, a column of them, and whether each day in between is one. */
 static void recurrences_of_the_rfc(void)
 {
     for (int row = 0; row < COUNT(recurrences); row++) {
         const recurrence *its = &recurrences[row];
+        by_its_text(its);
         fots_rule rule = fots_rule_of(of_number(its->start), its->frequency);
         rule.interval = its->interval;
         rule.week_start = its->week_start;
@@ -350,6 +386,56 @@ static void recurrences_refused(void)
     check(fots_rule_days_after(&rule, daily.start, days, 3).status == FOTS_BAD_DATE && days[0].julian_day == 1, "days from no date", 0, 0);
 }
 
+/* The first part of a text that is at fault, where it stands and why; and one value more than there may be. */
+static void texts_refused(void)
+{
+    static const struct {
+        const char *text;
+        int32_t status;
+        uint32_t part;
+        size_t position;
+    } rows[] = {
+        {"", FOTS_UNKNOWN_PART, 0, 0},
+        {"FREQ=MONTHLY;BYSETPOS=-1;BYDAY=FR", FOTS_UNKNOWN_PART, 0, 13},
+        {"FREQ=DAILY;", FOTS_UNKNOWN_PART, 0, 11},
+        {"FREQ=DAILY;UNTIL=20241231;COUNT=3", FOTS_PART_TWICE, FOTS_RULE_COUNT, 26},
+        {"FREQ=DAILY;freq=daily", FOTS_PART_TWICE, FOTS_RULE_FREQ, 11},
+        {"FREQ=HOURLY;COUNT=0", FOTS_PART_VALUE, FOTS_RULE_FREQ, 0},
+        {"FREQ=DAILY;INTERVAL=0", FOTS_PART_VALUE, FOTS_RULE_INTERVAL, 11},
+        {"FREQ=DAILY;WKST=1MO", FOTS_PART_VALUE, FOTS_RULE_WKST, 11},
+        {"FREQ=DAILY;BYMONTH=12,13", FOTS_PART_VALUE, FOTS_RULE_BYMONTH, 11},
+        {"FREQ=DAILY;BYMONTHDAY=-32", FOTS_PART_VALUE, FOTS_RULE_BYMONTHDAY, 11},
+        {"FREQ=DAILY;BYDAY=54MO", FOTS_PART_VALUE, FOTS_RULE_BYDAY, 11},
+        {"FREQ=DAILY;UNTIL=20241231T000000Z", FOTS_PART_VALUE, FOTS_RULE_UNTIL, 11},
+        {"FREQ=DAILY;COUNT=4294967296", FOTS_PART_VALUE, FOTS_RULE_COUNT, 11},
+        {"BYDAY=MO", FOTS_NO_FREQUENCY, 0, 8},
+    };
+    fots_date days[2] = {{1}, {2}};
+    for (int row = 0; row < COUNT(rows); row++) {
+        const fots_recurrence_result found = of_text(rows[row].text, date_at(FOTS_NOTHING), date_at(0), days, 2);
+        check(found.status == rows[row].status && found.part == rows[row].part && found.position == rows[row].position && found.length == 0
+            && days[0].julian_day == 1, rows[row].text, found.status, (long long)found.position);
+    }
+    char many[256] = "FREQ=MONTHLY;BYMONTHDAY=1";
+    for (int word = 2; word <= 62; word++) {
+        strcat(many, ",1");
+    }
+    const fots_date start = day(2024, 1, 15);
+    check(of_text(many, start, start, days, 1).length == 1 && days[0].julian_day == day(2024, 2, 1).julian_day, "62 values", days[0].julian_day, 0);
+    const fots_recurrence_result found = of_text(strcat(many, ",1"), start, start, days, 2);
+    check(found.status == FOTS_MANY_VALUES && found.part == FOTS_RULE_BYMONTHDAY && found.position == 13, "63 values", found.status, 0);
+
+    const char *daily = "FREQ=DAILY";
+    days[0].julian_day = 1;
+    check(of_text(daily, start, date_at(FOTS_NOTHING), days, 2).status == FOTS_BAD_DATE, "from no date", 0, 0);
+    const fots_recurrence_result bad = of_text(daily, date_at(FOTS_MAX_JULIAN_DAY + 1), start, days, 2);
+    check(bad.status == FOTS_BAD_DATE && bad.position == SIZE_MAX && bad.length == 0 && days[0].julian_day == 1, "no start", bad.status, 0);
+    check(of_text(daily, start, start, days, 0).status == FOTS_DONE && days[0].julian_day == 1, "no room", 0, 0);
+    check(of_text(daily, start, date_at(FOTS_MIN_JULIAN_DAY), days, 1).length == 1 && days[0].julian_day == start.julian_day, "before the start", 0, 0);
+    check(of_text(daily, date_at(FOTS_MAX_JULIAN_DAY), date_at(FOTS_MAX_JULIAN_DAY), days, 2).length == 1, "the last day", 0, 0);
+    check(of_text("FREQ=YEARLY;BYMONTH=2;BYMONTHDAY=30", start, start, days, 2).length == 0, "30 February", 0, 0);
+}
+
 static void bad_dates(void)
 {
     static const int32_t bad[] = {FOTS_MIN_JULIAN_DAY - 1, FOTS_MAX_JULIAN_DAY + 1, INT32_MIN, INT32_MAX};
@@ -375,6 +461,7 @@ int main(void)
     drawn_months();
     recurrences_of_the_rfc();
     recurrences_refused();
+    texts_refused();
     bad_dates();
     return ended("schedule");
 }

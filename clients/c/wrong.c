@@ -292,6 +292,15 @@ static void rules(int32_t julian_day, uint32_t number, int32_t count)
     DATE(first_of(wrong, FOTS_MANY_PARTS), fots_rule_first(&rule));
 }
 
+/* Of each day, the first one from a date on is that date, or the start where that comes later. */
+static void recurrences(int32_t julian_day, int32_t from)
+{
+    fots_date start = date_at(julian_day), day = date_at(FOTS_NOTHING);
+    const fots_recurrence_result found = fots_recurrence_days("FREQ=DAILY", 10, start, date_at(from), &day, 1);
+    status_is(first_of(of_date(start), of_date(date_at(from))), found.status, found.length == 1 && is_date(day), "recurrence_days", julian_day, from);
+    check(day.julian_day == (found.status == FOTS_DONE ? (julian_day > from ? julian_day : from) : FOTS_NOTHING), "the first day", julian_day, from);
+}
+
 static void times(fots_time time, uint32_t number, fots_duration duration)
 {
     int32_t wrong = of_time(time), with_duration = first_of(wrong, of_duration(duration));
@@ -434,11 +443,13 @@ static void moments(int32_t julian_day, fots_time time, int32_t seconds, fots_du
     }
 }
 
-/* A status that a call that reads has, and a position exactly where it is unreadable: that of a byte of the text, or its length. */
+/* A status that a call that reads has, and a position exactly where it is unreadable, that of a byte of the text, or ends too early, its
+ * length. */
 static void reads(int32_t status, size_t position, size_t length, int is_listed, int has_value, const char *what)
 {
-    check(status == FOTS_DONE || status == FOTS_UNREADABLE || is_listed, what, status, (long long)length);
-    check(status == FOTS_UNREADABLE ? position <= length : position == SIZE_MAX, what, status, (long long)position);
+    check(status == FOTS_DONE || status == FOTS_UNREADABLE || status == FOTS_UNEXPECTED_END || is_listed, what, status, (long long)length);
+    check(status == FOTS_UNREADABLE ? position < length : position == (status == FOTS_UNEXPECTED_END ? length : SIZE_MAX), what, status,
+        (long long)position);
     check((status == FOTS_DONE) == has_value, what, status, (long long)length);
 }
 
@@ -459,9 +470,9 @@ static void read_date(const char *bytes, size_t length)
     fots_read_date_result read = fots_date_read(bytes, length);
     reads(read.status, read.position, length, read.status == FOTS_MONTH || read.status == FOTS_YEAR
         || (read.status >= FOTS_DAY && read.status <= FOTS_WEEKDAY), is_date(read.date), "date_read");
-    if (read.status == FOTS_UNREADABLE && read.position < length) {
-        check(fots_date_read(bytes, read.position + 1).position == read.position, "the position in a date", (long long)read.position,
-            (long long)length);
+    if (read.status == FOTS_UNREADABLE) {
+        check(fots_date_read(bytes, read.position).status != FOTS_UNREADABLE, "what a date begins with", (long long)read.position, (long long)length);
+        check(fots_date_read(bytes, read.position + 1).position == read.position, "the position in a date", (long long)read.position, (long long)length);
     }
     if (read.status == FOTS_DONE) {
         fots_text_result calendar = fots_date_calendar_text(read.date), ordinal = fots_date_ordinal_text(read.date);
@@ -478,9 +489,9 @@ static void read_julian_day(const char *bytes, size_t length)
 {
     fots_read_date_result read = fots_julian_day_read(bytes, length);
     reads(read.status, read.position, length, read.status == FOTS_JULIAN_DAY, is_date(read.date), "julian_day_read");
-    if (read.status == FOTS_UNREADABLE && read.position < length) {
-        check(fots_julian_day_read(bytes, read.position + 1).position == read.position, "the position in a Julian day", (long long)read.position,
-            (long long)length);
+    if (read.status == FOTS_UNREADABLE) {
+        check(fots_julian_day_read(bytes, read.position).status != FOTS_UNREADABLE, "what a Julian day begins with", (long long)read.position, (long long)length);
+        check(fots_julian_day_read(bytes, read.position + 1).position == read.position, "the position in a Julian day", (long long)read.position, (long long)length);
     }
     if (read.status == FOTS_DONE) {
         check(is_this(fots_date_julian_text(read.date), bytes, length), "the text of a Julian day", read.date.julian_day,
@@ -505,9 +516,9 @@ static void read_moment(const char *bytes, size_t length)
     reads(read.status, read.position, length, read.status == FOTS_MONTH || read.status == FOTS_DAY
         || (read.status >= FOTS_HOUR && read.status <= FOTS_SECOND) || read.status == FOTS_OFFSET_HOUR
         || read.status == FOTS_OFFSET_MINUTE, is_moment(read), "moment_read");
-    if (read.status == FOTS_UNREADABLE && read.position < length) {
-        check(fots_moment_read(bytes, read.position + 1).position == read.position, "the position in a moment", (long long)read.position,
-            (long long)length);
+    if (read.status == FOTS_UNREADABLE) {
+        check(fots_moment_read(bytes, read.position).status != FOTS_UNREADABLE, "what a moment begins with", (long long)read.position, (long long)length);
+        check(fots_moment_read(bytes, read.position + 1).position == read.position, "the position in a moment", (long long)read.position, (long long)length);
     }
     if (read.status == FOTS_DONE) {
         fots_text_result text = fots_moment_text(read.date, read.time, read.offset);
@@ -520,9 +531,9 @@ static void read_unix(const char *bytes, size_t length)
 {
     fots_read_moment_result read = fots_unix_read(bytes, length);
     reads(read.status, read.position, length, read.status == FOTS_TIMESTAMP, is_moment(read) && read.offset.seconds == 0, "unix_read");
-    if (read.status == FOTS_UNREADABLE && read.position < length) {
-        check(fots_unix_read(bytes, read.position + 1).position == read.position, "the position in a Unix time", (long long)read.position,
-            (long long)length);
+    if (read.status == FOTS_UNREADABLE) {
+        check(fots_unix_read(bytes, read.position).status != FOTS_UNREADABLE, "what a Unix time begins with", (long long)read.position, (long long)length);
+        check(fots_unix_read(bytes, read.position + 1).position == read.position, "the position in a Unix time", (long long)read.position, (long long)length);
     }
     if (read.status == FOTS_DONE) {
         fots_text_result text = fots_unix_text(read.date, read.time, offset_at(0));
@@ -581,6 +592,78 @@ static void drawn_texts(void)
             read_all(bytes, length);
         }
     }
+}
+
+/* How many of the texts were those of a recurrence. */
+static unsigned long long recurrences_read;
+
+/* Days in order, or a part at fault, which begins the text or follows a semicolon, after parts that are right; and no day. */
+static void read_recurrence(const char *bytes, size_t length)
+{
+    const fots_date start = date_at(2460311);
+    fots_date days[3] = {{-1}, {-1}, {-1}};
+    const fots_recurrence_result found = fots_recurrence_days(bytes, length, start, start, days, 2);
+    check(days[2].julian_day == -1, "a day past the room", found.status, (long long)length);
+    if (found.status == FOTS_DONE) {
+        recurrences_read++;
+        check(found.part == 0 && found.position == SIZE_MAX && found.length <= 2, "a recurrence", found.part, (long long)found.length);
+        check(found.length == 0 || (is_date(days[0]) && days[0].julian_day >= start.julian_day), "its first day", days[0].julian_day, (long long)length);
+        check(found.length < 2 || (is_date(days[1]) && days[1].julian_day > days[0].julian_day), "its second day", days[1].julian_day, (long long)length);
+        return;
+    }
+    const int names_part = found.status >= FOTS_PART_TWICE && found.status <= FOTS_PART_VALUE;
+    check(names_part ? found.part >= FOTS_RULE_FREQ && found.part <= FOTS_RULE_COUNT : found.part == 0, "its part", found.status, found.part);
+    check(found.length == 0 && days[0].julian_day == -1, "no day", found.status, (long long)found.length);
+    if (found.status == FOTS_NO_FREQUENCY) {
+        check(found.position == length, "no frequency", (long long)found.position, (long long)length);
+        return;
+    }
+    check(names_part || found.status == FOTS_UNKNOWN_PART, "the status of a recurrence", found.status, (long long)length);
+    if (!check(found.position == 0 || (found.position <= length && bytes[found.position - 1] == ';'), "the position of a part", (long long)found.position,
+            (long long)length) || found.position == 0) {
+        return;
+    }
+    const int32_t before = fots_recurrence_days(bytes, found.position - 1, start, start, days, 0).status;
+    check(before == FOTS_DONE || before == FOTS_NO_FREQUENCY, "the parts before", before, (long long)found.position);
+}
+
+/* Right texts of recurrences, each cut at each length, and with a byte changed, left out or put in; and drawn parts, one after another. */
+static void recurrence_texts(void)
+{
+    static const char *const texts[] = {"FREQ=MONTHLY;COUNT=12;BYDAY=-1FR", "freq=yearly;until=20261231;bymonth=2,11;bymonthday=-1,29",
+        "INTERVAL=2;WKST=SU;FREQ=WEEKLY;BYDAY=TU,SU"};
+    static const char *const pieces[] = {"FREQ=", "INTERVAL=", "WKST=", "BYMONTH=", "BYMONTHDAY=", "BYDAY=", "UNTIL=", "COUNT=", "DAILY",
+        "YEARLY", "MO", "-1", "20", "4294967296", "20240229", ",", ";", ";", "\0", "\xff"};
+    for (int k = 0; k < COUNT(texts); k++) {
+        const size_t length = strlen(texts[k]);
+        for (size_t position = 0; position <= length; position++) {
+            char changed[LONGEST], longer[LONGEST], shorter[LONGEST];
+            memcpy(changed, texts[k], length + 1);
+            memcpy(shorter, texts[k], position);
+            memcpy(shorter + position, texts[k] + position + 1, length - position);
+            memcpy(longer, texts[k], position);
+            memcpy(longer + position + 1, texts[k] + position, length - position);
+            read_recurrence(texts[k], position);
+            read_recurrence(shorter, length - 1);
+            for (int byte = 0; byte < 256; byte++) {
+                changed[position] = longer[position] = (char)byte;
+                read_recurrence(changed, length);
+                read_recurrence(longer, length + 1);
+            }
+        }
+    }
+    for (int k = 0; k < 100000; k++) {
+        char bytes[16 * LONGEST] = "FREQ=DAILY;";
+        size_t length = k % 2 == 0 ? strlen(bytes) : 0;
+        for (uint64_t left = drawn() % 16; left > 0; left--) {
+            const char *piece = pieces[drawn() % (uint64_t)COUNT(pieces)];
+            const size_t size = *piece == 0 ? 1 : strlen(piece);
+            memcpy(bytes + length, piece, size);
+            length += size;
+        }
+        read_recurrence(bytes, length);
+    }
+    check(recurrences_read > 1000, "recurrences that were read", (long long)recurrences_read, 0);
 }
 
 static const int32_t border_dates[] = {INT32_MIN, INT32_MIN + 1, FOTS_MIN_JULIAN_DAY - 1, FOTS_MIN_JULIAN_DAY,
@@ -696,10 +779,12 @@ static void everything(void)
             cycles(drawn_first, drawn_with);
             offsets(seconds, (int32_t)drawn_with);
             rules(day, drawn_first, seconds);
+            recurrences(day, seconds);
         }
     }
     nearly_texts();
     drawn_texts();
+    recurrence_texts();
 }
 
 /* With no argument everything but the walks over all 32 bits, which 'low' and 'high' make, of the numbers below 0 and the others. */

@@ -73,9 +73,10 @@ void dates()
 void refusals()
 {
     throws([] { Date::from_calendar_date(2023, 2, 29); }, FOTS_DAY, "day was not in range", "29 February of 2023");
-    throws([] { Date::read("2024-02-3"); }, FOTS_UNREADABLE, "unexpected byte at 9", "a text that ends too early");
-    throws([] { Date::read(""); }, FOTS_UNREADABLE, "unexpected byte at 0", "no text");
-    throws([] { Date::read(std::string_view()); }, FOTS_UNREADABLE, "unexpected byte at 0", "no text at all");
+    throws([] { Date::read("2024-02-3"); }, FOTS_UNEXPECTED_END, "unexpected end at 9", "a text that ends too early");
+    throws([] { Date::read("2024x"); }, FOTS_UNREADABLE, "unexpected byte at 4", "a wrong byte");
+    throws([] { Date::read(""); }, FOTS_UNEXPECTED_END, "unexpected end at 0", "no text");
+    throws([] { Date::read(std::string_view()); }, FOTS_UNEXPECTED_END, "unexpected end at 0", "no text at all");
     throws([] { Date::max() + Duration::days(1); }, FOTS_PAST_RANGE, "past the range", "a day after the last one");
     throws([] { Date(fots_date{FOTS_NOTHING}); }, FOTS_BAD_DATE, "bad date", "no date");
     throws([] { Time::from_hms(24, 0, 0); }, FOTS_HOUR, "hour was not in range", "hour 24");
@@ -222,6 +223,20 @@ void recurrences()
     check(weeks.first() == std::nullopt && weeks.first_days(4).empty(), "no day");
     weeks.weekdays.assign(65, Weekday::Sunday);
     throws([&] { weeks.first(); }, FOTS_MANY_PARTS, "many parts", "65 weekdays");
+
+    const Recurrence by_text = Recurrence::parse("FREQ=MONTHLY;COUNT=6;BYDAY=-2MO");
+    const Date start = Date::read("1997-09-22");
+    check(by_text.days(start, 9) == mondays.first_days(6) && by_text.days(start, 2) == mondays.first_days(2), "by its text");
+    check(by_text.days_from(start, Date::read("1998-01-01"), 9) == dates({"1998-01-19", "1998-02-16"}), "from a day on");
+    check(by_text.days(start, 0).empty() && by_text.days_from(start, Date::max(), 9).empty(), "none of them");
+    throws([] { Recurrence::parse("FREQ=DAILY;UNTIL=20241231;COUNT=3"); }, FOTS_PART_TWICE, "part twice at 26", "two ends");
+    throws([] { Recurrence::parse(""); }, FOTS_UNKNOWN_PART, "unknown part at 0", "no text");
+    try {
+        Recurrence::parse("FREQ=DAILY;BYDAY=XX");
+        check(false, "no weekday");
+    } catch (const rule_fault &fault) {
+        check(fault.part() == FOTS_RULE_BYDAY && fault.position() == 11 && fault.status() == FOTS_PART_VALUE, "the part at fault");
+    }
 }
 
 void plain_moments()

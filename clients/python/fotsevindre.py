@@ -39,7 +39,8 @@ __version__ = "0.1.0"
 
 __all__ = [
     "CalendarDateColumns", "ComponentRange", "Convention", "Date", "DateColumns", "DayCount", "Days", "Frequency", "IsoWeekDateColumns",
-    "MomentColumns", "Month", "NumberColumns", "OffsetDateTime", "OrdinalDateColumns", "Period", "PlainDateTime", "Rule", "SignedDuration",
+    "MomentColumns", "Month", "NumberColumns", "OffsetDateTime", "OrdinalDateColumns", "Period", "PlainDateTime", "Recurrence", "Rule",
+    "RuleFault", "RuleReason", "SignedDuration",
     "TextColumns", "Time", "Unreadable", "UtcOffset", "Weekday", "WeekdayColumns", "Workdays", "YearFraction", "add_to_pair",
     "calendar_dates_to_iso_week_dates", "dates_add_days", "dates_add_months", "dates_add_workdays", "dates_calendar_texts",
     "dates_from_calendar_dates", "dates_from_iso_week_dates", "dates_from_julian_days", "dates_from_ordinal_dates", "dates_read",
@@ -160,6 +161,7 @@ _PERIOD = _result(("years", _I32), ("months", _I32), ("days", _I32))
 _YEAR_FRACTION = _result(("denominator", _U32), ("numerator", _I64))
 _DAYS = _result(("length", ctypes.c_size_t))
 _TEXT = _result(("length", _U32), ("bytes", ctypes.c_char * 40))
+_RECURRENCE = _result(("part", _U32), ("length", ctypes.c_size_t), ("position", ctypes.c_size_t))
 _READ_DATE = _result(("date", _I32), ("position", ctypes.c_size_t))
 _READ_MOMENT = _result(("date", _I32), ("time", _U64), ("offset", _I32), ("position", ctypes.c_size_t))
 
@@ -242,6 +244,7 @@ _FORMS: List[Tuple[Any, List[Any], str]] = [
     (_DATE, [ctypes.POINTER(_CRule), _I32], "rule_next_after"),
     (_PART, [ctypes.POINTER(_CRule), _I32], "rule_contains"),
     (_DAYS, [ctypes.POINTER(_CRule), _I32, ctypes.POINTER(_I32), ctypes.c_size_t], "rule_days_after"),
+    (_RECURRENCE, [ctypes.c_char_p, ctypes.c_size_t, _I32, _I32, ctypes.POINTER(_I32), ctypes.c_size_t], "recurrence_days"),
 ]
 
 _library = _load()
@@ -289,6 +292,7 @@ _C: Any = type("_C", (), _calls)
 _PAST_RANGE = 1
 _BAD_COUNT = 7
 _UNREADABLE = 8
+_UNEXPECTED_END = 31
 _REFUSALS = {
     16: "year", 17: "month", 18: "julian_day", 19: "hour", 20: "minute", 21: "second", 22: "millisecond", 23: "microsecond",
     24: "nanosecond", 25: "offset hour", 26: "offset minute", 27: "offset second", 28: "seconds", 29: "timestamp",
@@ -324,21 +328,26 @@ class ComponentRange(ValueError):
 class Unreadable(ValueError):
     """A text has no form that is read: `position` is that, from 0, of the first character that no text of the forms has there.
 
-    It is the length of a text that ends too early.
+    Where the text ends too early, so that some more characters make one that is read, `is_end` is true, and `position` its length.
 
     >>> Date.read("2024x")
     Traceback (most recent call last):
     fotsevindre.Unreadable: unexpected byte at 4
+    >>> Date.read("2024-02-2")
+    Traceback (most recent call last):
+    fotsevindre.Unreadable: unexpected end at 9
     """
 
     position: int
+    is_end: bool
 
-    def __init__(self, position: int) -> None:
-        super().__init__(position)
+    def __init__(self, position: int, is_end: bool) -> None:
+        super().__init__(position, is_end)
         self.position = position
+        self.is_end = is_end
 
     def __str__(self) -> str:
-        return f"unexpected byte at {self.position}"
+        return f"unexpected {'end' if self.is_end else 'byte'} at {self.position}"
 
 
 def _error(status: int) -> Exception:
@@ -351,6 +360,8 @@ def _error(status: int) -> Exception:
         return OverflowError("a count of occurrences is from 0 to 255")
     if status == _UNREADABLE:
         return ValueError("the text has no form that is read")
+    if status == _UNEXPECTED_END:
+        return ValueError("the text ends too early")
     return ValueError(f"the library refused a value, with status {status}")
 
 
@@ -373,8 +384,8 @@ def _read(call: Callable[..., _Result], text: str) -> _Result:
     # Every byte before the first wrong one is ASCII, so its position is the same among the characters. A lone surrogate is a wrong byte.
     encoded = _is(text, str).encode("utf-8", "surrogatepass")
     result = call(encoded, len(encoded))
-    if result.status == _UNREADABLE:
-        raise Unreadable(result.position)
+    if result.status in (_UNREADABLE, _UNEXPECTED_END):
+        raise Unreadable(result.position, result.status == _UNEXPECTED_END)
     return _done(result)
 
 
@@ -1913,6 +1924,91 @@ class Rule:
             length = _done(_C.rule_days_after(self._c(), key, room, _DAYS_AT_ONCE)).length
             key = room[length - 1]
             yield from [Date._of(day) for day in room[:length]]
+
+
+class RuleReason(enum.Enum):
+    """Why a text is none of a recurrence."""
+
+    Unknown = "unknown part"
+    Twice = "part twice"
+    TooMany = "many values"
+    Value = "part value"
+    Missing = "no frequency"
+
+
+# The reason of each status, and the name of each part.
+_REASONS = dict(zip(range(32, 37), RuleReason))
+_PARTS = (None, "FREQ", "INTERVAL", "WKST", "BYMONTH", "BYMONTHDAY", "BYDAY", "UNTIL", "COUNT")
+
+
+class RuleFault(ValueError):
+    """A text is none of a recurrence: `reason` says why, of the first part that is at fault, and `position`, from 0, where that begins.
+
+    `part` is its name, or `None` where the reason is `Unknown` or `Missing`.
+
+    >>> Recurrence.parse("FREQ=DAILY;UNTIL=20241231;COUNT=3")
+    Traceback (most recent call last):
+    fotsevindre.RuleFault: part twice at 26
+    """
+
+    position: int
+    reason: RuleReason
+    part: Optional[str]
+
+    def __init__(self, position: int, reason: RuleReason, part: Optional[str] = None) -> None:
+        super().__init__(position, reason, part)
+        self.position = position
+        self.reason = reason
+        self.part = part
+
+    def __str__(self) -> str:
+        return f"{self.reason.value} at {self.position}"
+
+
+@dataclasses.dataclass(frozen=True)
+class Recurrence:
+    """What RFC 5545 writes behind `RRULE:`, by its text, which `parse` reads.
+
+    >>> last_fridays = Recurrence.parse("FREQ=MONTHLY;BYDAY=-1FR;COUNT=3")
+    >>> list(last_fridays.days(Date.read("2024-01-01")))
+    [2024-01-26, 2024-02-23, 2024-03-29]
+    """
+
+    text: str
+
+    def __post_init__(self) -> None:
+        self._written(Date.MAX._key, Date.MAX._key, (_I32 * 0)())
+
+    @classmethod
+    def parse(cls, text: str) -> "Recurrence":
+        """What the text says; `RuleFault` where it is none of a recurrence."""
+        return cls(text)
+
+    def days(self, start: Date) -> Iterator[Date]:
+        """Its days from a start on, in order, up to its end."""
+        return self.days_from(start, start)
+
+    def days_from(self, start: Date, date: Date) -> Iterator[Date]:
+        """Those of its days from a start on that do not come before the date."""
+        return self._walk(_is(start, Date)._key, _is(date, Date)._key)
+
+    def _walk(self, start: int, key: int) -> Iterator[Date]:
+        """The days from the Julian day on."""
+        room = (_I32 * _DAYS_AT_ONCE)()
+        length = _DAYS_AT_ONCE
+        while length == _DAYS_AT_ONCE and key <= Date.MAX._key:
+            length = self._written(start, key, room)
+            key = room[length - 1] + 1
+            yield from [Date._of(day) for day in room[:length]]
+
+    def _written(self, start: int, key: int, room: "ctypes.Array[ctypes.c_int32]") -> int:
+        """How many days from the Julian day on were written."""
+        # The parts before one at fault are ASCII, so its position is the same among the characters.
+        text = _is(self.text, str).encode("utf-8", "surrogatepass")
+        result = _C.recurrence_days(text, len(text), start, key, room, len(room))
+        if result.status in _REASONS:
+            raise RuleFault(result.position, _REASONS[result.status], _PARTS[result.part])
+        return _done(result).length
 
 
 def _rule_weekday(weekday: Union[Weekday, Tuple[int, Weekday]]) -> _CRuleWeekday:

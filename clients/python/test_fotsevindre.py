@@ -374,7 +374,9 @@ class Texts(Cases):
     def unreadable(self, position, call, text):
         with self.assertRaises(Unreadable, msg=text) as caught:
             call(text)
-        self.assertEqual((caught.exception.position, str(caught.exception)), (position, f"unexpected byte at {position}"), text)
+        is_end = position == len(text)
+        found = (caught.exception.position, caught.exception.is_end, str(caught.exception))
+        self.assertEqual(found, (position, is_end, f"unexpected {'end' if is_end else 'byte'} at {position}"), text)
         self.assertIsInstance(caught.exception, ValueError)
 
     def test_days(self):
@@ -539,8 +541,8 @@ class Texts(Cases):
                 unix_pair(*arguments)
 
     def test_copies_of_the_error(self):
-        error = pickle.loads(pickle.dumps(Unreadable(4)))
-        self.assertEqual((error.position, str(error)), (4, "unexpected byte at 4"))
+        error = pickle.loads(pickle.dumps(Unreadable(4, False)))
+        self.assertEqual((error.position, error.is_end, str(error)), (4, False, "unexpected byte at 4"))
 
 
 class Offsets(Cases):
@@ -839,8 +841,9 @@ class Columns(Cases):
                 error = fotsevindre.status_error(column.statuses[row])
                 try:
                     answer = read(text)
-                except fotsevindre.Unreadable:
-                    self.assertEqual(str(error), "the text has no form that is read")
+                except fotsevindre.Unreadable as raised:
+                    words = "the text ends too early" if raised.is_end else "the text has no form that is read"
+                    self.assertEqual(str(error), words)
                 except fotsevindre.ComponentRange as raised:
                     self.assertEqual(repr(error), repr(raised))
                 else:
@@ -867,7 +870,7 @@ class Columns(Cases):
             if printed.statuses[row] == 0:
                 self.assertEqual((text, read.dates[row]), (str(Date.from_julian_day(number)), number))
             else:
-                self.assertEqual((text, printed.statuses[row], read.statuses[row]), ("", 2, 8))
+                self.assertEqual((text, printed.statuses[row], read.statuses[row]), ("", 2, 31))
         read = fotsevindre.moments_read(*self.bounds_of(["2024-02-29T23:59:59.25+01:00", "2024-02-29t00:00:00z", "24"]))
         printed = fotsevindre.moments_texts(*read[:3])
         self.assertEqual((printed.texts, list(printed.bounds), list(printed.statuses)),
@@ -1031,12 +1034,17 @@ class Header(Cases):
                 self.assertTrue(self.is_of(declared, type_name), (name, part))
 
     def test_statuses(self):
-        refusals = {number: self.names[name] for name, number in self.statuses.items() if number >= 16}
+        unexpected_end = self.statuses["FOTS_UNEXPECTED_END"]
+        refusals = {number: self.names[name] for name, number in self.statuses.items() if number >= 16 and number != unexpected_end}
+        reasons = {number: refusals.pop(number) for number in fotsevindre._REASONS}
+        self.assertEqual({number: reason.value for number, reason in fotsevindre._REASONS.items()}, reasons)
+        self.assertEqual(fotsevindre._PARTS[1:], tuple(re.findall(r"FOTS_RULE_(\w+) = \d", self.TEXT)))
         self.assertEqual(fotsevindre._REFUSALS, refusals)
         self.assertEqual(fotsevindre._FIRST_CONDITIONAL, self.statuses["FOTS_DAY"])
         self.assertEqual(fotsevindre._PAST_RANGE, self.statuses["FOTS_PAST_RANGE"])
         self.assertEqual(fotsevindre._BAD_COUNT, self.statuses["FOTS_BAD_COUNT"])
         self.assertEqual(fotsevindre._UNREADABLE, self.statuses["FOTS_UNREADABLE"])
+        self.assertEqual(fotsevindre._UNEXPECTED_END, unexpected_end)
 
 
 class Documentation(Cases):

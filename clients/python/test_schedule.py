@@ -10,7 +10,7 @@ import pickle
 import random
 import unittest
 
-from fotsevindre import ComponentRange, Convention, Date, DayCount, Frequency, Month, Rule, Weekday, Workdays
+from fotsevindre import ComponentRange, Convention, Date, DayCount, Frequency, Month, Recurrence, Rule, RuleFault, RuleReason, SignedDuration, Weekday, Workdays
 
 
 def day(year, month, day_of_month):
@@ -145,6 +145,10 @@ class Recurrences(unittest.TestCase):
             self.assertEqual([rule.next_after(one) for one in wanted[:-1]], wanted[1:], text)
             span = wanted[0].iter_to(wanted[-1])
             self.assertEqual([date for date in span if date in rule], wanted, text)
+            by_text = Recurrence.parse(text)
+            self.assertEqual(list(itertools.islice(by_text.days(rule.start), len(wanted))), wanted, text)
+            after = by_text.days_from(rule.start, wanted[0] + SignedDuration.days(1))
+            self.assertEqual(list(itertools.islice(after, len(wanted) - 1)), wanted[1:], text)
 
     def test_ends(self):
         rule = Rule(numbered(19970902), Frequency.Weekly, week_start=SU, weekdays=[TU, TH], until=numbered(19971006))
@@ -152,6 +156,9 @@ class Recurrences(unittest.TestCase):
         never = Rule(day(2024, 1, 1), Frequency.Yearly, months=[2], month_days=[30])
         self.assertEqual((list(never), never.first_days(3), never.next_after(Date.MIN)), ([], [], None))
         daily = Rule(day(999999, 12, 30), Frequency.Daily)
+        self.assertEqual(list(Recurrence.parse("freq=daily").days(daily.start)), [day(999999, 12, 30), Date.MAX])
+        self.assertEqual(list(Recurrence.parse("freq=daily").days(Date.MAX - SignedDuration.days(63)))[-1], Date.MAX)
+        self.assertEqual(list(Recurrence.parse("FREQ=DAILY;UNTIL=20231231").days(day(2024, 1, 1))), [])
         self.assertEqual(list(daily), [day(999999, 12, 30), Date.MAX])
         self.assertNotIn(datetime.date(2024, 1, 1), daily)
 
@@ -162,6 +169,10 @@ class Recurrences(unittest.TestCase):
         self.assertEqual(list(itertools.islice(rule.days_after(days[70]), 200)), days[71:271])
         ended = Rule(day(2000, 1, 1), Frequency.Daily, interval=3, until=days[128])
         self.assertEqual(list(ended), days[:129])
+        counted = Recurrence.parse("FREQ=DAILY;INTERVAL=3;COUNT=129")
+        self.assertEqual(list(counted.days(days[0])), days[:129])
+        self.assertEqual(list(counted.days_from(days[0], days[128])), days[128:129])
+        self.assertEqual(list(itertools.islice(Recurrence.parse("FREQ=DAILY;INTERVAL=3").days_from(days[0], days[70]), 200)), days[70:270])
 
     def test_fields(self):
         rule = Rule(day(2024, 1, 1), Frequency.Monthly, weekdays=[FR, (-1, SA)], months=iter([1, 2]))
@@ -183,6 +194,22 @@ class Recurrences(unittest.TestCase):
             self.assertRaises(TypeError, Rule, *arguments)
         for parts in ({"weekdays": [5]}, {"months": ["1"]}, {"until": 1}, {"week_start": 1}, {"weekdays": [(1, 5)]}):
             self.assertRaises(TypeError, Rule, start, Frequency.Yearly, **parts)
+        for text, wanted in {
+            "FREQ=MONTHLY;BYSETPOS=-1;BYDAY=FR": (13, RuleReason.Unknown, None),
+            "FREQ=DAILY;UNTIL=20241231;COUNT=3": (26, RuleReason.Twice, "COUNT"),
+            "FREQ=DAILY;BYMONTHDAY=1" + ",1" * 62: (11, RuleReason.TooMany, "BYMONTHDAY"),
+            "FREQ=DAILY;UNTIL=20241231T000000Z": (11, RuleReason.Value, "UNTIL"),
+            "INTERVAL=2;FREQ=\ud800": (11, RuleReason.Value, "FREQ"),
+            "BYDAY=MO": (8, RuleReason.Missing, None),
+        }.items():
+            with self.assertRaises(RuleFault) as fault:
+                Recurrence.parse(text)
+            self.assertEqual((fault.exception.position, fault.exception.reason, fault.exception.part), wanted, text)
+            self.assertEqual(str(pickle.loads(pickle.dumps(fault.exception))), f"{wanted[1].value} at {wanted[0]}")
+        daily = Recurrence.parse("FREQ=DAILY")
+        self.assertEqual(pickle.loads(pickle.dumps(daily)), daily)
+        for call in (lambda: Recurrence.parse(b"FREQ=DAILY"), lambda: daily.days(datetime.date(2024, 1, 1)), lambda: daily.days_from(start, 1)):
+            self.assertRaises(TypeError, call)
         for call in (Rule(start, Frequency.Daily).next_after, Rule(start, Frequency.Daily).days_after):
             self.assertRaises(TypeError, call, 1)
 

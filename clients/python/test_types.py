@@ -3,7 +3,7 @@
 import datetime
 from typing import List, Optional, Tuple
 
-from fotsevindre import Frequency, OffsetDateTime, PlainDateTime, Rule
+from fotsevindre import Frequency, OffsetDateTime, PlainDateTime, Recurrence, Rule, RuleFault, RuleReason
 from fotsevindre import Date, Days, Month, SignedDuration, Time, UtcOffset, Weekday, add_to_pair, rfc3339_text
 
 day: Date = Date.from_calendar_date(2024, Month.February, 29)
@@ -29,6 +29,8 @@ is_later: bool = local > PlainDateTime.MIN and moment >= OffsetDateTime.from_dat
 rule: Rule = Rule(day, Frequency.Monthly, months=[Month.June, 7], weekdays=[Weekday.Monday, (-1, Weekday.Friday)], until=last)
 of_rule: List[Date] = [date for date in rule] + rule.first_days(3) + list(rule.days_after(day))
 next_of_rule: Optional[Date] = rule.next_after(day)
+by_text: List[Date] = list(Recurrence.parse("FREQ=DAILY;COUNT=2").days(day)) + list(Recurrence("FREQ=DAILY;COUNT=2").days_from(day, last))
+fault: Tuple[int, Optional[str]] = (RuleFault(1, RuleReason.Missing).position, RuleFault(1, RuleReason.Missing).part)
 
 Date.from_calendar_date("2024", 2, 29)  # refused
 Date.from_calendar_date(2024.0, 2, 29)  # refused
@@ -50,4 +52,5 @@ moment.to_offset(3600)  # refused
 Rule(day, 3)  # refused
 Rule(day, Frequency.Monthly, weekdays=[5])  # refused
 rule.next_after(day).year()  # refused
+Recurrence.parse(b"FREQ=DAILY")  # refused
 shown.unix_timestamp()  # refused

@@ -43,8 +43,10 @@ pub enum Refusal {
     NoTime,
     /// The seconds are none of an offset.
     NoOffset,
-    /// The text has none of the forms that the call reads.
+    /// The text has none of the forms that the call reads: a byte is wrong.
     Unreadable,
+    /// The text ends too early: some more bytes make one that the call reads.
+    UnexpectedEnd,
 }
 
 /// Why a row with this status has no answer, or `None` where it has one.

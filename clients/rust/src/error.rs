@@ -81,13 +81,14 @@ impl core::error::Error for ComponentRange {}
 
 /// A text is not one of those that a call reads.
 ///
-/// It prints `unexpected byte at 4` where the form is wrong, and as the error of the component where a component is out of range:
-/// `day was not in range`.
+/// It prints `unexpected byte at 4` where a byte is wrong, `unexpected end at 9` where the text ends too early, and as the error of the
+/// component where a component is out of range: `day was not in range`.
 #[derive(Clone, Copy, Debug, PartialEq, Eq, Hash)]
 pub enum Unreadable {
-    /// The text has no form that is read. This is the position, from 0, of the first byte that no text of the forms has there, or the
-    /// length of a text that ends too early.
+    /// The text has no form that is read. This is the position, from 0, of the first byte that no text of the forms has there.
     UnexpectedByte(usize),
+    /// The text ends too early: some more bytes make a text of the forms. This is its length.
+    UnexpectedEnd(usize),
     /// The text has a form that is read, and this component of it is out of range.
     OutOfRange(ComponentRange),
 }
@@ -96,6 +97,7 @@ impl fmt::Display for Unreadable {
     fn fmt(&self, f: &mut fmt::Formatter<'_>) -> fmt::Result {
         match self {
             Self::UnexpectedByte(position) => write!(f, "unexpected byte at {position}"),
+            Self::UnexpectedEnd(position) => write!(f, "unexpected end at {position}"),
             Self::OutOfRange(error) => error.fmt(f),
         }
     }

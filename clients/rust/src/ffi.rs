@@ -7,6 +7,7 @@
 
 use crate::columns::Refusal;
 use crate::error::{ComponentRange, Unreadable};
+use crate::recurrence::RuleFault;
 use crate::rule::{ByDay, Rule};
 use crate::Date;
 
@@ -24,6 +25,7 @@ const BAD_OFFSET: i32 = 4;
 const BAD_WEEKDAY: i32 = 6;
 /// The status of a call that was given bytes of none of its forms.
 const UNREADABLE: i32 = 8;
+const UNEXPECTED_END: i32 = 31;
 
 /// What a call over columns returns where these are not of one length.
 const UNLIKE: usize = usize::MAX;
@@ -152,6 +154,7 @@ results! {
     PeriodResult { years: i32, months: i32, days: i32 } => (i32, i32, i32);
     YearFractionResult { denominator: u32, numerator: i64 } => (u32, i64);
     TextResult { length: u32, bytes: [u8; 40] } => (u32, [u8; 40]);
+    RecurrenceResult { part: u32, length: usize, position: usize } => (u32, usize, usize);
     ReadDateResult { date: i32, position: usize } => (i32, usize);
     ReadMomentResult { date: i32, time: u64, offset: i32, position: usize } => (i32, u64, i32, usize);
 }
@@ -349,14 +352,32 @@ calls_of_workdays! {
 }
 
 mod declared_alone {
+    use super::RecurrenceResult;
+
     extern "C" {
         pub(super) fn fots_version() -> u32;
+        pub(super) fn fots_recurrence_days(
+            text: *const u8,
+            text_length: usize,
+            start: i32,
+            from: i32,
+            days: *mut i32,
+            days_length: usize,
+        ) -> RecurrenceResult;
     }
 }
 
 /// The version of the library.
 pub(crate) fn fots_version() -> u32 {
     unsafe { declared_alone::fots_version() }
+}
+
+/// How many days of the recurrence that the text says were written, of those from a date on.
+pub(crate) fn fots_recurrence_days(text: &[u8], start: i32, from: i32, days: &mut [i32]) -> Result<usize, RuleFault> {
+    let result =
+        unsafe { declared_alone::fots_recurrence_days(text.as_ptr(), text.len(), start, from, days.as_mut_ptr(), days.len()) };
+    let RecurrenceResult { part, position, .. } = result;
+    result.answer().map(|(_, length, _)| length).map_err(|status| RuleFault::of_status(status, part, position))
 }
 
 /// Calls of rules.
@@ -460,6 +481,7 @@ macro_rules! calls_that_read {
                 let position = result.position;
                 result.answer().map_err(|status| match status {
                     UNREADABLE => Unreadable::UnexpectedByte(position),
+                    UNEXPECTED_END => Unreadable::UnexpectedEnd(position),
                     status => Unreadable::OutOfRange(ComponentRange::of_status(status)),
                 })
             }
@@ -572,6 +594,7 @@ pub(crate) fn refusal_of(status: i32) -> Option<Refusal> {
         BAD_TIME => Some(Refusal::NoTime),
         BAD_OFFSET => Some(Refusal::NoOffset),
         UNREADABLE => Some(Refusal::Unreadable),
+        UNEXPECTED_END => Some(Refusal::UnexpectedEnd),
         status => Some(Refusal::OutOfRange(ComponentRange::of_status(status))),
     }
 }

@@ -32,6 +32,7 @@ mod offset_date_time;
 mod pair;
 mod plain_date_time;
 mod reader;
+pub mod recurrence;
 mod rule;
 mod schedule;
 mod short_text;

@@ -197,7 +197,7 @@ impl FromStr for OffsetDateTime {
     ///
     /// # Errors
     ///
-    /// `UnexpectedByte` where the text has none of these forms; otherwise `OutOfRange` for the first component at fault.
+    /// `UnexpectedByte` or `UnexpectedEnd` where the text has none of these forms; otherwise `OutOfRange` for the first component at fault.
     fn from_str(text: &str) -> Result<Self, Unreadable> {
         if text.matches(' ').count() < 2 {
             let (date, time, offset) = rfc3339::read(text.as_bytes())?;

@@ -137,7 +137,7 @@ impl FromStr for PlainDateTime {
     ///
     /// # Errors
     ///
-    /// `UnexpectedByte` where the text has not this form; otherwise `OutOfRange` for the first component at fault.
+    /// `UnexpectedByte` or `UnexpectedEnd` where the text has not this form; otherwise `OutOfRange` for the first component at fault.
     fn from_str(text: &str) -> Result<Self, Unreadable> {
         let (date, time) = both(text, text.find(' '))?;
         Ok(Self::new(date, time))

@@ -16,7 +16,11 @@ impl<'a> Reader<'a> {
 
     /// The refusal of the byte that comes next, or of the end.
     pub(crate) fn unexpected(&self) -> Unreadable {
-        Unreadable::UnexpectedByte(self.position)
+        if self.position < self.bytes.len() {
+            Unreadable::UnexpectedByte(self.position)
+        } else {
+            Unreadable::UnexpectedEnd(self.position)
+        }
     }
 
     /// Takes the byte that comes next where it is this one.
@@ -68,12 +72,16 @@ where
 {
     let end = space.unwrap_or(text.len());
     let first = text[..end].parse();
-    if let Err(error @ Unreadable::UnexpectedByte(_)) = first {
-        return Err(error);
+    match first {
+        // Where the first part ends too early, the space is wrong.
+        Err(Unreadable::UnexpectedEnd(_)) if space.is_some() => return Err(Unreadable::UnexpectedByte(end)),
+        Err(error @ (Unreadable::UnexpectedByte(_) | Unreadable::UnexpectedEnd(_))) => return Err(error),
+        Ok(_) | Err(Unreadable::OutOfRange(_)) => {}
     }
-    let rest = text.get(end + 1..).ok_or(Unreadable::UnexpectedByte(end))?;
+    let rest = text.get(end + 1..).ok_or(Unreadable::UnexpectedEnd(end))?;
     match rest.parse() {
         Err(Unreadable::UnexpectedByte(position)) => Err(Unreadable::UnexpectedByte(end + 1 + position)),
+        Err(Unreadable::UnexpectedEnd(_)) => Err(Unreadable::UnexpectedEnd(text.len())),
         second => Ok((first?, second?)),
     }
 }

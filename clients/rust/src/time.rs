@@ -313,7 +313,7 @@ impl FromStr for Time {
     ///
     /// # Errors
     ///
-    /// `UnexpectedByte` where the text has not this form; otherwise `OutOfRange` for `hour`, `minute` or `second`.
+    /// `UnexpectedByte` or `UnexpectedEnd` where the text has not this form; otherwise `OutOfRange` for `hour`, `minute` or `second`.
     fn from_str(text: &str) -> Result<Self, Unreadable> {
         let mut reader = Reader::new(text);
         let mut hour = reader.digit().ok_or_else(|| reader.unexpected())?;

@@ -130,7 +130,7 @@ impl FromStr for UtcOffset {
     ///
     /// # Errors
     ///
-    /// `UnexpectedByte` where the text has not this form; otherwise `OutOfRange` for `offset hour` above 25, `offset minute` or
+    /// `UnexpectedByte` or `UnexpectedEnd` where the text has not this form; otherwise `OutOfRange` for `offset hour` above 25, `offset minute` or
     /// `offset second`.
     fn from_str(text: &str) -> Result<Self, Unreadable> {
         let mut reader = Reader::new(text);

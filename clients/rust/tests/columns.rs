@@ -275,7 +275,7 @@ fn texts() {
             Ok(date) => assert_eq!((text, read[row], statuses[row]), (date.to_string().as_str(), dates[row], 0)),
             Err(_) => {
                 assert_eq!((text, read[row], refusal(statuses[row])), ("", NOTHING, Some(Refusal::NoDate)));
-                assert_eq!(refusal(read_statuses[row]), Some(Refusal::Unreadable));
+                assert_eq!(refusal(read_statuses[row]), Some(Refusal::UnexpectedEnd));
             }
         }
     }

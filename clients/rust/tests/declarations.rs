@@ -5,6 +5,7 @@ use std::collections::HashMap;
 const HEADER: &str = include_str!("../../../include/fotsevindre.h");
 const DECLARED: &str = include_str!("../src/ffi.rs");
 const ERRORS: &str = include_str!("../src/error.rs");
+const RECURRENCES: &str = include_str!("../src/recurrence.rs");
 
 /// The header without its comments, on one line.
 fn plain() -> String {
@@ -115,6 +116,11 @@ fn calls_are_those_of_the_header() {
     assert!(count > 120, "{count} calls were found");
     assert_eq!(header["fots_version"], (String::new(), "u32".into()));
     assert!(DECLARED.contains("fn fots_version() -> u32;"));
+    let (arguments, result) = &header["fots_recurrence_days"];
+    let declared = DECLARED.split_once("fn fots_recurrence_days(\n").unwrap().1;
+    let (declared, returned) = declared.split_once(") -> ").unwrap();
+    let kinds = declared.lines().filter_map(|line| Some(line.trim().trim_end_matches(',').split_once(": ")?.1));
+    assert_eq!((&kinds.collect::<Vec<_>>().join(", "), returned.starts_with(&format!("{result};"))), (arguments, true));
 }
 
 #[test]
@@ -143,7 +149,7 @@ fn structs_are_those_of_the_header() {
         assert!(DECLARED.contains(&declared), "{declared}");
         count += 1;
     }
-    assert_eq!(count, 24);
+    assert_eq!(count, 25);
 }
 
 #[test]
@@ -155,7 +161,11 @@ fn refusals_are_those_of_the_header() {
         let text = rest.split_once('"').unwrap().0;
         let number = plain.split_once(&format!("FOTS_{name} = ")).unwrap().1;
         let number: i32 = number.split(|c: char| !c.is_ascii_digit()).next().unwrap().parse().unwrap();
-        if number >= 16 {
+        if (32..=36).contains(&number) {
+            assert!(RECURRENCES.contains(&format!("            {number} => RuleReason::")), "{name}");
+            assert!(RECURRENCES.contains(&format!(" => \"{text}\",\n")), "{name}");
+        } else if number >= 16 && name != "UNEXPECTED_END" {
+            // An unexpected end is no refusal of a component.
             assert!(ERRORS.contains(&format!("            {number} => \"{text}\",\n")), "{name}");
             count += 1;
         }

@@ -1,6 +1,6 @@
 //! Date-times: worked rows, texts, and drawn values against whole numbers of 128 bits.
 
-use fotsevindre::error::Unreadable;
+use fotsevindre::error::Unreadable::{self, UnexpectedByte, UnexpectedEnd};
 use fotsevindre::{Date, Month, OffsetDateTime, PlainDateTime, SignedDuration, Time, UtcOffset, Weekday};
 use std::collections::hash_map::DefaultHasher;
 use std::hash::{Hash, Hasher};
@@ -209,15 +209,27 @@ fn texts() {
         assert_eq!(shows(moment.to_string().parse().unwrap()), shows(moment));
         assert_eq!(plain(&moment.local().to_string()), moment.local());
     }
-    let unexpected =
-        [("", 0), ("2024", 4), ("2024-02-29", 10), ("2024-02-29 ", 11), ("2024-02 0:00:00", 7), ("2024-02-29 0:00", 15)];
-    for (text, position) in unexpected.into_iter().chain([("2024-02-30 0:00:0x", 17), ("2024-02-29 0:00:00 ", 18)]) {
-        assert_eq!(text.parse::<PlainDateTime>(), Err(Unreadable::UnexpectedByte(position)), "{text}");
+    let unexpected = [
+        ("", UnexpectedEnd(0)),
+        ("2024", UnexpectedEnd(4)),
+        ("2024-02-29", UnexpectedEnd(10)),
+        ("2024-02-29 ", UnexpectedEnd(11)),
+        ("2024-02 0:00:00", UnexpectedByte(7)),
+        ("2024-02-29 0:00", UnexpectedEnd(15)),
+    ];
+    for (text, error) in
+        unexpected.into_iter().chain([("2024-02-30 0:00:0x", UnexpectedByte(17)), ("2024-02-29 0:00:00 ", UnexpectedByte(18))])
+    {
+        assert_eq!(text.parse::<PlainDateTime>(), Err(error), "{text}");
     }
-    let unexpected =
-        [("2024-02-29", 10), ("2024-02-29 0:00:00.0 +1", 23), ("2024-02-29  0:00:00 +01:00", 11), ("2024-02-29 0:00:00.0 ", 21)];
-    for (text, position) in unexpected {
-        assert_eq!(text.parse::<OffsetDateTime>(), Err(Unreadable::UnexpectedByte(position)), "{text}");
+    let unexpected = [
+        ("2024-02-29", UnexpectedEnd(10)),
+        ("2024-02-29 0:00:00.0 +1", UnexpectedEnd(23)),
+        ("2024-02-29  0:00:00 +01:00", UnexpectedByte(11)),
+        ("2024-02-29 0:00:00.0 ", UnexpectedEnd(21)),
+    ];
+    for (text, error) in unexpected {
+        assert_eq!(text.parse::<OffsetDateTime>(), Err(error), "{text}");
     }
     for (text, name) in [("2023-02-29 24:00:00", "day"), ("2024-02-29 24:00:00", "hour")] {
         let Err(Unreadable::OutOfRange(error)) = text.parse::<PlainDateTime>() else { panic!("{text}") };

@@ -1,10 +1,11 @@
 //! Recurrences, by examples of RFC 5545 with their first days.
 
+use fotsevindre::recurrence::{parse, RuleFault, RulePart, RuleReason};
 use fotsevindre::ByDay::{Every, Nth};
 use fotsevindre::Frequency::{Daily, Monthly, Weekly, Yearly};
 use fotsevindre::Month::{February, January, July, June, November};
 use fotsevindre::Weekday::{Friday, Monday, Saturday, Sunday, Thursday, Tuesday};
-use fotsevindre::{Date, Frequency, Month, Rule};
+use fotsevindre::{Date, Duration, Frequency, Month, Rule};
 
 /// The day with the number of eight digits, as `1997_09_02`.
 fn date(number: i32) -> Date {
@@ -26,6 +27,11 @@ fn begins(text: &str, rule: &Rule<'_>, days: &[i32], ends: bool) {
     let last = *days.last().unwrap();
     assert!(days[0].iter_to(last).filter(|day| rule.contains(*day)).eq(days.iter().copied()), "{text}");
     assert!(!ends || (rule.next_after(last).is_none() && rule.days().count() == days.len()), "{text}");
+
+    let by_text = parse(text.as_bytes()).unwrap();
+    assert!(by_text.days(rule.start).take(days.len()).eq(days.iter().copied()), "{text}");
+    assert!(by_text.days_from(rule.start, days[1]).take(days.len() - 1).eq(days[1..].iter().copied()), "{text}");
+    assert!(!ends || by_text.days(rule.start).count() == days.len(), "{text}");
 }
 
 #[test]
@@ -106,6 +112,43 @@ fn rules_of_no_day() {
     assert_eq!(of_the_0th.days().next(), None);
     let daily = rule(Daily, 2024_01_01);
     assert_eq!((daily.next_after(Date::MIN), daily.next_after(Date::MAX)), (Some(date(2024_01_01)), None));
+}
+
+#[test]
+fn days_by_many_pages() {
+    let start = date(2000_01_01);
+    let third = |index: i64| start + Duration::days(3 * index);
+    let counted = parse(b"FREQ=DAILY;INTERVAL=3;COUNT=129").unwrap();
+    assert!(counted.days(start).eq((0..129).map(third)));
+    assert!(counted.days_from(start, third(128)).eq([third(128)]));
+    let endless = parse(b"FREQ=DAILY;INTERVAL=3").unwrap();
+    assert!(endless.days_from(start, third(70)).take(200).eq((70..270).map(third)));
+    assert!(parse(b"freq=daily")
+        .unwrap()
+        .days(Date::MAX - Duration::days(63))
+        .eq((Date::MAX - Duration::days(63)).iter_to(Date::MAX)));
+    let mut none = parse(b"FREQ=DAILY;UNTIL=19991231").unwrap().days(start);
+    assert_eq!((none.next(), none.next()), (None, None));
+}
+
+#[test]
+fn texts_at_fault() {
+    let many = format!("FREQ=DAILY;BYMONTHDAY=1{}", ",1".repeat(62));
+    for (text, position, reason, printed) in [
+        ("FREQ=MONTHLY;BYSETPOS=-1;BYDAY=FR", 13, RuleReason::Unknown, "unknown part at 13"),
+        ("FREQ=DAILY;UNTIL=20241231;COUNT=3", 26, RuleReason::Twice(RulePart::Count), "part twice at 26"),
+        (&many, 11, RuleReason::TooMany(RulePart::MonthDays), "many values at 11"),
+        ("FREQ=HOURLY", 0, RuleReason::Value(RulePart::Frequency), "part value at 0"),
+        ("FREQ=DAILY;INTERVAL=0", 11, RuleReason::Value(RulePart::Interval), "part value at 11"),
+        ("FREQ=DAILY;WKST=1MO", 11, RuleReason::Value(RulePart::WeekStart), "part value at 11"),
+        ("FREQ=DAILY;BYMONTH=13", 11, RuleReason::Value(RulePart::Months), "part value at 11"),
+        ("FREQ=DAILY;BYDAY=54MO", 11, RuleReason::Value(RulePart::Weekdays), "part value at 11"),
+        ("FREQ=DAILY;UNTIL=20230229", 11, RuleReason::Value(RulePart::Until), "part value at 11"),
+        ("BYDAY=MO", 8, RuleReason::Missing, "no frequency at 8"),
+    ] {
+        let fault = parse(text.as_bytes()).unwrap_err();
+        assert_eq!((fault, fault.to_string().as_str()), (RuleFault { position, reason }, printed), "{text}");
+    }
 }
 
 #[test]

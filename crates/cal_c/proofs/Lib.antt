@@ -17,3 +17,5 @@ pub mod PrintedRows
 pub mod TextRows
 pub mod Unreads
 pub mod Recurring
+pub mod Walks
+pub mod OneAnswer

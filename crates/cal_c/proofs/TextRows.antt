@@ -1,5 +1,5 @@
 -- What a text reads as, as a row of columns.
-use Rattle.std.proofs.Common.{◌≡◌, ℕ, ℤ, pos, List, ap, sym, subst, ◌∙◌, arith, FitsSigned, w32, to_z, of_z}
+use Rattle.std.proofs.Common.{◌≡◌, ℕ, ℤ, pos, List, inl, inr, ap, sym, subst, ◌∙◌, arith, FitsSigned, w32, to_z, of_z}
 use Rattle.std.proofs.lemmas.Int.{ints, to_z-of_z}
 use Rattle.cal_datetime.specs.OffsetDateTime.{Shown}
 use Rattle.cal_time.specs.Date.{julian_day_at}
@@ -8,9 +8,9 @@ use Rattle.cal_time.specs.declared.error.Component.TheVariants.{Year, Month, Jul
 use Rattle.cal_c.specs.Columns.{IsByte, date_row}
 use Rattle.cal_c.specs.Moments.{moment_done, moment_refused}
 use Rattle.cal_c.specs.Results.{date_done, date_refused, nothing}
-use Rattle.cal_c.specs.Statuses.{done, unreadable, component_status}
+use Rattle.cal_c.specs.Statuses.{done, component_status}
 use Rattle.cal_c.specs.TextColumns.{moment_row}
-use Rattle.cal_c.specs.Texts.{IsUnreadableDate, IsUnreadableMoment, read_date_done, read_date_refused, read_moment_done, read_moment_refused}
+use Rattle.cal_c.specs.Texts.{IsUnreadableDate, IsUnreadableMoment, StopsAt, read_date_done, read_date_refused, read_moment_done, read_moment_refused}
 use Rattle.cal_c.specs.declared.results.DateResult.{DateResult}
 use Rattle.cal_c.specs.declared.results.MomentResult.{MomentResult}
 use Rattle.cal_c.specs.declared.texts.ReadDateResult.{ReadDateResult}
@@ -43,6 +43,12 @@ is_byte Ordinal = (omega (arith, ints), omega (arith, ints))
 is_byte Week = (omega (arith, ints), omega (arith, ints))
 is_byte Weekday = (omega (arith, ints), omega (arith, ints))
 
+stop_byte : (IsText : List ℕ → Type 0) (bytes : List ℕ) (at : ℕ) (s : ℤ) → StopsAt IsText bytes at s → IsByte s
+stop_byte IsText bytes at s stop = elim stop.status as (λ _. IsByte s) [
+  | inl byte ↦ rw byte.0 (omega (arith, ints), omega (arith, ints))
+  | inr end ↦ rw end.0 (omega (arith, ints), omega (arith, ints))
+]
+
 -- ---- dates
 date-row : (r : ReadDateResult) (b : ℕ) (s d : ℤ) → FitsSigned w32 r.date → IsByteOf b r.status → IsByte s → r.status ≡ s → r.date ≡ d
     → date_row (to_z w32 (of_z w32 r.date)) b ≡ record { status = s; date = d }
@@ -59,9 +65,9 @@ pub date_of_refused : (r : ReadDateResult) (b : ℕ) (s : ℤ) → FitsSigned w3
 date_of_refused r b s fits byte is e = date-row r b s nothing fits byte is (ap (λ x. x.status) e) (ap (λ x. x.date) e)
 
 pub date_of_unreadable : (IsText : List ℕ → Type 0) (bytes : List ℕ) (r : ReadDateResult) (b : ℕ) → FitsSigned w32 r.date → IsByteOf b r.status
-    → IsUnreadableDate IsText bytes r → date_row (to_z w32 (of_z w32 r.date)) b ≡ date_refused unreadable
+    → IsUnreadableDate IsText bytes r → (at : ℕ) × (s : ℤ) × StopsAt IsText bytes at s × (date_row (to_z w32 (of_z w32 r.date)) b ≡ date_refused s)
 date_of_unreadable IsText bytes r b fits byte its =
-    date-row r b unreadable nothing fits byte (omega (arith, ints), omega (arith, ints)) (ap (λ x. x.status) its.2) (ap (λ x. x.date) its.2)
+    (its.0, its.1, its.2, date-row r b its.1 nothing fits byte (stop_byte IsText bytes its.0 its.1 its.2) (ap (λ x. x.status) its.3) (ap (λ x. x.date) its.3))
 
 -- ---- moments
 moment-row : (r : ReadMomentResult) (b : ℕ) (s d : ℤ) (t : ℕ) (o : ℤ) → FitsSigned w32 r.date → FitsSigned w32 r.offset → IsByteOf b r.status → IsByte s
@@ -85,7 +91,11 @@ moment_of_refused r b s fits fits_o byte is e =
 
 pub moment_of_unreadable : (IsText : List ℕ → Type 0) (bytes : List ℕ) (r : ReadMomentResult) (b : ℕ) → FitsSigned w32 r.date → FitsSigned w32 r.offset
     → IsByteOf b r.status → IsUnreadableMoment IsText bytes r
-    → moment_row (to_z w32 (of_z w32 r.date)) r.time (to_z w32 (of_z w32 r.offset)) b ≡ moment_refused unreadable
-moment_of_unreadable IsText bytes r b fits fits_o byte its =
-    moment-row r b unreadable _ _ _ fits fits_o byte (omega (arith, ints), omega (arith, ints))
-    (ap (λ x. x.status) its.2) (ap (λ x. x.date) its.2) (ap (λ x. x.time) its.2) (ap (λ x. x.offset) its.2)
+    → (at : ℕ) × (s : ℤ) × StopsAt IsText bytes at s × (moment_row (to_z w32 (of_z w32 r.date)) r.time (to_z w32 (of_z w32 r.offset)) b ≡ moment_refused s)
+moment_of_unreadable IsText bytes r b fits fits_o byte its = (
+  its.0,
+  its.1,
+  its.2,
+  moment-row r b its.1 _ _ _ fits fits_o byte (stop_byte IsText bytes its.0 its.1 its.2)
+      (ap (λ x. x.status) its.3) (ap (λ x. x.date) its.3) (ap (λ x. x.time) its.3) (ap (λ x. x.offset) its.3),
+)

@@ -8,4 +8,5 @@ pub mod Moments
 pub mod Schedule
 pub mod Workweeks
 pub mod TextColumns
+pub mod RecurrenceTexts
 pub mod Recurrences

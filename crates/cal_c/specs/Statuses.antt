@@ -30,7 +30,7 @@ bad_weekday = pos 6
 abbrev pub bad_count : ℤ
 bad_count = pos 7
 
--- the bytes are no text that the call reads
+-- the bytes are no text that the call reads, and one of them is wrong
 abbrev pub unreadable : ℤ
 unreadable = pos 8
 
@@ -108,6 +108,27 @@ timestamp_refused = pos 29
 -- the bounds of a text do not lie in the bytes, one after the other
 abbrev pub bounds_refused : ℤ
 bounds_refused = pos 30
+
+-- the bytes are no text that the call reads, and some more make one
+abbrev pub unexpected_end : ℤ
+unexpected_end = pos 31
+
+-- a part of the text of a recurrence has no name that is read, comes again, has more values than are read, or none that is; or there
+-- is no frequency
+abbrev pub unknown_part : ℤ
+unknown_part = pos 32
+
+abbrev pub part_twice : ℤ
+part_twice = pos 33
+
+abbrev pub many_values : ℤ
+many_values = pos 34
+
+abbrev pub part_value : ℤ
+part_value = pos 35
+
+abbrev pub no_frequency : ℤ
+no_frequency = pos 36
 
 -- those whose range depends on the arguments before
 abbrev pub day_refused : ℤ

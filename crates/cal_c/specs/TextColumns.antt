@@ -12,8 +12,8 @@ use Rattle.cal_text.specs.Rfc3339.{HasMomentText, moment_text}
 use Rattle.cal_text.specs.Rfc3339Form.{IsMomentText}
 use Rattle.cal_c.specs.Moments.{moment_done, moment_refused}
 use Rattle.cal_c.specs.Results.{date_done, date_refused}
-use Rattle.cal_c.specs.Statuses.{done, past_range, bad_date, bad_time, bad_offset, bounds_refused, unreadable, component_status}
-use Rattle.cal_c.specs.Texts.{HasDateForm, HasFormOfMoment, HasDateFault, HasMomentFault}
+use Rattle.cal_c.specs.Statuses.{done, past_range, bad_date, bad_time, bad_offset, bounds_refused, component_status}
+use Rattle.cal_c.specs.Texts.{HasDateForm, HasFormOfMoment, HasDateFault, HasMomentFault, StopsAt}
 use Rattle.cal_c.specs.Values.{IsJulianDay, day_of, moment_of}
 use Rattle.cal_c.specs.declared.results.DateResult.{DateResult}
 use Rattle.cal_c.specs.declared.results.MomentResult.{MomentResult}
@@ -50,7 +50,7 @@ moment_row date time offset status = record { status = pos status; moment = reco
 -- as `fots_date_read`, but for the position
 pub record IsDateOfText (bytes : List ℕ) (r : DateResult) : Type 0 where
   pub date : (n : ℕ) → IsDate n → IsDateText bytes n → r ≡ date_done (julian_day_at n)
-  pub form : (HasDateForm bytes → ⊥) → r ≡ date_refused unreadable
+  pub form : (HasDateForm bytes → ⊥) → (at : ℕ) × (s : ℤ) × StopsAt HasDateForm bytes at s × (r ≡ date_refused s)
   pub component : (why : ComponentRange) → HasDateFault bytes why → r ≡ date_refused (component_status why.component)
 
 pub record IsDateOfPart (bytes : List ℕ) (from to : ℤ) (r : DateResult) : Type 0 where
@@ -60,7 +60,7 @@ pub record IsDateOfPart (bytes : List ℕ) (from to : ℤ) (r : DateResult) : Ty
 -- as `fots_moment_read`, but for the position
 pub record IsMomentOfText (bytes : List ℕ) (r : MomentResult) : Type 0 where
   pub moment : (m : Shown) → IsMomentText bytes m → r ≡ moment_done m
-  pub form : (HasFormOfMoment bytes → ⊥) → r ≡ moment_refused unreadable
+  pub form : (HasFormOfMoment bytes → ⊥) → (at : ℕ) × (s : ℤ) × StopsAt HasFormOfMoment bytes at s × (r ≡ moment_refused s)
   pub component : (why : ComponentRange) → HasMomentFault bytes why → r ≡ moment_refused (component_status why.component)
 
 pub record IsMomentOfPart (bytes : List ℕ) (from to : ℤ) (r : MomentResult) : Type 0 where

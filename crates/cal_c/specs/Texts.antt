@@ -1,5 +1,5 @@
 -- Texts, as they cross, and what a text reads as.
-use Rattle.std.specs.Prelude.{◌≡◌, ℕ, ◌-◌, ℤ, List, ◌++◌, length, replicate}
+use Rattle.std.specs.Prelude.{◌≡◌, ◌⊎◌, ℕ, ◌-◌, ◌<◌, ℤ, List, ◌++◌, length, replicate}
 use Rattle.cal_time.specs.Date.{julian_day_at}
 use Rattle.cal_time.specs.Month.{month_at, name}
 use Rattle.cal_time.specs.Weekday as weekdays
@@ -11,7 +11,7 @@ use Rattle.cal_text.specs.Position.{HasSome, IsPosition}
 use Rattle.cal_text.specs.Reading.{HasFault, IsFaultOf}
 use Rattle.cal_text.specs.Rfc3339Form.{HasMomentForm, IsMomentFault}
 use Rattle.cal_c.specs.Results.{nothing}
-use Rattle.cal_c.specs.Statuses.{done, unreadable}
+use Rattle.cal_c.specs.Statuses.{done, unreadable, unexpected_end}
 use Rattle.cal_c.specs.declared.texts.TextResult.{TextResult}
 use Rattle.cal_c.specs.declared.texts.ReadDateResult.{ReadDateResult}
 use Rattle.cal_c.specs.declared.texts.ReadMomentResult.{ReadMomentResult}
@@ -46,33 +46,36 @@ HasDateFault bytes why = HasFault HasForm IsFaultOf bytes why
 abbrev pub HasMomentFault : List ℕ → ComponentRange → Type 0
 HasMomentFault bytes why = HasFault HasMomentForm IsMomentFault bytes why
 
--- ---- what is read: a position is the greatest number where no byte is wrong
+-- the bytes stop being of a form at this position, and have this status: that of a wrong byte there, or that of their end
+pub record StopsAt (IsText : List ℕ → Type 0) (bytes : List ℕ) (at : ℕ) (s : ℤ) : Type 0 where
+  pub position : IsPosition IsText bytes at
+  pub status : ((s ≡ unreadable) × (at < length bytes)) ⊎ ((s ≡ unexpected_end) × (at ≡ length bytes))
+
+-- ---- what is read: a position is the greatest number where the bytes stop nowhere
 abbrev pub nowhere : ℕ
 nowhere = 18_446_744_073_709_551_615
 
 abbrev pub read_date_done : ℕ → ReadDateResult
 read_date_done n = record { status = done; date = julian_day_at n; position = nowhere }
 
+abbrev pub no_date_read : ℤ → ℕ → ReadDateResult
+no_date_read s at = record { status = s; date = nothing; position = at }
+
 abbrev pub read_date_refused : ℤ → ReadDateResult
-read_date_refused s = record { status = s; date = nothing; position = nowhere }
+read_date_refused s = no_date_read s nowhere
 
-abbrev pub read_date_unreadable : ℕ → ReadDateResult
-read_date_unreadable at = record { status = unreadable; date = nothing; position = at }
-
--- at the position the bytes stop being of the form
 abbrev pub IsUnreadableDate : (List ℕ → Type 0) → List ℕ → ReadDateResult → Type 0
-IsUnreadableDate IsText bytes r = (at : ℕ) × IsPosition IsText bytes at × (r ≡ read_date_unreadable at)
+IsUnreadableDate IsText bytes r = (at : ℕ) × (s : ℤ) × StopsAt IsText bytes at s × (r ≡ no_date_read s at)
 
 abbrev pub read_moment_done : Shown → ReadMomentResult
 read_moment_done m =
     record { status = done; date = julian_day_at (date_at m.local); time = time_at m.local; offset = m.offset; position = nowhere }
 
-abbrev pub read_moment_refused : ℤ → ReadMomentResult
-read_moment_refused s = record { status = s; date = nothing; time = 18_446_744_073_709_551_615; offset = nothing; position = nowhere }
+abbrev pub no_moment_read : ℤ → ℕ → ReadMomentResult
+no_moment_read s at = record { status = s; date = nothing; time = 18_446_744_073_709_551_615; offset = nothing; position = at }
 
-abbrev pub read_moment_unreadable : ℕ → ReadMomentResult
-read_moment_unreadable at =
-    record { status = unreadable; date = nothing; time = 18_446_744_073_709_551_615; offset = nothing; position = at }
+abbrev pub read_moment_refused : ℤ → ReadMomentResult
+read_moment_refused s = no_moment_read s nowhere
 
 abbrev pub IsUnreadableMoment : (List ℕ → Type 0) → List ℕ → ReadMomentResult → Type 0
-IsUnreadableMoment IsText bytes r = (at : ℕ) × IsPosition IsText bytes at × (r ≡ read_moment_unreadable at)
+IsUnreadableMoment IsText bytes r = (at : ℕ) × (s : ℤ) × StopsAt IsText bytes at s × (r ≡ no_moment_read s at)

@@ -24,7 +24,7 @@ pub const BAD_WEEKDAY: i32 = 6;
 
 pub const BAD_COUNT: i32 = 7;
 
-/// The bytes are no text that the call reads.
+/// The bytes are no text that the call reads, and one of them is wrong.
 pub const UNREADABLE: i32 = 8;
 
 pub const BAD_MOMENT: i32 = 9;
@@ -77,6 +77,24 @@ pub const TIMESTAMP: i32 = 29;
 
 /// The bounds of a text do not lie in the bytes, one after the other.
 pub const BOUNDS: i32 = 30;
+
+/// The bytes are no text that the call reads, and some more make one.
+pub const UNEXPECTED_END: i32 = 31;
+
+/// A part of the text of a recurrence has no name that is read.
+pub const UNKNOWN_PART: i32 = 32;
+
+/// A part of the text comes again.
+pub const PART_TWICE: i32 = 33;
+
+/// A part of the text has more values than are read.
+pub const MANY_VALUES: i32 = 34;
+
+/// A part of the text has no value that is read.
+pub const PART_VALUE: i32 = 35;
+
+/// The text has no frequency.
+pub const NO_FREQUENCY: i32 = 36;
 
 pub const DAY: i32 = 64;
 

@@ -1,9 +1,9 @@
 //! What crosses of texts: the bytes of one, and what one reads as.
 ghost use Rattle.std.specs.Prelude.{◌≡◌, ◌≤◌, length};
-ghost use Rattle.cal_c.specs.Texts.{read_date_done, read_moment_done, text_done, text_refused};
+ghost use Rattle.cal_c.specs.Texts.{no_date_read, no_moment_read, read_date_done, read_moment_done, text_done, text_refused};
 ghost use Rattle.cal_c.specs.Unread.{unread_date, unread_moment};
 
-use crate::status::{DONE, UNREADABLE, component_status};
+use crate::status::{DONE, UNEXPECTED_END, UNREADABLE, component_status};
 use crate::values::nanoseconds_of;
 use cal_datetime::OffsetDateTime;
 use cal_text::Unreadable;
@@ -24,7 +24,7 @@ pub struct TextResult {
     pub bytes: [u8; CAPACITY],
 }
 
-/// A date that was read, or the position of the first byte that is wrong.
+/// A date that was read, or the position of the first byte that is wrong, or the length of a text that ends too early.
 #[repr(C)]
 #[derive(Clone, Copy)]
 pub struct ReadDateResult {
@@ -33,7 +33,7 @@ pub struct ReadDateResult {
     pub position: usize,
 }
 
-/// A date, a time and an offset that were read, or the position of the first byte that is wrong.
+/// A date, a time and an offset that were read, or such a position.
 #[repr(C)]
 #[derive(Clone, Copy)]
 pub struct ReadMomentResult {
@@ -84,16 +84,21 @@ impl ReadDateResult {
         ensures { result ≡ unread_date error }
     {
         match error {
-            Unreadable::UnexpectedByte(position) => ReadDateResult {
-                status: UNREADABLE,
-                date: i32::MIN,
-                position,
-            },
-            Unreadable::OutOfRange(error) => ReadDateResult {
-                status: component_status(error.component()),
-                date: i32::MIN,
-                position: usize::MAX,
-            },
+            Unreadable::UnexpectedByte(position) => Self::none(UNREADABLE, position),
+            Unreadable::UnexpectedEnd(position) => Self::none(UNEXPECTED_END, position),
+            Unreadable::OutOfRange(error) => {
+                Self::none(component_status(error.component()), usize::MAX)
+            }
+        }
+    }
+
+    fn none(status: i32, position: usize) -> Self
+        ensures { result ≡ no_date_read status position }
+    {
+        ReadDateResult {
+            status,
+            date: i32::MIN,
+            position,
         }
     }
 }
@@ -115,20 +120,23 @@ impl ReadMomentResult {
         ensures { result ≡ unread_moment error }
     {
         match error {
-            Unreadable::UnexpectedByte(position) => ReadMomentResult {
-                status: UNREADABLE,
-                date: i32::MIN,
-                time: u64::MAX,
-                offset: i32::MIN,
-                position,
-            },
-            Unreadable::OutOfRange(error) => ReadMomentResult {
-                status: component_status(error.component()),
-                date: i32::MIN,
-                time: u64::MAX,
-                offset: i32::MIN,
-                position: usize::MAX,
-            },
+            Unreadable::UnexpectedByte(position) => Self::none(UNREADABLE, position),
+            Unreadable::UnexpectedEnd(position) => Self::none(UNEXPECTED_END, position),
+            Unreadable::OutOfRange(error) => {
+                Self::none(component_status(error.component()), usize::MAX)
+            }
+        }
+    }
+
+    fn none(status: i32, position: usize) -> Self
+        ensures { result ≡ no_moment_read status position }
+    {
+        ReadMomentResult {
+            status,
+            date: i32::MIN,
+            time: u64::MAX,
+            offset: i32::MIN,
+            position,
         }
     }
 }

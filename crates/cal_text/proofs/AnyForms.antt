@@ -1,5 +1,5 @@
 -- What a text of one shape is, and why it is refused: only the form of this shape is left.
-use Rattle.std.proofs.Common.{◌≡◌, ℕ, ℤ, List, get_or, ap, inl, inr, arith}
+use Rattle.std.proofs.Common.{◌≡◌, ◌⊎◌, ℕ, ℤ, List, get_or, ap, inl, inr, arith}
 use Rattle.cal_time.specs.Date.{IsDate}
 use Rattle.cal_time.specs.declared.error.ComponentRange.{ComponentRange}
 use Rattle.cal_datetime.specs.OffsetDateTime.{Shown}
@@ -17,6 +17,13 @@ use Rattle.cal_text.specs.Rfc3339Form.{IsSeparator, IsMomentText, HasMomentForm,
 use Rattle.cal_text.specs.UnixText.{IsUnixText, HasUnixForm, IsUnixFault}
 use Rattle.cal_text.proofs.DayForms.{HasOnDay, calendar-of, ordinal-of, week-of}
 use Rattle.cal_text.proofs.Shapes.{IsNoOther, date-shape, day-shape, moment-shape, julian-first, unix-first}
+
+-- one of four
+pub of_four : {R A B C D : Type 0} → A ⊎ B ⊎ C ⊎ D → (A → R) → (B → R) → (C → R) → (D → R) → R
+of_four (inl h) a b c d = a h
+of_four (inr (inl h)) a b c d = b h
+of_four (inr (inr (inl h))) a b c d = c h
+of_four (inr (inr (inr h))) a b c d = d h
 
 -- ---- the forms
 abbrev SomeForm : List ℕ → Type 0
@@ -51,25 +58,10 @@ julian-found bytes P first at (Moment Rfc3339 m) is = julian-moment bytes first 
 julian-found bytes P first at (Moment Unix m) is = julian-unix bytes _ first is.form
 
 pub julian-any : (bytes : List ℕ) → get_or bytes 0 0 ≡ 74 → HasAnyForm bytes → SomeJulian bytes
-julian-any bytes first is = elim is as (λ _. SomeJulian bytes) [
-  | inl date ↦ julian-date bytes first date
-  | inr is ↦ elim is as (λ _. SomeJulian bytes) [
-    | inl julian ↦ julian
-    | inr is ↦ elim is as (λ _. SomeJulian bytes) [ inl moment ↦ julian-moment bytes first moment | inr unix ↦ julian-unix bytes unix.0 first unix.1 ]
-  ]
-]
+julian-any bytes first is = of_four is (julian-date bytes first) (λ h. h) (julian-moment bytes first) (λ h. julian-unix bytes h.0 first h.1)
 
 pub julian-fault : (bytes : List ℕ) (why : ComponentRange) → get_or bytes 0 0 ≡ 74 → IsFault bytes why → HasFault IsJulianForm IsJulianFault bytes why
-julian-fault bytes why first is = elim is as (λ _. HasFault IsJulianForm IsJulianFault bytes why) [
-  | inl date ↦ julian-date bytes first (date.0, date.1)
-  | inr is ↦ elim is as (λ _. HasFault IsJulianForm IsJulianFault bytes why) [
-    | inl julian ↦ julian
-    | inr is ↦ elim is as (λ _. HasFault IsJulianForm IsJulianFault bytes why) [
-      | inl moment ↦ julian-moment bytes first (moment.0, moment.1)
-      | inr unix ↦ julian-unix bytes unix.0 first unix.1
-    ]
-  ]
-]
+julian-fault bytes why first is = of_four is (λ h. julian-date bytes first (h.0, h.1)) (λ h. h) (λ h. julian-moment bytes first (h.0, h.1)) (λ h. julian-unix bytes h.0 first h.1)
 
 -- ---- an @ at the front
 unix-date : {R : Type 0} (bytes : List ℕ) → get_or bytes 0 0 ≡ 64 → SomeForm bytes → R
@@ -94,25 +86,10 @@ unix-found bytes P first at (Moment Rfc3339 m) is = unix-moment bytes first (is.
 unix-found bytes P first at (Moment Unix m) is = at m is
 
 pub unix-any : (bytes : List ℕ) → get_or bytes 0 0 ≡ 64 → HasAnyForm bytes → SomeUnix bytes
-unix-any bytes first is = elim is as (λ _. SomeUnix bytes) [
-  | inl date ↦ unix-date bytes first date
-  | inr is ↦ elim is as (λ _. SomeUnix bytes) [
-    | inl julian ↦ unix-julian bytes julian.0 first julian.1
-    | inr is ↦ elim is as (λ _. SomeUnix bytes) [ inl moment ↦ unix-moment bytes first moment | inr unix ↦ unix ]
-  ]
-]
+unix-any bytes first is = of_four is (unix-date bytes first) (λ h. unix-julian bytes h.0 first h.1) (unix-moment bytes first) (λ h. h)
 
 pub unix-fault : (bytes : List ℕ) (why : ComponentRange) → get_or bytes 0 0 ≡ 64 → IsFault bytes why → HasFault HasUnixForm IsUnixFault bytes why
-unix-fault bytes why first is = elim is as (λ _. HasFault HasUnixForm IsUnixFault bytes why) [
-  | inl date ↦ unix-date bytes first (date.0, date.1)
-  | inr is ↦ elim is as (λ _. HasFault HasUnixForm IsUnixFault bytes why) [
-    | inl julian ↦ unix-julian bytes julian.0 first julian.1
-    | inr is ↦ elim is as (λ _. HasFault HasUnixForm IsUnixFault bytes why) [
-      | inl moment ↦ unix-moment bytes first (moment.0, moment.1)
-      | inr unix ↦ unix
-    ]
-  ]
-]
+unix-fault bytes why first is = of_four is (λ h. unix-date bytes first (h.0, h.1)) (λ h. unix-julian bytes h.0 first h.1) (λ h. unix-moment bytes first (h.0, h.1)) (λ h. h)
 
 -- ---- a separator at 10
 moment-date : {R : Type 0} (bytes : List ℕ) → IsSeparator (get_or bytes 10 0) → SomeForm bytes → R
@@ -137,25 +114,10 @@ moment-found bytes P first sep at (Moment Rfc3339 m) is = at m is
 moment-found bytes P first sep at (Moment Unix m) is = other-unix bytes _ first is.form
 
 pub moment-any : (bytes : List ℕ) → IsNoOther bytes → IsSeparator (get_or bytes 10 0) → HasAnyForm bytes → SomeMoment bytes
-moment-any bytes first sep is = elim is as (λ _. SomeMoment bytes) [
-  | inl date ↦ moment-date bytes sep date
-  | inr is ↦ elim is as (λ _. SomeMoment bytes) [
-    | inl julian ↦ other-julian bytes julian.0 first julian.1
-    | inr is ↦ elim is as (λ _. SomeMoment bytes) [ inl moment ↦ moment | inr unix ↦ other-unix bytes unix.0 first unix.1 ]
-  ]
-]
+moment-any bytes first sep is = of_four is (moment-date bytes sep) (λ h. other-julian bytes h.0 first h.1) (λ h. h) (λ h. other-unix bytes h.0 first h.1)
 
 pub moment-fault : (bytes : List ℕ) (why : ComponentRange) → IsNoOther bytes → IsSeparator (get_or bytes 10 0) → IsFault bytes why → HasFault HasMomentForm IsMomentFault bytes why
-moment-fault bytes why first sep is = elim is as (λ _. HasFault HasMomentForm IsMomentFault bytes why) [
-  | inl date ↦ moment-date bytes sep (date.0, date.1)
-  | inr is ↦ elim is as (λ _. HasFault HasMomentForm IsMomentFault bytes why) [
-    | inl julian ↦ other-julian bytes julian.0 first julian.1
-    | inr is ↦ elim is as (λ _. HasFault HasMomentForm IsMomentFault bytes why) [
-      | inl moment ↦ moment
-      | inr unix ↦ other-unix bytes unix.0 first unix.1
-    ]
-  ]
-]
+moment-fault bytes why first sep is = of_four is (λ h. moment-date bytes sep (h.0, h.1)) (λ h. other-julian bytes h.0 first h.1) (λ h. h) (λ h. other-unix bytes h.0 first h.1)
 
 -- ---- none of these
 date-moment : {R : Type 0} (bytes : List ℕ) → ¬ IsSeparator (get_or bytes 10 0) → SomeMoment bytes → R
@@ -171,22 +133,7 @@ date-found bytes P first none at (Moment Rfc3339 m) is = date-moment bytes none 
 date-found bytes P first none at (Moment Unix m) is = other-unix bytes _ first is.form
 
 pub date-any : (bytes : List ℕ) → IsNoOther bytes → ¬ IsSeparator (get_or bytes 10 0) → HasAnyForm bytes → SomeForm bytes
-date-any bytes first none is = elim is as (λ _. SomeForm bytes) [
-  | inl date ↦ date
-  | inr is ↦ elim is as (λ _. SomeForm bytes) [
-    | inl julian ↦ other-julian bytes julian.0 first julian.1
-    | inr is ↦ elim is as (λ _. SomeForm bytes) [ inl moment ↦ date-moment bytes none moment | inr unix ↦ other-unix bytes unix.0 first unix.1 ]
-  ]
-]
+date-any bytes first none is = of_four is (λ h. h) (λ h. other-julian bytes h.0 first h.1) (date-moment bytes none) (λ h. other-unix bytes h.0 first h.1)
 
 pub date-fault : (bytes : List ℕ) (why : ComponentRange) → IsNoOther bytes → ¬ IsSeparator (get_or bytes 10 0) → IsFault bytes why → HasFault HasForm IsFaultOf bytes why
-date-fault bytes why first none is = elim is as (λ _. HasFault HasForm IsFaultOf bytes why) [
-  | inl date ↦ date
-  | inr is ↦ elim is as (λ _. HasFault HasForm IsFaultOf bytes why) [
-    | inl julian ↦ other-julian bytes julian.0 first julian.1
-    | inr is ↦ elim is as (λ _. HasFault HasForm IsFaultOf bytes why) [
-      | inl moment ↦ date-moment bytes none (moment.0, moment.1)
-      | inr unix ↦ other-unix bytes unix.0 first unix.1
-    ]
-  ]
-]
+date-fault bytes why first none is = of_four is (λ h. h) (λ h. other-julian bytes h.0 first h.1) (λ h. date-moment bytes none (h.0, h.1)) (λ h. other-unix bytes h.0 first h.1)

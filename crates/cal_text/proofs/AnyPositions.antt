@@ -1,5 +1,5 @@
 -- Where a text stops being of any of the forms.
-use Rattle.std.proofs.Common.{◌≡◌, ◌≢◌, ◌⊎◌, ℕ, suc, ◌+◌, ◌<◌, ◌≤◌, ◌^◌, pos, List, [], ◌∷◌, ◌++◌, length, get_or, take, drop, refl, sym, ap, subst, ◌∙◌, arith, lit<, inl, inr}
+use Rattle.std.proofs.Common.{◌≡◌, ◌≢◌, ◌⊎◌, ℕ, ◌+◌, ◌<◌, ◌≤◌, pos, max, List, [], ◌∷◌, ◌++◌, length, get_or, take, drop, sym, ap, subst, ◌∙◌, arith, inl, inr}
 use Rattle.std.proofs.lemmas.Bool.{cases_lt}
 use Rattle.std.proofs.lemmas.List.{append_assoc, get_or_append_left, length-take-le, take-append-drop, take-append-le, take_at}
 use Rattle.cal_time.specs.DateText.{digits_at_least, date_digits}
@@ -10,10 +10,11 @@ use Rattle.cal_text.specs.Position.{Begins, IsPosition, HasSome, IsAtStop}
 use Rattle.cal_text.specs.Rfc3339Form.{IsSeparator, HasMomentForm, clock_digits}
 use Rattle.cal_text.specs.UnixText.{HasUnixForm}
 use Rattle.cal_text.specs.declared.error.Unreadable.{Unreadable}
-use Rattle.cal_text.specs.declared.error.Unreadable.TheVariants.{UnexpectedByte, OutOfRange}
+use Rattle.cal_text.specs.declared.error.Unreadable.TheVariants.{UnexpectedEnd}
 use Rattle.cal_text.specs.declared.form.Form.TheVariants.{Calendar}
 use Rattle.cal_text.specs.declared.rfc3339.numbers.Numbers.{Numbers}
-use Rattle.cal_text.proofs.Positions.{begins_less}
+use Rattle.cal_text.proofs.AnyForms.{of_four, julian-any, unix-any}
+use Rattle.cal_text.proofs.Positions.{begins_less, carried}
 use Rattle.cal_text.proofs.Shapes.{date-shape, moment-shape, julian-first, unix-first, date_digits-long}
 use Rattle.cal_text.proofs.YearTexts.{year-plain}
 
@@ -26,46 +27,19 @@ at_same text more i q before within =
 -- a position in one form is one in all of them, where what begins one of them there begins that form
 widened : (IsText : List ℕ → Type 0) (text : List ℕ) (e : Unreadable) → ((bytes : List ℕ) → IsText bytes → HasAnyForm bytes)
     → ((q : ℕ) → 0 < q → q ≤ length text → Begins HasAnyForm (take q text) → Begins IsText (take q text)) → IsAtStop IsText text e → IsAtStop HasAnyForm text e
-widened IsText text (UnexpectedByte p) into back h = record {
+widened IsText text e into back = carried IsText HasAnyForm text e (λ p h. record {
   within = h.within;
   begins = record { more = h.begins.more; text = into _ h.begins.text };
   no_further = λ more b. h.no_further more (back (p + 1) (omega arith) (omega (arith, more)) b);
-}
-widened IsText text (OutOfRange why) into back h = tt
+})
 
 pub julian : (text : List ℕ) (e : Unreadable) → get_or text 0 0 ≡ 74 → IsAtStop (HasSome IsJulianForm) text e → IsAtStop HasAnyForm text e
-julian text e first = widened (HasSome IsJulianForm) text e (λ bytes h. inr (inl h)) back
-  where
-    back : (q : ℕ) → 0 < q → q ≤ length text → Begins HasAnyForm (take q text) → Begins (HasSome IsJulianForm) (take q text)
-    back q some few b =
-        let at = at_same text b.more 0 q some few ∙ first in
-        elim b.text as (λ _. Begins (HasSome IsJulianForm) (take q text)) [
-          | inl date ↦ absurd ((date-shape (take q text ++ b.more) date.0 date.1).first.0 at)
-          | inr other ↦ elim other as (λ _. Begins (HasSome IsJulianForm) (take q text)) [
-            | inl here ↦ record { more = b.more; text = here }
-            | inr other ↦ elim other as (λ _. Begins (HasSome IsJulianForm) (take q text)) [
-              | inl moment ↦ absurd ((moment-shape (take q text ++ b.more) moment.0 moment.1).first.0 at)
-              | inr unix ↦ absurd (omega (arith, at, unix-first (take q text ++ b.more) unix.0 unix.1))
-            ]
-          ]
-        ]
+julian text e first = widened (HasSome IsJulianForm) text e (λ bytes h. inr (inl h))
+    (λ q some few b. record { more = b.more; text = julian-any (take q text ++ b.more) (at_same text b.more 0 q some few ∙ first) b.text })
 
 pub unix : (text : List ℕ) (e : Unreadable) → get_or text 0 0 ≡ 64 → IsAtStop (HasSome HasUnixForm) text e → IsAtStop HasAnyForm text e
-unix text e first = widened (HasSome HasUnixForm) text e (λ bytes h. inr (inr (inr h))) back
-  where
-    back : (q : ℕ) → 0 < q → q ≤ length text → Begins HasAnyForm (take q text) → Begins (HasSome HasUnixForm) (take q text)
-    back q some few b =
-        let at = at_same text b.more 0 q some few ∙ first in
-        elim b.text as (λ _. Begins (HasSome HasUnixForm) (take q text)) [
-          | inl date ↦ absurd ((date-shape (take q text ++ b.more) date.0 date.1).first.1 at)
-          | inr other ↦ elim other as (λ _. Begins (HasSome HasUnixForm) (take q text)) [
-            | inl julian ↦ absurd (omega (arith, at, julian-first (take q text ++ b.more) julian.0 julian.1))
-            | inr other ↦ elim other as (λ _. Begins (HasSome HasUnixForm) (take q text)) [
-              | inl moment ↦ absurd ((moment-shape (take q text ++ b.more) moment.0 moment.1).first.1 at)
-              | inr here ↦ record { more = b.more; text = here }
-            ]
-          ]
-        ]
+unix text e first = widened (HasSome HasUnixForm) text e (λ bytes h. inr (inr (inr h)))
+    (λ q some few b. record { more = b.more; text = unix-any (take q text ++ b.more) (at_same text b.more 0 q some few ∙ first) b.text })
 
 -- ---- dates and moments
 -- the date of a moment has the form of one
@@ -98,16 +72,8 @@ BeginsEither bytes = Begins (HasSome HasForm) bytes ⊎ Begins (HasSome HasMomen
 either : (text : List ℕ) (q : ℕ) → IsOther text → 0 < q → q ≤ length text → Begins HasAnyForm (take q text) → BeginsEither (take q text)
 either text q other some few b =
     let at = at_same text b.more 0 q some few in
-    elim b.text as (λ _. BeginsEither (take q text)) [
-      | inl date ↦ inl (record { more = b.more; text = date })
-      | inr rest ↦ elim rest as (λ _. BeginsEither (take q text)) [
-        | inl julian ↦ absurd (other.0 (sym at ∙ julian-first (take q text ++ b.more) julian.0 julian.1))
-        | inr rest ↦ elim rest as (λ _. BeginsEither (take q text)) [
-          | inl moment ↦ inr (record { more = b.more; text = moment })
-          | inr unix ↦ absurd (other.1 (sym at ∙ unix-first (take q text ++ b.more) unix.0 unix.1))
-        ]
-      ]
-    ]
+    of_four b.text (λ date. inl (record { more = b.more; text = date })) (λ julian. absurd (other.0 (sym at ∙ julian-first (take q text ++ b.more) julian.0 julian.1)))
+    (λ moment. inr (record { more = b.more; text = moment })) (λ unix. absurd (other.1 (sym at ∙ unix-first (take q text ++ b.more) unix.0 unix.1)))
 
 pub date : (text : List ℕ) (e : Unreadable) → IsOther text → ¬ IsSeparator (get_or text 10 0) → IsAtStop (HasSome HasForm) text e → IsAtStop HasAnyForm text e
 date text e other none = widened (HasSome HasForm) text e (λ bytes h. inl h) back
@@ -125,17 +91,29 @@ date text e other none = widened (HasSome HasForm) text e (λ bytes h. inl h) ba
       ]
     ]
 
+-- what ends too early for a moment ends too early
+pub ended : (text : List ℕ) (n : ℕ) → IsAtStop (HasSome HasMomentForm) text (UnexpectedEnd n) → IsAtStop HasAnyForm text (UnexpectedEnd n)
+ended text n h =
+    let begins = h.0.begins in (
+      record {
+        within = h.0.within;
+        begins = record { more = begins.more; text = inr (inr (inl begins.text)) };
+        no_further = λ more b. omega (arith, h.1, more);
+      },
+      h.1,
+    )
+
 -- the further one of two positions
 pub further : (text : List ℕ) (p q r : ℕ) → IsOther text → IsPosition (HasSome HasMomentForm) text p → IsPosition (HasSome HasForm) text q
-    → p ≤ r → q ≤ r → (r ≡ p) ⊎ (r ≡ q) → IsPosition HasAnyForm text r
-further text p q r other moment date a b is = record {
-  within = elim is as (λ _. r ≤ length text) [ inl same ↦ omega (arith, same, moment.within) | inr same ↦ omega (arith, same, date.within) ];
-  begins = elim is as (λ _. Begins HasAnyForm (take r text)) [
-    | inl same ↦ subst (λ n. Begins HasAnyForm (take n text)) (sym same) (record { more = moment.begins.more; text = inr (inr (inl moment.begins.text)) })
-    | inr same ↦ subst (λ n. Begins HasAnyForm (take n text)) (sym same) (record { more = date.begins.more; text = inl date.begins.text })
+    → r ≡ max p q → IsPosition HasAnyForm text r
+further text p q r other moment date most = record {
+  within = omega (arith, most, moment.within, date.within);
+  begins = elim (cases_lt p q) as (λ _. Begins HasAnyForm (take r text)) [
+    | inl less ↦ let same : r ≡ q = omega (arith, most, less) in rw same (record { more = date.begins.more; text = inl date.begins.text })
+    | inr least ↦ let same : r ≡ p = omega (arith, most, least) in rw same (record { more = moment.begins.more; text = inr (inr (inl moment.begins.text)) })
   ];
   no_further = λ more begins. elim (either text (r + 1) other (omega arith) (omega (arith, more)) begins) [
-    | inl here ↦ absurd (date.no_further (omega (arith, more, b)) (begins_less (HasSome HasForm) text (q + 1) (r + 1) (omega (arith, b)) here))
-    | inr here ↦ absurd (moment.no_further (omega (arith, more, a)) (begins_less (HasSome HasMomentForm) text (p + 1) (r + 1) (omega (arith, a)) here))
+    | inl here ↦ absurd (date.no_further (omega (arith, more, most)) (begins_less (HasSome HasForm) text (q + 1) (r + 1) (omega (arith, most)) here))
+    | inr here ↦ absurd (moment.no_further (omega (arith, more, most)) (begins_less (HasSome HasMomentForm) text (p + 1) (r + 1) (omega (arith, most)) here))
   ];
 }

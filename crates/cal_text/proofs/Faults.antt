@@ -1,9 +1,11 @@
 -- What a reader is refused for: from one clause for each component to one for all of them, and from the form to its text.
-use Rattle.std.proofs.Common.{◌≡◌, ◌⊎◌, ◌↔◌, Option, Some, None, List, ℕ, Result, Ok, Err, IfErr, sym, ap, subst, inl, inr}
+use Rattle.std.proofs.Common.{◌≡◌, ◌⊎◌, ◌↔◌, Some, None, List, ℕ, Result, Ok, Err, IfErr, sym, ap, subst, ◌∙◌, inl, inr}
 use Rattle.std.proofs.lemmas.Option.{none-some}
 use Rattle.cal_time.specs.Refusal.{IsRefused}
 use Rattle.cal_time.specs.declared.error.ComponentRange.{ComponentRange}
-use Rattle.cal_text.specs.Reading.{HasFault}
+use Rattle.cal_text.specs.Reading.{HasFault, component_of}
+use Rattle.cal_text.specs.declared.error.Unreadable.{Unreadable}
+use Rattle.cal_text.proofs.Results.{one, not_ok}
 
 -- ---- one of several components
 abbrev For : ComponentRange → Type 0 → ComponentRange → Type 0
@@ -32,15 +34,15 @@ all (Ok v) faults reason why = (λ h. absurd h, λ fault. faults.back why fault)
 all {V} {R} (Err e) faults reason why = (λ h. faults.found why h (subst R h reason), λ fault. faults.back why fault)
 
 -- ---- a text has one form at most, so its fault is that of the one
-pub one : {A : Type 0} (a b : A) → Some a ≡ Some b → a ≡ b
-one a b e = cc
-
 abbrev pub IsOnly : {F : Type 0} → (List ℕ → F → Type 0) → List ℕ → F → Type 0
-IsOnly {F} Has text form = (other : F) → Has text other → Some form ≡ Some other
+IsOnly {F} Has text form = (other : F) → Has text other → ◌≡◌ {A = Result F ℕ} (Ok form) (Ok other)
 
 only : {F : Type 0} (Has : List ℕ → F → Type 0) (Of : F → ComponentRange → Type 0) (text : List ℕ) (form : F) (why : ComponentRange)
     → IsOnly Has text form → HasFault Has Of text why → Of form why
 only Has Of text form why every h = subst (λ f. Of f why) (sym (one form h.0 (every h.0 h.1))) h.2
+
+one_some : {A : Type 0} (a b : A) → Some a ≡ Some b → a ≡ b
+one_some a b e = cc
 
 pub not_refused : {F : Type 0} (Has : List ℕ → F → Type 0) (Of : F → ComponentRange → Type 0) (text : List ℕ) (form : F)
     → IsOnly Has text form → ((why : ComponentRange) → ⊥ ↔ Of form why) → (why : ComponentRange) → ⊥ ↔ HasFault Has Of text why
@@ -50,9 +52,9 @@ pub refused_for : {F : Type 0} (Has : List ℕ → F → Type 0) (Of : F → Com
     → IsOnly Has text form → Has text form → ((why : ComponentRange) → (found ≡ why) ↔ Of form why)
     → (why : ComponentRange) → (Some found ≡ Some why) ↔ HasFault Has Of text why
 refused_for Has Of text form found every has component why =
-    (λ e. (form, has, (component why).0 (one found why e)), λ h. ap Some ((component why).1 (only Has Of text form why every h)))
+    (λ e. (form, has, (component why).0 (one_some found why e)), λ h. ap Some ((component why).1 (only Has Of text form why every h)))
 
-pub no_form : {F : Type 0} (Has : List ℕ → F → Type 0) (Of : F → ComponentRange → Type 0) (text : List ℕ)
-    → ((form : F) → Has text form → ◌≡◌ {A = Option F} None (Some form))
-    → (why : ComponentRange) → (◌≡◌ {A = Option ComponentRange} None (Some why)) ↔ HasFault Has Of text why
-no_form Has Of text every why = (λ e. absurd (none-some _ e), λ h. absurd (none-some _ (every h.0 h.1)))
+pub no_form : {F : Type 0} (Has : List ℕ → F → Type 0) (Of : F → ComponentRange → Type 0) (text : List ℕ) (e : Unreadable) → component_of e ≡ None
+    → (position : ℕ) → ((form : F) → Has text form → ◌≡◌ {A = Result F ℕ} (Err position) (Ok form))
+    → (why : ComponentRange) → (component_of e ≡ Some why) ↔ HasFault Has Of text why
+no_form Has Of text e none position every why = (λ h. absurd (none-some _ (sym none ∙ h)), λ h. absurd (not_ok _ _ (every h.0 h.1)))

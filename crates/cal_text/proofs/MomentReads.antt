@@ -3,7 +3,8 @@ use Rattle.std.proofs.Common.{List, ℕ, sym, subst}
 use Rattle.cal_datetime.specs.OffsetDateTime.{Shown}
 use Rattle.cal_text.specs.declared.rfc3339.numbers.Numbers.{Numbers}
 use Rattle.cal_text.specs.Rfc3339Form.{HasMomentForm, IsMomentText, IsAt}
-use Rattle.cal_text.proofs.Faults.{IsOnly, one}
+use Rattle.cal_text.proofs.Faults.{IsOnly}
+use Rattle.cal_text.proofs.Results.{one}
 
 -- the moment of a text has what is at it
 pub at_only : (text : List ℕ) (moment : Numbers) (at : Shown) → IsOnly HasMomentForm text moment → IsMomentText text at → IsAt moment at

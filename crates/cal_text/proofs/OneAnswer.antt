@@ -1,10 +1,10 @@
 -- Where the contract of a reader leaves one answer, or one but for the position of a wrong byte.
-use Rattle.std.proofs.Common.{◌≡◌, ◌↔◌, ◌∙◌, ℕ, List, Option, None, Some, refl, sym, ap, Result, Ok, Err}
+use Rattle.std.proofs.Common.{◌≡◌, ◌↔◌, ◌∙◌, ℕ, List, Option, None, Some, refl, sym, ap, arith, Result, Ok, Err}
 use Rattle.std.specs.Prelude.{IfOk, IfErr}
 use Rattle.cal_time.specs.declared.error.ComponentRange.{ComponentRange}
 use Rattle.cal_text.specs.declared.error.Unreadable.{Unreadable}
 use Rattle.std.proofs.lemmas.Option.{none-some}
-use Rattle.cal_text.specs.declared.error.Unreadable.TheVariants.{UnexpectedByte, OutOfRange}
+use Rattle.cal_text.specs.declared.error.Unreadable.TheVariants.{UnexpectedByte, UnexpectedEnd, OutOfRange}
 use Rattle.cal_text.specs.Position.{IsAtStop}
 use Rattle.cal_text.proofs.Positions.{one_position}
 use Rattle.cal_text.specs.Reading.{component_of, IsRefusedFor, IsRefusedForForm}
@@ -37,9 +37,14 @@ same_answer : {V : Type 0} (IsText : List ℕ → Type 0) (text : List ℕ) (r s
 same_answer IsText text (Ok v) (Ok w) a b e = ap Ok e
 same_answer IsText text (Ok v) (Err f) a b e = absurd e
 same_answer IsText text (Err e) (Ok w) a b same = absurd same
-same_answer IsText text (Err (UnexpectedByte p)) (Err (UnexpectedByte q)) a b e = ap (λ n. Err (UnexpectedByte n)) (one_position IsText text p q a b)
+same_answer IsText text (Err (UnexpectedByte p)) (Err (UnexpectedByte q)) a b e = ap (λ n. Err (UnexpectedByte n)) (one_position IsText text p q a.0 b.0)
+same_answer IsText text (Err (UnexpectedByte p)) (Err (UnexpectedEnd q)) a b e = absurd (omega (arith, one_position IsText text p q a.0 b.0, a.1, b.1))
 same_answer IsText text (Err (UnexpectedByte p)) (Err (OutOfRange why)) a b e = absurd (none-some _ e)
+same_answer IsText text (Err (UnexpectedEnd p)) (Err (UnexpectedByte q)) a b e = absurd (omega (arith, one_position IsText text p q a.0 b.0, a.1, b.1))
+same_answer IsText text (Err (UnexpectedEnd p)) (Err (UnexpectedEnd q)) a b e = ap (λ n. Err (UnexpectedEnd n)) (a.1 ∙ sym b.1)
+same_answer IsText text (Err (UnexpectedEnd p)) (Err (OutOfRange why)) a b e = absurd (none-some _ e)
 same_answer IsText text (Err (OutOfRange why)) (Err (UnexpectedByte q)) a b e = absurd (none-some _ (sym e))
+same_answer IsText text (Err (OutOfRange why)) (Err (UnexpectedEnd q)) a b e = absurd (none-some _ (sym e))
 same_answer IsText text (Err (OutOfRange v)) (Err (OutOfRange w)) a b e = let same : v ≡ w = cc in ap (λ why. Err (OutOfRange why)) same
 
 -- the clauses of a reader leave one answer

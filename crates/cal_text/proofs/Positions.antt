@@ -1,10 +1,11 @@
 -- What a reader that stopped has shown; and that a text stops being of a form at one position.
-use Rattle.std.proofs.Common.{◌≡◌, ℕ, suc, ◌+◌, ◌-◌, ◌<◌, ◌≤◌, List, ◌++◌, length, take, drop, sym, ap, subst, ◌∙◌, arith, inl, inr}
-use Rattle.std.specs.Prelude.{Option, Some, None, IfSome, IfNone}
+use Rattle.std.proofs.Common.{◌≡◌, ℕ, suc, ◌+◌, ◌-◌, ◌<◌, ◌≤◌, List, ◌++◌, length, refl, take, drop, sym, ap, subst, ◌∙◌, arith, inl, inr}
 use Rattle.std.proofs.lemmas.Bool.{cases_lt}
 use Rattle.std.proofs.lemmas.List.{length-drop, take-append-drop, append_assoc, take-take}
-use Rattle.cal_text.specs.Position.{Begins, IsPosition, HasSome}
-use Rattle.cal_text.specs.Shape.{Shape, left, ScansWhole, ScansLarge}
+use Rattle.cal_text.specs.Position.{Begins, IsPosition, IsAtStop, HasSome}
+use Rattle.cal_text.specs.Shape.{Shape, left}
+use Rattle.cal_text.specs.declared.error.Unreadable.{Unreadable}
+use Rattle.cal_text.specs.declared.error.Unreadable.TheVariants.{UnexpectedByte, UnexpectedEnd, OutOfRange}
 use Rattle.cal_text.proofs.Stops.{gone_over, completed, left-most}
 
 -- the texts of the form are those of the shape, and each has one value
@@ -64,36 +65,39 @@ one_position IsText text p q a b =
       ]
     ]
 
--- ---- readers of a shape
-pub rest_within : (f : Shape) (text rest : List ℕ) → left f text ≡ suc (length rest) → length rest ≤ length text
-rest_within f text rest e = omega (arith, e, left-most f text)
+-- ---- a reader that stopped: it has shown that the text has no value, and where it stops being of the form
+pub record Stopped {V : Type 0} (Has : List ℕ → V → Type 0) (text rest : List ℕ) : Type 0 where
+  pub none : (v : V) → ¬ Has text v
+  pub within : length rest ≤ length text
+  pub position : IsPosition (HasSome Has) text (length text - length rest)
 
-pub every_large : {V : Type 0} (Has : List ℕ → V → Type 0) (f : ℕ → Shape) → AreShapesOf Has f → (old new : List ℕ) (r : Option V)
-    → ScansLarge f old new r → IfSome r (Has old) → (v : V) → Has old v → r ≡ Some v
-every_large Has f shape old new (Some w) scans found v has = ap Some (shape.one old w v found has)
-every_large Has f shape old new None scans found v has =
-    let long : length old ≤ length old = omega arith in
-    absurd (omega (arith, scans (length old) long, shape.each (length old) old long (v, has)))
+pub stopped_large : {V : Type 0} (Has : List ℕ → V → Type 0) (f : ℕ → Shape) → AreShapesOf Has f → (text rest : List ℕ)
+    → ((k : ℕ) → length text ≤ k → left (f k) text ≡ suc (length rest)) → Stopped Has text rest
+stopped_large Has f shape text rest scans =
+    let long : length text ≤ length text = omega arith in
+    let within : length rest ≤ length text = omega (arith, scans (length text) long, left-most (f (length text)) text) in
+    record {
+      none = λ v has. absurd (omega (arith, scans (length text) long, shape.each (length text) text long (v, has)));
+      within = within;
+      position = position Has f text (length text - length rest) (length rest) shape scans (omega arith);
+    }
 
-pub within_large : {V : Type 0} (f : ℕ → Shape) (old new : List ℕ) (r : Option V) → ScansLarge f old new r → IfNone r (length new ≤ length old)
-within_large f old new (Some v) scans = tt
-within_large f old new None scans = let long : length old ≤ length old = omega arith in rest_within (f (length old)) old new (scans (length old) long)
+pub stopped : {V : Type 0} (Has : List ℕ → V → Type 0) (f : Shape) → IsShapeOf Has f → (text rest : List ℕ) → left f text ≡ suc (length rest) → Stopped Has text rest
+stopped Has f shape text rest scans = stopped_large Has (λ k. f) (constant Has f shape) text rest (λ k few. scans)
 
-pub at_stop_large : {V : Type 0} (Has : List ℕ → V → Type 0) (f : ℕ → Shape) → AreShapesOf Has f → (old new : List ℕ) (r : Option V)
-    → ScansLarge f old new r → IfNone r (IsPosition (HasSome Has) old (length old - length new))
-at_stop_large Has f shape old new (Some v) scans = tt
-at_stop_large {V} Has f shape old new None scans =
-    let short = within_large {V = V} f old new None scans in
-    position Has f old (length old - length new) (length new) shape scans (omega arith)
+-- ---- an error names the position that it is made of
+pub named : (IsText : List ℕ → Type 0) (text : List ℕ) (p : ℕ) (e : Unreadable) → IsPosition IsText text p
+    → (p < length text → e ≡ UnexpectedByte p) → (p ≡ length text → e ≡ UnexpectedEnd (length text)) → IsAtStop IsText text e
+named IsText text p e at byte end = elim (cases_lt p (length text)) as (λ _. IsAtStop IsText text e) [
+  | inl less ↦ rw (byte less) (at, less)
+  | inr most ↦
+      let whole : p ≡ length text = omega (arith, most, at.within) in
+      rw (end whole) (subst (IsPosition IsText text) whole at, refl)
+]
 
--- of one shape
-pub every : {V : Type 0} (Has : List ℕ → V → Type 0) (f : Shape) → IsShapeOf Has f → (old new : List ℕ) (r : Option V)
-    → ScansWhole f old new r → IfSome r (Has old) → (v : V) → Has old v → r ≡ Some v
-every Has f shape old new r scans found v has = every_large Has (λ k. f) (constant Has f shape) old new r (λ k few. scans) found v has
-
-pub within : {V : Type 0} (f : Shape) (old new : List ℕ) (r : Option V) → ScansWhole f old new r → IfNone r (length new ≤ length old)
-within f old new r scans = within_large (λ k. f) old new r (λ k few. scans)
-
-pub at_stop : {V : Type 0} (Has : List ℕ → V → Type 0) (f : Shape) → IsShapeOf Has f → (old new : List ℕ) (r : Option V)
-    → ScansWhole f old new r → IfNone r (IsPosition (HasSome Has) old (length old - length new))
-at_stop Has f shape old new r scans = at_stop_large Has (λ k. f) (constant Has f shape) old new r (λ k few. scans)
+-- and that of another form, where a text stops being of that too
+pub carried : (IsText IsOther : List ℕ → Type 0) (text : List ℕ) (e : Unreadable) → ((p : ℕ) → IsPosition IsText text p → IsPosition IsOther text p)
+    → IsAtStop IsText text e → IsAtStop IsOther text e
+carried IsText IsOther text (UnexpectedByte p) same h = (same p h.0, h.1)
+carried IsText IsOther text (UnexpectedEnd p) same h = (same p h.0, h.1)
+carried IsText IsOther text (OutOfRange why) same h = tt

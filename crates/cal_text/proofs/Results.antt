@@ -5,7 +5,8 @@ use Rattle.std.proofs.Common.{◌≡◌, Result, Ok, Err, ap}
 pub not_ok : {A E : Type 0} (e : E) (a : A) → ◌≡◌ {A = Result A E} (Err e) (Ok a) → ⊥
 not_ok e a h = cc
 
-one : {A E : Type 0} (a b : A) → ◌≡◌ {A = Result A E} (Ok a) (Ok b) → a ≡ b
+-- a value is one
+pub one : {A E : Type 0} (a b : A) → ◌≡◌ {A = Result A E} (Ok a) (Ok b) → a ≡ b
 one a b h = cc
 
 -- the same value, taken further

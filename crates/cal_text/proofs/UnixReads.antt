@@ -1,5 +1,5 @@
 -- A Unix time in text is that of one moment at UTC, or of none.
-use Rattle.std.proofs.Common.{◌≡◌, ℕ, ◌<◌, ◌^◌, ℤ, pos, negsuc, ◌+ℤ◌, ◌*ℤ◌, unsigned_abs, FitsSigned, to_z, of_z, Some, Result, Ok, List, refl, sym, subst, ap, ◌∙◌, arith, inl, inr}
+use Rattle.std.proofs.Common.{◌≡◌, ℕ, ◌<◌, ◌^◌, ℤ, pos, negsuc, ◌+ℤ◌, ◌*ℤ◌, unsigned_abs, FitsSigned, to_z, of_z, Result, Ok, List, refl, sym, subst, ap, ◌∙◌, arith, inl, inr}
 use Rattle.std.proofs.lemmas.Bool.{cases_lt}
 use Rattle.std.specs.Int.{w128}
 use Rattle.std.proofs.lemmas.Int.{ints, to_z-of_z}
@@ -7,6 +7,8 @@ use Rattle.cal_time.specs.SignedDuration.{second}
 use Rattle.cal_datetime.specs.DateTime.{IsDateTime, last_date_time}
 use Rattle.cal_datetime.specs.OffsetDateTime.{Shown, instant, unix_epoch, unix_nanoseconds}
 use Rattle.cal_text.specs.UnixText.{HasUnixForm, IsUnixText}
+use Rattle.cal_text.proofs.Faults.{IsOnly}
+use Rattle.cal_text.proofs.Results.{one}
 
 -- the moment at UTC of a Unix time
 abbrev pub at_utc : ℤ → Shown
@@ -23,15 +25,6 @@ local-is m e = let none = ap (λ o. o *ℤ pos second) e in omega (arith, ints, 
 is-at_utc : (m : Shown) → m.offset ≡ pos 0 → m ≡ at_utc (unix_nanoseconds (instant m))
 is-at_utc m e = let local = local-is m e in λ i. record { local = local i; offset = e i }
 
-abbrev pub IsOnly : List ℕ → ℤ → Type 0
-IsOnly text v = (u : ℤ) → HasUnixForm text u → Some v ≡ Some u
-
-one : {A : Type 0} (a b : A) → Some a ≡ Some b → a ≡ b
-one a b e = cc
-
-pub one_value : {A E : Type 0} (a b : A) → ◌≡◌ {A = Result A E} (Ok a) (Ok b) → a ≡ b
-one_value a b e = cc
-
 -- a number is that of a date-time, or of none
 pub in_range : (z : ℤ) → ¬ ¬ IsDateTime z → IsDateTime z
 in_range (pos n) h = elim (cases_lt last_date_time n) as (λ _. IsDateTime (pos n)) [
@@ -43,13 +36,13 @@ in_range (negsuc n) h = absurd (h (λ k. omega (arith, ints, k.not_before)))
 -- the moment of the number has the text, and no other
 pub text_of : {E : Type 0} (text : List ℕ) (v : ℤ) (m : Shown) → HasUnixForm text v → IsDateTime (unix_epoch +ℤ v) → ◌≡◌ {A = Result Shown E} (Ok m) (Ok (at_utc v)) → IsUnixText text m
 text_of text v m form range e =
-    subst (IsUnixText text) (sym (one_value m (at_utc v) e)) (record { in_range = range; at_utc = refl; form = subst (HasUnixForm text) (sym (says v)) form })
+    subst (IsUnixText text) (sym (one m (at_utc v) e)) (record { in_range = range; at_utc = refl; form = subst (HasUnixForm text) (sym (says v)) form })
 
-pub range_of : (text : List ℕ) (v : ℤ) (m : Shown) → IsOnly text v → IsUnixText text m → IsDateTime (unix_epoch +ℤ v)
+pub range_of : (text : List ℕ) (v : ℤ) (m : Shown) → IsOnly HasUnixForm text v → IsUnixText text m → IsDateTime (unix_epoch +ℤ v)
 range_of text v m every is =
     subst IsDateTime (local-is m is.at_utc ∙ ap (λ u. unix_epoch +ℤ u) (sym (one v _ (every _ is.form)))) is.in_range
 
-pub moment_of : (text : List ℕ) (v : ℤ) (m : Shown) → IsOnly text v → IsUnixText text m → at_utc v ≡ m
+pub moment_of : (text : List ℕ) (v : ℤ) (m : Shown) → IsOnly HasUnixForm text v → IsUnixText text m → at_utc v ≡ m
 moment_of text v m every is = ap at_utc (one v _ (every _ is.form)) ∙ sym (is-at_utc m is.at_utc)
 
 -- what a text says fits into 128 bits

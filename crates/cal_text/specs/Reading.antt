@@ -6,7 +6,7 @@ use Rattle.cal_time.specs.Month.{month_out_of_range}
 use Rattle.cal_time.specs.declared.error.ComponentRange.{ComponentRange}
 use Rattle.cal_time.specs.Refusals.{year_out_of_range, day_out_of_range, ordinal_out_of_range, week_out_of_range, weekday_out_of_range}
 use Rattle.cal_text.specs.declared.error.Unreadable.{Unreadable}
-use Rattle.cal_text.specs.declared.error.Unreadable.TheVariants.{UnexpectedByte, OutOfRange}
+use Rattle.cal_text.specs.declared.error.Unreadable.TheVariants.{UnexpectedByte, UnexpectedEnd, OutOfRange}
 use Rattle.cal_text.specs.declared.form.Form.{Form}
 use Rattle.cal_text.specs.declared.form.Form.TheVariants.{Calendar, Ordinal, Week}
 
@@ -14,6 +14,7 @@ use Rattle.cal_text.specs.declared.form.Form.TheVariants.{Calendar, Ordinal, Wee
 -- the refusal of a component, or nothing where the text has no form
 abbrev pub component_of : Unreadable → Option ComponentRange
 component_of (UnexpectedByte at) = None
+component_of (UnexpectedEnd at) = None
 component_of (OutOfRange e) = Some e
 
 -- the text was refused for just this component

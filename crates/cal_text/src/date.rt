@@ -10,7 +10,6 @@ ghost use Rattle.cal_text.specs.Reading.{IsOnDay, IsFaultOf, HasFault, IsRefused
 use crate::date::of_form::date_of;
 use crate::error::Unreadable;
 use crate::form::{Form, form_of};
-use crate::scanner::Scanner;
 use cal_time::Date;
 
 mod display;
@@ -24,8 +23,8 @@ pub use display::{CalendarText, OrdinalText, WeekText};
 /// and four digits or more below. The weekday is from 1, Monday, to 7. Each text reads as the day that prints it, and no
 /// other text is read: no spaces, no zeros before a year of more than four digits, nothing after the date.
 ///
-/// A text of another form is refused with the position of the first byte that no text of these forms has there, which is the length
-/// of a text that ends too early. Years may have up to nine digits. Otherwise the first component at fault is the reason: `month`, `year` outside -999999 to 999999,
+/// A text of another form is refused with the position of the first byte that no text of these forms has there, or with its length
+/// where it ends too early. Years may have up to nine digits. Otherwise the first component at fault is the reason: `month`, `year` outside -999999 to 999999,
 /// `day`, `ordinal`, `week`, or `weekday` after the last day of the range.
 pub fn read(text: &[u8]) -> Result<Date, Unreadable>
     ensures every { (n : ℕ) → IsDate n → IsDateText text.now n → result ≡ Ok n }
@@ -54,12 +53,11 @@ pub(crate) fn form_and_date(text: &[u8]) -> Result<(Form, Date), Unreadable>
     ensures component { (why : ComponentRange)
         → IsRefusedFor why result ↔ HasFault HasForm IsFaultOf text.now why }
 {
-    let mut scanner = Scanner { rest: text };
-    match form_of(&mut scanner) {
-        Some(form) => match date_of(form) {
+    match form_of(text) {
+        Ok(form) => match date_of(form) {
             Ok(date) => Ok((form, date)),
             Err(error) => Err(Unreadable::OutOfRange(error)),
         },
-        None => Err(Unreadable::UnexpectedByte(text.len() - scanner.rest.len())),
+        Err(position) => Err(Unreadable::at(position, text.len())),
     }
 }

@@ -1,10 +1,10 @@
 //! Dates in text by their Julian day.
-ghost use Rattle.std.specs.Prelude.{◌≡◌, ℕ, ℤ, ◌-◌, ◌<◌, ◌≤◌, ◌^◌, ◌↔◌, length, decimal, IfOk, IfErr, IfSome, IfNone, Ok, Some};
+ghost use Rattle.std.specs.Prelude.{◌≡◌, ℕ, ℤ, ◌<◌, ◌≤◌, ◌^◌, ◌↔◌, length, decimal, IfOk, IfErr, IfSome, Ok, Some};
 ghost use Rattle.std.specs.Fmt.{padded};
 ghost use Rattle.cal_time.specs.Date.{IsDate};
 ghost use Rattle.cal_time.specs.declared.error.ComponentRange.{ComponentRange};
 ghost use Rattle.cal_text.specs.JulianForm.{julian_text, IsJulianForm, IsJulianFault};
-ghost use Rattle.cal_text.specs.Position.{HasSome, IsPosition, IsAtStop};
+ghost use Rattle.cal_text.specs.Position.{HasSome, IsAtStop, IsPosition};
 ghost use Rattle.cal_text.specs.Reading.{HasFault, IsRefusedFor, IsRefusedForForm};
 ghost use Rattle.cal_text.specs.Shape.{ScansWhole, natural, julian_day};
 
@@ -44,8 +44,8 @@ impl fmt::Display for JulianText {
 /// The day whose Julian day the text is, after a letter J, as `J2460370`.
 ///
 /// The number has a minus sign below 0, no plus sign and no zeros before its digits. Each text reads as the day that prints it.
-/// Another text is refused with the position of the first byte that no such text has there, which is the length of a text that ends
-/// too early. A number of at most nine digits that no day of the range has is refused as `julian_day`.
+/// Another text is refused with the position of the first byte that no such text has there, or with its length where it ends too
+/// early. A number of at most nine digits that no day of the range has is refused as `julian_day`.
 pub fn read(text: &[u8]) -> Result<Date, Unreadable>
     ensures every { (n : ℕ) → IsDate n → text.now ≡ julian_text n → result ≡ Ok n }
     ensures has { IfOk result (λ n. IsDate n × (text.now ≡ julian_text n)) }
@@ -54,26 +54,26 @@ pub fn read(text: &[u8]) -> Result<Date, Unreadable>
     ensures component { (why : ComponentRange)
         → IsRefusedFor why result ↔ HasFault IsJulianForm IsJulianFault text.now why }
 {
-    let mut scanner = Scanner { rest: text };
-    match julian_day_of(&mut scanner) {
-        Some(julian_day) => match Date::from_julian_day(julian_day) {
+    match julian_day_of(text) {
+        Ok(julian_day) => match Date::from_julian_day(julian_day) {
             Ok(date) => Ok(date),
             Err(error) => Err(Unreadable::OutOfRange(error)),
         },
-        None => Err(Unreadable::UnexpectedByte(text.len() - scanner.rest.len())),
+        Err(position) => Err(Unreadable::at(position, text.len())),
     }
 }
 
-/// The Julian day that the rest of a text is, or `None` in front of the byte where it stops being one.
-fn julian_day_of(scanner: &mut Scanner) -> Option<i32>
-    ensures every { (j : ℤ) → IsJulianForm scanner.old.rest.now j → result ≡ Some j }
-    ensures has { IfSome result (IsJulianForm scanner.old.rest.now) }
-    ensures within { IfNone result (length scanner.new.rest.now ≤ length scanner.old.rest.now) }
-    ensures position { IfNone result
-        (IsPosition (HasSome IsJulianForm) scanner.old.rest.now
-        (length scanner.old.rest.now - length scanner.new.rest.now)) }
+/// The Julian day that the text is, or the position where it stops being one.
+fn julian_day_of(text: &[u8]) -> Result<i32, usize>
+    ensures every { (j : ℤ) → IsJulianForm text.now j → result ≡ Ok j }
+    ensures has { IfOk result (IsJulianForm text.now) }
+    ensures position { IfErr result (IsPosition (HasSome IsJulianForm) text.now) }
 {
-    julian_day(scanner)
+    let mut scanner = Scanner { rest: text };
+    match julian_day(&mut scanner) {
+        Some(julian_day) => Ok(julian_day),
+        None => Err(text.len() - scanner.rest.len()),
+    }
 }
 
 fn julian_day(scanner: &mut Scanner) -> Option<i32>

@@ -13,7 +13,6 @@ use crate::date::read;
 use crate::error::Unreadable;
 use crate::form::{Form, form_of};
 use crate::rfc3339;
-use crate::scanner::Scanner;
 use cal_datetime::OffsetDateTime;
 use cal_time::Date;
 
@@ -27,10 +26,10 @@ pub(crate) fn one_day(text: &[u8]) -> Result<Date, Unreadable>
 
 /// No text is in two forms, nor in one form with two sets of numbers.
 #[tactic(auto, using(crate::proofs::DayForms::same_form))]
-pub(crate) fn one_form(text: &[u8]) -> Option<Form>
+pub(crate) fn one_form(text: &[u8]) -> Result<Form, usize>
     ensures { (f g : Form) → HasForm text.now f → HasForm text.now g → f ≡ g }
 {
-    form_of(&mut Scanner { rest: text })
+    form_of(text)
 }
 
 /// No text is in two of the six forms, nor is it that of two dates or moments.

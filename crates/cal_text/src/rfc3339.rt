@@ -10,7 +10,6 @@ ghost use Rattle.cal_text.specs.Rfc3339Form.{HasMomentForm, IsMomentFault, IsMom
 use crate::error::Unreadable;
 use crate::rfc3339::form::numbers_of;
 use crate::rfc3339::of_numbers::moment_of;
-use crate::scanner::Scanner;
 use cal_datetime::OffsetDateTime;
 
 mod form;
@@ -27,8 +26,8 @@ pub use text::Text;
 /// fraction of any number of digits, of which the first nine count. The offset is `Z`, `z`, or a sign, hours and minutes;
 /// that of `-00:00` is UTC. Nothing may come before or after.
 ///
-/// A text of another form is refused with the position of the first byte that no such text has there, which is the length of a text
-/// that ends too early. Otherwise the first component at fault is the reason: `month`, `day`, `hour`, `minute`, `second` (60 too, as no leap second is counted), `offset hour` above
+/// A text of another form is refused with the position of the first byte that no such text has there, or with its length where it
+/// ends too early. Otherwise the first component at fault is the reason: `month`, `day`, `hour`, `minute`, `second` (60 too, as no leap second is counted), `offset hour` above
 /// 23, or `offset minute`.
 pub fn read(text: &[u8]) -> Result<OffsetDateTime, Unreadable>
     ensures every { (m : Shown) → IsMomentText text.now m → result ≡ Ok m }
@@ -40,12 +39,11 @@ pub fn read(text: &[u8]) -> Result<OffsetDateTime, Unreadable>
     ensures component { (why : ComponentRange)
         → IsRefusedFor why result ↔ HasFault HasMomentForm IsMomentFault text.now why }
 {
-    let mut scanner = Scanner { rest: text };
-    match numbers_of(&mut scanner) {
-        Some(numbers) => match moment_of(numbers) {
+    match numbers_of(text) {
+        Ok(numbers) => match moment_of(numbers) {
             Ok(moment) => Ok(moment),
             Err(error) => Err(Unreadable::OutOfRange(error)),
         },
-        None => Err(Unreadable::UnexpectedByte(text.len() - scanner.rest.len())),
+        Err(position) => Err(Unreadable::at(position, text.len())),
     }
 }

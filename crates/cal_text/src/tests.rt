@@ -1,4 +1,5 @@
 //! Texts and their dates, from outside.
+use crate::Unreadable::{UnexpectedByte, UnexpectedEnd};
 use crate::date::{CalendarText, OrdinalText, WeekText, read};
 use crate::julian_day::JulianText;
 use crate::{Unreadable, julian_day};
@@ -40,16 +41,6 @@ fn reads<T: Copy + Debug + PartialEq, R: Copy + Debug>(
         *found == *wanted,
         "{found:?} and not {wanted:?} at {row:?}"
     );
-}
-
-/// Stops the test unless the text was refused for the byte at this position.
-fn wrong_at<T: Copy + Debug + PartialEq>(
-    rt: &impl Abort,
-    text: &str,
-    found: &Result<T, Unreadable>,
-    position: usize,
-) {
-    reads(rt, text, found, &Err(Unreadable::UnexpectedByte(position)));
 }
 
 /// Stops the test unless the text was refused for the component of this name, with this mark.
@@ -138,44 +129,46 @@ fn components_out_of_range(rt: HostRuntime) {
 }
 
 #[test]
-fn first_wrong_bytes(rt: HostRuntime) {
-    for (text, position) in [
-        ("", 0),
-        ("x024-02-29", 0),
-        ("202-02-29", 3),
-        ("2024", 4),
-        ("20240229", 4),
-        ("12345-01-01", 4),
-        ("+2024-01-01", 5),
-        ("+02024-01-01", 1),
-        ("-0000-01-01", 4),
-        ("-0000", 4),
-        ("-02024-01-01", 5),
-        ("-12345678901-001", 10),
-        ("2024-", 5),
-        ("2024--2-29", 5),
-        ("2024-60", 7),
-        ("2024-0229", 8),
-        ("2024-02-2", 9),
-        ("2024-02-29 ", 10),
-        ("2024-02-29T", 10),
-        ("2024-060-", 8),
-        ("2024-02/29", 7),
-        ("2024-w09-4", 5),
-        ("2024-W9-4", 7),
-        ("2024-W09-", 9),
-        ("2024-W09-0", 9),
-        ("2024-W09-8", 9),
-        ("2024-W09-41", 10),
+fn texts_of_no_date(rt: HostRuntime) {
+    for (text, error) in [
+        ("", UnexpectedEnd(0)),
+        ("x024-02-29", UnexpectedByte(0)),
+        ("202-02-29", UnexpectedByte(3)),
+        ("2024", UnexpectedEnd(4)),
+        ("2024x", UnexpectedByte(4)),
+        ("20240229", UnexpectedByte(4)),
+        ("12345-01-01", UnexpectedByte(4)),
+        ("+2024-01-01", UnexpectedByte(5)),
+        ("+02024-01-01", UnexpectedByte(1)),
+        ("-0000-01-01", UnexpectedByte(4)),
+        ("-0000", UnexpectedByte(4)),
+        ("-02024-01-01", UnexpectedByte(5)),
+        ("-12345678901-001", UnexpectedByte(10)),
+        ("2024-", UnexpectedEnd(5)),
+        ("2024--2-29", UnexpectedByte(5)),
+        ("2024-60", UnexpectedEnd(7)),
+        ("2024-0229", UnexpectedByte(8)),
+        ("2024-02-2", UnexpectedEnd(9)),
+        ("2024-02-29 ", UnexpectedByte(10)),
+        ("2024-02-29T", UnexpectedByte(10)),
+        ("2024-060-", UnexpectedByte(8)),
+        ("2024-02/29", UnexpectedByte(7)),
+        ("2024-w09-4", UnexpectedByte(5)),
+        ("2024-W9-4", UnexpectedByte(7)),
+        ("2024-W09-", UnexpectedEnd(9)),
+        ("2024-W09-0", UnexpectedByte(9)),
+        ("2024-W09-8", UnexpectedByte(9)),
+        ("2024-W09-41", UnexpectedByte(10)),
     ] {
-        wrong_at(&rt, text, &read(text.as_bytes()), position);
+        reads(&rt, text, &read(text.as_bytes()), &Err(error));
     }
 }
 
 #[test]
 fn texts_of_errors(rt: HostRuntime) -> Result<(), Fail> {
     for (text, error) in [
-        ("", "unexpected byte at 0"),
+        ("", "unexpected end at 0"),
+        ("2024-02-2", "unexpected end at 9"),
         ("2024x", "unexpected byte at 4"),
         ("2024-02-29T", "unexpected byte at 10"),
         ("2024-13-01", "month was not in range"),
@@ -193,7 +186,7 @@ fn texts_of_errors(rt: HostRuntime) -> Result<(), Fail> {
     prints(
         &rt,
         rt.alloc(),
-        &Unreadable::UnexpectedByte(usize::MAX),
+        &UnexpectedByte(usize::MAX),
         "unexpected byte at 18446744073709551615",
     )
 }
@@ -303,21 +296,21 @@ fn julian_days(rt: HostRuntime) -> Result<(), Fail> {
             false,
         );
     }
-    for (text, position) in [
-        ("", 0),
-        ("2460370", 0),
-        ("j2460370", 0),
-        ("J", 1),
-        ("J-", 2),
-        ("J+1", 1),
-        ("J-0", 2),
-        ("J02", 2),
-        ("J-02", 2),
-        ("J24603700000", 10),
-        ("J2460370.5", 8),
-        ("J2460370 ", 8),
+    for (text, error) in [
+        ("", UnexpectedEnd(0)),
+        ("2460370", UnexpectedByte(0)),
+        ("j2460370", UnexpectedByte(0)),
+        ("J", UnexpectedEnd(1)),
+        ("J-", UnexpectedEnd(2)),
+        ("J+1", UnexpectedByte(1)),
+        ("J-0", UnexpectedByte(2)),
+        ("J02", UnexpectedByte(2)),
+        ("J-02", UnexpectedByte(2)),
+        ("J24603700000", UnexpectedByte(10)),
+        ("J2460370.5", UnexpectedByte(8)),
+        ("J2460370 ", UnexpectedByte(8)),
     ] {
-        wrong_at(&rt, text, &julian_day::read(text.as_bytes()), position);
+        reads(&rt, text, &julian_day::read(text.as_bytes()), &Err(error));
     }
     Ok(())
 }

@@ -7,7 +7,6 @@ ghost use Rattle.cal_text.specs.Reading.{HasFault, IsRefusedFor, IsRefusedForFor
 ghost use Rattle.cal_text.specs.UnixText.{HasUnixForm, IsUnixText, IsUnixFault};
 
 use crate::error::Unreadable;
-use crate::scanner::Scanner;
 use crate::unix::reading::unix_of;
 use cal_datetime::OffsetDateTime;
 
@@ -21,8 +20,8 @@ pub use text::Text;
 /// After the `@` come the whole seconds, with a minus sign before a time before 1970, no plus sign and no zeros before their
 /// digits, of which there are at most 18. A fraction of one to nine digits may follow. `@1709164800.5` is 0:00:00.5 on 2024-02-29.
 ///
-/// Another text is refused with the position of the first byte that no such text has there, which is the length of a text that ends
-/// too early. A number that no moment at UTC has is refused as `timestamp`.
+/// Another text is refused with the position of the first byte that no such text has there, or with its length where it ends too
+/// early. A number that no moment at UTC has is refused as `timestamp`.
 pub fn read(text: &[u8]) -> Result<OffsetDateTime, Unreadable>
     ensures every { (m : Shown) → IsUnixText text.now m → result ≡ Ok m }
     ensures has { IfOk result (IsUnixText text.now) }
@@ -31,12 +30,11 @@ pub fn read(text: &[u8]) -> Result<OffsetDateTime, Unreadable>
     ensures component { (why : ComponentRange)
         → IsRefusedFor why result ↔ HasFault HasUnixForm IsUnixFault text.now why }
 {
-    let mut scanner = Scanner { rest: text };
-    match unix_of(&mut scanner) {
-        Some(nanoseconds) => match OffsetDateTime::from_unix_timestamp_nanos(nanoseconds) {
+    match unix_of(text) {
+        Ok(nanoseconds) => match OffsetDateTime::from_unix_timestamp_nanos(nanoseconds) {
             Ok(moment) => Ok(moment),
             Err(error) => Err(Unreadable::OutOfRange(error)),
         },
-        None => Err(Unreadable::UnexpectedByte(text.len() - scanner.rest.len())),
+        Err(position) => Err(Unreadable::at(position, text.len())),
     }
 }

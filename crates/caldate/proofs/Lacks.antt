@@ -7,7 +7,7 @@ use Rattle.cal_text.specs.Position.{IsAtStop}
 use Rattle.cal_text.specs.Reading.{IsRefusedFor, IsRefusedForForm}
 use Rattle.cal_text.specs.declared.any.DateOrMoment.{DateOrMoment}
 use Rattle.cal_text.specs.declared.error.Unreadable.{Unreadable}
-use Rattle.cal_text.specs.declared.error.Unreadable.TheVariants.{UnexpectedByte, OutOfRange}
+use Rattle.cal_text.specs.declared.error.Unreadable.TheVariants.{UnexpectedByte, UnexpectedEnd, OutOfRange}
 use Rattle.caldate.specs.Answers.{IsAnswerTo, LacksAnswer, why_text}
 use Rattle.caldate.specs.Readings.{HasFormIn, IsFaultIn, IsTextIn}
 use Rattle.caldate.specs.declared.request.Filter.{Filter}
@@ -21,5 +21,6 @@ pub lacks_why : (filter : Filter) (text : List ℕ) (error : Unreadable) → len
     → (IsRefusedForForm {V = DateOrMoment} (Err error) ↔ ¬ HasFormIn filter.reading text)
     → ((why : ComponentRange) → IsRefusedFor {V = DateOrMoment} why (Err error) ↔ IsFaultIn filter.reading text why)
     → (filter.reading ≡ Any → IsAtStop HasAnyForm text error) → LacksAnswer filter text (why_text error)
-lacks_why filter text (UnexpectedByte at) fits form component stop = inr (fits, inr (inr (form.0 refl, (at, stop, refl))))
+lacks_why filter text (UnexpectedByte at) fits form component stop = inr (fits, inr (inr (form.0 refl, (at, (λ any. (stop any).0), refl))))
+lacks_why filter text (UnexpectedEnd at) fits form component stop = inr (fits, inr (inr (form.0 refl, (at, (λ any. (stop any).0), refl))))
 lacks_why filter text (OutOfRange e) fits form component stop = inr (fits, inr (inl (e, (component e).0 refl, refl)))

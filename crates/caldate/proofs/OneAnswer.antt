@@ -13,7 +13,7 @@ use Rattle.cal_text.proofs.Positions.{one_position}
 use Rattle.cal_text.specs.declared.any.DateOrMoment.{DateOrMoment}
 use Rattle.cal_text.specs.declared.any.MomentForm.TheVariants.{Rfc3339, Unix}
 use Rattle.cal_text.specs.declared.error.Unreadable.{Unreadable}
-use Rattle.cal_text.specs.declared.error.Unreadable.TheVariants.{UnexpectedByte, OutOfRange}
+use Rattle.cal_text.specs.declared.error.Unreadable.TheVariants.{UnexpectedByte, UnexpectedEnd, OutOfRange}
 use Rattle.caldate.specs.Answers.{IsAnswerTo, IsAnswer, IsBetween, IsTooLong, IsUnreadable, refused_text, moment_of, day_of, form_read, on_day}
 use Rattle.caldate.specs.Forms.{IsInForm}
 use Rattle.caldate.specs.Lines.{lines_of}
@@ -72,6 +72,7 @@ abbrev Told : Filter → List ℕ → Result DateOrMoment Unreadable → List �
 Told filter text (Ok found) words = IsAnswerTo filter.request found words ⊎ (words ≡ codes "none") × ((others : List ℕ) → ¬ IsAnswerTo filter.request found others)
 Told filter text (Err (OutOfRange e)) words = words ≡ refused_text e
 Told filter text (Err (UnexpectedByte at)) words = IsUnreadable filter text words
+Told filter text (Err (UnexpectedEnd at)) words = IsUnreadable filter text words
 
 -- two answers are the same, or the text is unreadable in a reading that is named
 abbrev Alike : Filter → List ℕ → List ℕ → List ℕ → Type 0
@@ -101,6 +102,7 @@ one_told filter text (Ok found) a b (inr h) (inl k) = absurd (h.1 b k)
 one_told filter text (Ok found) a b (inr h) (inr k) = inl (h.0 ∙ sym k.0)
 one_told filter text (Err (OutOfRange e)) a b h k = inl (h ∙ sym k)
 one_told filter text (Err (UnexpectedByte at)) a b h k = one_unreadable filter text a b h k
+one_told filter text (Err (UnexpectedEnd at)) a b h k = one_unreadable filter text a b h k
 
 pub none_some : {A : Type 0} (a : A) → None ≡ Some a → ⊥
 none_some a e = cc
@@ -110,12 +112,14 @@ refused_told : (filter : Filter) (text : List ℕ) (r : Result DateOrMoment Unre
 refused_told filter text (Ok found) why words h e = absurd h
 refused_told filter text (Err (OutOfRange o)) why words h e = e ∙ ap refused_text (sym (some_one o why h))
 refused_told filter text (Err (UnexpectedByte at)) why words h e = absurd (none_some why h)
+refused_told filter text (Err (UnexpectedEnd at)) why words h e = absurd (none_some why h)
 
 unreadable_told : (filter : Filter) (text : List ℕ) (r : Result DateOrMoment Unreadable) (words : List ℕ)
     → IsRefusedForForm r → IsUnreadable filter text words → Told filter text r words
 unreadable_told filter text (Ok found) words h u = absurd h
 unreadable_told filter text (Err (OutOfRange o)) words h u = absurd (none_some o (sym h))
 unreadable_told filter text (Err (UnexpectedByte at)) words h u = u
+unreadable_told filter text (Err (UnexpectedEnd at)) words h u = u
 
 found_told : (filter : Filter) (text : List ℕ) (r : Result DateOrMoment Unreadable) (found : DateOrMoment) (words : List ℕ)
     → r ≡ Ok found → Told filter text (Ok found) words → Told filter text r words

@@ -11,7 +11,7 @@ use Rattle.cal_datetime.specs.OffsetDateTime.{Shown, instant, local_at}
 use Rattle.cal_text.specs.AnyForm.{HasAnyForm}
 use Rattle.cal_text.specs.Position.{IsPosition}
 use Rattle.cal_text.specs.declared.error.Unreadable.{Unreadable}
-use Rattle.cal_text.specs.declared.error.Unreadable.TheVariants.{UnexpectedByte, OutOfRange}
+use Rattle.cal_text.specs.declared.error.Unreadable.TheVariants.{UnexpectedByte, UnexpectedEnd, OutOfRange}
 use Rattle.cal_text.specs.declared.any.DateOrMoment.{DateOrMoment}
 use Rattle.cal_text.specs.declared.any.DateOrMoment.TheVariants as read
 use Rattle.cal_text.specs.declared.any.MomentForm.TheVariants.{Rfc3339}
@@ -104,6 +104,7 @@ refused_text why = codes "refused " ++ component_name why.component ++ (if why.i
 -- what is said of a text that is not read
 abbrev pub why_text : Unreadable → List ℕ
 why_text (UnexpectedByte at) = codes "unreadable at " ++ decimal at
+why_text (UnexpectedEnd at) = codes "unreadable at " ++ decimal at
 why_text (OutOfRange e) = refused_text e
 
 abbrev pub IsRefused : Filter → List ℕ → List ℕ → Type 0

@@ -55,7 +55,7 @@ fn push_why(buffer: &mut Buffer, error: Unreadable)
     ensures short { length buffer.new ≤ length buffer.old + longest_answer }
 {
     match error {
-        Unreadable::UnexpectedByte(position) => {
+        Unreadable::UnexpectedByte(position) | Unreadable::UnexpectedEnd(position) => {
             buffer.push(b"unreadable at ");
             buffer.push_number(position as u64);
         }

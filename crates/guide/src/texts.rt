@@ -1,8 +1,9 @@
 //! Dates and moments in text.
-ghost use Rattle.std.specs.Prelude.{◌≡◌, ◌↔◌, IfSome};
+ghost use Rattle.std.specs.Prelude.{◌≡◌, ◌↔◌, IfSome, length};
 ghost use Rattle.cal_time.specs.DateText.{text};
 ghost use Rattle.cal_time.specs.Month.{month_out_of_range};
 ghost use Rattle.cal_text.specs.DateForms.{HasForm};
+ghost use Rattle.cal_text.specs.Position.{HasSome, IsPosition};
 ghost use Rattle.cal_text.specs.Reading.{HasFault, IsFaultOf, IsRefusedFor};
 
 use cal_datetime::OffsetDateTime;
@@ -42,6 +43,16 @@ fn date_in(text: &[u8]) -> Result<Date, Unreadable>
     date::read(text)
 }
 
+/// How many bytes a text has that some more make a date, or `None` for any other text.
+fn bytes_so_far(text: &[u8]) -> Option<usize>
+    ensures { IfSome result (λ n. IsPosition (HasSome HasForm) text.now n × (n ≡ length text.now)) }
+{
+    match date::read(text) {
+        Err(Unreadable::UnexpectedEnd(length)) => Some(length),
+        _ => None,
+    }
+}
+
 /// The day of a calendar date, and of no other text.
 fn calendar_day(bytes: &[u8]) -> Option<Date>
     ensures { IfSome result (λ n. bytes.now ≡ text n) }
@@ -78,6 +89,11 @@ pub fn show(rt: &impl Print) -> io::Result<()> {
         show_date(rt, text)?;
     }
     println!(rt; "{:?}", date_in(b"2024-13-01"))?;
+    println!(rt;
+        "{:?} {:?}",
+        bytes_so_far(b"2024-02-3"),
+        bytes_so_far(b"2024x")
+    )?;
     show_moment(rt, "2024-02-29T23:59:59.25+01:00")?;
     show_moment(rt, "1990-12-31T23:59:60Z")?;
     for text in ["2024-02-29T23:59:59.25+01:00", "@1709164800.5", "J2460370"] {

@@ -49,7 +49,7 @@ struct Day {
 fn refusals() {
     for (text, words) in [
         (r#"{"day":"2023-02-29"}"#, "day was not in range"),
-        (r#"{"day":"2024-02-3"}"#, "unexpected byte at 9"),
+        (r#"{"day":"2024-02-3"}"#, "unexpected end at 9"),
         (r#"{"day":2460370}"#, "expected a text"),
     ] {
         let error = serde_json::from_str::<Day>(text).unwrap_err().to_string();

@@ -27,7 +27,7 @@ pub enum DateOrMoment {
 ///
 /// # Errors
 ///
-/// `UnexpectedByte` where the text has none of these forms. Otherwise `OutOfRange`, for the component that the reader of its form refuses.
+/// `UnexpectedByte` or `UnexpectedEnd` where the text has none of these forms. Otherwise `OutOfRange`, for the component that the reader of its form refuses.
 pub fn read_any(text: &[u8]) -> Result<DateOrMoment, Unreadable> {
     match (text.first(), text.get(10)) {
         (Some(b'J'), _) => julian_day::read(text).map(DateOrMoment::JulianDay),

@@ -47,7 +47,7 @@ texts! {
 ///
 /// # Errors
 ///
-/// `UnexpectedByte` where the text has none of these forms; years may have up to nine digits. Otherwise `OutOfRange` for the first
+/// `UnexpectedByte` or `UnexpectedEnd` where the text has none of these forms; years may have up to nine digits. Otherwise `OutOfRange` for the first
 /// component at fault: `month`, `year` outside -999999 to 999999, `day`, `ordinal`, `week`, or `weekday` after [`Date::MAX`].
 pub fn read(text: &[u8]) -> Result<Date, Unreadable> {
     ffi::fots_date_read(text).map(|(date, _)| Date::of_c(date))

@@ -29,7 +29,7 @@ impl fmt::Display for JulianText {
 ///
 /// # Errors
 ///
-/// `UnexpectedByte` where the text is none of these; `OutOfRange` for `julian_day` where it has at most nine digits and no day of the
+/// `UnexpectedByte` or `UnexpectedEnd` where the text is none of these; `OutOfRange` for `julian_day` where it has at most nine digits and no day of the
 /// range has it.
 pub fn read(text: &[u8]) -> Result<Date, Unreadable> {
     ffi::fots_julian_day_read(text).map(|(date, _)| Date::of_c(date))

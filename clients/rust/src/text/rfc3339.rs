@@ -45,7 +45,7 @@ impl fmt::Display for Text {
 ///
 /// # Errors
 ///
-/// `UnexpectedByte` where the text has not this form. Otherwise `OutOfRange` for the first component at fault: `month`, `day`, `hour`,
+/// `UnexpectedByte` or `UnexpectedEnd` where the text has not this form. Otherwise `OutOfRange` for the first component at fault: `month`, `day`, `hour`,
 /// `minute`, `second` (60 too, as no leap second is counted), `offset hour` above 23, or `offset minute`.
 pub fn read(text: &[u8]) -> Result<(Date, Time, UtcOffset), Unreadable> {
     let (date, time, offset, _) = ffi::fots_moment_read(text)?;

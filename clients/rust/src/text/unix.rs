@@ -56,7 +56,7 @@ impl fmt::Display for Text {
 ///
 /// # Errors
 ///
-/// `UnexpectedByte` where the text has not this form; `OutOfRange` for `timestamp` where no day of the range has the number.
+/// `UnexpectedByte` or `UnexpectedEnd` where the text has not this form; `OutOfRange` for `timestamp` where no day of the range has the number.
 pub fn read(text: &[u8]) -> Result<(Date, Time), Unreadable> {
     let (date, time, _, _) = ffi::fots_unix_read(text)?;
     Ok((Date::of_c(date), Time::of_c(time)))

@@ -10,9 +10,12 @@ ghost use Rattle.cal_c.specs.Results.{date_if_any, date_refused, number_done, nu
 ghost use Rattle.cal_c.specs.Statuses.{bad_date};
 ghost use Rattle.cal_c.specs.Values.{IsJulianDay, day_of};
 
+mod laws;
 mod months;
 mod parts;
 mod reading;
+mod results;
+mod texts;
 mod weekdays;
 
 use crate::results::{DateResult, NumberResult};

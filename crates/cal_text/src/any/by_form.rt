@@ -11,7 +11,6 @@ use crate::any::{DateForm, DateOrMoment, MomentForm};
 use crate::date::form_and_date;
 use crate::error::Unreadable;
 use crate::form::{Form, form_of};
-use crate::scanner::Scanner;
 use crate::{julian_day, rfc3339, unix};
 
 /// The date by the Julian day that the text is.
@@ -64,23 +63,16 @@ pub(super) fn moment_in(text: &[u8]) -> Result<DateOrMoment, Unreadable>
 fn further(error: Unreadable, text: &[u8]) -> Unreadable
     requires first { (get_or text.now 0 0 ≢ 74) × (get_or text.now 0 0 ≢ 64) }
     requires separator { IsSeparator (get_or text.now 10 0) }
+    requires position { IsAtStop (HasSome HasMomentForm) text.now error }
     ensures component { component_of result ≡ component_of error }
-    ensures position { IsAtStop (HasSome HasMomentForm) text.now error
-        → IsAtStop HasAnyForm text.now result }
+    ensures position { IsAtStop HasAnyForm text.now result }
 {
-    let mut scanner = Scanner { rest: text };
     match error {
-        Unreadable::UnexpectedByte(position) => match form_of(&mut scanner) {
-            Some(_) => Unreadable::UnexpectedByte(position),
-            None => {
-                let date = text.len() - scanner.rest.len();
-                if position < date {
-                    Unreadable::UnexpectedByte(date)
-                } else {
-                    Unreadable::UnexpectedByte(position)
-                }
-            }
+        Unreadable::UnexpectedByte(position) => match form_of(text) {
+            Ok(_) => Unreadable::UnexpectedByte(position),
+            Err(date) => Unreadable::at(usize::max(position, date), text.len()),
         },
+        Unreadable::UnexpectedEnd(len) => Unreadable::UnexpectedEnd(len),
         Unreadable::OutOfRange(component) => Unreadable::OutOfRange(component),
     }
 }

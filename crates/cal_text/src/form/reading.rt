@@ -1,5 +1,5 @@
 //! The form that a text has.
-ghost use Rattle.std.specs.Prelude.{◌≡◌, ◌-◌, ◌≤◌, ◌∷◌, length, IfSome, IfNone, Some};
+ghost use Rattle.std.specs.Prelude.{◌≡◌, ◌∷◌, IfSome, IfOk, IfErr, Ok};
 ghost use Rattle.cal_text.specs.declared.form.Form.{Form};
 ghost use Rattle.cal_text.specs.DateForms.{IsWrittenYear, year_of, rest_of, DigitsFit, HasForm};
 ghost use Rattle.cal_text.specs.Position.{HasSome, IsPosition};
@@ -9,16 +9,17 @@ use crate::form::Form;
 use crate::scanner::Scanner;
 use crate::year::year;
 
-/// The form that the rest of a text has, or `None` in front of the byte where it stops being of one.
-pub(crate) fn form_of(scanner: &mut Scanner) -> Option<Form>
-    ensures every { (form : Form) → HasForm scanner.old.rest.now form → result ≡ Some form }
-    ensures has { IfSome result (HasForm scanner.old.rest.now) }
-    ensures within { IfNone result (length scanner.new.rest.now ≤ length scanner.old.rest.now) }
-    ensures position { IfNone result
-        (IsPosition (HasSome HasForm) scanner.old.rest.now
-        (length scanner.old.rest.now - length scanner.new.rest.now)) }
+/// The form that the text has, or the position where it stops being of one.
+pub(crate) fn form_of(text: &[u8]) -> Result<Form, usize>
+    ensures every { (form : Form) → HasForm text.now form → result ≡ Ok form }
+    ensures has { IfOk result (HasForm text.now) }
+    ensures position { IfErr result (IsPosition (HasSome HasForm) text.now) }
 {
-    date(scanner)
+    let mut scanner = Scanner { rest: text };
+    match date(&mut scanner) {
+        Some(form) => Ok(form),
+        None => Err(text.len() - scanner.rest.len()),
+    }
 }
 
 fn date(scanner: &mut Scanner) -> Option<Form>

@@ -1,5 +1,6 @@
 //! Texts read in whichever form they come.
-use crate::tests::{out_of_range, reads, wrong_at};
+use crate::Unreadable::{UnexpectedByte, UnexpectedEnd};
+use crate::tests::{out_of_range, reads};
 use crate::{DateForm, DateOrMoment, MomentForm, read_any};
 use cal_datetime::OffsetDateTime;
 use cal_time::{Date, Month, Time, UtcOffset};
@@ -64,22 +65,22 @@ fn components_of_texts_in_any_form(rt: HostRuntime) {
 
 /// The form that goes on furthest has the position.
 #[test]
-fn first_wrong_bytes_in_any_form(rt: HostRuntime) {
-    for (text, position) in [
-        ("", 0),
-        ("K2460370", 0),
-        ("J", 1),
-        ("J2460370T", 8),
-        ("@1709164800T", 11),
-        ("2024-02-29_", 10),
-        ("2024-02-29T", 11),
-        ("2024-02-29T00:00:00", 19),
-        ("2024-02-2T00:00:00Z", 9),
-        ("2024-W09-4T00:00:00Z", 10),
-        ("-2024-060 ", 9),
-        ("+999999-02T00:00:00Z", 10),
-        ("+999999-0 T", 9),
+fn texts_of_none_of_the_forms(rt: HostRuntime) {
+    for (text, error) in [
+        ("", UnexpectedEnd(0)),
+        ("K2460370", UnexpectedByte(0)),
+        ("J", UnexpectedEnd(1)),
+        ("J2460370T", UnexpectedByte(8)),
+        ("@1709164800T", UnexpectedByte(11)),
+        ("2024-02-29_", UnexpectedByte(10)),
+        ("2024-02-29T", UnexpectedEnd(11)),
+        ("2024-02-29T00:00:00", UnexpectedEnd(19)),
+        ("2024-02-2T00:00:00Z", UnexpectedByte(9)),
+        ("2024-W09-4T00:00:00Z", UnexpectedByte(10)),
+        ("-2024-060 ", UnexpectedByte(9)),
+        ("+999999-02T", UnexpectedByte(10)),
+        ("+999999-0 T", UnexpectedByte(9)),
     ] {
-        wrong_at(&rt, text, &read_any(text.as_bytes()), position);
+        reads(&rt, text, &read_any(text.as_bytes()), &Err(error));
     }
 }

@@ -1,7 +1,8 @@
 //! Moments of RFC 3339, read and printed.
 use crate::Unreadable;
+use crate::Unreadable::{UnexpectedByte, UnexpectedEnd};
 use crate::rfc3339::{self, Text};
-use crate::tests::{out_of_range, parts_of, reads, same, wrong_at};
+use crate::tests::{out_of_range, parts_of, reads, same};
 use cal_datetime::OffsetDateTime;
 use cal_time::{Date, Month, Time, UtcOffset};
 use std::process::Abort;
@@ -111,29 +112,29 @@ fn components_of_moments_out_of_range(rt: HostRuntime) {
 }
 
 #[test]
-fn first_wrong_bytes_of_moments(rt: HostRuntime) {
-    for (text, position) in [
-        ("", 0),
-        ("24-02-29T00:00:00Z", 2),
-        ("-2024-02-29T00:00:00Z", 0),
-        ("2024-060T00:00:00Z", 7),
-        ("2024-02-29", 10),
-        ("2024-02-29_00:00:00Z", 10),
-        ("2024-02-29  00:00:00Z", 11),
-        ("2024-02-29T0:00:00Z", 12),
-        ("2024-02-29T00:00Z", 16),
-        ("2024-02-29T00:00:00", 19),
-        ("2024-02-29T00:00:00,5Z", 19),
-        ("2024-02-29T00:00:00.Z", 20),
-        ("2024-02-29T00:00:00.5", 21),
-        ("2024-02-29T00:00:00.5.5Z", 21),
-        ("2024-02-29T00:00:00Z ", 20),
-        ("2024-02-29T00:00:00+", 20),
-        ("2024-02-29T00:00:00+1:00", 21),
-        ("2024-02-29T00:00:00+0100", 22),
-        ("2024-02-29T00:00:00+01:00:00", 25),
+fn texts_of_no_moment(rt: HostRuntime) {
+    for (text, error) in [
+        ("", UnexpectedEnd(0)),
+        ("24-02-29T00:00:00Z", UnexpectedByte(2)),
+        ("-2024-02-29T00:00:00Z", UnexpectedByte(0)),
+        ("2024-060T00:00:00Z", UnexpectedByte(7)),
+        ("2024-02-29", UnexpectedEnd(10)),
+        ("2024-02-29_00:00:00Z", UnexpectedByte(10)),
+        ("2024-02-29  00:00:00Z", UnexpectedByte(11)),
+        ("2024-02-29T0:00:00Z", UnexpectedByte(12)),
+        ("2024-02-29T00:00Z", UnexpectedByte(16)),
+        ("2024-02-29T00:00:00", UnexpectedEnd(19)),
+        ("2024-02-29T00:00:00,5Z", UnexpectedByte(19)),
+        ("2024-02-29T00:00:00.Z", UnexpectedByte(20)),
+        ("2024-02-29T00:00:00.5", UnexpectedEnd(21)),
+        ("2024-02-29T00:00:00.5.5Z", UnexpectedByte(21)),
+        ("2024-02-29T00:00:00Z ", UnexpectedByte(20)),
+        ("2024-02-29T00:00:00+", UnexpectedEnd(20)),
+        ("2024-02-29T00:00:00+1:00", UnexpectedByte(21)),
+        ("2024-02-29T00:00:00+0100", UnexpectedByte(22)),
+        ("2024-02-29T00:00:00+01:00:00", UnexpectedByte(25)),
     ] {
-        wrong_at(&rt, text, &read(text.as_bytes()), position);
+        reads(&rt, text, &read(text.as_bytes()), &Err(error));
     }
 }
 

@@ -1,5 +1,6 @@
 //! Unix times, read and printed.
-use crate::tests::{out_of_range, parts_of, reads, same, wrong_at};
+use crate::Unreadable::{UnexpectedByte, UnexpectedEnd};
+use crate::tests::{out_of_range, parts_of, reads, same};
 use crate::unix;
 use cal_datetime::OffsetDateTime;
 use cal_time::{Date, Month, Time, UtcOffset};
@@ -91,30 +92,30 @@ fn unix_times_read(rt: HostRuntime) -> Result<(), Fail> {
 }
 
 #[test]
-fn first_wrong_bytes_of_unix_times(rt: HostRuntime) {
-    for (text, position) in [
-        ("", 0),
-        ("1709164800", 0),
-        ("@", 1),
-        ("@+1", 1),
-        ("@-", 2),
-        ("@--1", 2),
-        ("@01", 2),
-        ("@-00", 3),
-        ("@-0", 3),
-        ("@-0x", 3),
-        ("@-0.", 4),
-        ("@-0.0", 5),
-        ("@-0.000000000", 12),
-        ("@-0.00000000x", 12),
-        ("@1.", 3),
-        ("@1.5x", 4),
-        ("@1.1234567890", 12),
-        ("@1,5", 2),
-        ("@1709164800 ", 11),
-        ("@1000000000000000000", 19),
+fn texts_of_no_unix_time(rt: HostRuntime) {
+    for (text, error) in [
+        ("", UnexpectedEnd(0)),
+        ("1709164800", UnexpectedByte(0)),
+        ("@", UnexpectedEnd(1)),
+        ("@+1", UnexpectedByte(1)),
+        ("@-", UnexpectedEnd(2)),
+        ("@--1", UnexpectedByte(2)),
+        ("@01", UnexpectedByte(2)),
+        ("@-00", UnexpectedByte(3)),
+        ("@-0", UnexpectedEnd(3)),
+        ("@-0x", UnexpectedByte(3)),
+        ("@-0.", UnexpectedEnd(4)),
+        ("@-0.0", UnexpectedEnd(5)),
+        ("@-0.000000000", UnexpectedByte(12)),
+        ("@-0.00000000x", UnexpectedByte(12)),
+        ("@1.", UnexpectedEnd(3)),
+        ("@1.5x", UnexpectedByte(4)),
+        ("@1.1234567890", UnexpectedByte(12)),
+        ("@1,5", UnexpectedByte(2)),
+        ("@1709164800 ", UnexpectedByte(11)),
+        ("@1000000000000000000", UnexpectedByte(19)),
     ] {
-        wrong_at(&rt, text, &unix::read(text.as_bytes()), position);
+        reads(&rt, text, &unix::read(text.as_bytes()), &Err(error));
     }
 }
 

@@ -31,7 +31,7 @@ pub fn read_local(offset: UtcOffset, text: &[u8]) -> Result<DateOrMoment, Unread
     let full = with_offset(text);
     match read_any(&full[..text.len() + 1]) {
         Ok(found) => Ok(assumed(offset, found)),
-        Err(error) => Err(at_position(error, first_wrong_byte(text))),
+        Err(error) => Err(at_position(error, first_wrong_byte(text), text.len())),
     }
 }
 

@@ -28,7 +28,7 @@ pub fn read_number(unit: UnixUnit, text: &[u8]) -> Result<DateOrMoment, Unreadab
         → IsRefusedFor why result ↔ IsFaultIn (Unix unit) text.now why }
 {
     let Some(number) = number_of(text) else {
-        return Err(Unreadable::UnexpectedByte(first_wrong_byte(text)));
+        return Err(Unreadable::at(first_wrong_byte(text), text.len()));
     };
     match OffsetDateTime::from_unix_timestamp_nanos(number * i128::from(nanoseconds_in(unit))) {
         Ok(moment) => Ok(DateOrMoment::Moment(MomentForm::Unix, moment)),

@@ -72,20 +72,23 @@ pub fn read_parts(
         → IsRefusedFor why result ↔ IsSomeAnd calendar (λ date. IsFault date why) }
 {
     let Some(date) = calendar else {
-        return Err(Unreadable::UnexpectedByte(first_wrong_byte(text, shape)));
+        return Err(Unreadable::at(first_wrong_byte(text, shape), text.len()));
     };
     match read_any(&date) {
         Ok(found) => Ok(found),
-        Err(error) => Err(at_position(error, first_wrong_byte(text, shape))),
+        Err(error) => Err(at_position(error, first_wrong_byte(text, shape), text.len())),
     }
 }
 
-/// The error at this position, where it names one.
-pub fn at_position(error: Unreadable, position: usize) -> Unreadable
+/// The error at this position of a text of so many bytes, where it names one.
+pub fn at_position(error: Unreadable, position: usize, len: usize) -> Unreadable
+    requires { position ≤ len }
     ensures { component_of result ≡ component_of error }
 {
     match error {
-        Unreadable::UnexpectedByte(_) => Unreadable::UnexpectedByte(position),
+        Unreadable::UnexpectedByte(_) | Unreadable::UnexpectedEnd(_) => {
+            Unreadable::at(position, len)
+        }
         Unreadable::OutOfRange(component) => Unreadable::OutOfRange(component),
     }
 }

@@ -2,6 +2,7 @@
 use crate::reading::{Reading, read_in};
 use crate::request::UnixUnit;
 use crate::tests::gives;
+use cal_text::Unreadable::{UnexpectedByte, UnexpectedEnd};
 use cal_text::{Unreadable, read_any};
 use cal_time::UtcOffset;
 
@@ -96,57 +97,70 @@ fn moments_at_an_offset(rt: HostRuntime) {
     }
 }
 
-/// The position of the first wrong byte.
+/// The position of the first wrong byte, or the end.
 #[test]
 fn texts_of_no_form(rt: HostRuntime) {
-    let cases: [(Reading, &[u8], usize); 41] = [
-        (Reading::Any, b"20240229", 4),
-        (Reading::Basic, b"", 0),
-        (Reading::Basic, b"2024-02-29", 4),
-        (Reading::Basic, b"2024022", 7),
-        (Reading::Basic, b"202402290", 8),
-        (Reading::Basic, b"2024022x", 7),
-        (Reading::Basic, b" 2024022", 0),
-        (Reading::DayFirst, b"", 0),
-        (Reading::DayFirst, b"29.02.24", 8),
-        (Reading::DayFirst, b"29.02/2024", 5),
-        (Reading::DayFirst, b"29,02,2024", 2),
-        (Reading::DayFirst, b"9.02.2024", 1),
-        (Reading::DayFirst, b"2024-02-29", 2),
-        (Reading::DayFirst, b"29.02.20245", 10),
-        (Reading::DayFirst, b"29.02.2024 ", 10),
-        (Reading::DayFirst, b"29.02.-024", 6),
-        (Reading::MonthFirst, b"02/29/24", 8),
-        (Reading::MonthFirst, b"02/29-2024", 5),
-        (Reading::MonthFirst, b"02/2", 4),
-        (MILLISECONDS, b"", 0),
-        (MILLISECONDS, b"-", 1),
-        (MILLISECONDS, b"+1", 0),
-        (MILLISECONDS, b"-0", 1),
-        (MILLISECONDS, b"--1", 1),
-        (MILLISECONDS, b"01", 1),
-        (MILLISECONDS, b"1.5", 1),
-        (MILLISECONDS, b"@1709164800500", 0),
-        (MILLISECONDS, b"1709164800500 ", 13),
-        (NANOSECONDS, b"1234567890123456789012345678", 27),
-        (NANOSECONDS, b"-1234567890123456789012345678", 28),
-        (AT_UTC, b"", 0),
-        (AT_UTC, b"2024-02-29", 10),
-        (AT_UTC, b"2024-060", 7),
-        (AT_UTC, b"J2460370", 0),
-        (AT_UTC, b"2024-02-29T10:00", 16),
-        (AT_UTC, b"2024-02-29T10:00:00.", 20),
-        (AT_UTC, b"2024-02-29T10:00:00Z", 19),
-        (AT_UTC, b"2024-02-29T10:00:00+01:00", 19),
-        (AT_UTC, b"2024-02-29T10:00:00.5-01:00", 21),
-        (AT_UTC, b"2024-02-29T10:00:00.1234567890", 29),
-        (AT_UTC, b"2024-02-29T10:00:00.123456789+01:00", 29),
+    let cases: [(Reading, &[u8], Unreadable); 41] = [
+        (Reading::Any, b"20240229", UnexpectedByte(4)),
+        (Reading::Basic, b"", UnexpectedEnd(0)),
+        (Reading::Basic, b"2024-02-29", UnexpectedByte(4)),
+        (Reading::Basic, b"2024022", UnexpectedEnd(7)),
+        (Reading::Basic, b"202402290", UnexpectedByte(8)),
+        (Reading::Basic, b"2024022x", UnexpectedByte(7)),
+        (Reading::Basic, b" 2024022", UnexpectedByte(0)),
+        (Reading::DayFirst, b"", UnexpectedEnd(0)),
+        (Reading::DayFirst, b"29.02.24", UnexpectedEnd(8)),
+        (Reading::DayFirst, b"29.02/2024", UnexpectedByte(5)),
+        (Reading::DayFirst, b"29,02,2024", UnexpectedByte(2)),
+        (Reading::DayFirst, b"9.02.2024", UnexpectedByte(1)),
+        (Reading::DayFirst, b"2024-02-29", UnexpectedByte(2)),
+        (Reading::DayFirst, b"29.02.20245", UnexpectedByte(10)),
+        (Reading::DayFirst, b"29.02.2024 ", UnexpectedByte(10)),
+        (Reading::DayFirst, b"29.02.-024", UnexpectedByte(6)),
+        (Reading::MonthFirst, b"02/29/24", UnexpectedEnd(8)),
+        (Reading::MonthFirst, b"02/29-2024", UnexpectedByte(5)),
+        (Reading::MonthFirst, b"02/2", UnexpectedEnd(4)),
+        (MILLISECONDS, b"", UnexpectedEnd(0)),
+        (MILLISECONDS, b"-", UnexpectedEnd(1)),
+        (MILLISECONDS, b"+1", UnexpectedByte(0)),
+        (MILLISECONDS, b"-0", UnexpectedByte(1)),
+        (MILLISECONDS, b"--1", UnexpectedByte(1)),
+        (MILLISECONDS, b"01", UnexpectedByte(1)),
+        (MILLISECONDS, b"1.5", UnexpectedByte(1)),
+        (MILLISECONDS, b"@1709164800500", UnexpectedByte(0)),
+        (MILLISECONDS, b"1709164800500 ", UnexpectedByte(13)),
+        (
+            NANOSECONDS,
+            b"1234567890123456789012345678",
+            UnexpectedByte(27),
+        ),
+        (
+            NANOSECONDS,
+            b"-1234567890123456789012345678",
+            UnexpectedByte(28),
+        ),
+        (AT_UTC, b"", UnexpectedEnd(0)),
+        (AT_UTC, b"2024-02-29", UnexpectedEnd(10)),
+        (AT_UTC, b"2024-060", UnexpectedByte(7)),
+        (AT_UTC, b"J2460370", UnexpectedByte(0)),
+        (AT_UTC, b"2024-02-29T10:00", UnexpectedEnd(16)),
+        (AT_UTC, b"2024-02-29T10:00:00.", UnexpectedEnd(20)),
+        (AT_UTC, b"2024-02-29T10:00:00Z", UnexpectedByte(19)),
+        (AT_UTC, b"2024-02-29T10:00:00+01:00", UnexpectedByte(19)),
+        (AT_UTC, b"2024-02-29T10:00:00.5-01:00", UnexpectedByte(21)),
+        (
+            AT_UTC,
+            b"2024-02-29T10:00:00.1234567890",
+            UnexpectedByte(29),
+        ),
+        (
+            AT_UTC,
+            b"2024-02-29T10:00:00.123456789+01:00",
+            UnexpectedByte(29),
+        ),
     ];
-    for (reading, text, position) in cases {
-        assert_eq!(rt;
-            read_in(reading, text),
-            Err(Unreadable::UnexpectedByte(position))
-        );
+    for (reading, text, error) in cases {
+        assert_eq!(rt; read_in(reading, text), Err(error));
     }
 }
 

@@ -1,14 +1,19 @@
+use Rattle.std.proofs.Common.{ap, Ok, ◌∙◌}
 use Rattle.cal_text.specs.JulianForm.{IsJulianForm}
 use Rattle.cal_text.specs.Shape.{julian_day}
 use Rattle.cal_text.proofs.NumberShapes.{julian_shape}
-use Rattle.cal_text.proofs.Positions.{every, within, at_stop}
+use Rattle.cal_text.proofs.YearTexts.{written-cast}
+use Rattle.cal_text.proofs.Positions.{stopped}
 use Rattle.cal_text.proofs.julian_day.julian_day_of.Goals as goal
 
-pub returns-clause-every : goal.returns-clause-every
-returns-clause-every c = every IsJulianForm julian_day julian_shape _ _ _ c.julian_day.ensures.scans c.julian_day.ensures.has
+pub returns-in-Some-clause-every : goal.returns-in-Some-clause-every
+returns-in-Some-clause-every c other has = ap Ok (written-cast _ c.in-Some.ensures.has.digits ∙ julian_shape.one _ _ _ c.in-Some.ensures.has has)
 
-pub returns-clause-within : goal.returns-clause-within
-returns-clause-within c = within julian_day _ _ _ c.julian_day.ensures.scans
+pub overflow_sub-result : goal.overflow_sub-result
+overflow_sub-result c = (stopped IsJulianForm julian_day julian_shape _ _ c.in-None.ensures.scans).within
 
-pub returns-clause-position : goal.returns-clause-position
-returns-clause-position c = at_stop IsJulianForm julian_day julian_shape _ _ _ c.julian_day.ensures.scans
+pub returns-in-None-clause-every : goal.returns-in-None-clause-every
+returns-in-None-clause-every c other has = absurd ((stopped IsJulianForm julian_day julian_shape _ _ c.in-None.ensures.scans).none other has)
+
+pub returns-in-None-clause-position : goal.returns-in-None-clause-position
+returns-in-None-clause-position c = (stopped IsJulianForm julian_day julian_shape _ _ c.in-None.ensures.scans).position

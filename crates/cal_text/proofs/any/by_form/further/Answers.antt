@@ -1,21 +1,28 @@
-use Rattle.std.proofs.Common.{refl, inl, inr, subst, arith}
+use Rattle.std.proofs.Common.{arith, subst}
+use Rattle.cal_text.specs.AnyForm.{HasAnyForm}
 use Rattle.cal_text.specs.Position.{HasSome, IsAtStop}
 use Rattle.cal_text.specs.Rfc3339Form.{HasMomentForm}
 use Rattle.cal_text.proofs.Shapes.{date-shape}
-use Rattle.cal_text.proofs.AnyPositions.{further}
+use Rattle.cal_text.proofs.AnyPositions.{further, ended}
+use Rattle.cal_text.proofs.Positions.{named}
 use Rattle.cal_text.proofs.any.by_form.further.Goals as goal
 
-pub returns-in-Some-clause-position : goal.returns-in-Some-clause-position
-returns-in-Some-clause-position c at = absurd ((date-shape c.args.text.now _ c.in-Some.ensures.has).separator c.requires.separator)
+pub returns-in-Ok-clause-position : goal.returns-in-Ok-clause-position
+returns-in-Ok-clause-position c = absurd ((date-shape c.args.text.now _ c.in-Ok.ensures.has).separator c.requires.separator)
 
-pub returns-then-position-date-clause-position : goal.returns-then-position-date-clause-position
-returns-then-position-date-clause-position c at =
-    let text = c.args.text.now in
-    further text c.in-UnexpectedByte.position _ _ c.requires.first (subst (IsAtStop (HasSome HasMomentForm) text) c.in-UnexpectedByte.is at) c.in-None.ensures.position
-    (omega arith) (omega arith) (inr refl)
+pub at-requires : goal.at-requires
+at-requires c =
+    let moment = subst (IsAtStop (HasSome HasMomentForm) c.args.text.now) c.in-UnexpectedByte.is c.requires.position in
+    omega (arith, c.max.ensures, moment.1, c.in-Err.ensures.position.within)
 
-pub returns-else-position-date-clause-position : goal.returns-else-position-date-clause-position
-returns-else-position-date-clause-position c at =
+pub returns-in-Err-clause-position : goal.returns-in-Err-clause-position
+returns-in-Err-clause-position c =
     let text = c.args.text.now in
-    further text c.in-UnexpectedByte.position _ _ c.requires.first (subst (IsAtStop (HasSome HasMomentForm) text) c.in-UnexpectedByte.is at) c.in-None.ensures.position
-    (omega arith) (omega arith) (inl refl)
+    let moment = subst (IsAtStop (HasSome HasMomentForm) text) c.in-UnexpectedByte.is c.requires.position in
+    named HasAnyForm text c.max.result c.at.result
+    (further text c.in-UnexpectedByte.position c.in-Err.date c.max.result c.requires.first moment.0 c.in-Err.ensures.position c.max.ensures) c.at.ensures.byte c.at.ensures.end
+
+pub returns-in-UnexpectedEnd-clause-position : goal.returns-in-UnexpectedEnd-clause-position
+returns-in-UnexpectedEnd-clause-position c =
+    let text = c.args.text.now in
+    ended text _ (subst (IsAtStop (HasSome HasMomentForm) text) c.in-UnexpectedEnd.is c.requires.position)

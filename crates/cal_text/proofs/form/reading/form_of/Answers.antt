@@ -1,14 +1,18 @@
+use Rattle.std.proofs.Common.{ap, Ok}
 use Rattle.cal_text.specs.DateForms.{HasForm}
 use Rattle.cal_text.specs.Shape.{date}
-use Rattle.cal_text.proofs.Positions.{every, within, at_stop}
 use Rattle.cal_text.proofs.FormShapes.{date_shape}
+use Rattle.cal_text.proofs.Positions.{stopped}
 use Rattle.cal_text.proofs.form.reading.form_of.Goals as goal
 
-pub returns-clause-every : goal.returns-clause-every
-returns-clause-every c = every HasForm date date_shape _ _ _ c.date.ensures.scans c.date.ensures.has
+pub returns-in-Some-clause-every : goal.returns-in-Some-clause-every
+returns-in-Some-clause-every c other has = ap Ok (date_shape.one _ _ _ c.in-Some.ensures.has has)
 
-pub returns-clause-within : goal.returns-clause-within
-returns-clause-within c = within date _ _ _ c.date.ensures.scans
+pub overflow_sub-result : goal.overflow_sub-result
+overflow_sub-result c = (stopped HasForm date date_shape _ _ c.in-None.ensures.scans).within
 
-pub returns-clause-position : goal.returns-clause-position
-returns-clause-position c = at_stop HasForm date date_shape _ _ _ c.date.ensures.scans
+pub returns-in-None-clause-every : goal.returns-in-None-clause-every
+returns-in-None-clause-every c other has = absurd ((stopped HasForm date date_shape _ _ c.in-None.ensures.scans).none other has)
+
+pub returns-in-None-clause-position : goal.returns-in-None-clause-position
+returns-in-None-clause-position c = (stopped HasForm date date_shape _ _ c.in-None.ensures.scans).position

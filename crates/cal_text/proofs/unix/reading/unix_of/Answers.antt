@@ -1,14 +1,19 @@
+use Rattle.std.proofs.Common.{ap, Ok, ◌∙◌}
 use Rattle.cal_text.specs.UnixText.{HasUnixForm}
 use Rattle.cal_text.specs.Shape.{unix_time}
-use Rattle.cal_text.proofs.Positions.{every, within, at_stop}
 use Rattle.cal_text.proofs.UnixShapes.{unix_shape}
+use Rattle.cal_text.proofs.UnixReads.{wide-form}
+use Rattle.cal_text.proofs.Positions.{stopped}
 use Rattle.cal_text.proofs.unix.reading.unix_of.Goals as goal
 
-pub returns-clause-every : goal.returns-clause-every
-returns-clause-every c = every HasUnixForm unix_time unix_shape _ _ _ c.unix_time.ensures.scans c.unix_time.ensures.has
+pub returns-in-Some-clause-every : goal.returns-in-Some-clause-every
+returns-in-Some-clause-every c other has = ap Ok (wide-form _ _ c.in-Some.ensures.has ∙ unix_shape.one _ _ _ c.in-Some.ensures.has has)
 
-pub returns-clause-within : goal.returns-clause-within
-returns-clause-within c = within unix_time _ _ _ c.unix_time.ensures.scans
+pub overflow_sub-result : goal.overflow_sub-result
+overflow_sub-result c = (stopped HasUnixForm unix_time unix_shape _ _ c.in-None.ensures.scans).within
 
-pub returns-clause-position : goal.returns-clause-position
-returns-clause-position c = at_stop HasUnixForm unix_time unix_shape _ _ _ c.unix_time.ensures.scans
+pub returns-in-None-clause-every : goal.returns-in-None-clause-every
+returns-in-None-clause-every c other has = absurd ((stopped HasUnixForm unix_time unix_shape _ _ c.in-None.ensures.scans).none other has)
+
+pub returns-in-None-clause-position : goal.returns-in-None-clause-position
+returns-in-None-clause-position c = (stopped HasUnixForm unix_time unix_shape _ _ c.in-None.ensures.scans).position

@@ -1,0 +1,64 @@
+-- The days of a recurrence from a date on: those of a walk that do not come before it, and those of a rule after the day before it.
+use Rattle.std.proofs.Common.{◌≡◌, refl, ℕ, zero, suc, ◌+◌, ◌-◌, ◌<◌, ◌≤◌, ap, ◌∙◌, sym, arith, Bool, true, false, List, [], ◌∷◌, filter, nat_le, cond}
+use Rattle.std.proofs.lemmas.Bool.Decides.{nat_tests}
+use Rattle.std.specs.Ordering.{is_le, nat_cmp}
+use Rattle.cal_time.specs.Date.{last_day}
+use Rattle.cal_time.specs.Occurrence.{days_from}
+use Rattle.cal_schedule.specs.Rule.{days_after, days_of, is_on}
+use Rattle.cal_schedule.specs.declared.rule.kinds.Rule.{Rule}
+
+is_le-nat_le : (a b : ℕ) → is_le (nat_cmp a b) ≡ nat_le a b
+is_le-nat_le a b = grind (arith, nat_tests)
+
+-- what the filter makes of the next day
+filtered : (p : ℕ → Bool) (walk rest : List ℕ) (day : ℕ) (b : Bool) → walk ≡ day ∷ rest → p day ≡ b
+    → filter p walk ≡ cond b (day ∷ filter p rest) (filter p rest)
+filtered p walk rest day b e q = ap (filter p) e ∙ ap (λ t. cond t (day ∷ filter p rest) (filter p rest)) q
+
+pub taken : (from : ℕ) (walk rest : List ℕ) (day : ℕ) → walk ≡ day ∷ rest → is_le (nat_cmp from day) ≡ true
+    → filter (nat_le from) walk ≡ day ∷ filter (nat_le from) rest
+taken from walk rest day e late = filtered (nat_le from) walk rest day true e (sym (is_le-nat_le from day) ∙ late)
+
+pub left_out : (from : ℕ) (walk rest : List ℕ) (day : ℕ) → walk ≡ day ∷ rest → is_le (nat_cmp from day) ≡ false
+    → filter (nat_le from) walk ≡ filter (nat_le from) rest
+left_out from walk rest day e early = filtered (nat_le from) walk rest day false e (sym (is_le-nat_le from day) ∙ early)
+
+-- two filters, in either order
+commute-at : (p q : ℕ → Bool) (x : ℕ) (xs : List ℕ) (a b : Bool) → p x ≡ a → q x ≡ b → filter p (filter q xs) ≡ filter q (filter p xs)
+    → filter p (filter q (x ∷ xs)) ≡ filter q (filter p (x ∷ xs))
+commute-at p q x xs true true e f ih = rw (e, f) (rw e (ap (λ l. x ∷ l) ih))
+commute-at p q x xs true false e f ih = rw (e, f) ih
+commute-at p q x xs false true e f ih = rw (e, f) (rw e ih)
+commute-at p q x xs false false e f ih = rw (e, f) ih
+
+filters_commute : (p q : ℕ → Bool) (xs : List ℕ) → filter p (filter q xs) ≡ filter q (filter p xs)
+filters_commute p q [] = refl
+filters_commute p q (x ∷ xs) = commute-at p q x xs (p x) (q x) refl refl (filters_commute p q xs)
+
+-- of days one after the other, those that do not come before day k
+all_late : (k n count : ℕ) → k ≤ n → filter (nat_le k) (days_from n count) ≡ days_from n count
+unfolding days_from
+all_late k n zero h = refl
+all_late k n (suc count) h =
+    let late : nat_le k n ≡ true = grind (arith, nat_tests) in
+    rw late (ap (λ l. n ∷ l) (all_late k (n + 1) count (omega arith)))
+
+first_early : (k n count : ℕ) → n < k → filter (nat_le k) (days_from n (suc count)) ≡ filter (nat_le k) (days_from (n + 1) count)
+unfolding days_from
+first_early k n count h = let early : nat_le k n ≡ false = grind (arith, nat_tests) in rw early refl
+
+late_days : (d k n count : ℕ) → k ≡ n + d → filter (nat_le k) (days_from n (d + count)) ≡ days_from k count
+late_days zero k n count e =
+    let start : n ≡ k = omega arith in
+    let all : zero + count ≡ count = omega arith in
+    ap (λ c. filter (nat_le k) (days_from n c)) all ∙ all_late k n count (omega arith) ∙ ap (λ m. days_from m count) start
+late_days (suc d) k n count e =
+    let all : suc d + count ≡ suc (d + count) = omega arith in
+    ap (λ c. filter (nat_le k) (days_from n c)) all ∙ first_early k n (d + count) (omega arith) ∙ late_days d k (n + 1) count (omega arith)
+
+pub days_on : (rule : Rule) (n k : ℕ) → k ≡ n + 1 → n ≤ last_day → filter (nat_le k) (days_of rule) ≡ days_after rule n
+days_on rule n k e h =
+    let all : last_day + 1 ≡ k + (last_day - n) = omega arith in
+    filters_commute (nat_le k) (is_on rule) (days_from 0 (last_day + 1))
+    ∙ ap (λ c. filter (is_on rule) (filter (nat_le k) (days_from 0 c))) all
+    ∙ ap (filter (is_on rule)) (late_days k k 0 (last_day - n) (omega arith) ∙ ap (λ m. days_from m (last_day - n)) e)

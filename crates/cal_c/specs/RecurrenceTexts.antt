@@ -1,0 +1,48 @@
+-- What the text of a recurrence gives: its days, or the part at fault.
+use Rattle.std.specs.Prelude.{ℕ, ℤ}
+use Rattle.cal_recurrence.specs.declared.fault.RuleFault.{RuleFault}
+use Rattle.cal_recurrence.specs.declared.fault.RulePart.{RulePart}
+use Rattle.cal_recurrence.specs.declared.fault.RulePart.TheVariants.{Frequency, Interval, WeekStart, Months, MonthDays, Weekdays, Until, Count}
+use Rattle.cal_recurrence.specs.declared.fault.RuleReason.{RuleReason}
+use Rattle.cal_recurrence.specs.declared.fault.RuleReason.TheVariants.{Unknown, Twice, TooMany, Value, Missing}
+use Rattle.cal_c.specs.Statuses.{done, many_values, no_frequency, part_twice, part_value, unknown_part}
+use Rattle.cal_c.specs.Texts.{nowhere}
+use Rattle.cal_c.specs.declared.schedule.recurrences.results.RecurrenceResult.{RecurrenceResult}
+
+-- a part is its number from `FREQ`, 1
+abbrev pub part_number : RulePart → ℕ
+part_number Frequency = 1
+part_number Interval = 2
+part_number WeekStart = 3
+part_number Months = 4
+part_number MonthDays = 5
+part_number Weekdays = 6
+part_number Until = 7
+part_number Count = 8
+
+-- the status of a reason, and the part that it names, or 0
+abbrev pub reason_status : RuleReason → ℤ
+reason_status Unknown = unknown_part
+reason_status (Twice part) = part_twice
+reason_status (TooMany part) = many_values
+reason_status (Value part) = part_value
+reason_status Missing = no_frequency
+
+abbrev pub part_of : RuleReason → ℕ
+part_of Unknown = 0
+part_of (Twice part) = part_number part
+part_of (TooMany part) = part_number part
+part_of (Value part) = part_number part
+part_of Missing = 0
+
+-- so many days were written
+abbrev pub recurrence_done : ℕ → RecurrenceResult
+recurrence_done count = record { status = done; part = 0; length = count; position = nowhere }
+
+abbrev pub recurrence_refused : ℤ → RecurrenceResult
+recurrence_refused s = record { status = s; part = 0; length = 0; position = nowhere }
+
+-- the text is read up to this fault
+abbrev pub recurrence_unread : RuleFault → RecurrenceResult
+recurrence_unread fault =
+    record { status = reason_status fault.reason; part = part_of fault.reason; length = 0; position = fault.position }

@@ -1,0 +1,89 @@
+//! Days that come back, by the text of a recurrence.
+ghost use Rattle.std.specs.Prelude.{◌≡◌, Err, List, Ok, false, filter, nat_le, ℕ};
+ghost use Rattle.cal_recurrence.specs.Days.{AreDays, up_to_end};
+ghost use Rattle.cal_recurrence.specs.Text.{recurrence_of};
+ghost use Rattle.cal_recurrence.specs.declared.fault.RuleFault.{RuleFault};
+ghost use Rattle.cal_recurrence.specs.declared.recurrence.Recurrence.{Recurrence};
+ghost use Rattle.cal_c.specs.RecurrenceTexts.{recurrence_done, recurrence_refused, recurrence_unread};
+ghost use Rattle.cal_c.specs.Recurrences.{AreWritten};
+ghost use Rattle.cal_c.specs.Statuses.{bad_date};
+ghost use Rattle.cal_c.specs.Values.{IsJulianDay, day_of};
+
+use super::results::RecurrenceResult;
+use super::write_days;
+use crate::status::BAD_DATE;
+use crate::values::date_of;
+use cal_recurrence::{Recurrence, RuleEnd, parse};
+use cal_schedule::RuleDays;
+use cal_time::Date;
+
+/// The days of the recurrence that the text says and that has this start, from a date on, in order, as many as the array has room for;
+/// and how many they are. What is past them in the array stays as it was.
+///
+/// `COUNT` counts from the start. Those of `FREQ=MONTHLY;BYDAY=-1FR;COUNT=3` with the start 2460311, 2024-01-01, from 2460350 on are
+/// 2460364 and 2460399.
+#[unsafe(no_mangle)]
+pub extern "C" fn fots_recurrence_days(
+    text: &[u8],
+    start: i32,
+    from: i32,
+    days: &mut [i32],
+) -> RecurrenceResult
+    ensures unread { (fault : RuleFault) → recurrence_of text.now ≡ Err fault
+        → (result ≡ recurrence_unread fault) × (days.new ≡ days.old) }
+    ensures bad_date { (its : Recurrence) → recurrence_of text.now ≡ Ok its
+        → ¬ (IsJulianDay start × IsJulianDay from)
+        → (result ≡ recurrence_refused bad_date) × (days.new ≡ days.old) }
+    ensures days { (its : Recurrence) → recurrence_of text.now ≡ Ok its
+        → IsJulianDay start → IsJulianDay from
+        → ((all : List ℕ) × AreDays its (day_of start) all
+        × (result ≡ recurrence_done result.length)
+        × AreWritten (filter (nat_le (day_of from)) all) days.old days.new result.length) }
+{
+    let recurrence = match parse(text) {
+        Ok(recurrence) => recurrence,
+        Err(fault) => return RecurrenceResult::unread(fault),
+    };
+    let (Some(start), Some(from)) = (date_of(start), date_of(from)) else {
+        return RecurrenceResult::refused(BAD_DATE);
+    };
+    RecurrenceResult::of(write_days_from(&recurrence, start, from, days))
+}
+
+/// Whether it ends after a number of times, and so may not take all days of its rule.
+fn is_counted(recurrence: &Recurrence) -> bool
+    ensures { result ≡ false → (days : List ℕ) → up_to_end recurrence.now.end days ≡ days }
+{
+    matches!(recurrence.end, RuleEnd::Count(_))
+}
+
+/// Writes the days of the recurrence from a date on, in order and as many as there is room for: so many.
+fn write_days_from(recurrence: &Recurrence, start: Date, from: Date, days: &mut [i32]) -> usize
+    ensures { (all : List ℕ) × AreDays recurrence.now start all
+        × AreWritten (filter (nat_le from) all) days.old days.new result }
+{
+    if is_counted(recurrence) {
+        return write_late(recurrence.days(start), from, days);
+    }
+    match from.previous_day() {
+        Some(before) => write_days(&recurrence.rule(start), before, days),
+        None => write_late(recurrence.days(start), from, days),
+    }
+}
+
+/// Writes those days of the walk that do not come before the date, in order and as many as there is room for: so many.
+fn write_late(mut walk: RuleDays<'_>, from: Date, days: &mut [i32]) -> usize
+    ensures { AreWritten (filter (nat_le from) walk.entry) days.old days.new result }
+{
+    let mut index = 0;
+    while index < days.len() {
+        let Some(day) = walk.next() else {
+            return index;
+        };
+        if from <= day {
+            days[index] = day.to_julian_day();
+            index += 1;
+        }
+    }
+    index
+}
