@@ -3,6 +3,7 @@ use crate::{Recurrence, RuleEnd, RuleFault, RulePart, RuleReason, Values, parse}
 use cal_schedule::{ByDay, Frequency};
 use cal_time::{Date, Month, Weekday};
 use std::process::Abort;
+use std::test::Fail;
 
 /// A list of 63 values.
 const TOO_MANY: &str =
@@ -77,6 +78,38 @@ fn faults(rt: HostRuntime) {
     refused(rt, "FREQ", 0, RuleReason::Value(RulePart::Frequency));
     refused(rt, "FREQ=HOURLY", 0, RuleReason::Value(RulePart::Frequency));
     refused(rt, "FREQ=DAILY=", 0, RuleReason::Value(RulePart::Frequency));
+}
+
+#[test]
+fn texts_of_faults(rt: HostRuntime) -> Result<(), Fail> {
+    for (text, wanted) in [
+        ("FREQ=MONTHLY;BYSETPOS=-1;BYDAY=FR", "unknown part at 13"),
+        ("FREQ=DAILY;FREQ=DAILY", "one FREQ too many at 11"),
+        (
+            "FREQ=DAILY;UNTIL=20241231;COUNT=3",
+            "one COUNT too many at 26",
+        ),
+        (
+            "COUNT=3;UNTIL=20241231;FREQ=DAILY",
+            "one UNTIL too many at 8",
+        ),
+        (TOO_MANY, "more than 62 values of BYMONTHDAY at 11"),
+        ("FREQ=HOURLY", "invalid value of FREQ at 0"),
+        ("FREQ=DAILY;INTERVAL=0", "invalid value of INTERVAL at 11"),
+        ("FREQ=DAILY;WKST=MON", "invalid value of WKST at 11"),
+        ("FREQ=DAILY;BYMONTH=13", "invalid value of BYMONTH at 11"),
+        ("FREQ=MONTHLY;BYDAY=54FR", "invalid value of BYDAY at 13"),
+        ("BYDAY=MO", "missing FREQ at 8"),
+    ] {
+        let Err(fault) = parse(text.as_bytes()) else {
+            return Err(Fail::from("a text that is read"));
+        };
+        let told = format!(in rt.alloc(); "{fault}")?;
+        assert!(rt; told.as_str() == wanted, "{told} and not {wanted}");
+        let reason = format!(in rt.alloc(); "{}", fault.reason)?;
+        assert!(rt; told.as_str().starts_with(reason.as_str()), "{reason}");
+    }
+    Ok(())
 }
 
 #[test]

@@ -113,7 +113,7 @@ fn complaint(alloc: Global, arguments: Option<&[u8]>) -> Option<Vec<u8>> {
 
 #[test]
 fn lists_that_make_no_sense(rt: HostRuntime) {
-    let cases: [(&[u8], &[u8]); 23] = [
+    let cases: [(&[u8], &[u8]); 22] = [
         (b"list", b"there is no 'from'"),
         (b"list\02024-02-29", b"'2024-02-29' is no 'from'"),
         (
@@ -162,12 +162,8 @@ fn lists_that_make_no_sense(rt: HostRuntime) {
             b"'4294967296' is no number from 1 to 4294967295 and no recurrence (as FREQ=MONTHLY;BYDAY=-1FR)",
         ),
         (
-            b"list\0from\02024-02-29\0to\02024-03-01\0by\0FREQ=HOURLY",
-            b"'FREQ=HOURLY' is no number from 1 to 4294967295 and no recurrence (as FREQ=MONTHLY;BYDAY=-1FR)",
-        ),
-        (
-            b"list\0from\02024-02-29\0to\02024-03-01\0by\0BYDAY=-1FR",
-            b"'BYDAY=-1FR' is no number from 1 to 4294967295 and no recurrence (as FREQ=MONTHLY;BYDAY=-1FR)",
+            b"list\0from\02024-02-29\0to\02024-03-01\0by\0MONTHLY",
+            b"'MONTHLY' is no number from 1 to 4294967295 and no recurrence (as FREQ=MONTHLY;BYDAY=-1FR)",
         ),
         (
             b"list\0from\02024-02-29\0to\02024-03-01\0by\0FREQ=DAILY\0days",
@@ -201,6 +197,69 @@ fn lists_that_make_no_sense(rt: HostRuntime) {
     for (arguments, wanted) in cases {
         let told = complaint(rt.alloc(), Some(arguments)).unwrap_or(Vec::new(rt.alloc()));
         assert!(rt; is_line(&told, wanted), "{arguments:?}");
+    }
+}
+
+// The part at fault is named with its position, which is counted in the whole word.
+#[test]
+fn rules_that_make_no_sense(rt: HostRuntime) {
+    let cases: [(&[u8], &[u8]); 12] = [
+        (
+            b"FREQ=HOURLY",
+            b"'FREQ=HOURLY' is no recurrence (as FREQ=MONTHLY;BYDAY=-1FR): invalid value of FREQ at 0",
+        ),
+        (
+            b"freq=monthly;byday=54fr",
+            b"'freq=monthly;byday=54fr' is no recurrence (as FREQ=MONTHLY;BYDAY=-1FR): invalid value of BYDAY at 13",
+        ),
+        (
+            b"FREQ=DAILY;INTERVAL=0",
+            b"'FREQ=DAILY;INTERVAL=0' is no recurrence (as FREQ=MONTHLY;BYDAY=-1FR): invalid value of INTERVAL at 11",
+        ),
+        (
+            b"FREQ=WEEKLY;UNTIL=2024-12-31",
+            b"'FREQ=WEEKLY;UNTIL=2024-12-31' is no recurrence (as FREQ=MONTHLY;BYDAY=-1FR): invalid value of UNTIL at 12",
+        ),
+        (
+            b"BYDAY=-1FR",
+            b"'BYDAY=-1FR' is no recurrence (as FREQ=MONTHLY;BYDAY=-1FR): missing FREQ at 10",
+        ),
+        (
+            b"FREQ=MONTHLY;BYSETPOS=-1;BYDAY=FR",
+            b"'FREQ=MONTHLY;BYSETPOS=-1;BYDAY=FR' is no recurrence (as FREQ=MONTHLY;BYDAY=-1FR): unknown part at 13",
+        ),
+        (
+            b"FREQ=DAILY;",
+            b"'FREQ=DAILY;' is no recurrence (as FREQ=MONTHLY;BYDAY=-1FR): unknown part at 11",
+        ),
+        (
+            b"FREQ=DAILY;BYMONTH=1;BYMONTH=2",
+            b"'FREQ=DAILY;BYMONTH=1;BYMONTH=2' is no recurrence (as FREQ=MONTHLY;BYDAY=-1FR): one BYMONTH too many at 21",
+        ),
+        (
+            b"FREQ=DAILY;COUNT=3;UNTIL=20241231",
+            b"'FREQ=DAILY;COUNT=3;UNTIL=20241231' is no recurrence (as FREQ=MONTHLY;BYDAY=-1FR): one UNTIL too many at 19",
+        ),
+        // 63 values; the first 80 bytes of the word are shown.
+        (
+            b"BYMONTHDAY=1,1,1,1,1,1,1,1,1,1,1,1,1,1,1,1,1,1,1,1,1,1,1,1,1,1,1,1,1,1,1,1,1,1,1,1,1,1,1,1,1,1,1,1,1,1,1,1,1,1,1,1,1,1,1,1,1,1,1,1,1,1,1",
+            b"'BYMONTHDAY=1,1,1,1,1,1,1,1,1,1,1,1,1,1,1,1,1,1,1,1,1,1,1,1,1,1,1,1,1,1,1,1,1,1,1' is no recurrence (as FREQ=MONTHLY;BYDAY=-1FR): more than 62 values of BYMONTHDAY at 0",
+        ),
+        (
+            b"FREQ=HOURLY\0days",
+            b"'FREQ=HOURLY' is no recurrence (as FREQ=MONTHLY;BYDAY=-1FR): invalid value of FREQ at 0",
+        ),
+        (
+            b"=1\0days",
+            b"'=1' is no recurrence (as FREQ=MONTHLY;BYDAY=-1FR): unknown part at 0",
+        ),
+    ];
+    for (rule, wanted) in cases {
+        let mut arguments = Vec::new(rt.alloc());
+        let _ = arguments.extend_from_slice(b"list\0from\02024-02-29\0to\02024-03-01\0by\0");
+        let _ = arguments.extend_from_slice(rule);
+        let told = complaint(rt.alloc(), Some(&arguments)).unwrap_or(Vec::new(rt.alloc()));
+        assert!(rt; is_line(&told, wanted), "{rule:?}");
     }
 }
 
