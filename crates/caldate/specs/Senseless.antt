@@ -8,7 +8,7 @@ use Rattle.cal_recurrence.specs.Text.{recurrence_of}
 use Rattle.cal_recurrence.specs.declared.fault.RuleFault.{RuleFault}
 use Rattle.cal_recurrence.specs.declared.recurrence.Recurrence.{Recurrence}
 use Rattle.caldate.specs.Offsets.{offset_of}
-use Rattle.caldate.specs.Requests.{count_of, cut_options, form_of, is_number, meaning_of, no_options, period_of, stands_alone, takes_field, takes_separator, takes_skip, unit_of, verb_of, weekday_of, date_of, many_of, step_in, lacking, takes_offset, takes_reading}
+use Rattle.caldate.specs.Requests.{count_of, cut_options, form_of, is_number, meaning_of, no_options, period_of, stands_alone, unit_of, verb_of, weekday_of, date_of, many_of, step_in, lacking, value_of}
 use Rattle.caldate.specs.Shown.{shown}
 use Rattle.caldate.specs.declared.options.Options.{Options}
 use Rattle.caldate.specs.declared.request.Asked.{Asked}
@@ -129,16 +129,6 @@ abbrev pub words_in : Options → ℕ
 words_in options =
     (if options.is_strict then 1 else 0) + (if is_some options.number then 2 else 0) + (if is_some options.separator then 2 else 0)
     + (if is_some options.skip then 2 else 0) + (if is_some options.reading then 2 else 0) + (if is_some options.offset then 2 else 0)
-
--- what comes after the word, where it is an option that may stand there
-abbrev pub value_of : Options → List ℕ → Option Wanted
-value_of options word =
-    if takes_field options word then Some wanted.FieldNumber else
-    if takes_separator options word then Some wanted.Separator else
-    if takes_skip options word then Some wanted.Skip else
-    if takes_reading options word then Some wanted.Reading else
-    if takes_offset options word then Some wanted.Offset else
-    None
 
 -- what the options lack, or else a verb, or at the start an option that stands alone too
 abbrev pub verb_after : Options → Wanted
