@@ -5,3 +5,4 @@ pub mod Days
 pub mod RecurrenceText
 pub mod Written
 pub mod Spelled
+pub mod FaultText

@@ -5,7 +5,7 @@ ghost use Rattle.cal_recurrence.specs.Values.{most_values};
 ghost use Rattle.cal_recurrence.specs.Words.{parts_at};
 
 use crate::fault::{RuleFault, RulePart, RuleReason};
-use crate::lists::{has_few_words, month_days_of, months_of, weekdays_of};
+use crate::lists::{has_few_words, values_of};
 use crate::recurrence::{Recurrence, RuleEnd};
 use crate::values::Values;
 use crate::words::{count_of, cut, date_of, frequency_of, part_of, weekday_of};
@@ -95,19 +95,27 @@ impl Draft {
                 Ok(self)
             }
             RulePart::Months => {
-                self.months = Some(fresh(part, self.months.is_some(), months_of(value))?);
+                self.months = Some(fresh(
+                    part,
+                    self.months.is_some(),
+                    values_of(value, Month::January),
+                )?);
                 Ok(self)
             }
             RulePart::MonthDays => {
                 self.month_days = Some(fresh(
                     part,
                     self.month_days.is_some(),
-                    month_days_of(value),
+                    values_of(value, 0),
                 )?);
                 Ok(self)
             }
             RulePart::Weekdays => {
-                self.weekdays = Some(fresh(part, self.weekdays.is_some(), weekdays_of(value))?);
+                self.weekdays = Some(fresh(
+                    part,
+                    self.weekdays.is_some(),
+                    values_of(value, ByDay::Every(Weekday::Monday)),
+                )?);
                 Ok(self)
             }
             RulePart::Until => {

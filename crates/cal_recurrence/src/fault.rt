@@ -1,4 +1,9 @@
 //! Why a text is none of a recurrence.
+ghost use Rattle.std.specs.Prelude.{◌≡◌, ◌≤◌, Some, length};
+ghost use Rattle.cal_recurrence.specs.FaultText.{fault_text, part_name, reason_text};
+
+use cal_time::ShortText;
+use std::fmt;
 
 /// A part of the text of a recurrence, of those that are read.
 #[derive(Clone, Copy, Debug, PartialEq, Eq)]
@@ -37,10 +42,74 @@ pub enum RuleReason {
 }
 
 /// The first part that is at fault.
+///
+/// It prints what is at fault, and the position: `invalid value of BYDAY at 13`.
 #[derive(Clone, Copy, Debug, PartialEq, Eq)]
 pub struct RuleFault {
     /// The position of its first byte, counted from 0. A part that is missing has the position at the end of the text.
     pub position: usize,
     /// What is at fault.
     pub reason: RuleReason,
+}
+
+impl RulePart {
+    /// The name of the part: that of `RulePart::Weekdays` is `BYDAY`.
+    pub fn name(self) -> &'static str
+        ensures name { result.now ≡ part_name self }
+        ensures short { length result.now ≤ 10 }
+    {
+        match self {
+            RulePart::Frequency => "FREQ",
+            RulePart::Interval => "INTERVAL",
+            RulePart::WeekStart => "WKST",
+            RulePart::Months => "BYMONTH",
+            RulePart::MonthDays => "BYMONTHDAY",
+            RulePart::Weekdays => "BYDAY",
+            RulePart::Until => "UNTIL",
+            RulePart::Count => "COUNT",
+        }
+    }
+}
+
+impl RuleReason {
+    /// What is at fault, as it prints: that of `RuleReason::Value(RulePart::Weekdays)` is `invalid value of BYDAY`.
+    pub fn text(self) -> ShortText
+        ensures { result ≡ reason_text self }
+    {
+        let mut text = ShortText::new();
+        match self {
+            RuleReason::Unknown => text.push("unknown part"),
+            RuleReason::Twice(part) => {
+                text.push("one ");
+                text.push(part.name());
+                text.push(" too many");
+            }
+            RuleReason::TooMany(part) => {
+                text.push("more than 62 values of ");
+                text.push(part.name());
+            }
+            RuleReason::Value(part) => {
+                text.push("invalid value of ");
+                text.push(part.name());
+            }
+            RuleReason::Missing => text.push("missing FREQ"),
+        }
+        text
+    }
+}
+
+impl fmt::Display for RuleReason {
+    ghost output = { λ reason. Some (reason_text reason) };
+
+    fn fmt<W: fmt::Write>(&self, f: &mut fmt::Formatter<W>) -> fmt::Result {
+        f.write_str(self.text().as_str())
+    }
+}
+
+impl fmt::Display for RuleFault {
+    ghost output = { λ fault. Some (fault_text fault) };
+
+    fn fmt<W: fmt::Write>(&self, f: &mut fmt::Formatter<W>) -> fmt::Result {
+        write!(f, "{} at {}", self.reason, self.position)
+    }
 }

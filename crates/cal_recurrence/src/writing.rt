@@ -1,12 +1,14 @@
 //! The parts of the text of a recurrence, written.
-ghost use Rattle.std.specs.Prelude.{◌≡◌, ◌+◌, ◌*◌, ◌≤◌, ◌++◌, List, ℕ, length};
+ghost use Rattle.std.specs.Prelude.{◌≡◌, ◌+◌, ◌*◌, ◌≤◌, ◌++◌, List, ℕ, Option, length};
 ghost use Rattle.std.specs.Fmt.{signed_decimal};
 ghost use Rattle.cal_recurrence.specs.RecurrenceText.{HasRoom};
 ghost use Rattle.cal_recurrence.specs.Values.{most_values};
+ghost use Rattle.cal_recurrence.specs.Words.{by_day_of, month_day_of, month_of};
 ghost use Rattle.cal_recurrence.specs.Written.{by_day_text, day_text, end_text, frequency_text, interval_text, list_text, month_day_text, month_text, week_start_text, weekday_text};
 
 use crate::recurrence::RuleEnd;
 use crate::text::RecurrenceText;
+use crate::words::{by_day_of, month_day_of, month_of};
 use cal_schedule::{ByDay, Frequency};
 use cal_time::{Cycle, Date, Month, ShortText, Weekday};
 
@@ -14,14 +16,26 @@ use cal_time::{Cycle, Date, Month, ShortText, Weekday};
 pub trait Word: Copy {
     ghost text_of: { Self → List ℕ };
 
+    ghost meaning_of: { List ℕ → Option Self };
+
     /// The text of the value, as `-1FR`.
     fn word(self) -> ShortText
         ensures text { result ≡ text_of self }
         ensures short { length result ≤ 6 };
+
+    /// The value that a word spells.
+    fn read(word: &[u8]) -> Option<Self>
+        ensures { result ≡ meaning_of word.now };
 }
 
 impl Word for Month {
     ghost text_of = { month_text };
+
+    ghost meaning_of = { month_of };
+
+    fn read(word: &[u8]) -> Option<Self> {
+        month_of(word)
+    }
 
     #[tactic(auto, using(crate::proofs::Digits::three_digits))]
     fn word(self) -> ShortText {
@@ -34,6 +48,12 @@ impl Word for Month {
 impl Word for i8 {
     ghost text_of = { month_day_text };
 
+    ghost meaning_of = { month_day_of };
+
+    fn read(word: &[u8]) -> Option<Self> {
+        month_day_of(word)
+    }
+
     fn word(self) -> ShortText {
         index_text(self)
     }
@@ -41,6 +61,12 @@ impl Word for i8 {
 
 impl Word for ByDay {
     ghost text_of = { by_day_text };
+
+    ghost meaning_of = { by_day_of };
+
+    fn read(word: &[u8]) -> Option<Self> {
+        by_day_of(word)
+    }
 
     fn word(self) -> ShortText {
         match self {

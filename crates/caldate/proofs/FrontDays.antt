@@ -1,12 +1,10 @@
 -- The days of a recurrence up to a last one.
-use Rattle.std.proofs.Common.{◌≡◌, ℕ, zero, suc, ◌+◌, ◌<◌, refl, ap, sym, subst, ◌∙◌, arith, inl, inr, Bool, true, false, Option, Result, Ok, Err, List, [], ◌∷◌, ◌++◌, take, filter, append_assoc}
-use Rattle.std.specs.Prelude.{nat_le, IfErr, IsErrAnd, OnErr, OnOk}
-use Rattle.std.specs.List.{flat_map, take_while}
+use Rattle.std.proofs.Common.{◌≡◌, ℕ, zero, suc, ◌+◌, ◌<◌, refl, ap, sym, subst, ◌∙◌, arith, inl, inr, Bool, true, false, List, [], ◌∷◌, ◌++◌, take, filter, append_assoc}
+use Rattle.std.specs.Prelude.{nat_le}
+use Rattle.std.specs.List.{take_while}
 use Rattle.std.proofs.lemmas.Bool.{cases_Bool}
 use Rattle.std.proofs.lemmas.Bool.Decides.{nat_tests}
 use Rattle.std.proofs.lemmas.List.Sums.{take_while-cons}
-use Rattle.std.specs.Io.KnownBytes.{Appends}
-use Rattle.std.proofs.lemmas.List.{append-nil}
 use Rattle.cal_recurrence.specs.Days.{up_to_end, AreDays}
 use Rattle.cal_recurrence.specs.declared.recurrence.RuleEnd.{RuleEnd}
 use Rattle.cal_recurrence.specs.declared.recurrence.RuleEnd.TheVariants.{Never, Until, Count}
@@ -15,12 +13,9 @@ use Rattle.cal_schedule.specs.declared.rule.kinds.Rule.{Rule}
 use Rattle.cal_schedule.proofs.Rules.{all_of_them}
 use Rattle.cal_time.specs.Date.{last_day}
 use Rattle.cal_time.specs.Occurrence.{days_from}
-use Rattle.caldate.specs.Lists.{line_of}
-use Rattle.caldate.specs.Recurring.{up_to, AreOccurrences, ListsOccurrences}
-use Rattle.caldate.specs.Runs.{AppendsFront, IsOfWrite}
-use Rattle.caldate.specs.declared.fault.Fault.{Fault}
+use Rattle.cal_recurrence.proofs.OneAnswer.{days-one}
+use Rattle.caldate.specs.Recurring.{up_to, AreOccurrences}
 use Rattle.caldate.specs.declared.request.Occurrences.{Occurrences}
-use Rattle.caldate.proofs.Steps.{all_more, front_more}
 
 -- ---- the days of a test in order: those up to the last are those before the first that is past it
 abbrev within : ℕ → ℕ → Bool
@@ -96,7 +91,7 @@ front_of_rule last Never rule = subst (λ l. front_to last l ≡ up_to last l) (
 front_of_rule last (Until day) rule = subst (λ l. front_to last l ≡ up_to last l) (all_of_them rule) (front_days last (is_on rule) (last_day + 1) 0 4294967295)
 front_of_rule last (Count count) rule = front_days last (is_on rule) (last_day + 1) 0 count
 
-front_occurrences : (asked : Occurrences) (days : List ℕ) → AreDays asked.recurrence asked.first days → AreOccurrences asked (front_to asked.last days)
+pub front_occurrences : (asked : Occurrences) (days : List ℕ) → AreDays asked.recurrence asked.first days → AreOccurrences asked (front_to asked.last days)
 front_occurrences asked days (rule, is, e) =
     (days, (rule, is, e), subst (λ l. front_to asked.last l ≡ up_to asked.last l) (sym e) (front_of_rule asked.last asked.recurrence.end rule))
 
@@ -104,20 +99,6 @@ front_occurrences asked days (rule, is, e) =
 pub one_date_more : (dates : List ℕ) (day : ℕ) (all old new : List ℕ) → all ≡ dates ++ old → old ≡ day ∷ new → all ≡ (dates ++ day ∷ []) ++ new
 one_date_more dates day all old new e f = e ∙ ap (λ l. dates ++ l) f ∙ sym (append_assoc dates (day ∷ []) new)
 
--- ---- what the writer took
-pub dates_failed : (asked : Occurrences) (r : Result Unit Fault) (old new : Option (List ℕ)) (days dates more : List ℕ)
-    → AreDays asked.recurrence asked.first days → front_to asked.last days ≡ dates ++ more → IsErrAnd r IsOfWrite
-    → AppendsFront old new (flat_map line_of dates) → ListsOccurrences asked r old new
-dates_failed asked (Ok done) old new days dates more are e is front = absurd is
-dates_failed asked (Err fault) old new days dates more are e is front =
-    (is, (dates, more, subst (AreOccurrences asked) e (front_occurrences asked days are), front))
-
-pub dates_ended : (asked : Occurrences) (r : Result Unit Fault) (start now new : Option (List ℕ)) (days dates more written gathered : List ℕ)
-    → AreDays asked.recurrence asked.first days → front_to asked.last days ≡ dates ++ more → more ≡ []
-    → flat_map line_of dates ≡ written ++ gathered → Appends start now written → OnOk r (Appends now new gathered) → OnErr r (AppendsFront now new gathered)
-    → IfErr r IsOfWrite → ListsOccurrences asked r start new
-dates_ended asked (Ok done) start now new days dates more written gathered are e none whole taken ok front err =
-    let all = e ∙ ap (λ l. dates ++ l) none ∙ append-nil dates in
-    (dates, subst (AreOccurrences asked) all (front_occurrences asked days are), all_more start now new written gathered _ whole taken ok)
-dates_ended asked (Err fault) start now new days dates more written gathered are e none whole taken ok front err =
-    (err, (dates, more, subst (AreOccurrences asked) e (front_occurrences asked days are), front_more start now new written gathered _ whole taken front))
+-- ---- the dates have one answer
+pub one_dates : (asked : Occurrences) (dates others : List ℕ) → AreOccurrences asked dates → AreOccurrences asked others → dates ≡ others
+one_dates asked dates others (days, are, e) (more, alike, f) = e ∙ ap (up_to asked.last) (days-one asked.recurrence asked.first days more are alike) ∙ sym f

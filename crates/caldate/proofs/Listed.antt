@@ -12,7 +12,7 @@ use Rattle.std.specs.Io.KnownBytes.{Appends}
 use Rattle.cal_time.specs.Date.{IsDate}
 use Rattle.cal_schedule.specs.Months.{IsMonthsLater}
 use Rattle.cal_schedule.proofs.MonthMoves.{IsMonthNumber-date, one_later}
-use Rattle.caldate.specs.Lists.{AreAll, AreFirst, IsAfter, IsListed, Lists, line_of}
+use Rattle.caldate.specs.Lists.{AreAll, AreFirst, IsAfter, IsListed, TakesLines, line_of}
 use Rattle.caldate.specs.Runs.{AppendsFront, IsOfWrite}
 use Rattle.caldate.specs.declared.fault.Fault.{Fault}
 use Rattle.caldate.specs.declared.request.Listing.{Listing}
@@ -69,18 +69,18 @@ next_count days day count every e =
     sym (ap (λ k. k * every) longer ∙ suc-mul (length days) every ∙ ap (λ p. p + every) (sym e))
 
 -- ---- what the writer took
-pub lists_failed : (listing : Listing) (r : Result Unit Fault) (old new : Option (List ℕ)) (days : List ℕ) → IsErrAnd r IsOfWrite → AreFirst listing days
-    → AppendsFront old new (flat_map line_of days) → Lists listing r old new
-lists_failed listing (Ok done) old new days is first front = absurd is
-lists_failed listing (Err fault) old new days is first front = (is, (days, first, front))
+pub lists_failed : (All First : List ℕ → Type 0) (r : Result Unit Fault) (old new : Option (List ℕ)) (days : List ℕ) → IsErrAnd r IsOfWrite → First days
+    → AppendsFront old new (flat_map line_of days) → TakesLines All First r old new
+lists_failed All First (Ok done) old new days is first front = absurd is
+lists_failed All First (Err fault) old new days is first front = (is, (days, first, front))
 
-pub lists_ended : (listing : Listing) (r : Result Unit Fault) (start now new : Option (List ℕ)) (days written gathered : List ℕ) → AreAll listing days
+pub lists_ended : (All First : List ℕ → Type 0) (r : Result Unit Fault) (start now new : Option (List ℕ)) (days written gathered : List ℕ) → All days → First days
     → flat_map line_of days ≡ written ++ gathered → Appends start now written → OnOk r (Appends now new gathered) → OnErr r (AppendsFront now new gathered)
-    → IfErr r IsOfWrite → Lists listing r start new
-lists_ended listing (Ok done) start now new days written gathered all whole taken ok front err =
+    → IfErr r IsOfWrite → TakesLines All First r start new
+lists_ended All First (Ok done) start now new days written gathered all first whole taken ok front err =
     (days, all, all_more start now new written gathered _ whole taken ok)
-lists_ended listing (Err fault) start now new days written gathered all whole taken ok front err =
-    (err, (days, all.0, front_more start now new written gathered _ whole taken front))
+lists_ended All First (Err fault) start now new days written gathered all first whole taken ok front err =
+    (err, (days, first, front_more start now new written gathered _ whole taken front))
 
 -- ---- a list has one answer
 pub one_after : (unit : StepUnit) (count n a b : ℕ) → IsAfter unit count n a → IsAfter unit count n b → a ≡ b
@@ -91,7 +91,7 @@ one_after Months count n a b h k = one_later n a b (pos count) h k
 no_shorter : (listing : Listing) (days others : List ℕ) → AreAll listing days → AreFirst listing others → ¬ (length days < length others)
 no_shorter listing days others all first less = all.1 (get_or others (length days) 0) (first (length days) less)
 
-one_list : (listing : Listing) (days others : List ℕ) → AreAll listing days → AreAll listing others → days ≡ others
+pub one_list : (listing : Listing) (days others : List ℕ) → AreAll listing days → AreAll listing others → days ≡ others
 one_list listing days others all too =
     let same : length days ≡ length others =
     elim (cases_lt (length days) (length others)) as (λ _. length days ≡ length others) [
@@ -105,9 +105,10 @@ one_list listing days others all too =
     one_after listing.step.unit (k * listing.step.every) listing.first (get_or days k 0) (get_or others k 0)
     (all.0 k less).after (too.0 k (omega (arith, less, same))).after)
 
-pub lists-one : (listing : Listing) (held : List ℕ) (r s : Result Unit Fault) (w v : Option (List ℕ)) → IsOk r → IsOk s
-    → Lists listing r (Some held) w → Lists listing s (Some held) v → w ≡ v
-lists-one listing held (Err e) s w v ok too first second = absurd (false≢true ok)
-lists-one listing held (Ok done) (Err e) w v ok too first second = absurd (false≢true too)
-lists-one listing held (Ok done) (Ok end) w v ok too (days, all, took) (others, every, taken) =
-    took-one held _ _ w v took taken (ap (flat_map line_of) (one_list listing days others all every))
+pub lists-one : (All First : List ℕ → Type 0) → ((days others : List ℕ) → All days → All others → days ≡ others)
+    → (held : List ℕ) (r s : Result Unit Fault) (w v : Option (List ℕ)) → IsOk r → IsOk s
+    → TakesLines All First r (Some held) w → TakesLines All First s (Some held) v → w ≡ v
+lists-one All First one held (Err e) s w v ok too first second = absurd (false≢true ok)
+lists-one All First one held (Ok done) (Err e) w v ok too first second = absurd (false≢true too)
+lists-one All First one held (Ok done) (Ok end) w v ok too (days, all, took) (others, every, taken) =
+    took-one held _ _ w v took taken (ap (flat_map line_of) (one days others all every))

@@ -58,6 +58,9 @@ abbrev pub line_of : ℕ → List ℕ
 line_of day = date_text Calendar day ++ 10 ∷ []
 
 -- the writer took the lines of all the days, or after a failed write a beginning of those of the first days, and never all
+abbrev pub TakesLines : (List ℕ → Type 0) → (List ℕ → Type 0) → Result Unit Fault → Option (List ℕ) → Option (List ℕ) → Type 0
+TakesLines All First (Ok done) old new = (days : List ℕ) × All days × Appends old new (flat_map line_of days)
+TakesLines All First (Err fault) old new = IsOfWrite fault × ((days : List ℕ) × First days × AppendsFront old new (flat_map line_of days))
+
 abbrev pub Lists : Listing → Result Unit Fault → Option (List ℕ) → Option (List ℕ) → Type 0
-Lists listing (Ok done) old new = (days : List ℕ) × AreAll listing days × Appends old new (flat_map line_of days)
-Lists listing (Err fault) old new = IsOfWrite fault × ((days : List ℕ) × AreFirst listing days × AppendsFront old new (flat_map line_of days))
+Lists listing outcome old new = TakesLines (AreAll listing) (AreFirst listing) outcome old new

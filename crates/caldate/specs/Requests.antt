@@ -165,10 +165,14 @@ seconds_in unit amount =
     if int_le (neg_ℤ (pos 9223372036854775808)) seconds && int_le seconds (pos 9223372036854775807) then Some (seconds *ℤ pos second) else None
 
 -- ---- requests
+-- what they mean, where they are one word
+abbrev pub only : {X : Type 0} → (List ℕ → Option X) → List (List ℕ) → Option X
+only meaning (word ∷ []) = meaning word
+only meaning words = None
+
 -- `to FORM`
 abbrev pub to_request : List (List ℕ) → Option Request
-to_request (form ∷ []) = option_map To (form_of form)
-to_request words = None
+to_request words = option_map To (only form_of words)
 
 -- `add N`, in days, and `add N UNIT`
 abbrev pub duration_in : List ℕ → ℕ → Option Request
@@ -204,13 +208,11 @@ occurrence_request by words = option_map (λ o. Move (by o.0 o.1)) (occurrence_o
 
 -- `on-or-after WEEKDAY`, `on-or-before WEEKDAY`
 abbrev pub nearest_request : (Weekday → DayMove) → List (List ℕ) → Option Request
-nearest_request by (name ∷ []) = option_map (λ w. Move (by w)) (weekday_of name)
-nearest_request by words = None
+nearest_request by words = option_map (λ w. Move (by w)) (only weekday_of words)
 
 -- `start PERIOD`, `end PERIOD`
 abbrev pub edge_request : (Period → DayMove) → List (List ℕ) → Option Request
-edge_request by (name ∷ []) = option_map (λ p. Move (by p)) (period_of name)
-edge_request by words = None
+edge_request by words = option_map (λ p. Move (by p)) (only period_of words)
 
 -- a date or a moment, and perhaps a unit
 abbrev pub target_of : (List ℕ → Option DateOrMoment) → List (List ℕ) → Option (DateOrMoment × Option TimeUnit)
@@ -225,14 +227,9 @@ target_request request reading words = option_map (λ t. request t.0 t.1) (targe
 
 -- `at OFFSET`
 abbrev pub at_request : List (List ℕ) → Option Request
-at_request (word ∷ []) = option_map At (offset_of word)
-at_request words = None
+at_request words = option_map At (only offset_of words)
 
 -- `keep from A to B`, `keep after A`, `keep before B`
-abbrev pub bound_of : (List ℕ → Option DateOrMoment) → List (List ℕ) → Option DateOrMoment
-bound_of reading (text ∷ []) = reading text
-bound_of reading words = None
-
 abbrev pub range_of : (List ℕ → Option DateOrMoment) → List (List ℕ) → Option Bounds
 range_of reading (first ∷ to ∷ last ∷ []) =
     if bytes_eq to (codes "to") then option_map (λ ends. FromTo ends.0 ends.1) (option_zip (reading first) (reading last)) else None
@@ -242,8 +239,8 @@ abbrev pub bounds_of : (List ℕ → Option DateOrMoment) → List (List ℕ) �
 bounds_of reading [] = None
 bounds_of reading (word ∷ words) =
     if bytes_eq word (codes "from") then range_of reading words else
-    if bytes_eq word (codes "after") then option_map After (bound_of reading words) else
-    if bytes_eq word (codes "before") then option_map Before (bound_of reading words) else
+    if bytes_eq word (codes "after") then option_map After (only reading words) else
+    if bytes_eq word (codes "before") then option_map Before (only reading words) else
     None
 
 abbrev pub keep_request : (List ℕ → Option DateOrMoment) → List (List ℕ) → Option Request
@@ -309,46 +306,27 @@ reading_of word =
     if bytes_eq word (codes "local") then Some (read.Local (pos 0)) else
     None
 
--- the options, and one more whose value comes after it, where it may stand there and this is such a value
-abbrev pub with_field : Options → List ℕ → Option Options
-with_field options value = option_map (λ n. record options { number = Some n }) (field_number_of value)
+-- what comes after the word, where it is an option that may stand there
+abbrev pub value_of : Options → List ℕ → Option Wanted
+value_of options word =
+    if bytes_eq word (codes "--field") && is_none options.number then Some wanted.FieldNumber else
+    if bytes_eq word (codes "--separator") && is_none options.separator then Some wanted.Separator else
+    if bytes_eq word (codes "--skip") && is_none options.skip then Some wanted.Skip else
+    if bytes_eq word (codes "--read") && is_none options.reading then Some wanted.Reading else
+    if bytes_eq word (codes "--assume") && is_none options.offset then Some wanted.Offset else
+    None
 
-abbrev pub takes_field : Options → List ℕ → Bool
-takes_field options word = bytes_eq word (codes "--field") && is_none options.number
-
-abbrev pub with_separator : Options → List ℕ → Option Options
-with_separator options value = option_map (λ c. record options { separator = Some c }) (byte_of value)
-
-abbrev pub takes_separator : Options → List ℕ → Bool
-takes_separator options word = bytes_eq word (codes "--separator") && is_none options.separator
-
-abbrev pub with_skip : Options → List ℕ → Option Options
-with_skip options value = option_map (λ k. record options { skip = Some k }) (skip_of value)
-
-abbrev pub takes_skip : Options → List ℕ → Bool
-takes_skip options word = bytes_eq word (codes "--skip") && is_none options.skip
-
-abbrev pub with_reading : Options → List ℕ → Option Options
-with_reading options value = option_map (λ form. record options { reading = Some form }) (reading_of value)
-
-abbrev pub takes_reading : Options → List ℕ → Bool
-takes_reading options word = bytes_eq word (codes "--read") && is_none options.reading
-
--- `--assume OFFSET`
-abbrev pub with_offset : Options → List ℕ → Option Options
-with_offset options value = option_map (λ o. record options { offset = Some o }) (offset_of value)
-
-abbrev pub takes_offset : Options → List ℕ → Bool
-takes_offset options word = bytes_eq word (codes "--assume") && is_none options.offset
+-- the options with the one that wants this, which has this value
+abbrev pub with_wanted : Options → List ℕ → Wanted → Option Options
+with_wanted options value wanted.FieldNumber = option_map (λ n. record options { number = Some n }) (field_number_of value)
+with_wanted options value wanted.Separator = option_map (λ c. record options { separator = Some c }) (byte_of value)
+with_wanted options value wanted.Skip = option_map (λ k. record options { skip = Some k }) (skip_of value)
+with_wanted options value wanted.Reading = option_map (λ form. record options { reading = Some form }) (reading_of value)
+with_wanted options value wanted.Offset = option_map (λ o. record options { offset = Some o }) (offset_of value)
+with_wanted options value other = None
 
 abbrev pub with_value : Options → List ℕ → List ℕ → Option Options
-with_value options word value =
-    if takes_field options word then with_field options value else
-    if takes_separator options word then with_separator options value else
-    if takes_skip options word then with_skip options value else
-    if takes_reading options word then with_reading options value else
-    if takes_offset options word then with_offset options value else
-    None
+with_value options word value = option_and_then (with_wanted options value) (value_of options word)
 
 -- the options at the front of the words, and the words after them
 abbrev pub cut_options : Options → List (List ℕ) → Options × List (List ℕ)

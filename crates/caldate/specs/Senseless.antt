@@ -1,11 +1,14 @@
 -- What is said of arguments that make no sense: the first word that makes none, and what may stand there.
-use Rattle.std.specs.Prelude.{ℕ, ◌+◌, ◌==◌, Bool, true, false, List, [], ◌∷◌, ◌++◌, Option, Some, None, is_some, ok_or, Result, bytes_eq, codes, slice_get, take, ◌||◌, if◌then◌else◌, option_and_then, unwrap_or}
+use Rattle.std.specs.Prelude.{ℕ, ◌+◌, ◌==◌, Bool, true, false, List, [], ◌∷◌, ◌++◌, Option, Some, None, is_some, ok_or, Result, Ok, Err, bytes_eq, codes, slice_get, ◌||◌, if◌then◌else◌, option_and_then, unwrap_or, position}
 use Rattle.std.specs.Option.{option_map_or}
 use Rattle.std.specs.Result.{is_ok}
 use Rattle.cal_text.specs.declared.any.DateOrMoment.{DateOrMoment}
+use Rattle.cal_recurrence.specs.FaultText.{fault_text}
 use Rattle.cal_recurrence.specs.Text.{recurrence_of}
+use Rattle.cal_recurrence.specs.declared.fault.RuleFault.{RuleFault}
+use Rattle.cal_recurrence.specs.declared.recurrence.Recurrence.{Recurrence}
 use Rattle.caldate.specs.Offsets.{offset_of}
-use Rattle.caldate.specs.Requests.{count_of, cut_options, form_of, is_number, meaning_of, no_options, period_of, stands_alone, takes_field, takes_separator, takes_skip, unit_of, verb_of, weekday_of, date_of, many_of, step_in, lacking, takes_offset, takes_reading}
+use Rattle.caldate.specs.Requests.{count_of, cut_options, form_of, is_number, meaning_of, no_options, period_of, stands_alone, unit_of, verb_of, weekday_of, date_of, many_of, step_in, lacking, value_of}
 use Rattle.caldate.specs.Shown.{shown}
 use Rattle.caldate.specs.declared.options.Options.{Options}
 use Rattle.caldate.specs.declared.request.Asked.{Asked}
@@ -71,7 +74,8 @@ is_wanted reading word wanted.From = bytes_eq word (codes "from")
 is_wanted reading word wanted.Date = is_some (date_of reading word)
 is_wanted reading word wanted.UpTo = bytes_eq word (codes "to")
 is_wanted reading word wanted.By = bytes_eq word (codes "by")
-is_wanted reading word wanted.Many = is_some (many_of word) || is_ok (recurrence_of word)
+is_wanted reading word wanted.Many = is_some (many_of word)
+is_wanted reading word wanted.Rule = is_ok (recurrence_of word)
 is_wanted reading word wanted.Bounds = is_bounds word
 is_wanted reading word wanted.UnitOfDays = is_some (option_and_then (step_in 1) (unit_of word))
 is_wanted reading word what = false
@@ -126,16 +130,6 @@ words_in options =
     (if options.is_strict then 1 else 0) + (if is_some options.number then 2 else 0) + (if is_some options.separator then 2 else 0)
     + (if is_some options.skip then 2 else 0) + (if is_some options.reading then 2 else 0) + (if is_some options.offset then 2 else 0)
 
--- what comes after the word, where it is an option that may stand there
-abbrev pub value_of : Options → List ℕ → Option Wanted
-value_of options word =
-    if takes_field options word then Some wanted.FieldNumber else
-    if takes_separator options word then Some wanted.Separator else
-    if takes_skip options word then Some wanted.Skip else
-    if takes_reading options word then Some wanted.Reading else
-    if takes_offset options word then Some wanted.Offset else
-    None
-
 -- what the options lack, or else a verb, or at the start an option that stands alone too
 abbrev pub verb_after : Options → Wanted
 verb_after options = unwrap_or (lacking options) (if words_in options == 0 then wanted.Start else wanted.Verb)
@@ -151,15 +145,19 @@ senseless_front reading options [] = senseless_at (words_in options) (verb_after
 senseless_front reading options (word ∷ words) =
     option_map_or (senseless_at (words_in options + 1)) (value_of options word) (senseless_verb reading options (word ∷ words))
 
--- after `list`; after a recurrence comes no unit
+-- after `list`: a number and a unit, or a recurrence
 abbrev pub steps_words : List Wanted
 steps_words = wanted.From ∷ wanted.Date ∷ wanted.UpTo ∷ wanted.Date ∷ wanted.By ∷ wanted.Many ∷ wanted.UnitOfDays ∷ []
 
-abbrev pub is_by_rule : List (List ℕ) → Bool
-is_by_rule words = option_map_or (λ word. is_ok (recurrence_of word)) (slice_get words 5) false
+abbrev pub rule_words : List Wanted
+rule_words = wanted.From ∷ wanted.Date ∷ wanted.UpTo ∷ wanted.Date ∷ wanted.By ∷ wanted.Rule ∷ []
+
+-- each recurrence has a `=` (61), and no number
+abbrev pub is_rule_like : List ℕ → Bool
+is_rule_like word = is_some (position (λ b. b == 61) word)
 
 abbrev pub list_words : List (List ℕ) → List Wanted
-list_words words = if is_by_rule words then take 6 steps_words else steps_words
+list_words words = if option_map_or is_rule_like (slice_get words 5) false then rule_words else steps_words
 
 -- from the options on
 abbrev pub senseless_lines : (List ℕ → Option DateOrMoment) → List (List ℕ) → Senseless
@@ -206,6 +204,7 @@ wanted_words wanted.Date = codes "no date (as 2024-02-29, 2024-060, 2024-W09-4, 
 wanted_words wanted.UpTo = codes "no 'to'"
 wanted_words wanted.By = codes "no 'by'"
 wanted_words wanted.Many = codes "no number from 1 to 4294967295 and no recurrence (as FREQ=MONTHLY;BYDAY=-1FR)"
+wanted_words wanted.Rule = codes "no recurrence (as FREQ=MONTHLY;BYDAY=-1FR)"
 wanted_words wanted.UnitOfDays = codes "no unit of dates (days, weeks, months, years)"
 wanted_words wanted.End = codes "one word too many"
 
@@ -218,7 +217,17 @@ abbrev pub word_words : Option (List ℕ) → List ℕ
 word_words None = codes "there is "
 word_words (Some word) = codes "'" ++ shown word ++ codes "' is "
 
+-- of a word that is no recurrence, the first part at fault
+abbrev pub fault_words : Result Recurrence RuleFault → List ℕ
+fault_words (Ok recurrence) = []
+fault_words (Err fault) = codes ": " ++ fault_text fault
+
+abbrev pub why_words : Wanted → Option (List ℕ) → List ℕ
+why_words wanted.Rule word = option_map_or (λ text. fault_words (recurrence_of text)) word []
+why_words what word = []
+
 abbrev pub complaint : List (List ℕ) → Senseless → List ℕ
 complaint words senseless =
-    codes "caldate: " ++ (if is_something senseless.wanted then [] else word_words (slice_get words senseless.index))
-    ++ wanted_words senseless.wanted ++ 10 ∷ []
+    let word = slice_get words senseless.index in
+    codes "caldate: " ++ (if is_something senseless.wanted then [] else word_words word)
+    ++ wanted_words senseless.wanted ++ why_words senseless.wanted word ++ 10 ∷ []

@@ -2,10 +2,8 @@
 ghost use Rattle.std.specs.Prelude.{◌≡◌, ℕ, List, [], ◌∷◌, Option, IfOk, IfSome};
 ghost use Rattle.cal_text.specs.declared.any.DateOrMoment.{DateOrMoment};
 ghost use Rattle.caldate.specs.Lists.{IsAsked};
-ghost use Rattle.caldate.specs.Requests.{IsReading, arguments_of, meaning_of, filter_of, request_of, to_request, add_request, amount_in, duration_in, occurrence_of, occurrence_request, nearest_request, edge_request, target_of, target_request, at_request, keep_request, request_with, cut_options, no_options};
+ghost use Rattle.caldate.specs.Requests.{IsReading, arguments_of, meaning_of, filter_of, request_of, add_request, amount_in, duration_in, occurrence_of, target_of, request_with, cut_options, no_options};
 ghost use Rattle.caldate.specs.Senseless.{asked_of};
-ghost use Rattle.caldate.specs.declared.request.DayMove.TheVariants.{Next, Last, OnOrAfter, OnOrBefore, Start, End};
-ghost use Rattle.caldate.specs.declared.request.Request.TheVariants.{Until, Since};
 
 use crate::bounds::bounds_of;
 use crate::listing::list_of;
@@ -100,25 +98,31 @@ fn request_of(words: &[u8]) -> Option<Request>
 {
     let (verb, rest) = first_word(words)?;
     match verb_of(verb)? {
-        Verb::To => to_request(rest),
+        Verb::To => Some(Request::To(form_of(only_word(rest)?)?)),
         Verb::Add => add_request(rest),
-        Verb::Next => next_request(rest),
-        Verb::Last => last_request(rest),
-        Verb::Until => until_request(rest),
-        Verb::Since => since_request(rest),
-        Verb::Start => start_request(rest),
-        Verb::End => end_request(rest),
-        Verb::OnOrAfter => on_or_after_request(rest),
-        Verb::OnOrBefore => on_or_before_request(rest),
-        Verb::At => at_request(rest),
-        Verb::Keep => keep_request(rest),
+        Verb::Next => {
+            let (weekday, count) = occurrence_of(rest)?;
+            Some(Request::Move(DayMove::Next(weekday, count)))
+        }
+        Verb::Last => {
+            let (weekday, count) = occurrence_of(rest)?;
+            Some(Request::Move(DayMove::Last(weekday, count)))
+        }
+        Verb::Until => {
+            let (target, unit) = target_of(rest)?;
+            Some(Request::Until(target, unit))
+        }
+        Verb::Since => {
+            let (target, unit) = target_of(rest)?;
+            Some(Request::Since(target, unit))
+        }
+        Verb::Start => Some(Request::Move(DayMove::Start(period_of(only_word(rest)?)?))),
+        Verb::End => Some(Request::Move(DayMove::End(period_of(only_word(rest)?)?))),
+        Verb::OnOrAfter => Some(Request::Move(DayMove::OnOrAfter(weekday_of(only_word(rest)?)?))),
+        Verb::OnOrBefore => Some(Request::Move(DayMove::OnOrBefore(weekday_of(only_word(rest)?)?))),
+        Verb::At => Some(Request::At(offset_of(only_word(rest)?)?)),
+        Verb::Keep => Some(Request::Keep(bounds_of(rest)?)),
     }
-}
-
-fn to_request(words: &[u8]) -> Option<Request>
-    ensures { result ≡ to_request (arguments_of words.now) }
-{
-    Some(Request::To(form_of(only_word(words)?)?))
 }
 
 fn add_request(words: &[u8]) -> Option<Request>
@@ -154,20 +158,6 @@ fn duration_in(number: &[u8], unit: u32) -> Option<Request>
     Some(Request::Add(SignedDuration::seconds(seconds)))
 }
 
-fn next_request(words: &[u8]) -> Option<Request>
-    ensures { result ≡ occurrence_request Next (arguments_of words.now) }
-{
-    let (weekday, count) = occurrence_of(words)?;
-    Some(Request::Move(DayMove::Next(weekday, count)))
-}
-
-fn last_request(words: &[u8]) -> Option<Request>
-    ensures { result ≡ occurrence_request Last (arguments_of words.now) }
-{
-    let (weekday, count) = occurrence_of(words)?;
-    Some(Request::Move(DayMove::Last(weekday, count)))
-}
-
 /// A weekday, and how often it comes, which is once where nothing is said.
 fn occurrence_of(words: &[u8]) -> Option<(Weekday, u8)>
     ensures { result ≡ occurrence_of (arguments_of words.now) }
@@ -176,46 +166,6 @@ fn occurrence_of(words: &[u8]) -> Option<(Weekday, u8)>
         return Some((weekday_of(words)?, 1));
     };
     Some((weekday_of(weekday)?, count_of(only_word(count)?)?))
-}
-
-fn on_or_after_request(words: &[u8]) -> Option<Request>
-    ensures { result ≡ nearest_request OnOrAfter (arguments_of words.now) }
-{
-    Some(Request::Move(DayMove::OnOrAfter(weekday_of(only_word(words)?)?)))
-}
-
-fn on_or_before_request(words: &[u8]) -> Option<Request>
-    ensures { result ≡ nearest_request OnOrBefore (arguments_of words.now) }
-{
-    Some(Request::Move(DayMove::OnOrBefore(weekday_of(only_word(words)?)?)))
-}
-
-fn start_request(words: &[u8]) -> Option<Request>
-    ensures { result ≡ edge_request Start (arguments_of words.now) }
-{
-    Some(Request::Move(DayMove::Start(period_of(only_word(words)?)?)))
-}
-
-fn end_request(words: &[u8]) -> Option<Request>
-    ensures { result ≡ edge_request End (arguments_of words.now) }
-{
-    Some(Request::Move(DayMove::End(period_of(only_word(words)?)?)))
-}
-
-fn until_request(words: &[u8]) -> Option<Request>
-    ensures { (reading : List ℕ → Option DateOrMoment) → IsReading reading
-        → result ≡ target_request Until reading (arguments_of words.now) }
-{
-    let (target, unit) = target_of(words)?;
-    Some(Request::Until(target, unit))
-}
-
-fn since_request(words: &[u8]) -> Option<Request>
-    ensures { (reading : List ℕ → Option DateOrMoment) → IsReading reading
-        → result ≡ target_request Since reading (arguments_of words.now) }
-{
-    let (target, unit) = target_of(words)?;
-    Some(Request::Since(target, unit))
 }
 
 /// A date or a moment, and perhaps a unit.
@@ -242,17 +192,4 @@ pub fn found_in(text: &[u8]) -> Option<DateOrMoment>
         Ok(found) => Some(found),
         Err(_) => None,
     }
-}
-
-fn at_request(words: &[u8]) -> Option<Request>
-    ensures { result ≡ at_request (arguments_of words.now) }
-{
-    Some(Request::At(offset_of(only_word(words)?)?))
-}
-
-fn keep_request(words: &[u8]) -> Option<Request>
-    ensures { (reading : List ℕ → Option DateOrMoment) → IsReading reading
-        → result ≡ keep_request reading (arguments_of words.now) }
-{
-    Some(Request::Keep(bounds_of(words)?))
 }

@@ -2,7 +2,7 @@
 ghost use Rattle.std.specs.Prelude.{◌≡◌, ℕ, List, Option};
 ghost use Rattle.cal_text.specs.declared.any.DateOrMoment.{DateOrMoment};
 ghost use Rattle.caldate.specs.Bounds.{are_dates, is_after, is_before, is_within, lies_in};
-ghost use Rattle.caldate.specs.Requests.{IsReading, arguments_of, bound_of, bounds_of, range_of};
+ghost use Rattle.caldate.specs.Requests.{IsReading, arguments_of, bounds_of, only, range_of};
 
 use crate::answer::{is_date, moment_of};
 use crate::asked::found_in;
@@ -31,7 +31,7 @@ pub fn bounds_of(words: &[u8]) -> Option<Bounds>
 /// The one date or moment.
 fn bound_of(words: &[u8]) -> Option<DateOrMoment>
     ensures { (reading : List ℕ → Option DateOrMoment) → IsReading reading
-        → result ≡ bound_of reading (arguments_of words.now) }
+        → result ≡ only reading (arguments_of words.now) }
 {
     found_in(only_word(words)?)
 }

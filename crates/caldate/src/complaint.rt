@@ -3,13 +3,14 @@ ghost use Rattle.std.specs.Prelude.{◌≡◌, ◌+◌, ◌≤◌, ◌++◌, [],
 ghost use Rattle.caldate.specs.Requests.{arguments_of};
 ghost use Rattle.caldate.specs.Runs.{Shown};
 ghost use Rattle.std.specs.Option.{option_copied};
-ghost use Rattle.caldate.specs.Senseless.{complaint, wanted_words, word_words};
+ghost use Rattle.caldate.specs.Senseless.{complaint, wanted_words, why_words, word_words};
 
 use crate::buffer::Buffer;
 use crate::fault::Fault;
 use crate::output::write_all;
 use crate::senseless::{Senseless, Wanted, word_at};
 use crate::shown::ShownText;
+use cal_recurrence::parse;
 use std::io::Write;
 
 /// What is said of arguments that have too many bytes.
@@ -35,12 +36,34 @@ fn push_complaint(line: &mut Buffer, arguments: &[u8], senseless: Senseless)
     requires { line.old ≡ [] }
     ensures { line.new ≡ complaint (arguments_of arguments.now) senseless }
 {
+    let word = word_at(arguments, senseless.index);
     line.push(b"caldate: ");
     if senseless.wanted != Wanted::Something {
-        push_word(line, word_at(arguments, senseless.index));
+        push_word(line, word);
     }
     line.push(wanted_words(senseless.wanted));
+    push_why(line, senseless.wanted, word);
     line.push(b"\n");
+}
+
+/// The part at fault, where the word is to be a recurrence.
+fn push_why(line: &mut Buffer, wanted: Wanted, word: Option<&[u8]>)
+    requires { length line.old ≤ 300 }
+    ensures text { line.new ≡ line.old ++ why_words wanted (option_copied word.entry) }
+    ensures short { length line.new ≤ length line.old + 68 }
+{
+    if wanted != Wanted::Rule {
+        return;
+    }
+    let Some(word) = word else {
+        return;
+    };
+    if let Err(fault) = parse(word) {
+        line.push(b": ");
+        line.push(fault.reason.text().as_bytes());
+        line.push(b" at ");
+        line.push_number(fault.position as u64);
+    }
 }
 
 /// The word itself, or that it is missing.
@@ -103,6 +126,7 @@ fn wanted_words(wanted: Wanted) -> &'static [u8]
         Wanted::Many => {
             b"no number from 1 to 4294967295 and no recurrence (as FREQ=MONTHLY;BYDAY=-1FR)".as_slice()
         }
+        Wanted::Rule => b"no recurrence (as FREQ=MONTHLY;BYDAY=-1FR)".as_slice(),
         Wanted::UnitOfDays => b"no unit of dates (days, weeks, months, years)".as_slice(),
         Wanted::In | Wanted::End => b"one word too many".as_slice(),
     }

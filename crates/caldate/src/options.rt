@@ -1,7 +1,7 @@
 //! The options before a request.
 ghost use Rattle.std.specs.Prelude.{◌≡◌, ◌<◌, ◌≤◌, ℕ, List, Option, MatchOption, length};
-ghost use Rattle.caldate.specs.Requests.{arguments_of, byte_of, cut_options, field_number_of, field_of, is_local, lacking, no_options, reading_at, reading_of, skip_of, takes_field, takes_offset, takes_reading, takes_separator, takes_skip, takes_strict, with_field, with_offset, with_reading, with_separator, with_skip, with_value, words_left};
-ghost use Rattle.caldate.specs.Senseless.{value_of, verb_after, words_in};
+ghost use Rattle.caldate.specs.Requests.{arguments_of, byte_of, cut_options, field_number_of, field_of, is_local, lacking, no_options, reading_at, reading_of, skip_of, takes_strict, value_of, with_value, words_left};
+ghost use Rattle.caldate.specs.Senseless.{verb_after, words_in};
 
 use crate::offset::offset_of;
 use crate::reading::Reading;
@@ -78,93 +78,33 @@ fn takes_strict(options: &Options, word: &[u8]) -> bool
     word == b"--strict".as_slice() && !options.is_strict
 }
 
-fn takes_field(options: &Options, word: &[u8]) -> bool
-    ensures { result ≡ takes_field options.now word.now }
-{
-    word == b"--field".as_slice() && options.number.is_none()
-}
-
-fn takes_separator(options: &Options, word: &[u8]) -> bool
-    ensures { result ≡ takes_separator options.now word.now }
-{
-    word == b"--separator".as_slice() && options.separator.is_none()
-}
-
-fn takes_skip(options: &Options, word: &[u8]) -> bool
-    ensures { result ≡ takes_skip options.now word.now }
-{
-    word == b"--skip".as_slice() && options.skip.is_none()
-}
-
-fn takes_reading(options: &Options, word: &[u8]) -> bool
-    ensures { result ≡ takes_reading options.now word.now }
-{
-    word == b"--read".as_slice() && options.reading.is_none()
-}
-
-fn takes_offset(options: &Options, word: &[u8]) -> bool
-    ensures { result ≡ takes_offset options.now word.now }
-{
-    word == b"--assume".as_slice() && options.offset.is_none()
-}
-
 /// The options with this one, which has this value.
 fn with_value(options: &Options, word: &[u8], value: &[u8]) -> Option<Options>
     ensures { result ≡ with_value options.now word.now value.now }
 {
-    if takes_field(options, word) {
-        with_field(options, value)
-    } else if takes_separator(options, word) {
-        with_separator(options, value)
-    } else if takes_skip(options, word) {
-        with_skip(options, value)
-    } else if takes_reading(options, word) {
-        with_reading(options, value)
-    } else if takes_offset(options, word) {
-        with_offset(options, value)
-    } else {
-        None
+    match value_of(options, word)? {
+        Wanted::FieldNumber => Some(Options {
+            number: Some(field_number_of(value)?),
+            ..*options
+        }),
+        Wanted::Separator => Some(Options {
+            separator: Some(byte_of(value)?),
+            ..*options
+        }),
+        Wanted::Skip => Some(Options {
+            skip: Some(skip_of(value)?),
+            ..*options
+        }),
+        Wanted::Reading => Some(Options {
+            reading: Some(reading_of(value)?),
+            ..*options
+        }),
+        Wanted::Offset => Some(Options {
+            offset: Some(offset_of(value)?),
+            ..*options
+        }),
+        _ => None,
     }
-}
-
-fn with_field(options: &Options, value: &[u8]) -> Option<Options>
-    ensures { result ≡ with_field options.now value.now }
-{
-    let mut more = *options;
-    more.number = Some(field_number_of(value)?);
-    Some(more)
-}
-
-fn with_separator(options: &Options, value: &[u8]) -> Option<Options>
-    ensures { result ≡ with_separator options.now value.now }
-{
-    let mut more = *options;
-    more.separator = Some(byte_of(value)?);
-    Some(more)
-}
-
-fn with_skip(options: &Options, value: &[u8]) -> Option<Options>
-    ensures { result ≡ with_skip options.now value.now }
-{
-    let mut more = *options;
-    more.skip = Some(skip_of(value)?);
-    Some(more)
-}
-
-fn with_reading(options: &Options, value: &[u8]) -> Option<Options>
-    ensures { result ≡ with_reading options.now value.now }
-{
-    let mut more = *options;
-    more.reading = Some(reading_of(value)?);
-    Some(more)
-}
-
-fn with_offset(options: &Options, value: &[u8]) -> Option<Options>
-    ensures { result ≡ with_offset options.now value.now }
-{
-    let mut more = *options;
-    more.offset = Some(offset_of(value)?);
-    Some(more)
 }
 
 /// The number from 1 to 65535 that a word spells.
@@ -298,15 +238,15 @@ pub fn verb_after(options: &Options) -> Wanted
 pub fn value_of(options: &Options, word: &[u8]) -> Option<Wanted>
     ensures { result ≡ value_of options.now word.now }
 {
-    if takes_field(options, word) {
+    if word == b"--field".as_slice() && options.number.is_none() {
         Some(Wanted::FieldNumber)
-    } else if takes_separator(options, word) {
+    } else if word == b"--separator".as_slice() && options.separator.is_none() {
         Some(Wanted::Separator)
-    } else if takes_skip(options, word) {
+    } else if word == b"--skip".as_slice() && options.skip.is_none() {
         Some(Wanted::Skip)
-    } else if takes_reading(options, word) {
+    } else if word == b"--read".as_slice() && options.reading.is_none() {
         Some(Wanted::Reading)
-    } else if takes_offset(options, word) {
+    } else if word == b"--assume".as_slice() && options.offset.is_none() {
         Some(Wanted::Offset)
     } else {
         None

@@ -1,11 +1,11 @@
 //! The first word of the arguments that makes no sense.
-ghost use Rattle.std.specs.Prelude.{◌≡◌, ◌+◌, ◌≤◌, ℕ, List, [], ◌∷◌, Option, MatchOption, is_some, length, option_and_then, slice_get};
-ghost use Rattle.std.specs.Result.{is_ok};
-ghost use Rattle.cal_recurrence.specs.Text.{recurrence_of};
+ghost use Rattle.std.specs.Prelude.{◌≡◌, ◌+◌, ◌≤◌, ℕ, List, [], ◌∷◌, Option, MatchOption, false, is_some, length, option_and_then, slice_get};
+ghost use Rattle.std.specs.Option.{option_map_or};
 ghost use Rattle.cal_text.specs.declared.any.DateOrMoment.{DateOrMoment};
 ghost use Rattle.caldate.specs.Requests.{IsReading, arguments_of, stands_alone, words_left, step_in, unit_of};
-ghost use Rattle.caldate.specs.Senseless.{further_to, is_by_rule, is_wanted, list_words, needed_by, senseless_after, senseless_at, senseless_end, senseless_front, senseless_further, senseless_last, senseless_lines, senseless_of, senseless_request, senseless_unit, senseless_verb, senseless_among, senseless_rest, bounds_after, is_bounds};
+ghost use Rattle.caldate.specs.Senseless.{further_to, is_rule_like, is_wanted, list_words, needed_by, senseless_after, senseless_at, senseless_end, senseless_front, senseless_further, senseless_last, senseless_lines, senseless_of, senseless_request, senseless_unit, senseless_verb, senseless_among, senseless_rest, bounds_after, is_bounds};
 
+use crate::lines::index_of;
 use crate::listing::{date_of, step_in};
 use crate::offset::offset_of;
 use crate::options::{Options, lacking, options_of, value_of, verb_after, words_in};
@@ -70,8 +70,10 @@ pub enum Wanted {
     UpTo,
     /// `by`.
     By,
-    /// A number from 1 to 4294967295, or a recurrence.
+    /// A number from 1 to 4294967295, or a recurrence. The word is no recurrence.
     Many,
+    /// A recurrence. The word is no number.
+    Rule,
     /// A unit of a day or more, as `months`.
     UnitOfDays,
     /// No word.
@@ -96,6 +98,16 @@ const STEPS_WORDS: [Wanted; 7] = [
     Wanted::By,
     Wanted::Many,
     Wanted::UnitOfDays,
+];
+
+/// The same, where its dates are those of a recurrence.
+const RULE_WORDS: [Wanted; 6] = [
+    Wanted::From,
+    Wanted::Date,
+    Wanted::UpTo,
+    Wanted::Date,
+    Wanted::By,
+    Wanted::Rule,
 ];
 
 /// What may stand at each place after `keep from`.
@@ -173,27 +185,27 @@ pub fn word_at(arguments: &[u8], index: usize) -> Option<&[u8]>
     Some(cut(words?).0)
 }
 
-/// What may stand at each place after `list`: no unit comes after a recurrence.
+/// What may stand at each place after `list`.
 fn list_words(words: Option<&[u8]>) -> &'static [Wanted]
     ensures words { result.now ≡ list_words (words_left words.entry) }
     ensures short { length result.now ≤ 7 }
 {
     if is_by_rule(words) {
-        &STEPS_WORDS[..6]
+        &RULE_WORDS
     } else {
         &STEPS_WORDS
     }
 }
 
-/// Whether the word with the place of a rule is a recurrence.
+/// Whether the word with the place of a rule is like one: each recurrence has a `=`, and no number.
 fn is_by_rule(words: Option<&[u8]>) -> bool
-    ensures { result ≡ is_by_rule (words_left words.entry) }
+    ensures { result ≡ option_map_or is_rule_like (slice_get (words_left words.entry) 5) false }
 {
     let Some(words) = words else {
         return false;
     };
     match word_at(words, 5) {
-        Some(word) => parse(word).is_ok(),
+        Some(word) => index_of(b'=', word).is_some(),
         None => false,
     }
 }
@@ -384,7 +396,8 @@ fn is_wanted(word: &[u8], wanted: Wanted) -> bool
         Wanted::Date => date_of(word).is_some(),
         Wanted::UpTo => word == b"to".as_slice(),
         Wanted::By => word == b"by".as_slice(),
-        Wanted::Many => many_of(word).is_some() || parse(word).is_ok(),
+        Wanted::Many => many_of(word).is_some(),
+        Wanted::Rule => parse(word).is_ok(),
         Wanted::UnitOfDays => is_unit_of_days(word),
         _ => false,
     }

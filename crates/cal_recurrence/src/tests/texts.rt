@@ -2,7 +2,9 @@
 use crate::{Recurrence, RuleEnd, RuleFault, RulePart, RuleReason, Values, parse};
 use cal_schedule::{ByDay, Frequency};
 use cal_time::{Date, Month, Weekday};
+use std::alloc::Global;
 use std::process::Abort;
+use std::test::Fail;
 
 /// A list of 63 values.
 const TOO_MANY: &str =
@@ -77,6 +79,75 @@ fn faults(rt: HostRuntime) {
     refused(rt, "FREQ", 0, RuleReason::Value(RulePart::Frequency));
     refused(rt, "FREQ=HOURLY", 0, RuleReason::Value(RulePart::Frequency));
     refused(rt, "FREQ=DAILY=", 0, RuleReason::Value(RulePart::Frequency));
+}
+
+/// Stops the test unless the text is refused in these words.
+fn refused_as(rt: &impl Abort, alloc: Global, text: &str, words: &str) -> Result<(), Fail> {
+    let Err(fault) = parse(text.as_bytes()) else {
+        return Err(Fail::from("a text that is read"));
+    };
+    let told = format!(in alloc; "{fault}")?;
+    assert!(rt; told.as_str() == words, "{told} and not {words}");
+    let reason = format!(in alloc; "{}", fault.reason)?;
+    assert!(rt; words.starts_with(reason.as_str()), "{reason}");
+    Ok(())
+}
+
+#[test]
+fn texts_of_faults(rt: HostRuntime) -> Result<(), Fail> {
+    let alloc = rt.alloc();
+    let rt = &rt;
+    refused_as(rt, alloc, "FREQ=DAILY;BYSETPOS=-1", "unknown part at 11")?;
+    refused_as(
+        rt,
+        alloc,
+        "FREQ=DAILY;FREQ=DAILY",
+        "one FREQ too many at 11",
+    )?;
+    refused_as(
+        rt,
+        alloc,
+        "FREQ=DAILY;UNTIL=20241231;COUNT=3",
+        "one COUNT too many at 26",
+    )?;
+    refused_as(
+        rt,
+        alloc,
+        "COUNT=3;UNTIL=20241231;FREQ=DAILY",
+        "one UNTIL too many at 8",
+    )?;
+    refused_as(
+        rt,
+        alloc,
+        TOO_MANY,
+        "more than 62 values of BYMONTHDAY at 11",
+    )?;
+    refused_as(rt, alloc, "FREQ=HOURLY", "invalid value of FREQ at 0")?;
+    refused_as(
+        rt,
+        alloc,
+        "FREQ=DAILY;INTERVAL=0",
+        "invalid value of INTERVAL at 11",
+    )?;
+    refused_as(
+        rt,
+        alloc,
+        "FREQ=DAILY;WKST=MON",
+        "invalid value of WKST at 11",
+    )?;
+    refused_as(
+        rt,
+        alloc,
+        "FREQ=DAILY;BYMONTH=13",
+        "invalid value of BYMONTH at 11",
+    )?;
+    refused_as(
+        rt,
+        alloc,
+        "FREQ=MONTHLY;BYDAY=54FR",
+        "invalid value of BYDAY at 13",
+    )?;
+    refused_as(rt, alloc, "BYDAY=MO", "missing FREQ at 8")
 }
 
 #[test]

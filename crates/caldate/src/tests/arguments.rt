@@ -5,6 +5,7 @@ use crate::program::perform;
 use crate::tests::gives;
 use std::alloc::Global;
 use std::env::{Env, FillError};
+use std::process::Abort;
 use std::test::Fail;
 
 /// Arguments in memory with a bar between them, the first of which is the name of the program.
@@ -111,447 +112,446 @@ fn complaint(alloc: Global, arguments: Option<&[u8]>) -> Option<Vec<u8>> {
     }
 }
 
+// What may stand where a word makes no sense.
+const NO_VERB: &[u8] =
+    b"no verb (to, add, next, last, until, since, start, end, on-or-after, on-or-before, at, keep, list) and no option (--strict, --field, --separator, --skip, --read, --assume, --help, --version)";
+
+const NO_FURTHER_OPTION: &[u8] =
+    b"no verb (to, add, next, last, until, since, start, end, on-or-after, on-or-before, at, keep) and no further option";
+
+const NO_FORM: &[u8] =
+    b"no form (calendar, ordinal, week, julian, weekday, short-weekday, month, quarter, basic, rfc3339, unix, unix-ms, unix-us, unix-ns)";
+
+const NO_NUMBER: &[u8] = b"no number (-9223372036854775808 .. 9223372036854775807)";
+
+const NO_PACE: &[u8] =
+    b"no number from 1 to 4294967295 and no recurrence (as FREQ=MONTHLY;BYDAY=-1FR)";
+
+const NO_DATE: &[u8] = b"no date (as 2024-02-29, 2024-060, 2024-W09-4, J2460370)";
+
+const NO_TARGET: &[u8] = b"no date and no moment (as 2024-02-29, 2024-02-29T23:59:59Z)";
+
+const NO_UNIT_OF_DATES: &[u8] = b"no unit of dates (days, weeks, months, years)";
+
+const NO_UNIT: &[u8] = b"no unit (days, weeks, months, years, workdays, hours, minutes, seconds)";
+
+const NO_READING: &[u8] = b"no form to read (basic, dmy, mdy, unix-ms, unix-us, unix-ns, local)";
+
+const NO_SKIP: &[u8] = b"no number of lines (0 .. 9223372036854775807)";
+
+const NO_FIELD_NUMBER: &[u8] = b"no number of a field (1 .. 65535)";
+
+const TOO_MUCH: &[u8] = b"too much (at most 9223372036854775807 seconds)";
+
+const NO_WEEKDAY: &[u8] = b"no weekday (Monday .. Sunday)";
+
+const NO_OFFSET: &[u8] = b"no offset (as +01:00, -05:30, Z)";
+
+const NO_BOUND: &[u8] = b"no bound (from, after, before)";
+
+const NO_FIELD: &[u8] = b"no --field, which --separator needs";
+
+const NO_ASSUME: &[u8] = b"no --assume, which --read local needs";
+
+const NO_LOCAL: &[u8] = b"no --read local, which --assume needs";
+
+const NO_PERIOD: &[u8] = b"no period (week, month, quarter, year)";
+
+const NO_SEPARATOR: &[u8] = b"no separator (one byte)";
+
+const NO_COUNT: &[u8] = b"no count (1 .. 255)";
+
+/// Whether the bytes say this of a word, after the name of the program, in one line.
+fn is_line(told: &[u8], word: &[u8], wanted: &[u8]) -> bool {
+    let Some(after) = told.strip_prefix(b"caldate: ") else {
+        return false;
+    };
+    let Some(said) = after.strip_prefix(word) else {
+        return false;
+    };
+    said.strip_suffix(b"\n") == Some(wanted)
+}
+
+/// Stops the test unless of each of the arguments this is said: a word, or that it is missing, and what may stand there.
+fn each_complains(rt: &impl Abort, alloc: Global, cases: &[(&[u8], &[u8], &[u8])]) {
+    for (arguments, word, wanted) in cases {
+        let told = complaint(alloc, Some(*arguments)).unwrap_or(Vec::new(alloc));
+        assert!(rt; is_line(&told, word, wanted), "{arguments:?}");
+    }
+}
+
 #[test]
 fn lists_that_make_no_sense(rt: HostRuntime) {
-    let cases: [(&[u8], &[u8]); 23] = [
-        (b"list", b"there is no 'from'"),
-        (b"list\02024-02-29", b"'2024-02-29' is no 'from'"),
-        (
-            b"list\0from",
-            b"there is no date (as 2024-02-29, 2024-060, 2024-W09-4, J2460370)",
-        ),
+    let cases: [(&[u8], &[u8], &[u8]); 22] = [
+        (b"list", b"there is ", b"no 'from'"),
+        (b"list\02024-02-29", b"'2024-02-29' is ", b"no 'from'"),
+        (b"list\0from", b"there is ", NO_DATE),
         (
             b"list\0from\02023-02-29\0to\02024-02-29",
-            b"'2023-02-29' is no date (as 2024-02-29, 2024-060, 2024-W09-4, J2460370)",
+            b"'2023-02-29' is ",
+            NO_DATE,
         ),
         (
             b"list\0from\02024-02-29T00:00:00Z\0to\02024-03-01",
-            b"'2024-02-29T00:00:00Z' is no date (as 2024-02-29, 2024-060, 2024-W09-4, J2460370)",
+            b"'2024-02-29T00:00:00Z' is ",
+            NO_DATE,
         ),
-        (b"list\0from\02024-02-29", b"there is no 'to'"),
+        (b"list\0from\02024-02-29", b"there is ", b"no 'to'"),
         (
             b"list\0from\02024-02-29\0To\02024-03-01",
-            b"'To' is no 'to'",
+            b"'To' is ",
+            b"no 'to'",
         ),
-        (
-            b"list\0from\02024-02-29\0to",
-            b"there is no date (as 2024-02-29, 2024-060, 2024-W09-4, J2460370)",
-        ),
-        (
-            b"list\0from\02024-02-29\0to\0@0",
-            b"'@0' is no date (as 2024-02-29, 2024-060, 2024-W09-4, J2460370)",
-        ),
+        (b"list\0from\02024-02-29\0to", b"there is ", NO_DATE),
+        (b"list\0from\02024-02-29\0to\0@0", b"'@0' is ", NO_DATE),
         (
             b"list\0from\02024-02-29\0to\02024-03-01\0every",
-            b"'every' is no 'by'",
+            b"'every' is ",
+            b"no 'by'",
         ),
         (
             b"list\0from\02024-02-29\0to\02024-03-01\0by",
-            b"there is no number from 1 to 4294967295 and no recurrence (as FREQ=MONTHLY;BYDAY=-1FR)",
+            b"there is ",
+            NO_PACE,
         ),
         (
             b"list\0from\02024-02-29\0to\02024-03-01\0by\00\0days",
-            b"'0' is no number from 1 to 4294967295 and no recurrence (as FREQ=MONTHLY;BYDAY=-1FR)",
+            b"'0' is ",
+            NO_PACE,
         ),
         (
             b"list\0from\02024-02-29\0to\02024-03-01\0by\0-1\0days",
-            b"'-1' is no number from 1 to 4294967295 and no recurrence (as FREQ=MONTHLY;BYDAY=-1FR)",
+            b"'-1' is ",
+            NO_PACE,
         ),
         (
             b"list\0from\02024-02-29\0to\02024-03-01\0by\04294967296\0days",
-            b"'4294967296' is no number from 1 to 4294967295 and no recurrence (as FREQ=MONTHLY;BYDAY=-1FR)",
+            b"'4294967296' is ",
+            NO_PACE,
         ),
         (
-            b"list\0from\02024-02-29\0to\02024-03-01\0by\0FREQ=HOURLY",
-            b"'FREQ=HOURLY' is no number from 1 to 4294967295 and no recurrence (as FREQ=MONTHLY;BYDAY=-1FR)",
-        ),
-        (
-            b"list\0from\02024-02-29\0to\02024-03-01\0by\0BYDAY=-1FR",
-            b"'BYDAY=-1FR' is no number from 1 to 4294967295 and no recurrence (as FREQ=MONTHLY;BYDAY=-1FR)",
+            b"list\0from\02024-02-29\0to\02024-03-01\0by\0MONTHLY",
+            b"'MONTHLY' is ",
+            NO_PACE,
         ),
         (
             b"list\0from\02024-02-29\0to\02024-03-01\0by\0FREQ=DAILY\0days",
-            b"'days' is one word too many",
+            b"'days' is ",
+            b"one word too many",
         ),
         (
             b"list\0from\02024-02-30\0to\02024-03-01\0by\0FREQ=DAILY",
-            b"'2024-02-30' is no date (as 2024-02-29, 2024-060, 2024-W09-4, J2460370)",
+            b"'2024-02-30' is ",
+            NO_DATE,
         ),
         (
             b"list\0from\02024-02-29\0to\02024-03-01\0by\01",
-            b"there is no unit of dates (days, weeks, months, years)",
+            b"there is ",
+            NO_UNIT_OF_DATES,
         ),
         (
             b"list\0from\02024-02-29\0to\02024-03-01\0by\01\0hour",
-            b"'hour' is no unit of dates (days, weeks, months, years)",
+            b"'hour' is ",
+            NO_UNIT_OF_DATES,
         ),
         (
             b"list\0from\02024-02-29\0to\02024-03-01\0by\01\0workday",
-            b"'workday' is no unit of dates (days, weeks, months, years)",
+            b"'workday' is ",
+            NO_UNIT_OF_DATES,
         ),
         (
             b"list\0from\02024-02-29\0to\02024-03-01\0by\01\0day\0",
-            b"'' is one word too many",
+            b"'' is ",
+            b"one word too many",
         ),
         (
             b"--strict\0list\0from\02024-02-29\0to\02024-03-01",
-            b"'list' is no verb (to, add, next, last, until, since, start, end, on-or-after, on-or-before, at, keep) and no further option",
+            b"'list' is ",
+            NO_FURTHER_OPTION,
         ),
     ];
-    for (arguments, wanted) in cases {
-        let told = complaint(rt.alloc(), Some(arguments)).unwrap_or(Vec::new(rt.alloc()));
-        assert!(rt; is_line(&told, wanted), "{arguments:?}");
+    each_complains(&rt, rt.alloc(), &cases);
+}
+
+// The part at fault is named with its position, which is counted in the whole word.
+#[test]
+fn rules_that_make_no_sense(rt: HostRuntime) {
+    let cases: [(&[u8], &[u8], &[u8]); 12] = [
+        (
+            b"FREQ=HOURLY",
+            b"'FREQ=HOURLY' is ",
+            b"invalid value of FREQ at 0",
+        ),
+        (
+            b"freq=monthly;byday=54fr",
+            b"'freq=monthly;byday=54fr' is ",
+            b"invalid value of BYDAY at 13",
+        ),
+        (
+            b"FREQ=DAILY;INTERVAL=0",
+            b"'FREQ=DAILY;INTERVAL=0' is ",
+            b"invalid value of INTERVAL at 11",
+        ),
+        (
+            b"FREQ=WEEKLY;UNTIL=2024-12-31",
+            b"'FREQ=WEEKLY;UNTIL=2024-12-31' is ",
+            b"invalid value of UNTIL at 12",
+        ),
+        (b"BYDAY=-1FR", b"'BYDAY=-1FR' is ", b"missing FREQ at 10"),
+        (
+            b"FREQ=MONTHLY;BYSETPOS=-1;BYDAY=FR",
+            b"'FREQ=MONTHLY;BYSETPOS=-1;BYDAY=FR' is ",
+            b"unknown part at 13",
+        ),
+        (b"FREQ=DAILY;", b"'FREQ=DAILY;' is ", b"unknown part at 11"),
+        (
+            b"FREQ=DAILY;BYMONTH=1;BYMONTH=2",
+            b"'FREQ=DAILY;BYMONTH=1;BYMONTH=2' is ",
+            b"one BYMONTH too many at 21",
+        ),
+        (
+            b"FREQ=DAILY;COUNT=3;UNTIL=20241231",
+            b"'FREQ=DAILY;COUNT=3;UNTIL=20241231' is ",
+            b"one UNTIL too many at 19",
+        ),
+        // 63 values; the first 80 bytes of the word are shown.
+        (
+            b"BYMONTHDAY=1,1,1,1,1,1,1,1,1,1,1,1,1,1,1,1,1,1,1,1,1,1,1,1,1,1,1,1,1,1,1,1,1,1,1,1,1,1,1,1,1,1,1,1,1,1,1,1,1,1,1,1,1,1,1,1,1,1,1,1,1,1,1",
+            b"'BYMONTHDAY=1,1,1,1,1,1,1,1,1,1,1,1,1,1,1,1,1,1,1,1,1,1,1,1,1,1,1,1,1,1,1,1,1,1,1' is ",
+            b"more than 62 values of BYMONTHDAY at 0",
+        ),
+        (
+            b"FREQ=HOURLY\0days",
+            b"'FREQ=HOURLY' is ",
+            b"invalid value of FREQ at 0",
+        ),
+        (b"=1\0days", b"'=1' is ", b"unknown part at 0"),
+    ];
+    for (rule, word, fault) in cases {
+        let mut arguments = Vec::new(rt.alloc());
+        let _ = arguments.extend_from_slice(b"list\0from\02024-02-29\0to\02024-03-01\0by\0");
+        let _ = arguments.extend_from_slice(rule);
+        let mut wanted = Vec::new(rt.alloc());
+        let _ = wanted.extend_from_slice(b"no recurrence (as FREQ=MONTHLY;BYDAY=-1FR): ");
+        let _ = wanted.extend_from_slice(fault);
+        each_complains(&rt, rt.alloc(), &[(&arguments, word, &wanted)]);
     }
 }
 
 #[test]
 fn bounds_that_make_no_sense(rt: HostRuntime) {
-    let cases: [(&[u8], &[u8]); 11] = [
-        (b"keep", b"there is no bound (from, after, before)"),
-        (
-            b"keep\02024-02-29",
-            b"'2024-02-29' is no bound (from, after, before)",
-        ),
-        (
-            b"keep\0After\02024-02-29",
-            b"'After' is no bound (from, after, before)",
-        ),
-        (
-            b"keep\0after",
-            b"there is no date and no moment (as 2024-02-29, 2024-02-29T23:59:59Z)",
-        ),
-        (
-            b"keep\0before\02023-02-29",
-            b"'2023-02-29' is no date and no moment (as 2024-02-29, 2024-02-29T23:59:59Z)",
-        ),
+    let cases: [(&[u8], &[u8], &[u8]); 11] = [
+        (b"keep", b"there is ", NO_BOUND),
+        (b"keep\02024-02-29", b"'2024-02-29' is ", NO_BOUND),
+        (b"keep\0After\02024-02-29", b"'After' is ", NO_BOUND),
+        (b"keep\0after", b"there is ", NO_TARGET),
+        (b"keep\0before\02023-02-29", b"'2023-02-29' is ", NO_TARGET),
         (
             b"keep\0after\02024-02-29\0to\02024-03-01",
-            b"'to' is one word too many",
+            b"'to' is ",
+            b"one word too many",
         ),
-        (
-            b"--strict\0keep\0from\0x",
-            b"'x' is no date and no moment (as 2024-02-29, 2024-02-29T23:59:59Z)",
-        ),
-        (b"keep\0from\02024-02-29", b"there is no 'to'"),
+        (b"--strict\0keep\0from\0x", b"'x' is ", NO_TARGET),
+        (b"keep\0from\02024-02-29", b"there is ", b"no 'to'"),
         (
             b"keep\0from\02024-02-29\0till\02024-03-01",
-            b"'till' is no 'to'",
+            b"'till' is ",
+            b"no 'to'",
         ),
-        (
-            b"keep\0from\02024-02-29\0to",
-            b"there is no date and no moment (as 2024-02-29, 2024-02-29T23:59:59Z)",
-        ),
+        (b"keep\0from\02024-02-29\0to", b"there is ", NO_TARGET),
         (
             b"keep\0from\02024-02-29\0to\02024-03-01\0by",
-            b"'by' is one word too many",
+            b"'by' is ",
+            b"one word too many",
         ),
     ];
-    for (arguments, wanted) in cases {
-        let told = complaint(rt.alloc(), Some(arguments)).unwrap_or(Vec::new(rt.alloc()));
-        assert!(rt; is_line(&told, wanted), "{arguments:?}");
-    }
+    each_complains(&rt, rt.alloc(), &cases);
 }
 
 #[test]
 fn arguments_that_make_no_sense(rt: HostRuntime) {
-    let cases: [(&[u8], &[u8]); 43] = [
+    let cases: [(&[u8], &[u8], &[u8]); 43] = [
         (
+            b"",
             b"",
             b"nothing to do; caldate --help shows what can be asked",
         ),
-        (
-            b"\0to\0week",
-            b"'' is no verb (to, add, next, last, until, since, start, end, on-or-after, on-or-before, at, keep, list) and no option (--strict, --field, --separator, --skip, --read, --assume, --help, --version)",
-        ),
-        (
-            b"week",
-            b"'week' is no verb (to, add, next, last, until, since, start, end, on-or-after, on-or-before, at, keep, list) and no option (--strict, --field, --separator, --skip, --read, --assume, --help, --version)",
-        ),
-        (
-            b"To\0week",
-            b"'To' is no verb (to, add, next, last, until, since, start, end, on-or-after, on-or-before, at, keep, list) and no option (--strict, --field, --separator, --skip, --read, --assume, --help, --version)",
-        ),
-        (
-            b"--strict",
-            b"there is no verb (to, add, next, last, until, since, start, end, on-or-after, on-or-before, at, keep) and no further option",
-        ),
-        (
-            b"--strict\0--help",
-            b"'--help' is no verb (to, add, next, last, until, since, start, end, on-or-after, on-or-before, at, keep) and no further option",
-        ),
+        (b"\0to\0week", b"'' is ", NO_VERB),
+        (b"week", b"'week' is ", NO_VERB),
+        (b"To\0week", b"'To' is ", NO_VERB),
+        (b"--strict", b"there is ", NO_FURTHER_OPTION),
+        (b"--strict\0--help", b"'--help' is ", NO_FURTHER_OPTION),
         (
             b"--strict\0--strict\0to\0week",
-            b"'--strict' is no verb (to, add, next, last, until, since, start, end, on-or-after, on-or-before, at, keep) and no further option",
+            b"'--strict' is ",
+            NO_FURTHER_OPTION,
         ),
-        (
-            b"--skip",
-            b"there is no number of lines (0 .. 9223372036854775807)",
-        ),
-        (
-            b"--skip\0-1\0to\0week",
-            b"'-1' is no number of lines (0 .. 9223372036854775807)",
-        ),
-        (
-            b"--strict\0--skip\0to\0week",
-            b"'to' is no number of lines (0 .. 9223372036854775807)",
-        ),
-        (
-            b"--skip\01",
-            b"there is no verb (to, add, next, last, until, since, start, end, on-or-after, on-or-before, at, keep) and no further option",
-        ),
+        (b"--skip", b"there is ", NO_SKIP),
+        (b"--skip\0-1\0to\0week", b"'-1' is ", NO_SKIP),
+        (b"--strict\0--skip\0to\0week", b"'to' is ", NO_SKIP),
+        (b"--skip\01", b"there is ", NO_FURTHER_OPTION),
         (
             b"--skip\01\0--skip\02\0to\0week",
-            b"'--skip' is no verb (to, add, next, last, until, since, start, end, on-or-after, on-or-before, at, keep) and no further option",
+            b"'--skip' is ",
+            NO_FURTHER_OPTION,
         ),
-        (
-            b"--skip\01\0--strict\0to\0days",
-            b"'days' is no form (calendar, ordinal, week, julian, weekday, short-weekday, month, quarter, basic, rfc3339, unix, unix-ms, unix-us, unix-ns)",
-        ),
-        (b"--field", b"there is no number of a field (1 .. 65535)"),
-        (
-            b"--field\00\0to\0week",
-            b"'0' is no number of a field (1 .. 65535)",
-        ),
-        (
-            b"--field\065536\0to\0week",
-            b"'65536' is no number of a field (1 .. 65535)",
-        ),
+        (b"--skip\01\0--strict\0to\0days", b"'days' is ", NO_FORM),
+        (b"--field", b"there is ", NO_FIELD_NUMBER),
+        (b"--field\00\0to\0week", b"'0' is ", NO_FIELD_NUMBER),
+        (b"--field\065536\0to\0week", b"'65536' is ", NO_FIELD_NUMBER),
         (
             b"--skip\01\0--field\0two\0to\0week",
-            b"'two' is no number of a field (1 .. 65535)",
+            b"'two' is ",
+            NO_FIELD_NUMBER,
         ),
         (
             b"--field\02\0--separator\0\0to\0week",
-            b"'' is no separator (one byte)",
+            b"'' is ",
+            NO_SEPARATOR,
         ),
         (
             b"--separator\0;;\0--field\02\0to\0week",
-            b"';;' is no separator (one byte)",
+            b"';;' is ",
+            NO_SEPARATOR,
         ),
-        (
-            b"--field\02\0--separator",
-            b"there is no separator (one byte)",
-        ),
-        (
-            b"--separator\0,\0to\0week",
-            b"'to' is no --field, which --separator needs",
-        ),
-        (
-            b"--strict\0--separator\0,",
-            b"there is no --field, which --separator needs",
-        ),
-        (
-            b"--field\02",
-            b"there is no verb (to, add, next, last, until, since, start, end, on-or-after, on-or-before, at, keep) and no further option",
-        ),
+        (b"--field\02\0--separator", b"there is ", NO_SEPARATOR),
+        (b"--separator\0,\0to\0week", b"'to' is ", NO_FIELD),
+        (b"--strict\0--separator\0,", b"there is ", NO_FIELD),
+        (b"--field\02", b"there is ", NO_FURTHER_OPTION),
         (
             b"--field\02\0--field\03\0to\0week",
-            b"'--field' is no verb (to, add, next, last, until, since, start, end, on-or-after, on-or-before, at, keep) and no further option",
+            b"'--field' is ",
+            NO_FURTHER_OPTION,
         ),
-        (
-            b"--read",
-            b"there is no form to read (basic, dmy, mdy, unix-ms, unix-us, unix-ns, local)",
-        ),
-        (
-            b"--strict\0--read\0iso\0to\0week",
-            b"'iso' is no form to read (basic, dmy, mdy, unix-ms, unix-us, unix-ns, local)",
-        ),
-        (
-            b"--read\0DMY\0to\0week",
-            b"'DMY' is no form to read (basic, dmy, mdy, unix-ms, unix-us, unix-ns, local)",
-        ),
-        (
-            b"--read\0dmy",
-            b"there is no verb (to, add, next, last, until, since, start, end, on-or-after, on-or-before, at, keep) and no further option",
-        ),
+        (b"--read", b"there is ", NO_READING),
+        (b"--strict\0--read\0iso\0to\0week", b"'iso' is ", NO_READING),
+        (b"--read\0DMY\0to\0week", b"'DMY' is ", NO_READING),
+        (b"--read\0dmy", b"there is ", NO_FURTHER_OPTION),
         (
             b"--read\0dmy\0--read\0mdy\0to\0week",
-            b"'--read' is no verb (to, add, next, last, until, since, start, end, on-or-after, on-or-before, at, keep) and no further option",
+            b"'--read' is ",
+            NO_FURTHER_OPTION,
         ),
-        (
-            b"--read\0local\0to\0week",
-            b"'to' is no --assume, which --read local needs",
-        ),
-        (
-            b"--read\0local",
-            b"there is no --assume, which --read local needs",
-        ),
-        (
-            b"--assume\0Z\0to\0week",
-            b"'to' is no --read local, which --assume needs",
-        ),
+        (b"--read\0local\0to\0week", b"'to' is ", NO_ASSUME),
+        (b"--read\0local", b"there is ", NO_ASSUME),
+        (b"--assume\0Z\0to\0week", b"'to' is ", NO_LOCAL),
         (
             b"--assume\0Z\0--read\0dmy\0--strict\0to\0week",
-            b"'to' is no --read local, which --assume needs",
+            b"'to' is ",
+            NO_LOCAL,
         ),
-        (b"--assume", b"there is no offset (as +01:00, -05:30, Z)"),
+        (b"--assume", b"there is ", NO_OFFSET),
         (
             b"--read\0local\0--assume\01\0to\0week",
-            b"'1' is no offset (as +01:00, -05:30, Z)",
+            b"'1' is ",
+            NO_OFFSET,
         ),
         (
             b"--strict\0--read\0local\0--assume\0Z\0until\02024-02-29\0in\0days\0x",
-            b"'x' is one word too many",
+            b"'x' is ",
+            b"one word too many",
         ),
         (
             b"--separator\0;\0--read\0local\0to\0week",
-            b"'to' is no --field, which --separator needs",
+            b"'to' is ",
+            NO_FIELD,
         ),
         (
             b"--strict\0--field\02\0--separator\0,\0--skip\01\0--read\0local\0--assume\0Z\0until\02024-02-29\0in\0days\0x",
-            b"'x' is one word too many",
+            b"'x' is ",
+            b"one word too many",
         ),
-        (b"--help\0to", b"'to' is one word too many"),
-        (b"help\0\0", b"'' is one word too many"),
-        (b"--version\0-h", b"'-h' is one word too many"),
-        (
-            b"to",
-            b"there is no form (calendar, ordinal, week, julian, weekday, short-weekday, month, quarter, basic, rfc3339, unix, unix-ms, unix-us, unix-ns)",
-        ),
-        (
-            b"to\0",
-            b"'' is no form (calendar, ordinal, week, julian, weekday, short-weekday, month, quarter, basic, rfc3339, unix, unix-ms, unix-us, unix-ns)",
-        ),
+        (b"--help\0to", b"'to' is ", b"one word too many"),
+        (b"help\0\0", b"'' is ", b"one word too many"),
+        (b"--version\0-h", b"'-h' is ", b"one word too many"),
+        (b"to", b"there is ", NO_FORM),
+        (b"to\0", b"'' is ", NO_FORM),
     ];
-    for (arguments, wanted) in cases {
-        let told = complaint(rt.alloc(), Some(arguments)).unwrap_or(Vec::new(rt.alloc()));
-        assert!(rt; is_line(&told, wanted), "{arguments:?}");
-    }
+    each_complains(&rt, rt.alloc(), &cases);
     let told = complaint(rt.alloc(), None).unwrap_or(Vec::new(rt.alloc()));
-    assert!(rt; is_line(&told, b"the arguments have more than 4096 bytes"));
+    assert!(rt; is_line(&told, b"", b"the arguments have more than 4096 bytes"));
 }
 
 #[test]
 fn further_arguments_that_make_no_sense(rt: HostRuntime) {
-    let cases: [(&[u8], &[u8]); 43] = [
-        (
-            b"to\0Week\0x",
-            b"'Week' is no form (calendar, ordinal, week, julian, weekday, short-weekday, month, quarter, basic, rfc3339, unix, unix-ms, unix-us, unix-ns)",
-        ),
-        (b"to\0week\0week", b"'week' is one word too many"),
-        (b"--strict\0to\0week\0", b"'' is one word too many"),
-        (
-            b"add",
-            b"there is no number (-9223372036854775808 .. 9223372036854775807)",
-        ),
-        (
-            b"add\0",
-            b"'' is no number (-9223372036854775808 .. 9223372036854775807)",
-        ),
-        (
-            b"add\0days\030",
-            b"'days' is no number (-9223372036854775808 .. 9223372036854775807)",
-        ),
-        (
-            b"add\0 1",
-            b"' 1' is no number (-9223372036854775808 .. 9223372036854775807)",
-        ),
+    let cases: [(&[u8], &[u8], &[u8]); 43] = [
+        (b"to\0Week\0x", b"'Week' is ", NO_FORM),
+        (b"to\0week\0week", b"'week' is ", b"one word too many"),
+        (b"--strict\0to\0week\0", b"'' is ", b"one word too many"),
+        (b"add", b"there is ", NO_NUMBER),
+        (b"add\0", b"'' is ", NO_NUMBER),
+        (b"add\0days\030", b"'days' is ", NO_NUMBER),
+        (b"add\0 1", b"' 1' is ", NO_NUMBER),
         (
             b"add\09223372036854775808\0seconds",
-            b"'9223372036854775808' is no number (-9223372036854775808 .. 9223372036854775807)",
+            b"'9223372036854775808' is ",
+            NO_NUMBER,
         ),
         (
             b"add\09223372036854775807\0minutes",
-            b"'9223372036854775807' is too much (at most 9223372036854775807 seconds)",
+            b"'9223372036854775807' is ",
+            TOO_MUCH,
         ),
-        (
-            b"add\0106751991167301",
-            b"'106751991167301' is too much (at most 9223372036854775807 seconds)",
-        ),
+        (b"add\0106751991167301", b"'106751991167301' is ", TOO_MUCH),
         (
             b"--strict\0add\0-153722867280912931\0min",
-            b"'-153722867280912931' is too much (at most 9223372036854775807 seconds)",
+            b"'-153722867280912931' is ",
+            TOO_MUCH,
         ),
-        (
-            b"add\02\0fortnights",
-            b"'fortnights' is no unit (days, weeks, months, years, workdays, hours, minutes, seconds)",
-        ),
-        (
-            b"--strict\0add\01\0da",
-            b"'da' is no unit (days, weeks, months, years, workdays, hours, minutes, seconds)",
-        ),
-        (
-            b"add\01\0mins",
-            b"'mins' is no unit (days, weeks, months, years, workdays, hours, minutes, seconds)",
-        ),
+        (b"add\02\0fortnights", b"'fortnights' is ", NO_UNIT),
+        (b"--strict\0add\01\0da", b"'da' is ", NO_UNIT),
+        (b"add\01\0mins", b"'mins' is ", NO_UNIT),
         (
             b"add\09223372036854775807\0days\0days",
-            b"'days' is one word too many",
+            b"'days' is ",
+            b"one word too many",
         ),
-        (b"next", b"there is no weekday (Monday .. Sunday)"),
-        (b"next\0frday", b"'frday' is no weekday (Monday .. Sunday)"),
-        (b"last\0fr", b"'fr' is no weekday (Monday .. Sunday)"),
-        (b"last\0Frid\00", b"'Frid' is no weekday (Monday .. Sunday)"),
+        (b"next", b"there is ", NO_WEEKDAY),
+        (b"next\0frday", b"'frday' is ", NO_WEEKDAY),
+        (b"last\0fr", b"'fr' is ", NO_WEEKDAY),
+        (b"last\0Frid\00", b"'Frid' is ", NO_WEEKDAY),
+        (b"next\0Fri\tday", b"'Fri?day' is ", NO_WEEKDAY),
+        (b"next\0Friday\00", b"'0' is ", NO_COUNT),
+        (b"next\0Friday\0256\0x", b"'256' is ", NO_COUNT),
+        (b"last\0Friday\0-1", b"'-1' is ", NO_COUNT),
+        (b"last\0Friday\01\01", b"'1' is ", b"one word too many"),
+        (b"until", b"there is ", NO_TARGET),
+        (b"until\02023-02-29", b"'2023-02-29' is ", NO_TARGET),
+        (b"until\02024-02-29\0", b"'' is ", b"one word too many"),
         (
-            b"next\0Fri\tday",
-            b"'Fri?day' is no weekday (Monday .. Sunday)",
+            b"since\02024-02-29\0IN\0days",
+            b"'IN' is ",
+            b"one word too many",
         ),
-        (b"next\0Friday\00", b"'0' is no count (1 .. 255)"),
-        (b"next\0Friday\0256\0x", b"'256' is no count (1 .. 255)"),
-        (b"last\0Friday\0-1", b"'-1' is no count (1 .. 255)"),
-        (b"last\0Friday\01\01", b"'1' is one word too many"),
-        (
-            b"until",
-            b"there is no date and no moment (as 2024-02-29, 2024-02-29T23:59:59Z)",
-        ),
-        (
-            b"until\02023-02-29",
-            b"'2023-02-29' is no date and no moment (as 2024-02-29, 2024-02-29T23:59:59Z)",
-        ),
-        (b"until\02024-02-29\0", b"'' is one word too many"),
-        (b"since\02024-02-29\0IN\0days", b"'IN' is one word too many"),
-        (
-            b"until\02024-02-29\0in",
-            b"there is no unit (days, weeks, months, years, workdays, hours, minutes, seconds)",
-        ),
+        (b"until\02024-02-29\0in", b"there is ", NO_UNIT),
         (
             b"--strict\0since\02024-02-29\0in\0decades",
-            b"'decades' is no unit (days, weeks, months, years, workdays, hours, minutes, seconds)",
+            b"'decades' is ",
+            NO_UNIT,
         ),
         (
             b"until\02024-02-29\0in\0days\0x",
-            b"'x' is one word too many",
+            b"'x' is ",
+            b"one word too many",
         ),
-        (b"start", b"there is no period (week, month, quarter, year)"),
-        (
-            b"end\0day",
-            b"'day' is no period (week, month, quarter, year)",
-        ),
-        (b"start\0week\02", b"'2' is one word too many"),
-        (
-            b"on-or-after\0Frid",
-            b"'Frid' is no weekday (Monday .. Sunday)",
-        ),
-        (b"on-or-before\0Friday\02", b"'2' is one word too many"),
-        (b"at", b"there is no offset (as +01:00, -05:30, Z)"),
-        (b"at\001:00", b"'01:00' is no offset (as +01:00, -05:30, Z)"),
-        (b"at\0+1:00", b"'+1:00' is no offset (as +01:00, -05:30, Z)"),
-        (
-            b"at\0+24:00",
-            b"'+24:00' is no offset (as +01:00, -05:30, Z)",
-        ),
-        (
-            b"at\0+01:60",
-            b"'+01:60' is no offset (as +01:00, -05:30, Z)",
-        ),
-        (b"at\0+01:00\0x", b"'x' is one word too many"),
+        (b"start", b"there is ", NO_PERIOD),
+        (b"end\0day", b"'day' is ", NO_PERIOD),
+        (b"start\0week\02", b"'2' is ", b"one word too many"),
+        (b"on-or-after\0Frid", b"'Frid' is ", NO_WEEKDAY),
+        (b"on-or-before\0Friday\02", b"'2' is ", b"one word too many"),
+        (b"at", b"there is ", NO_OFFSET),
+        (b"at\001:00", b"'01:00' is ", NO_OFFSET),
+        (b"at\0+1:00", b"'+1:00' is ", NO_OFFSET),
+        (b"at\0+24:00", b"'+24:00' is ", NO_OFFSET),
+        (b"at\0+01:60", b"'+01:60' is ", NO_OFFSET),
+        (b"at\0+01:00\0x", b"'x' is ", b"one word too many"),
         (
             b"to\0xxxxxxxxxxxxxxxxxxxxxxxxxxxxxxxxxxxxxxxxxxxxxxxxxxxxxxxxxxxxxxxxxxxxxxxxxxxxxxxxy",
-            b"'xxxxxxxxxxxxxxxxxxxxxxxxxxxxxxxxxxxxxxxxxxxxxxxxxxxxxxxxxxxxxxxxxxxxxxxxxxxxxxxx' is no form (calendar, ordinal, week, julian, weekday, short-weekday, month, quarter, basic, rfc3339, unix, unix-ms, unix-us, unix-ns)",
+            b"'xxxxxxxxxxxxxxxxxxxxxxxxxxxxxxxxxxxxxxxxxxxxxxxxxxxxxxxxxxxxxxxxxxxxxxxxxxxxxxxx' is ",
+            NO_FORM,
         ),
     ];
-    for (arguments, wanted) in cases {
-        let told = complaint(rt.alloc(), Some(arguments)).unwrap_or(Vec::new(rt.alloc()));
-        assert!(rt; is_line(&told, wanted), "{arguments:?}");
-    }
-}
-
-/// Whether the bytes are these after the name of the program, in one line.
-fn is_line(told: &[u8], wanted: &[u8]) -> bool {
-    let Some(after) = told.strip_prefix(b"caldate: ") else {
-        return false;
-    };
-    after.strip_suffix(b"\n") == Some(wanted)
+    each_complains(&rt, rt.alloc(), &cases);
 }
 
 #[test]

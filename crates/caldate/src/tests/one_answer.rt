@@ -1,5 +1,5 @@
 //! A run leaves one answer where each text has one, or where lines are kept each line has one reply: two runs over one input that
-//! reach its end leave alike writers, and so do two that write one list.
+//! reach its end leave alike writers, and so do two that write one list, whether by steps or by a rule.
 ghost use Rattle.std.specs.Prelude.{◌≡◌, List, ℕ, Some, IsOk, MatchOption};
 ghost use Rattle.caldate.specs.Kept.{IsKept, bounds_kept};
 ghost use Rattle.caldate.specs.Lists.{IsStep};
@@ -7,7 +7,8 @@ ghost use Rattle.caldate.specs.Runs.{IsAllowed};
 
 use crate::fault::Fault;
 use crate::list::list;
-use crate::request::{Filter, Listing};
+use crate::recurring::list_occurrences;
+use crate::request::{Filter, Listing, Occurrences};
 use crate::run::run;
 use std::io::{Read, Write};
 
@@ -43,4 +44,18 @@ fn lists<W: Write>(
         → IsOk result.0 → IsOk result.1 → W.contents writer.new ≡ W.contents other.new }
 {
     (list(listing, writer), list(listing, other))
+}
+
+fn occurrences<W: Write>(
+    asked: &Occurrences,
+    writer: &mut W,
+    other: &mut W,
+) -> (Result<(), Fault>, Result<(), Fault>)
+    ensures { (held : List ℕ) → W.contents writer.old ≡ Some held → W.contents other.old ≡ Some held
+        → IsOk result.0 → IsOk result.1 → W.contents writer.new ≡ W.contents other.new }
+{
+    (
+        list_occurrences(asked, writer),
+        list_occurrences(asked, other),
+    )
 }

@@ -1,6 +1,6 @@
 use Rattle.std.proofs.Common.{◌∙◌, ap, sym}
-use Rattle.caldate.specs.Requests.{bound_of}
+use Rattle.caldate.specs.Requests.{only}
 use Rattle.caldate.proofs.bounds.bound_of.Goals as goal
 
 pub returns : goal.returns
-returns c = λ reading h. c.found_in.ensures reading h ∙ sym (ap (bound_of reading) c.in_ok-only_word.ensures)
+returns c = λ reading h. c.found_in.ensures reading h ∙ sym (ap (only reading) c.in_ok-only_word.ensures)

@@ -1,8 +1,8 @@
 use Rattle.std.proofs.Common.{◌≡◌, ◌+◌, ◌∙◌, ◌∷◌, ℕ, List, Option, None, ap, sym}
 use Rattle.std.specs.Option.{option_map_or}
 use Rattle.cal_text.specs.declared.any.DateOrMoment.{DateOrMoment}
-use Rattle.caldate.specs.Requests.{words_left}
-use Rattle.caldate.specs.Senseless.{senseless_at, senseless_front, senseless_verb, value_of, words_in}
+use Rattle.caldate.specs.Requests.{value_of, words_left}
+use Rattle.caldate.specs.Senseless.{senseless_at, senseless_front, senseless_verb, words_in}
 use Rattle.caldate.specs.declared.options.Options.{Options}
 use Rattle.caldate.proofs.senseless.senseless_front.Goals as goal
 

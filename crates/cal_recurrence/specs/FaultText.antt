@@ -1,0 +1,28 @@
+-- What is said of a text that is none of a recurrence.
+use Rattle.std.specs.Prelude.{ℕ, List, ◌++◌, codes, decimal}
+use Rattle.cal_recurrence.specs.declared.fault.RuleFault.{RuleFault}
+use Rattle.cal_recurrence.specs.declared.fault.RulePart.{RulePart}
+use Rattle.cal_recurrence.specs.declared.fault.RulePart.TheVariants as part
+use Rattle.cal_recurrence.specs.declared.fault.RuleReason.{RuleReason}
+use Rattle.cal_recurrence.specs.declared.fault.RuleReason.TheVariants.{Unknown, Twice, TooMany, Value, Missing}
+
+abbrev pub part_name : RulePart → List ℕ
+part_name part.Frequency = codes "FREQ"
+part_name part.Interval = codes "INTERVAL"
+part_name part.WeekStart = codes "WKST"
+part_name part.Months = codes "BYMONTH"
+part_name part.MonthDays = codes "BYMONTHDAY"
+part_name part.Weekdays = codes "BYDAY"
+part_name part.Until = codes "UNTIL"
+part_name part.Count = codes "COUNT"
+
+-- a COUNT after an UNTIL is one too many too
+abbrev pub reason_text : RuleReason → List ℕ
+reason_text Unknown = codes "unknown part"
+reason_text (Twice at) = codes "one " ++ part_name at ++ codes " too many"
+reason_text (TooMany at) = codes "more than 62 values of " ++ part_name at
+reason_text (Value at) = codes "invalid value of " ++ part_name at
+reason_text Missing = codes "missing FREQ"
+
+abbrev pub fault_text : RuleFault → List ℕ
+fault_text fault = reason_text fault.reason ++ codes " at " ++ decimal fault.position
