@@ -47,7 +47,10 @@ A line is a date, as 2024-02-29, 2024-060, 2024-W09-4 or J2460370, or a moment, 
   echo 2024-02-29T23:30:00+01:00 | caldate at Z            2024-02-29T22:30:00Z
   echo 2024-02-29 | caldate to unix-ms                     1709164800000
   echo 2023-02-29 | caldate to ordinal                     refused day conditional
+  echo 29.02.2024 | caldate --read dmy to calendar         2024-02-29
+  echo 1709164800500 | caldate --read unix-ms at Z         2024-02-29T00:00:00.5Z
   echo a,2024-02-29 | caldate --field 2 --separator , to week   a,2024-W09-4
   echo a,2024-02-29 | caldate --field 2 --separator , keep from 2024-02-01 to 2024-02-29   a,2024-02-29
   caldate list from 2024-01-31 to 2024-12-31 by 1 month | tail -n 1   2024-12-31
+  caldate list from 2024-01-01 to 2024-03-31 by 'FREQ=MONTHLY;BYDAY=-1FR' | tail -n 1   2024-03-29
 ";

@@ -7,7 +7,7 @@ use std::test::Fail;
 
 // ISO 8601 week dates as those of Python's `datetime.isocalendar`.
 #[test]
-fn a_field_is_answered_in_its_index(rt: HostRuntime) {
+fn a_field_is_answered_in_its_place(rt: HostRuntime) {
     let cases: [(&[u8], &[u8], &[u8]); 17] = [
         // The first, a middle and the last field, and the only one.
         (

@@ -183,7 +183,7 @@ fn a_long_line_ends_a_strict_run(rt: HostRuntime) -> Result<(), Fail> {
 }
 
 #[test]
-fn an_endless_line_is_read_in_index(rt: HostRuntime) {
+fn an_endless_line_is_read_in_place(rt: HostRuntime) {
     let mut written = Vec::new(rt.alloc());
     let outcome = run_by(b"to\0calendar", &mut Endless { calls: 20 }, &mut written);
     assert!(rt; outcome == Err(Fault::Read));
