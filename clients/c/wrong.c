@@ -471,8 +471,10 @@ static void read_date(const char *bytes, size_t length)
     reads(read.status, read.position, length, read.status == FOTS_MONTH || read.status == FOTS_YEAR
         || (read.status >= FOTS_DAY && read.status <= FOTS_WEEKDAY), is_date(read.date), "date_read");
     if (read.status == FOTS_UNREADABLE) {
-        check(fots_date_read(bytes, read.position).status != FOTS_UNREADABLE, "what a date begins with", (long long)read.position, (long long)length);
-        check(fots_date_read(bytes, read.position + 1).position == read.position, "the position in a date", (long long)read.position, (long long)length);
+        check(fots_date_read(bytes, read.position).status != FOTS_UNREADABLE, "what a date begins with",
+            (long long)read.position, (long long)length);
+        check(fots_date_read(bytes, read.position + 1).position == read.position, "the position in a date",
+            (long long)read.position, (long long)length);
     }
     if (read.status == FOTS_DONE) {
         fots_text_result calendar = fots_date_calendar_text(read.date), ordinal = fots_date_ordinal_text(read.date);
@@ -490,8 +492,10 @@ static void read_julian_day(const char *bytes, size_t length)
     fots_read_date_result read = fots_julian_day_read(bytes, length);
     reads(read.status, read.position, length, read.status == FOTS_JULIAN_DAY, is_date(read.date), "julian_day_read");
     if (read.status == FOTS_UNREADABLE) {
-        check(fots_julian_day_read(bytes, read.position).status != FOTS_UNREADABLE, "what a Julian day begins with", (long long)read.position, (long long)length);
-        check(fots_julian_day_read(bytes, read.position + 1).position == read.position, "the position in a Julian day", (long long)read.position, (long long)length);
+        check(fots_julian_day_read(bytes, read.position).status != FOTS_UNREADABLE, "what a Julian day begins with",
+            (long long)read.position, (long long)length);
+        check(fots_julian_day_read(bytes, read.position + 1).position == read.position, "the position in a Julian day",
+            (long long)read.position, (long long)length);
     }
     if (read.status == FOTS_DONE) {
         check(is_this(fots_date_julian_text(read.date), bytes, length), "the text of a Julian day", read.date.julian_day,
@@ -517,8 +521,10 @@ static void read_moment(const char *bytes, size_t length)
         || (read.status >= FOTS_HOUR && read.status <= FOTS_SECOND) || read.status == FOTS_OFFSET_HOUR
         || read.status == FOTS_OFFSET_MINUTE, is_moment(read), "moment_read");
     if (read.status == FOTS_UNREADABLE) {
-        check(fots_moment_read(bytes, read.position).status != FOTS_UNREADABLE, "what a moment begins with", (long long)read.position, (long long)length);
-        check(fots_moment_read(bytes, read.position + 1).position == read.position, "the position in a moment", (long long)read.position, (long long)length);
+        check(fots_moment_read(bytes, read.position).status != FOTS_UNREADABLE, "what a moment begins with",
+            (long long)read.position, (long long)length);
+        check(fots_moment_read(bytes, read.position + 1).position == read.position, "the position in a moment",
+            (long long)read.position, (long long)length);
     }
     if (read.status == FOTS_DONE) {
         fots_text_result text = fots_moment_text(read.date, read.time, read.offset);
@@ -532,8 +538,10 @@ static void read_unix(const char *bytes, size_t length)
     fots_read_moment_result read = fots_unix_read(bytes, length);
     reads(read.status, read.position, length, read.status == FOTS_TIMESTAMP, is_moment(read) && read.offset.seconds == 0, "unix_read");
     if (read.status == FOTS_UNREADABLE) {
-        check(fots_unix_read(bytes, read.position).status != FOTS_UNREADABLE, "what a Unix time begins with", (long long)read.position, (long long)length);
-        check(fots_unix_read(bytes, read.position + 1).position == read.position, "the position in a Unix time", (long long)read.position, (long long)length);
+        check(fots_unix_read(bytes, read.position).status != FOTS_UNREADABLE, "what a Unix time begins with",
+            (long long)read.position, (long long)length);
+        check(fots_unix_read(bytes, read.position + 1).position == read.position, "the position in a Unix time",
+            (long long)read.position, (long long)length);
     }
     if (read.status == FOTS_DONE) {
         fots_text_result text = fots_unix_text(read.date, read.time, offset_at(0));

@@ -15,7 +15,7 @@ use Rattle.cal_text.specs.declared.form.Form.TheVariants.{Calendar}
 use Rattle.cal_text.specs.declared.rfc3339.numbers.Numbers.{Numbers}
 use Rattle.cal_text.proofs.AnyForms.{of_four, julian-any, unix-any}
 use Rattle.cal_text.proofs.Positions.{begins_less, carried}
-use Rattle.cal_text.proofs.Shapes.{date-shape, moment-shape, julian-first, unix-first, date_digits-long}
+use Rattle.cal_text.proofs.Shapes.{moment-shape, julian-first, unix-first, date_digits-long}
 use Rattle.cal_text.proofs.YearTexts.{year-plain}
 
 -- what is at a position is there in each beginning that goes past it

@@ -1,10 +1,14 @@
 -- A text has the form of one moment at most.
-use Rattle.std.proofs.Common.{List, ℕ, sym, subst}
+use Rattle.std.proofs.Common.{List, ℕ, Ok, ap, sym, subst}
 use Rattle.cal_datetime.specs.OffsetDateTime.{Shown}
 use Rattle.cal_text.specs.declared.rfc3339.numbers.Numbers.{Numbers}
 use Rattle.cal_text.specs.Rfc3339Form.{HasMomentForm, IsMomentText, IsAt}
 use Rattle.cal_text.proofs.Faults.{IsOnly}
+use Rattle.cal_text.proofs.MomentShapes.{moment_shapes}
 use Rattle.cal_text.proofs.Results.{one}
+
+pub only : (text : List ℕ) (numbers : Numbers) → HasMomentForm text numbers → IsOnly HasMomentForm text numbers
+only text numbers has other h = ap Ok (moment_shapes.one text numbers other has h)
 
 -- the moment of a text has what is at it
 pub at_only : (text : List ℕ) (moment : Numbers) (at : Shown) → IsOnly HasMomentForm text moment → IsMomentText text at → IsAt moment at

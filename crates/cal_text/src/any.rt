@@ -53,8 +53,8 @@ pub enum DateOrMoment {
 /// [`rfc3339::read`](crate::rfc3339::read) or [`unix::read`](crate::unix::read) reads. No text is in two forms, so `2024-060` is
 /// the ordinal date and nothing else.
 ///
-/// A text of another form is refused with the position of the first byte that no text of these forms has there. A text that has one
-/// of the forms is refused for the component that the reader of this form refuses.
+/// A text of another form is refused with the position of the first byte that no text of these forms has there, or with its length
+/// where it ends too early. A text that has one of the forms is refused for the component that the reader of this form refuses.
 pub fn read_any(text: &[u8]) -> Result<DateOrMoment, Unreadable>
     ensures every { (found : DateOrMoment) → IsTextOf text.now found → result ≡ Ok found }
     ensures has { IfOk result (IsTextOf text.now) }

@@ -10,6 +10,7 @@ ghost use Rattle.cal_text.specs.Rfc3339Form.{HasMomentForm, IsMomentFault, IsMom
 use crate::error::Unreadable;
 use crate::rfc3339::form::numbers_of;
 use crate::rfc3339::of_numbers::moment_of;
+use crate::scanner::Scanner;
 use cal_datetime::OffsetDateTime;
 
 mod form;
@@ -39,11 +40,15 @@ pub fn read(text: &[u8]) -> Result<OffsetDateTime, Unreadable>
     ensures component { (why : ComponentRange)
         → IsRefusedFor why result ↔ HasFault HasMomentForm IsMomentFault text.now why }
 {
-    match numbers_of(text) {
-        Ok(numbers) => match moment_of(numbers) {
+    let mut scanner = Scanner { rest: text };
+    match numbers_of(&mut scanner) {
+        Some(numbers) => match moment_of(numbers) {
             Ok(moment) => Ok(moment),
             Err(error) => Err(Unreadable::OutOfRange(error)),
         },
-        Err(position) => Err(Unreadable::at(position, text.len())),
+        None => {
+            let position = text.len() - scanner.rest.len();
+            Err(Unreadable::at(position, text.len()))
+        }
     }
 }

@@ -183,6 +183,8 @@ fn texts_of_errors(rt: HostRuntime) -> Result<(), Fail> {
         };
         prints(&rt, rt.alloc(), &refused, error)?;
     }
+    same(&rt, Unreadable::at(4, 5), UnexpectedByte(4));
+    same(&rt, Unreadable::at(5, 5), UnexpectedEnd(5));
     prints(
         &rt,
         rt.alloc(),

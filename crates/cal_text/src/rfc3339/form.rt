@@ -1,9 +1,8 @@
 //! The numbers of the form that a text has.
-ghost use Rattle.std.specs.Prelude.{◌≡◌, ◌⊎◌, ℕ, List, ◌<◌, ◌≤◌, ◌∷◌, ◌++◌, length, IfSome, IfOk, IfErr, IsTrue, ◌↔◌, Ok};
+ghost use Rattle.std.specs.Prelude.{◌≡◌, ◌⊎◌, ℕ, List, ◌<◌, ◌≤◌, ◌∷◌, ◌++◌, length, IfSome, IsTrue, ◌↔◌};
 ghost use Rattle.cal_time.specs.DateText.{digits_at_least};
 ghost use Rattle.cal_text.specs.declared.rfc3339.numbers.Numbers.{Numbers};
 ghost use Rattle.cal_text.specs.declared.rfc3339.numbers.TimeOffset.{TimeOffset};
-ghost use Rattle.cal_text.specs.Position.{HasSome, IsPosition};
 ghost use Rattle.cal_text.specs.Rfc3339Form.{IsSeparator, IsTimeOffset, HasFractionBefore, HasMomentForm};
 ghost use Rattle.cal_text.specs.Shape.{Scans, ScansWhole, ScansLarge, Separator, TwoNumbers, Fraction, offset_digits, signed_offset, time_offset, moment};
 
@@ -11,20 +10,8 @@ use crate::fraction::fraction;
 use crate::rfc3339::numbers::{Numbers, TimeOffset};
 use crate::scanner::Scanner;
 
-/// The numbers of the moment whose form the text has, or the position where it stops being of one.
-pub(super) fn numbers_of(text: &[u8]) -> Result<Numbers, usize>
-    ensures every { (m : Numbers) → HasMomentForm text.now m → result ≡ Ok m }
-    ensures has { IfOk result (HasMomentForm text.now) }
-    ensures position { IfErr result (IsPosition (HasSome HasMomentForm) text.now) }
-{
-    let mut scanner = Scanner { rest: text };
-    match moment(&mut scanner) {
-        Some(numbers) => Ok(numbers),
-        None => Err(text.len() - scanner.rest.len()),
-    }
-}
-
-fn moment(scanner: &mut Scanner) -> Option<Numbers>
+/// The numbers of the moment whose form the rest of a text has, or `None` in front of the byte where it stops being of one.
+pub(super) fn numbers_of(scanner: &mut Scanner) -> Option<Numbers>
     ensures scans { ScansLarge moment scanner.old.rest.now scanner.new.rest.now result }
     ensures has { IfSome result (HasMomentForm scanner.old.rest.now) }
 {
