@@ -12,6 +12,7 @@ pub(crate) struct Scanner<'a> {
 
 impl Scanner<'_> {
     /// A byte from one to another.
+    #[inline(always)]
     pub(crate) fn byte_from(&mut self, low: u8, above: u8) -> Option<u8>
         requires { low + above < 256 }
         ensures scans { Scans (From low above) self.old.rest.now self.new.rest.now result }
@@ -28,6 +29,7 @@ impl Scanner<'_> {
         Some(*first)
     }
 
+    #[inline(always)]
     pub(crate) fn byte(&mut self, byte: u8) -> Option<()>
         ensures scans { Scans (Byte byte) self.old.rest.now self.new.rest.now result }
         ensures branches { Branches byte 0 self.old.rest.now self.new.rest.now result }
@@ -39,6 +41,7 @@ impl Scanner<'_> {
     }
 
     /// A digit that is not 0.
+    #[inline(always)]
     pub(crate) fn digit_from_1(&mut self) -> Option<u32>
         ensures scans { Scans (From 49 8) self.old.rest.now self.new.rest.now result }
         ensures branches { Branches 49 8 self.old.rest.now self.new.rest.now result }
@@ -50,6 +53,7 @@ impl Scanner<'_> {
         Some(u32::from(byte - b'0'))
     }
 
+    #[inline(always)]
     pub(crate) fn digit(&mut self) -> Option<u32>
         ensures scans { Scans (Digits 1) self.old.rest.now self.new.rest.now result }
         ensures branches { Branches 48 9 self.old.rest.now self.new.rest.now result }
@@ -61,6 +65,7 @@ impl Scanner<'_> {
         Some(u32::from(byte - b'0'))
     }
 
+    #[inline(always)]
     pub(crate) fn two_digits(&mut self) -> Option<u32>
         ensures scans { Scans (Digits 2) self.old.rest.now self.new.rest.now result }
         ensures number { IfSome result (λ n. ReadsDigits self.old.rest.now self.new.rest.now 2 n) }
@@ -71,6 +76,7 @@ impl Scanner<'_> {
         Some(tens * 10 + ones)
     }
 
+    #[inline(always)]
     pub(crate) fn three_digits(&mut self) -> Option<u32>
         ensures scans { Scans (Digits 3) self.old.rest.now self.new.rest.now result }
         ensures number { IfSome result (λ n. ReadsDigits self.old.rest.now self.new.rest.now 3 n) }
@@ -81,6 +87,7 @@ impl Scanner<'_> {
         Some(tens * 10 + ones)
     }
 
+    #[inline(always)]
     pub(crate) fn four_digits(&mut self) -> Option<u32>
         ensures scans { Scans (Digits 4) self.old.rest.now self.new.rest.now result }
         ensures number { IfSome result (λ n. ReadsDigits self.old.rest.now self.new.rest.now 4 n) }
@@ -92,6 +99,7 @@ impl Scanner<'_> {
     }
 
     /// The end of the text.
+    #[inline(always)]
     pub(crate) fn end(&mut self) -> Option<()>
         ensures scans { ScansWhole Done self.old.rest.now self.new.rest.now result }
         ensures empty { IfSome result (λ _. self.old.rest.now ≡ []) }

@@ -11,6 +11,7 @@ use crate::rfc3339::numbers::{Numbers, TimeOffset};
 use crate::scanner::Scanner;
 
 /// The numbers of the moment whose form the rest of a text has, or `None` in front of the byte where it stops being of one.
+#[inline(always)]
 pub(super) fn numbers_of(scanner: &mut Scanner) -> Option<Numbers>
     ensures scans { ScansLarge moment scanner.old.rest.now scanner.new.rest.now result }
     ensures has { IfSome result (HasMomentForm scanner.old.rest.now) }
@@ -34,6 +35,7 @@ pub(super) fn numbers_of(scanner: &mut Scanner) -> Option<Numbers>
 }
 
 /// Two numbers of two digits, each after that byte.
+#[inline(always)]
 fn two_numbers(scanner: &mut Scanner, byte: u8) -> Option<(u8, u8)>
     ensures scans { Scans (TwoNumbers byte) scanner.old.rest.now scanner.new.rest.now result }
     ensures numbers { IfSome result (λ found. (found.0 < 100) × (found.1 < 100)
@@ -49,6 +51,7 @@ fn two_numbers(scanner: &mut Scanner, byte: u8) -> Option<(u8, u8)>
 }
 
 /// The byte between the date and the time.
+#[inline(always)]
 fn separator(scanner: &mut Scanner) -> Option<()>
     ensures scans { Scans Separator scanner.old.rest.now scanner.new.rest.now result }
     ensures byte { IfSome result (λ _.
@@ -73,6 +76,7 @@ pub(crate) fn is_separator(byte: u8) -> bool
 }
 
 /// The fraction of a second, of any length, and the offset.
+#[inline(always)]
 fn fraction_and_offset(scanner: &mut Scanner) -> Option<(u32, TimeOffset)>
     ensures scans { ScansLarge (λ more. Fraction more time_offset) scanner.old.rest.now
         scanner.new.rest.now result }
@@ -87,6 +91,7 @@ fn fraction_and_offset(scanner: &mut Scanner) -> Option<(u32, TimeOffset)>
 }
 
 /// The offset that the rest of a text is.
+#[inline(always)]
 fn time_offset(scanner: &mut Scanner) -> Option<TimeOffset>
     ensures scans { ScansWhole time_offset scanner.old.rest.now scanner.new.rest.now result }
     ensures has { IfSome result (IsTimeOffset scanner.old.rest.now) }
@@ -107,6 +112,7 @@ fn time_offset(scanner: &mut Scanner) -> Option<TimeOffset>
 }
 
 /// The offset after its sign.
+#[inline(always)]
 fn signed_offset(scanner: &mut Scanner) -> Option<TimeOffset>
     ensures scans { ScansWhole signed_offset scanner.old.rest.now scanner.new.rest.now result }
     ensures has { IfSome result (IsTimeOffset scanner.old.rest.now) }
@@ -124,6 +130,7 @@ fn signed_offset(scanner: &mut Scanner) -> Option<TimeOffset>
     }
 }
 
+#[inline(always)]
 fn hours_and_minutes(scanner: &mut Scanner) -> Option<(u8, u8)>
     ensures scans { ScansWhole offset_digits scanner.old.rest.now scanner.new.rest.now result }
     ensures numbers { IfSome result (λ found. (found.0 < 100) × (found.1 < 100)
