@@ -264,6 +264,7 @@ static void workdays(int32_t julian_day, uint32_t number, int32_t count)
         julian_day);
     DATE(first_of(first_of(of_date(date), no_convention), no_week), fots_date_adjusted(date, (uint32_t)count, number, rising, 2));
     DATE(first_of(wrong, FOTS_BAD_HOLIDAYS), fots_date_next_workday(date, number, falling, 2));
+    /* So many are refused before one of them is looked at, so the array has them not. */
     DATE(first_of(wrong, FOTS_MANY_HOLIDAYS), fots_date_next_workday(date, number, rising, FOTS_MOST_HOLIDAYS + 1));
 }
 
