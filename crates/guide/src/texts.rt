@@ -43,7 +43,7 @@ fn date_in(text: &[u8]) -> Result<Date, Unreadable>
     date::read(text)
 }
 
-/// How many bytes a text has that some more make a date, or `None` for any other text.
+/// How many bytes a text has that some more make a date, where its error says so. Of `None` nothing is promised.
 fn bytes_so_far(text: &[u8]) -> Option<usize>
     ensures { IfSome result (λ n. IsPosition (HasSome HasForm) text.now n × (n ≡ length text.now)) }
 {
