@@ -158,6 +158,6 @@ pair_if_any None = pair_refused past_range
 abbrev pub local_done : ℤ → PairResult
 local_done z = pair_done (date_at z) (time_at z)
 
--- the answer is the day and the time that have this moment, where a day of the range has it
+-- the answer is the day and the time of the pair of this number, where there is one
 abbrev pub IsPairAt : ℤ → PairResult → Type 0
 IsPairAt z r = (pair : Option (ℕ × ℕ)) × PairAt z pair × (r ≡ pair_if_any pair)

@@ -1,6 +1,6 @@
 //! Dates and times of day together.
 ghost use Rattle.std.specs.Prelude.{◌≡◌, ◌+ℤ◌, ◌-ℤ◌};
-ghost use Rattle.cal_time.specs.Pair.{moment};
+ghost use Rattle.cal_time.specs.Pair.{pair_number};
 ghost use Rattle.cal_time.specs.Time.{IsTime};
 ghost use Rattle.cal_c.specs.Results.{pair_refused, IsPairAt};
 ghost use Rattle.cal_c.specs.Statuses.{bad_date, bad_time, bad_duration};
@@ -19,7 +19,7 @@ pub extern "C" fn fots_add_to_pair(date: i32, time: u64, duration: Duration) -> 
     ensures bad_duration { IsJulianDay date → IsTime time → ¬ IsDurationPair duration
         → result ≡ pair_refused bad_duration }
     ensures pair { IsJulianDay date → IsTime time → IsDurationPair duration
-        → IsPairAt (moment (day_of date) time +ℤ nanoseconds_in duration) result }
+        → IsPairAt (pair_number (day_of date) time +ℤ nanoseconds_in duration) result }
 {
     let Some(date) = date_of(date) else {
         return PairResult::refused(BAD_DATE);
@@ -41,7 +41,7 @@ pub extern "C" fn fots_sub_from_pair(date: i32, time: u64, duration: Duration) -
     ensures bad_duration { IsJulianDay date → IsTime time → ¬ IsDurationPair duration
         → result ≡ pair_refused bad_duration }
     ensures pair { IsJulianDay date → IsTime time → IsDurationPair duration
-        → IsPairAt (moment (day_of date) time -ℤ nanoseconds_in duration) result }
+        → IsPairAt (pair_number (day_of date) time -ℤ nanoseconds_in duration) result }
 {
     let Some(date) = date_of(date) else {
         return PairResult::refused(BAD_DATE);

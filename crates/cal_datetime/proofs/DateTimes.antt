@@ -4,7 +4,7 @@ use Rattle.std.proofs.lemmas.Bool.Decides.{nat_tests}
 use Rattle.std.proofs.lemmas.Int.{ints}
 use Rattle.cal_time.specs.SignedDuration.{day, IsDuration}
 use Rattle.cal_time.specs.Date.{IsDate, first_julian_day, julian_day_at}
-use Rattle.cal_time.specs.Pair.{moment, HasMoment, NoPair}
+use Rattle.cal_time.specs.Pair.{pair_number, HasPairNumber, NoPair}
 use Rattle.cal_time.proofs.Pairs.{times-day}
 use Rattle.cal_datetime.specs.DateTime.{IsDateTime, date_time, date_at, time_at}
 use Rattle.cal_datetime.specs.DateTimeLaws.{date_at-date_time, time_at-date_time, IsDateTime-date_time, date_time-parts, IsDate-date_at, IsTime-time_at}
@@ -17,32 +17,32 @@ by_days m n t u below under h = omega arith
 
 pub ruleset order_of_parts = (by_days, nat_tests, ints)
 
--- the moment of a pair is its date-time, counted from another midnight
+-- the number of a pair is its date-time, counted from another midnight
 abbrev shifted : ℤ → ℤ
 shifted z = z +ℤ first_julian_day *ℤ pos day
 
-moment-is : (n t : ℕ) → moment n t ≡ shifted (date_time n t)
-moment-is n t = let x = times-day (julian_day_at n) in omega (arith, ints)
+number-is : (n t : ℕ) → pair_number n t ≡ shifted (date_time n t)
+number-is n t = let x = times-day (julian_day_at n) in omega (arith, ints)
 
 -- so a moved pair is the moved date-time, and there is none where that is out of the range
 pub record Moves (z w : ℤ) : Type 0 where
-  pub moment_is : z ≡ shifted w
+  pub number_is : z ≡ shifted w
 
-pub later : (n t : ℕ) (v : ℤ) → Moves (moment n t +ℤ v) (date_time n t +ℤ v)
-later n t v = record { moment_is = omega (arith, ints, moment-is n t) }
+pub later : (n t : ℕ) (v : ℤ) → Moves (pair_number n t +ℤ v) (date_time n t +ℤ v)
+later n t v = record { number_is = omega (arith, ints, number-is n t) }
 
-pub earlier : (n t : ℕ) (v : ℤ) → Moves (moment n t -ℤ v) (date_time n t -ℤ v)
-earlier n t v = record { moment_is = omega (arith, ints, moment-is n t) }
+pub earlier : (n t : ℕ) (v : ℤ) → Moves (pair_number n t -ℤ v) (date_time n t -ℤ v)
+earlier n t v = record { number_is = omega (arith, ints, number-is n t) }
 
-pub moved : (z w : ℤ) (m s : ℕ) → Moves z w → HasMoment z m s → date_time m s ≡ w
-moved z w m s moves h = omega (arith, ints, moves.moment_is, h.moment_is, moment-is m s)
+pub moved : (z w : ℤ) (m s : ℕ) → Moves z w → HasPairNumber z m s → date_time m s ≡ w
+moved z w m s moves h = omega (arith, ints, moves.number_is, h.number_is, number-is m s)
 
 pub not_moved : (z w : ℤ) → Moves z w → NoPair z → ¬ IsDateTime w
 not_moved z w moves none h =
     none (date_at w) (time_at w) (record {
       date = IsDate-date_at w h;
       time = IsTime-time_at w;
-      moment_is = moment-is (date_at w) (time_at w) ∙ ap shifted (date_time-parts w h) ∙ sym moves.moment_is;
+      number_is = number-is (date_at w) (time_at w) ∙ ap shifted (date_time-parts w h) ∙ sym moves.number_is;
     })
 
 -- the days between two dates and the time between two times are together a duration

@@ -15,8 +15,8 @@ use Rattle.cal_units.specs.declared.util.date_adjustment.DateAdjustment.{DateAdj
 use Rattle.cal_span.specs.SignedDuration.{day}
 use Rattle.cal_clock.specs.Time.{carry}
 use Rattle.cal_date.specs.Date.{IsDate, julian_day_at}
-use Rattle.cal_time.specs.Pair.{HasMoment, PairAt}
-use Rattle.cal_time.proofs.Pairs.{same_moment}
+use Rattle.cal_time.specs.Pair.{HasPairNumber, PairAt}
+use Rattle.cal_time.proofs.Pairs.{same_number}
 
 -- a call that is refused for a reason is refused for it alone
 refused-err : {V : Type 0} (why : ComponentRange) (r : Result V ComponentRange) → IsRefused why r → r ≡ Err why
@@ -71,7 +71,7 @@ of_three_bounds-one a b c x y z i j k v r s ra sa rb sb rc sc rv sv =
       ]
     ]
 
--- a step of the clock: its days and its time are those of one moment
+-- a step of the clock: its days and its time are those of one pair
 carry-one : (a b : DateAdjustment) → carry a ≡ carry b → a ≡ b
 carry-one a b e = grind (arith, ints)
 
@@ -79,7 +79,7 @@ pub step-one : (days : DateAdjustment → ℤ) → ((a b : DateAdjustment) → d
     → (v : ℤ) (r s : DateAdjustment × ℕ)
     → v ≡ days r.0 *ℤ pos day +ℤ pos r.1 → r.1 < day → v ≡ days s.0 *ℤ pos day +ℤ pos s.1 → s.1 < day → r ≡ s
 step-one days one v r s e below f under =
-    let same = same_moment (days r.0) (days s.0) r.1 s.1 below under (sym e ∙ f) in
+    let same = same_number (days r.0) (days s.0) r.1 s.1 below under (sym e ∙ f) in
     let steps = carry-one r.0 s.0 (one r.0 s.0 same.0) in
     λ i. (steps i, same.1 i)
 
@@ -165,10 +165,10 @@ asked-one cycle calls go one i f r s (goes_on _ _ g _ below call rest) other =
       ]
     ]
 
--- the pair that has a moment, or none
-pair-one : (z : ℤ) (p q : ℕ × ℕ) → HasMoment z p.0 p.1 → HasMoment z q.0 q.1 → p ≡ q
+-- the pair that has a number, or none
+pair-one : (z : ℤ) (p q : ℕ × ℕ) → HasPairNumber z p.0 p.1 → HasPairNumber z q.0 q.1 → p ≡ q
 pair-one z p q h k =
-    let same = same_moment (julian_day_at p.0) (julian_day_at q.0) p.1 q.1 h.time.below_day k.time.below_day (h.moment_is ∙ sym k.moment_is) in
+    let same = same_number (julian_day_at p.0) (julian_day_at q.0) p.1 q.1 h.time.below_day k.time.below_day (h.number_is ∙ sym k.number_is) in
     let dates : p.0 ≡ q.0 = omega (arith, ints, same.0) in
     λ i. (dates i, same.1 i)
 

@@ -1,11 +1,11 @@
--- A moment is cut into days and a time in one way, so a moved pair is one pair, or none.
+-- A number is cut into days and a time in one way, so a moved pair is one pair, or none.
 use Rattle.std.proofs.Common.{◌≡◌, ℕ, ◌*◌, ◌<◌, ◌⊎◌, inl, inr, sym, ap, ◌∙◌, arith, ℤ, pos, negsuc, ◌+ℤ◌, ◌-ℤ◌, ◌*ℤ◌, ◌≤ℤ◌}
 use Rattle.std.proofs.lemmas.Int.{ints}
 use borrow.Author.Differences.{up, down}
 use Rattle.cal_span.specs.SignedDuration.{day, whole_days}
 use Rattle.cal_date.specs.Date.{IsDate, julian_day_at}
 use Rattle.cal_date.specs.Move.{IsDateNumber}
-use Rattle.cal_time.specs.Pair.{moment, HasMoment, NoPair}
+use Rattle.cal_time.specs.Pair.{pair_number, HasPairNumber, NoPair}
 
 -- a day times a number
 pub times-day : (s : ℤ) → (up (s *ℤ pos day) ≡ day * up s) × (down (s *ℤ pos day) ≡ day * down s)
@@ -17,44 +17,44 @@ whole_days-sign : (v : ℤ) → (pos 0 ≤ℤ v → pos 0 ≤ℤ whole_days v) �
 whole_days-sign (pos n) = (λ h. omega (arith, ints), λ h. omega (arith, ints))
 whole_days-sign (negsuc n) = (λ h. omega (arith, ints), λ h. omega (arith, ints))
 
--- equal moments have one day and one time
-pub same_moment : (j k : ℤ) (t u : ℕ) → t < day → u < day → j *ℤ pos day +ℤ pos t ≡ k *ℤ pos day +ℤ pos u → (j ≡ k) × (t ≡ u)
-same_moment j k t u a b e =
+-- equal numbers have one day and one time
+pub same_number : (j k : ℤ) (t u : ℕ) → t < day → u < day → j *ℤ pos day +ℤ pos t ≡ k *ℤ pos day +ℤ pos u → (j ≡ k) × (t ≡ u)
+same_number j k t u a b e =
     let x = times-day j in
     let y = times-day k in
     (omega (arith, ints), omega (arith, ints))
 
--- the moment z lies k days on from day n, at the time u
+-- the number z lies k days on from day n, at the time u
 pub record LiesAt (z : ℤ) (n : ℕ) (k : ℤ) (u : ℕ) : Type 0 where
   pub time : u < day
-  pub moment_is : z ≡ (julian_day_at n +ℤ k) *ℤ pos day +ℤ pos u
+  pub number_is : z ≡ (julian_day_at n +ℤ k) *ℤ pos day +ℤ pos u
 
-pub lies_after : (n t : ℕ) (v k : ℤ) (u : ℕ) → u < day → pos t +ℤ v ≡ k *ℤ pos day +ℤ pos u → LiesAt (moment n t +ℤ v) n k u
+pub lies_after : (n t : ℕ) (v k : ℤ) (u : ℕ) → u < day → pos t +ℤ v ≡ k *ℤ pos day +ℤ pos u → LiesAt (pair_number n t +ℤ v) n k u
 lies_after n t v k u below e =
     let x = times-day (julian_day_at n) in
     let y = times-day k in
     let z = times-day (julian_day_at n +ℤ k) in
-    record { time = below; moment_is = omega (arith, ints) }
+    record { time = below; number_is = omega (arith, ints) }
 
-pub lies_before : (n t : ℕ) (v k : ℤ) (u : ℕ) → u < day → pos t -ℤ v ≡ k *ℤ pos day +ℤ pos u → LiesAt (moment n t -ℤ v) n k u
+pub lies_before : (n t : ℕ) (v k : ℤ) (u : ℕ) → u < day → pos t -ℤ v ≡ k *ℤ pos day +ℤ pos u → LiesAt (pair_number n t -ℤ v) n k u
 lies_before n t v k u below e =
     let x = times-day (julian_day_at n) in
     let y = times-day k in
     let z = times-day (julian_day_at n +ℤ k) in
-    record { time = below; moment_is = omega (arith, ints) }
+    record { time = below; number_is = omega (arith, ints) }
 
-pub pair_at : (z : ℤ) (n : ℕ) (k : ℤ) (u m : ℕ) → LiesAt z n k u → IsDate m → pos m ≡ pos n +ℤ k → HasMoment z m u
+pub pair_at : (z : ℤ) (n : ℕ) (k : ℤ) (u m : ℕ) → LiesAt z n k u → IsDate m → pos m ≡ pos n +ℤ k → HasPairNumber z m u
 pair_at z n k u m at h e =
     let day_is : julian_day_at m ≡ julian_day_at n +ℤ k = omega (arith, ints) in
     record {
       date = h;
       time = record { below_day = at.time };
-      moment_is = ap (λ j. j *ℤ pos day +ℤ pos u) day_is ∙ sym at.moment_is;
+      number_is = ap (λ j. j *ℤ pos day +ℤ pos u) day_is ∙ sym at.number_is;
     }
 
 pub no_pair : (z : ℤ) (n : ℕ) (k : ℤ) (u : ℕ) (number : ℤ) → LiesAt z n k u → number ≡ pos n +ℤ k → ¬ IsDateNumber number → NoPair z
 no_pair z n k u number at e none m t h =
-    let same = same_moment (julian_day_at m) (julian_day_at n +ℤ k) t u h.time.below_day at.time (h.moment_is ∙ at.moment_is) in
+    let same = same_number (julian_day_at m) (julian_day_at n +ℤ k) t u h.time.below_day at.time (h.number_is ∙ at.number_is) in
     let there : pos m ≡ number = omega (arith, ints, same.0) in
     none (record { not_before = omega (arith, ints); not_after = omega (arith, ints, h.date) })
 

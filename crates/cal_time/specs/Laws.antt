@@ -5,7 +5,7 @@ use Rattle.cal_date.specs.Date.{last_day, weekday_at, IsDate, HasOrdinalDate, Ha
 use Rattle.cal_date.specs.IsoWeekDate.{HasIsoWeekDate}
 use Rattle.cal_date.specs.Occurrence.{next_occurrences, prev_occurrences, kth}
 use Rattle.cal_date.specs.DateIter.{Walk, walk_between, days_of}
-use Rattle.cal_time.specs.Pair.{HasMoment, PairAt}
+use Rattle.cal_time.specs.Pair.{HasPairNumber, PairAt}
 use Rattle.cal_date.proofs.CallersLaws as proved
 
 -- the weekday of a day by a remainder, as day 0 is a Monday
@@ -45,7 +45,7 @@ length-days_of = proved.length-days_of
 pub length-walk_between : (m n : ℕ) → length (days_of (walk_between m n)) ≡ n + 1 - m
 length-walk_between = proved.length-walk_between
 
--- a moved pair is there where some date and time have its moment
-pub pair_at-some : (z : ℤ) (n t : ℕ) (r : Option (ℕ × ℕ)) → PairAt z r → HasMoment z n t → IsSome r
+-- a moved pair is there where some date and time have its number
+pub pair_at-some : (z : ℤ) (n t : ℕ) (r : Option (ℕ × ℕ)) → PairAt z r → HasPairNumber z n t → IsSome r
 pair_at-some z n t None none has = absurd (none n t has)
 pair_at-some z n t (Some pair) at has = refl

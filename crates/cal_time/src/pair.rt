@@ -3,7 +3,7 @@ ghost use Rattle.std.specs.Prelude.{pos, ◌+ℤ◌, ◌-ℤ◌, SomeIff};
 ghost use Rattle.cal_clock.specs.Time.{carry};
 ghost use Rattle.cal_date.specs.Date.{IsDate};
 ghost use Rattle.cal_date.specs.Move.{IsDateNumber, date_nearest};
-ghost use Rattle.cal_time.specs.Pair.{moment, PairAt};
+ghost use Rattle.cal_time.specs.Pair.{pair_number, PairAt};
 
 use cal_clock::Time;
 use cal_date::Date;
@@ -12,11 +12,11 @@ use cal_units::util::DateAdjustment;
 
 /// The date and the time of day that come so much later, or `None` where that date is past either end of the range.
 ///
-/// The moment of a pair is its Julian day times a day and its time, in nanoseconds. The answer is the pair whose moment is
+/// The number of a pair is its Julian day times a day and its time, in nanoseconds. The answer is the pair whose number is
 /// the old one plus the duration: 23:00 on 2020-12-31 and two hours are 1:00 on 2021-01-01. From the last nanosecond of
 /// [`Date::MAX`], one nanosecond more is `None`.
 pub fn add_to_pair(date: Date, time: Time, duration: SignedDuration) -> Option<(Date, Time)>
-    ensures { PairAt (moment date time +ℤ duration) result }
+    ensures { PairAt (pair_number date time +ℤ duration) result }
 {
     let (adjustment, time) = time.adjusting_add(duration);
     let date = adjusted(date.checked_add(duration)?, adjustment)?;
@@ -25,10 +25,10 @@ pub fn add_to_pair(date: Date, time: Time, duration: SignedDuration) -> Option<(
 
 /// The date and the time of day that come so much earlier, or `None` where that date is past either end of the range.
 ///
-/// The answer is the pair whose moment is the old one minus the duration: 1:00 on 2021-01-01 less two hours is 23:00 on
+/// The answer is the pair whose number is the old one minus the duration: 1:00 on 2021-01-01 less two hours is 23:00 on
 /// 2020-12-31. From midnight of [`Date::MIN`], one nanosecond less is `None`.
 pub fn sub_from_pair(date: Date, time: Time, duration: SignedDuration) -> Option<(Date, Time)>
-    ensures { PairAt (moment date time -ℤ duration) result }
+    ensures { PairAt (pair_number date time -ℤ duration) result }
 {
     let (adjustment, time) = time.adjusting_sub(duration);
     let date = adjusted(date.checked_sub(duration)?, adjustment)?;

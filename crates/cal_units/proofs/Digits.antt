@@ -3,7 +3,7 @@ use Rattle.std.proofs.Common.{◌≡◌, ◌⊎◌, ℕ, zero, suc, ◌+◌, ◌
 use Rattle.std.specs.Prelude.{decimal}
 use Rattle.std.specs.Str.{IsAscii}
 use Rattle.std.proofs.lemmas.Bool.{cases_lt}
-use Rattle.std.proofs.lemmas.Fmt.{decimal_digit, decimal_step, length-decimal-le, IsAscii-decimal}
+use Rattle.std.proofs.lemmas.Fmt.{decimal_digit, decimal_step, decimal_step_wide, length-decimal-le, length-decimal-le_wide, IsAscii-decimal}
 use Rattle.std.proofs.lemmas.List.{length-replicate, replicate_more}
 use Rattle.std.proofs.lemmas.Str.{IsAscii-append}
 use Rattle.std.proofs.lemmas.Str.Ascii.{IsAscii-nil, IsAscii-cons, IsAscii-from_all}
@@ -100,6 +100,16 @@ length-32_bits n small = length-decimal-le 10 n (omega arith) (omega (arith, sma
 pub length-64_bits : (n : ℕ) → n < 2 ^ 64 → length (decimal n) ≤ 20
 length-64_bits n small = length-decimal-le 20 n (omega arith) (omega (arith, small)) small
 
+-- a number of 128 bits: the last digit comes after those of a tenth, and there are at most 39
+pub decimal-wide : (n : ℕ) → 10 ≤ n → n < 2 ^ 128 → decimal n ≡ decimal (n / 10) ++ digit (n % 10) ∷ []
+decimal-wide n low high = decimal_step_wide n low (omega arith)
+
+pub length-wide : (n : ℕ) → 10 ≤ n → n < 2 ^ 128 → length (decimal n) ≡ length (decimal (n / 10)) + 1
+length-wide n low high = ap length (decimal-wide n low high) ∙ length-append (decimal (n / 10)) (digit (n % 10) ∷ [])
+
+pub length-128_bits : (n : ℕ) → n < 2 ^ 128 → length (decimal n) ≤ 39
+length-128_bits n high = length-decimal-le_wide 39 n (omega arith) (omega arith) (omega arith)
+
 -- digits are ASCII
 pub two_digits-ascii : (n : ℕ) → n < 100 → IsAscii (two_digits n)
 two_digits-ascii n high = IsAscii-from_all (two_digits n) (All-from_recursion (λ byte. byte < 128) (two_digits n) (omega arith, (omega arith, tt)))
@@ -121,5 +131,9 @@ pub ruleset pairs = (digits_at_least-two, two_digits-ascii)
 pub ruleset threes = (digits_at_least-three, append_assoc)
 
 pub ruleset numbers = (decimal-one, decimal-two, decimal-more, length-one, length-two, length-more, append_assoc)
+
+pub ruleset last_digits = (decimal-wide, length-wide, append_assoc)
+
+pub ruleset wide_numbers = (length-128_bits)
 
 pub ruleset short_numbers = (length-32_bits, length-64_bits)

@@ -1,11 +1,11 @@
 pub mod Counted
 pub mod Digits
+pub mod Indices
 pub mod Lengths
 pub mod Month
 pub mod MonthCycle
 pub mod Name
 pub mod Order
-pub mod Places
 pub mod Refusal
 pub mod ShortText
 pub mod Walk

@@ -4,7 +4,7 @@ use Rattle.std.proofs.Common.{lit<}
 use Rattle.cal_units.specs.declared.month.Month.{Month}
 use Rattle.cal_units.specs.declared.month.Month.TheVariants.{January, February, March, April, May, June, July, August, September, October, November, December}
 use Rattle.cal_units.specs.Month.{index, month_at}
-use Rattle.cal_units.specs.Places.{each_index_below}
+use Rattle.cal_units.specs.Indices.{each_index_below}
 
 pub index-below : (m : Month) → index m < 12
 index-below January = lit< tt

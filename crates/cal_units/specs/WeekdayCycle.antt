@@ -3,7 +3,7 @@ use Rattle.std.specs.Prelude.{◌≡◌, ◌<◌, ℕ, refl}
 use Rattle.std.proofs.Common.{lit<}
 use Rattle.cal_units.specs.declared.weekday.Weekday.{Weekday}
 use Rattle.cal_units.specs.declared.weekday.Weekday.TheVariants.{Monday, Tuesday, Wednesday, Thursday, Friday, Saturday, Sunday}
-use Rattle.cal_units.specs.Places.{each_index_below}
+use Rattle.cal_units.specs.Indices.{each_index_below}
 use Rattle.cal_units.specs.Weekday.{index, weekday_at}
 
 pub index-below : (w : Weekday) → index w < 7

@@ -159,6 +159,34 @@ impl ShortText {
         self.push_number(u64::from(number.unsigned_abs()));
     }
 
+    /// Appends the digits of a number of 128 bits, after a minus sign below 0.
+    #[tactic(auto, using(crate::proofs::Digits::wide_numbers))]
+    pub fn push_signed_wide(&mut self, number: i128)
+        requires { HasRoom 40 self.old }
+        ensures appended { self.new ≡ self.old ++ signed_decimal number }
+        ensures short { length self.new ≤ length self.old + 40 }
+    {
+        if number < 0 {
+            self.push("-");
+        }
+        self.push_wide(number.unsigned_abs());
+    }
+
+    /// Appends the digits of a number of 128 bits, without zeros before them.
+    #[tactic(auto, using(crate::proofs::Digits::last_digits))]
+    fn push_wide(&mut self, number: u128)
+        requires { HasRoom (length (decimal number)) self.old }
+        ensures appended { self.new ≡ self.old ++ decimal number }
+        ensures longer { length self.new ≡ length self.old + length (decimal number) }
+    {
+        if number < 1_000_000_000_000_000_000 {
+            self.push_number(number as u64);
+            return;
+        }
+        self.push_wide(number / 10);
+        self.push_digit((number % 10) as u32);
+    }
+
     /// Appends a year: at least four digits, after a minus sign below 0, and after a plus sign from the year 10000 on.
     pub fn push_year(&mut self, year: i32)
         requires room { HasRoom 7 self.old }

@@ -14,7 +14,6 @@ pub mod OneCount
 pub mod OneAnswer
 pub mod OneKept
 pub mod Leads
-pub mod Digits
 pub mod Listed
 pub mod ReadNumbers
 pub mod PartTexts

@@ -1,8 +1,8 @@
 pub mod Days
 pub mod Finds
 pub mod Known
-pub mod Moments
 pub mod Numbers
+pub mod Pairs
 pub mod Parts
 pub mod Replies
 pub mod Texts

@@ -13,7 +13,7 @@ use Rattle.cal_time.specs.Refusals.{year_out_of_range, day_out_of_range, week_ou
 use Rattle.cal_time.specs.SignedDuration.{second, day, whole_days}
 use Rattle.cal_time.specs.Month.{month_out_of_range}
 use Rattle.cal_time.specs.Order.{ordinal_date_at, calendar_date_at, iso_week_date_at}
-use Rattle.cal_time.specs.Pair.{moment}
+use Rattle.cal_time.specs.Pair.{pair_number}
 use Rattle.cal_time.specs.Time.{time_of, hour_out_of_range, minute_out_of_range, second_out_of_range, text as time_text}
 use Rattle.cal_time.specs.Weekday.{name, index, weekday_at as weekday_in_place}
 use Rattle.cal_time.specs.Weeks.{weeks_in_year}
@@ -127,22 +127,22 @@ moved_text s n = date_or_none (day_of_julian_day (julian_day_at n +ℤ whole_day
 abbrev pub add_answer : ℤ → ℤ → List ℕ
 add_answer j s = text_or_refused (moved_text s) (day_of_julian_day j) julian_day_out_of_range
 
--- the moment lies in day n
-abbrev pub holds_moment : ℤ → ℕ → Bool
-holds_moment z n = int_le (julian_day_at n *ℤ pos day) z && int_lt z ((julian_day_at n +ℤ pos 1) *ℤ pos day)
+-- the pair of this number lies in day n
+abbrev pub holds_pair : ℤ → ℕ → Bool
+holds_pair z n = int_le (julian_day_at n *ℤ pos day) z && int_lt z ((julian_day_at n +ℤ pos 1) *ℤ pos day)
 
 -- the date and the time
 abbrev pub pair_text : ℕ → ℕ → List ℕ
 pair_text n t = text n ++ codes " " ++ time_text t
 
--- those of a moment that lies in a day, or that there is no such day
+-- those of a pair that lies in a day, or that there is no such day
 abbrev pub pair_or_none : ℤ → Option ℕ → List ℕ
 pair_or_none z (Some n) = pair_text n (unsigned_abs (z -ℤ julian_day_at n *ℤ pos day))
 pair_or_none z None = codes "none"
 
--- the moment so many seconds after day n at the time t
+-- the pair so many seconds after day n at the time t
 abbrev pub later_text : ℤ → ℕ → ℕ → List ℕ
-later_text s n t = let z = moment n t +ℤ s *ℤ pos second in pair_or_none z (day_where (holds_moment z))
+later_text s n t = let z = pair_number n t +ℤ s *ℤ pos second in pair_or_none z (day_where (holds_pair z))
 
 -- the same for an hour, a minute and a second, or why they are no time
 abbrev pub clock_text : ℕ → ℕ → ℕ → ℤ → ℕ → List ℕ

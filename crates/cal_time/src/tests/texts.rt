@@ -120,7 +120,7 @@ fn texts_of_errors(rt: HostRuntime) {
 
 // The longest text of each kind, and one that goes on where another ends.
 #[test]
-fn texts_in_index(rt: HostRuntime) {
+fn texts_in_place(rt: HostRuntime) {
     let found = (Date::MIN.text().len(), Time::MAX.text().len());
     same(&rt, found, (13, 18));
     let utc = UtcOffset::UTC.text();

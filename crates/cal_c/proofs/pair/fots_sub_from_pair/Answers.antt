@@ -1,6 +1,6 @@
 use Rattle.std.proofs.Common.{◌-ℤ◌, subst}
 use Rattle.std.proofs.lemmas.Int.{to_z-of_z}
-use Rattle.cal_time.specs.Pair.{moment, PairAt}
+use Rattle.cal_time.specs.Pair.{pair_number, PairAt}
 use Rattle.cal_c.specs.Values.{day_of}
 use Rattle.cal_c.proofs.pair.fots_sub_from_pair.Goals as goal
 
@@ -15,7 +15,7 @@ returns-in-Some-duration_of-clause-pair c = λ h t d.
     let f = c.ranges.date in
     let at = simp to_z-of_z at c.in-Some.ensures in
     let r = c.sub_from_pair.result in
-    let one = subst (λ n. PairAt (moment n c.in-Some-time_of.time -ℤ c.in-Some-duration_of.duration) r) at.1 c.sub_from_pair.ensures in
-    let two = subst (λ s. PairAt (moment (day_of c.args.date) s -ℤ c.in-Some-duration_of.duration) r) c.in-Some-time_of.ensures.1 one in
-    let three = subst (λ v. PairAt (moment (day_of c.args.date) c.args.time -ℤ v) r) c.in-Some-duration_of.ensures.1 two in
+    let one = subst (λ n. PairAt (pair_number n c.in-Some-time_of.time -ℤ c.in-Some-duration_of.duration) r) at.1 c.sub_from_pair.ensures in
+    let two = subst (λ s. PairAt (pair_number (day_of c.args.date) s -ℤ c.in-Some-duration_of.duration) r) c.in-Some-time_of.ensures.1 one in
+    let three = subst (λ v. PairAt (pair_number (day_of c.args.date) c.args.time -ℤ v) r) c.in-Some-duration_of.ensures.1 two in
     (r, three, c.of_option.ensures)

@@ -84,7 +84,7 @@ fn back_any_once<C: Cycle, F: FnMut(C) -> bool + Copy>(start: C, f: F) -> Twice<
 }
 
 /// A closure that changes nothing meets the condition.
-fn all_once_of_places_below(start: Month, end: u8) -> Twice<bool>
+fn all_once_of_indices_below(start: Month, end: u8) -> Twice<bool>
     ensures { result.0 ≡ result.1 }
 {
     all_once(start, move |month: Month| month.index() < end)

@@ -1,24 +1,24 @@
 use Rattle.std.proofs.Common.{◌≡◌, ℤ, pos, ◌+ℤ◌, ◌*ℤ◌, to_z, of_z, w64}
 use Rattle.std.proofs.lemmas.Int.{to_z-of_z}
-use Rattle.cal_time.specs.Pair.{moment}
+use Rattle.cal_time.specs.Pair.{pair_number}
 use Rattle.cal_time.specs.SignedDuration.{second}
-use Rattle.caltool.proofs.Moments.{day_where-moment, day_where-no_moment, rest-time}
+use Rattle.caltool.proofs.Pairs.{day_where-pair, day_where-no_pair, rest-time}
 use Rattle.caltool.proofs.answer.write_later.Goals as goal
 
 pub returns-in-None-clause-text : goal.returns-in-None-clause-text
 returns-in-None-clause-text c =
-    let z : ℤ = moment c.args.date c.args.time +ℤ c.args.seconds *ℤ pos second in
+    let z : ℤ = pair_number c.args.date c.args.time +ℤ c.args.seconds *ℤ pos second in
     let same : to_z w64 (of_z w64 c.args.seconds) ≡ c.args.seconds = to_z-of_z w64 c.args.seconds c.ranges.seconds in
     let duration = rw same at c.seconds.ensures in
     let none = rw duration at c.in-None.ensures in
-    rw (day_where-no_moment z none) c.push.ensures.appended
+    rw (day_where-no_pair z none) c.push.ensures.appended
 
 pub returns-in-Some-clause-text : goal.returns-in-Some-clause-text
 returns-in-Some-clause-text c =
-    let z : ℤ = moment c.args.date c.args.time +ℤ c.args.seconds *ℤ pos second in
+    let z : ℤ = pair_number c.args.date c.args.time +ℤ c.args.seconds *ℤ pos second in
     let same : to_z w64 (of_z w64 c.args.seconds) ≡ c.args.seconds = to_z-of_z w64 c.args.seconds c.ranges.seconds in
     let duration = rw same at c.seconds.ensures in
     let is = rw duration at c.in-Some.ensures in
-    let found = day_where-moment z c.in-Some.pair.0 c.in-Some.pair.1 is in
+    let found = day_where-pair z c.in-Some.pair.0 c.in-Some.pair.1 is in
     let time = rest-time z c.in-Some.pair.0 c.in-Some.pair.1 is in
     rw (found, time) c.write_pair.ensures.text

@@ -8,5 +8,5 @@ returns c =
     pair_at-some _ c.args.date c.args.time _ c.add_to_pair.ensures (record {
       date = c.year.ensures.in_range;
       time = c.hour.ensures.range;
-      moment_is = omega (arith, ints);
+      number_is = omega (arith, ints);
     })

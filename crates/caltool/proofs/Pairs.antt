@@ -1,18 +1,18 @@
--- The day that holds a moment, found by its test.
+-- The day of a pair, found by its test.
 use Rattle.std.proofs.Common.{◌≡◌, ℕ, Some, None, arith, ℤ, pos, ◌+ℤ◌, ◌-ℤ◌, ◌*ℤ◌, ◌≤ℤ◌, ◌<ℤ◌, unsigned_abs, Decides}
 use Rattle.std.proofs.lemmas.Int.{ints}
 use Rattle.cal_time.specs.Date.{julian_day_at, NoDate}
-use Rattle.cal_time.specs.Pair.{HasMoment, NoPair}
+use Rattle.cal_time.specs.Pair.{HasPairNumber, NoPair}
 use Rattle.cal_time.specs.SignedDuration.{day}
 use Rattle.cal_time.proofs.Pairs.{times-day}
-use Rattle.caltool.specs.Answers.{day_where, holds_moment}
+use Rattle.caltool.specs.Answers.{day_where, holds_pair}
 use Rattle.caltool.proofs.Days.{day_where-has, day_where-none}
 
 abbrev Holds : ℤ → ℕ → Type 0
 Holds z n = ((julian_day_at n *ℤ pos day) ≤ℤ z) × (z <ℤ ((julian_day_at n +ℤ pos 1) *ℤ pos day))
 
-decides_moment : (z : ℤ) (n : ℕ) → Decides (holds_moment z n) (Holds z n)
-decides_moment z n = (λ p. (grind (arith, ints), grind (arith, ints)), λ h. grind (arith, ints))
+decides_pair : (z : ℤ) (n : ℕ) → Decides (holds_pair z n) (Holds z n)
+decides_pair z n = (λ p. (grind (arith, ints), grind (arith, ints)), λ h. grind (arith, ints))
 
 one_day : (z : ℤ) (n m : ℕ) → Holds z n → Holds z m → n ≡ m
 one_day z n m h f =
@@ -22,20 +22,20 @@ one_day z n m h f =
     let d = times-day (julian_day_at m +ℤ pos 1) in
     omega (arith, ints)
 
-holds : (z : ℤ) (n t : ℕ) → HasMoment z n t → Holds z n
+holds : (z : ℤ) (n t : ℕ) → HasPairNumber z n t → Holds z n
 holds z n t h =
     let a = times-day (julian_day_at n) in
     let b = times-day (julian_day_at n +ℤ pos 1) in
     let below = h.time.below_day in
-    let same = h.moment_is in
+    let same = h.number_is in
     (omega (arith, ints), omega (arith, ints))
 
-pub day_where-moment : (z : ℤ) (n t : ℕ) → HasMoment z n t → day_where (holds_moment z) ≡ Some n
-day_where-moment z n t h =
-    day_where-has (Holds z) (holds_moment z) (decides_moment z) n h.date (holds z n t h) (λ m l f. one_day z m n f (holds z n t h))
+pub day_where-pair : (z : ℤ) (n t : ℕ) → HasPairNumber z n t → day_where (holds_pair z) ≡ Some n
+day_where-pair z n t h =
+    day_where-has (Holds z) (holds_pair z) (decides_pair z) n h.date (holds z n t h) (λ m l f. one_day z m n f (holds z n t h))
 
-pub rest-time : (z : ℤ) (n t : ℕ) → HasMoment z n t → unsigned_abs (z -ℤ julian_day_at n *ℤ pos day) ≡ t
-rest-time z n t h = let same = h.moment_is in omega (arith, ints)
+pub rest-time : (z : ℤ) (n t : ℕ) → HasPairNumber z n t → unsigned_abs (z -ℤ julian_day_at n *ℤ pos day) ≡ t
+rest-time z n t h = let same = h.number_is in omega (arith, ints)
 
 no_day : (z : ℤ) → NoPair z → NoDate (Holds z)
 no_day z none n l h =
@@ -45,8 +45,8 @@ no_day z none n l h =
     none n t (record {
       date = l;
       time = record { below_day = omega (arith, ints) };
-      moment_is = omega (arith, ints);
+      number_is = omega (arith, ints);
     })
 
-pub day_where-no_moment : (z : ℤ) → NoPair z → day_where (holds_moment z) ≡ None
-day_where-no_moment z none = day_where-none (Holds z) (holds_moment z) (decides_moment z) (no_day z none)
+pub day_where-no_pair : (z : ℤ) → NoPair z → day_where (holds_pair z) ≡ None
+day_where-no_pair z none = day_where-none (Holds z) (holds_pair z) (decides_pair z) (no_day z none)
