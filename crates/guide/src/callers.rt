@@ -1,8 +1,10 @@
 //! Callers that know the clauses alone: what the documentation says of a call is provable here.
 ghost use Rattle.std.specs.Prelude.{◌≡◌, ℕ, ◌+◌, ◌-◌, ◌<◌, ◌≤◌, ◌+ℤ◌, ◌-ℤ◌, ◌≤ℤ◌, ◌==◌, ◌⊎◌, pos, IfOk, IfSome, IfNone, IsNone, IsSome, ◌↔◌, Some, Ok};
-ghost use Rattle.cal_time.specs.Date.{last_day, year_at, month_at, day_of_month_at, ordinal_at, weekday_at, HasCalendarDate, IsYear};
+ghost use Rattle.cal_time.specs.Date.{last_day, year_at, month_at, day_of_month_at, ordinal_at, weekday_at, HasCalendarDate, HasJulianDay, HasOrdinalDate, IsYear, NoDate};
+ghost use Rattle.cal_time.specs.IsoWeekDate.{HasIsoWeekDate};
 ghost use Rattle.cal_time.specs.Lengths.{days_in_year, days_in_month};
 ghost use Rattle.cal_time.specs.Month.{number};
+ghost use Rattle.cal_time.specs.Weekday.{index};
 
 use cal_time::util::{days_in_month, days_in_year, weeks_in_year};
 use cal_time::{Date, Month, SignedDuration, Time, Weekday, add_to_pair};
@@ -38,9 +40,10 @@ fn through_julian_day(date: Date) -> Date
     }
 }
 
-/// The Julian day itself, by way of its day, if it has one.
+/// The Julian day itself, by way of its day, or `None` exactly where no day has it.
 fn julian_day_through(julian_day: i32) -> Option<i32>
-    ensures { IfSome result (λ same. same ≡ julian_day) }
+    ensures same { IfSome result (λ same. same ≡ julian_day) }
+    ensures none { IsNone result ↔ NoDate (HasJulianDay julian_day) }
 {
     match Date::from_julian_day(julian_day) {
         Ok(date) => Some(date.to_julian_day()),
@@ -59,9 +62,10 @@ fn through_ordinal_date(date: Date) -> Date
     }
 }
 
-/// The ordinal date itself, by way of its day, if it has one.
+/// The ordinal date itself, by way of its day, or `None` exactly where no day has it.
 fn ordinal_date_through(year: i32, ordinal: u16) -> Option<(i32, u16)>
-    ensures { IfSome result (λ same. same ≡ (year, ordinal)) }
+    ensures same { IfSome result (λ same. same ≡ (year, ordinal)) }
+    ensures none { IsNone result ↔ NoDate (HasOrdinalDate year ordinal) }
 {
     match Date::from_ordinal_date(year, ordinal) {
         Ok(date) => Some(date.to_ordinal_date()),
@@ -80,9 +84,10 @@ fn through_calendar_date(date: Date) -> Date
     }
 }
 
-/// The calendar date itself, by way of its day, if it has one.
+/// The calendar date itself, by way of its day, or `None` exactly where no day has it.
 fn calendar_date_through(year: i32, month: Month, day: u8) -> Option<(i32, Month, u8)>
-    ensures { IfSome result (λ same. same ≡ (year, month, day)) }
+    ensures same { IfSome result (λ same. same ≡ (year, month, day)) }
+    ensures none { IsNone result ↔ NoDate (HasCalendarDate year (number month) day) }
 {
     match Date::from_calendar_date(year, month, day) {
         Ok(date) => Some(date.to_calendar_date()),
@@ -101,9 +106,10 @@ fn through_iso_week_date(date: Date) -> Date
     }
 }
 
-/// The week date itself, by way of its day, if it has one.
+/// The week date itself, by way of its day, or `None` exactly where no day has it.
 fn iso_week_date_through(year: i32, week: u8, weekday: Weekday) -> Option<(i32, u8, Weekday)>
-    ensures { IfSome result (λ same. same ≡ (year, week, weekday)) }
+    ensures same { IfSome result (λ same. same ≡ (year, week, weekday)) }
+    ensures none { IsNone result ↔ NoDate (HasIsoWeekDate year week (index weekday)) }
 {
     match Date::from_iso_week_date(year, week, weekday) {
         Ok(date) => Some(date.to_iso_week_date()),
