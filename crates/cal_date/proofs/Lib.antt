@@ -6,6 +6,7 @@ pub mod DateTexts
 pub mod IsoForms
 pub mod IsoWeeks
 pub mod MonthForms
+pub mod MonthIndexes
 pub mod Months
 pub mod JulianDays
 pub mod Kernels

@@ -1,5 +1,5 @@
 -- The days before and after a date of the range, by their fields.
-use Rattle.std.proofs.Common.{◌≡◌, inl, inr, refl, sym, ap, ◌∙◌, ℕ, ◌+◌, ◌-◌, ◌<◌, ◌≤◌, nat_lt, arith, ℤ}
+use Rattle.std.proofs.Common.{◌≡◌, inl, inr, refl, sym, ap, ◌∙◌, ℕ, ◌+◌, ◌-◌, ◌<◌, ◌≤◌, nat_le, arith, ℤ}
 use Rattle.std.proofs.lemmas.Bool.{cases_Bool}
 use Rattle.std.proofs.lemmas.Bool.Decides.{nat_tests}
 use mir.Val.{bool_byte}
@@ -34,7 +34,7 @@ within_year n h = (in_range n (year_at n) (ordinal_at n) h (refl, refl)).ordinal
 pub ruleset previous_days = (not_first_day, within_year, MIN-number, ints, nat_tests)
 
 -- the leap mark of a date, by its low ten bits
-pub low_bits-leap : (n low : ℕ) → IsDate n → low ≡ leap_mark (year_at n) + ordinal_at n → nat_lt 512 low ≡ is_leap_year (year_at n)
+pub low_bits-leap : (n low : ℕ) → IsDate n → low ≡ leap_mark (year_at n) + ordinal_at n → nat_le 512 low ≡ is_leap_year (year_at n)
 low_bits-leap n low h bits =
     let most = ordinal-most n in
     let least = (stands n).ordinal.0 in

@@ -323,7 +323,8 @@ impl Date {
         ensures leap { result ≡ is_leap_year (year_at self) }
         ensures in_range { IsDate self }
     {
-        self.low_bits() > LEAP_MARK as u32
+        // No ordinal is 0, so `>` would say the same. But `>=` is a test of one bit.
+        self.low_bits() >= LEAP_MARK as u32
     }
 
     /// The day so many days later, or earlier where they are below zero, which is of the same year.

@@ -236,6 +236,11 @@ fn offsets(rt: &impl Print) -> io::Result<()> {
 
 fn dates(rt: &impl Print, date: Date) -> io::Result<()> {
     println!(rt; "{} {}", date.sunday_based_week(), date.monday_based_week())?;
+    println!(rt;
+        "{:?} {}",
+        date.month_index_and_day(),
+        Date::at_month_index(2023, 1, 31)
+    )?;
     println!(rt; "{:?} {:?}", date.next_day(), date.previous_day())?;
     println!(rt;
         "{:?}",

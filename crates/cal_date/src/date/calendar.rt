@@ -1,8 +1,8 @@
 //! Dates by year, month and day of the month.
-ghost use Rattle.std.specs.Prelude.{◌≡◌, ℕ, ◌<◌, ◌≤◌, pos, ◌↔◌, ◌⊎◌, IfOk, IfErr, IsErr, IsTrue, Ok, [], ◌∷◌, ℤ};
+ghost use Rattle.std.specs.Prelude.{◌≡◌, ℕ, ◌+◌, ◌<◌, ◌≤◌, min, pos, ◌↔◌, ◌⊎◌, IfOk, IfErr, IsErr, IsTrue, Ok, [], ◌∷◌, ℤ};
 ghost use Rattle.cal_units.specs.Month.{number};
 ghost use Rattle.cal_units.specs.Refusal.{IsRefused};
-ghost use Rattle.cal_units.specs.Lengths.{is_leap_year};
+ghost use Rattle.cal_units.specs.Lengths.{is_leap_year, days_in_month};
 ghost use Rattle.cal_date.specs.ClosedForms.{days_in_part, months_before_part, month_of_ordinal, day_of_ordinal};
 ghost use Rattle.cal_date.specs.CountLaws.{days_of_months};
 ghost use Rattle.cal_date.specs.Date.{year_at, month_at, day_of_month_at, ordinal_at, IsDate, IsYear, IsDayOfMonth, HasCalendarDate, NoDate};
@@ -29,6 +29,40 @@ const DAYS_BEFORE_MONTH: [[u16; 2]; 13] = [
     [304, 305],
     [334, 335],
     [365, 366],
+];
+
+/// The index of the month by the leap mark and the ordinal: from 1 to 365 in a common year, from 513 to 878 in a leap year. No
+/// day has the others.
+const MONTH_INDEXES: [u8; 879] = [
+    0, 0, 0, 0, 0, 0, 0, 0, 0, 0, 0, 0, 0, 0, 0, 0, 0, 0, 0, 0, 0, 0, 0, 0, 0, 0, 0, 0, 0, 0, 0, 0,
+    1, 1, 1, 1, 1, 1, 1, 1, 1, 1, 1, 1, 1, 1, 1, 1, 1, 1, 1, 1, 1, 1, 1, 1, 1, 1, 1, 1, 2, 2, 2, 2,
+    2, 2, 2, 2, 2, 2, 2, 2, 2, 2, 2, 2, 2, 2, 2, 2, 2, 2, 2, 2, 2, 2, 2, 2, 2, 2, 2, 3, 3, 3, 3, 3,
+    3, 3, 3, 3, 3, 3, 3, 3, 3, 3, 3, 3, 3, 3, 3, 3, 3, 3, 3, 3, 3, 3, 3, 3, 3, 4, 4, 4, 4, 4, 4, 4,
+    4, 4, 4, 4, 4, 4, 4, 4, 4, 4, 4, 4, 4, 4, 4, 4, 4, 4, 4, 4, 4, 4, 4, 4, 5, 5, 5, 5, 5, 5, 5, 5,
+    5, 5, 5, 5, 5, 5, 5, 5, 5, 5, 5, 5, 5, 5, 5, 5, 5, 5, 5, 5, 5, 5, 6, 6, 6, 6, 6, 6, 6, 6, 6, 6,
+    6, 6, 6, 6, 6, 6, 6, 6, 6, 6, 6, 6, 6, 6, 6, 6, 6, 6, 6, 6, 6, 7, 7, 7, 7, 7, 7, 7, 7, 7, 7, 7,
+    7, 7, 7, 7, 7, 7, 7, 7, 7, 7, 7, 7, 7, 7, 7, 7, 7, 7, 7, 7, 8, 8, 8, 8, 8, 8, 8, 8, 8, 8, 8, 8,
+    8, 8, 8, 8, 8, 8, 8, 8, 8, 8, 8, 8, 8, 8, 8, 8, 8, 8, 9, 9, 9, 9, 9, 9, 9, 9, 9, 9, 9, 9, 9, 9,
+    9, 9, 9, 9, 9, 9, 9, 9, 9, 9, 9, 9, 9, 9, 9, 9, 9, 10, 10, 10, 10, 10, 10, 10, 10, 10, 10, 10,
+    10, 10, 10, 10, 10, 10, 10, 10, 10, 10, 10, 10, 10, 10, 10, 10, 10, 10, 10, 11, 11, 11, 11, 11,
+    11, 11, 11, 11, 11, 11, 11, 11, 11, 11, 11, 11, 11, 11, 11, 11, 11, 11, 11, 11, 11, 11, 11, 11,
+    11, 11, 0, 0, 0, 0, 0, 0, 0, 0, 0, 0, 0, 0, 0, 0, 0, 0, 0, 0, 0, 0, 0, 0, 0, 0, 0, 0, 0, 0, 0,
+    0, 0, 0, 0, 0, 0, 0, 0, 0, 0, 0, 0, 0, 0, 0, 0, 0, 0, 0, 0, 0, 0, 0, 0, 0, 0, 0, 0, 0, 0, 0, 0,
+    0, 0, 0, 0, 0, 0, 0, 0, 0, 0, 0, 0, 0, 0, 0, 0, 0, 0, 0, 0, 0, 0, 0, 0, 0, 0, 0, 0, 0, 0, 0, 0,
+    0, 0, 0, 0, 0, 0, 0, 0, 0, 0, 0, 0, 0, 0, 0, 0, 0, 0, 0, 0, 0, 0, 0, 0, 0, 0, 0, 0, 0, 0, 0, 0,
+    0, 0, 0, 0, 0, 0, 0, 0, 0, 0, 0, 0, 0, 0, 0, 0, 0, 0, 0, 0, 0, 0, 0, 0, 0, 0, 0, 0, 0, 0, 0, 0,
+    0, 0, 0, 0, 0, 0, 0, 0, 0, 0, 0, 0, 0, 0, 0, 0, 0, 0, 0, 0, 0, 1, 1, 1, 1, 1, 1, 1, 1, 1, 1, 1,
+    1, 1, 1, 1, 1, 1, 1, 1, 1, 1, 1, 1, 1, 1, 1, 1, 1, 1, 2, 2, 2, 2, 2, 2, 2, 2, 2, 2, 2, 2, 2, 2,
+    2, 2, 2, 2, 2, 2, 2, 2, 2, 2, 2, 2, 2, 2, 2, 2, 2, 3, 3, 3, 3, 3, 3, 3, 3, 3, 3, 3, 3, 3, 3, 3,
+    3, 3, 3, 3, 3, 3, 3, 3, 3, 3, 3, 3, 3, 3, 3, 4, 4, 4, 4, 4, 4, 4, 4, 4, 4, 4, 4, 4, 4, 4, 4, 4,
+    4, 4, 4, 4, 4, 4, 4, 4, 4, 4, 4, 4, 4, 4, 5, 5, 5, 5, 5, 5, 5, 5, 5, 5, 5, 5, 5, 5, 5, 5, 5, 5,
+    5, 5, 5, 5, 5, 5, 5, 5, 5, 5, 5, 5, 6, 6, 6, 6, 6, 6, 6, 6, 6, 6, 6, 6, 6, 6, 6, 6, 6, 6, 6, 6,
+    6, 6, 6, 6, 6, 6, 6, 6, 6, 6, 6, 7, 7, 7, 7, 7, 7, 7, 7, 7, 7, 7, 7, 7, 7, 7, 7, 7, 7, 7, 7, 7,
+    7, 7, 7, 7, 7, 7, 7, 7, 7, 7, 8, 8, 8, 8, 8, 8, 8, 8, 8, 8, 8, 8, 8, 8, 8, 8, 8, 8, 8, 8, 8, 8,
+    8, 8, 8, 8, 8, 8, 8, 8, 9, 9, 9, 9, 9, 9, 9, 9, 9, 9, 9, 9, 9, 9, 9, 9, 9, 9, 9, 9, 9, 9, 9, 9,
+    9, 9, 9, 9, 9, 9, 9, 10, 10, 10, 10, 10, 10, 10, 10, 10, 10, 10, 10, 10, 10, 10, 10, 10, 10,
+    10, 10, 10, 10, 10, 10, 10, 10, 10, 10, 10, 10, 11, 11, 11, 11, 11, 11, 11, 11, 11, 11, 11, 11,
+    11, 11, 11, 11, 11, 11, 11, 11, 11, 11, 11, 11, 11, 11, 11, 11, 11, 11, 11,
 ];
 
 impl Date {
@@ -62,6 +96,23 @@ impl Date {
         }
         let ordinal = days_before_month(month.index(), leap) + u16::from(day);
         Ok(Date::from_parts(year, leap, ordinal))
+    }
+
+    /// The day of the year that has this month, by its index from 0 at January, and this day of the month, or the last day of the
+    /// month where it has no such day. So 2023, 0 and 31 lead to 2023-01-31, and 2023, 1 and 31 to 2023-02-28.
+    ///
+    /// The year is from -999999 to 999999, the index below 12, and the day at least 1.
+    pub fn at_month_index(year: i32, index: u8, day: u8) -> Self
+        requires year { IsYear year }
+        requires index { index < 12 }
+        requires day { 1 ≤ day }
+        ensures date { HasCalendarDate year (index + 1)
+            (min day (days_in_month year (index + 1))) result }
+        ensures in_range { IsDate result }
+    {
+        let leap = is_leap_year(year);
+        let ordinal = days_before_month(index, leap) + u16::from(day);
+        Date::from_parts(year, leap, ordinal.min(days_before_month(index + 1, leap)))
     }
 
     /// The month. That of 2020-02-29 is February.
@@ -102,6 +153,31 @@ impl Date {
     {
         let (month, day) = self.month_and_day();
         (self.year(), month, day)
+    }
+
+    /// The index of the month, from 0 at January, and the day of the month. Those of 2020-02-29 are (1, 29).
+    ///
+    /// [`Self::to_calendar_date`] has the month by name, which costs a jump. This does without it.
+    #[tactic(auto, using(crate::proofs::MonthIndexes::days_of_the_month))]
+    pub fn month_index_and_day(self) -> (u8, u8)
+        ensures month { result.0 + 1 ≡ month_at self }
+        ensures day { result.1 ≡ day_of_month_at self }
+        ensures index { result.0 < 12 }
+        ensures range { IsDayOfMonth (year_at self) (month_at self) result.1 }
+        ensures most { result.1 ≤ 31 }
+        ensures in_range { IsDate self }
+    {
+        let index = self.month_index();
+        let before = days_before_month(index, self.is_in_leap_year());
+        (index, (self.ordinal() - before) as u8)
+    }
+
+    /// The index of the month, from 0.
+    fn month_index(self) -> u8
+        ensures month { result + 1 ≡ month_at self }
+        ensures range { result < 12 }
+    {
+        MONTH_INDEXES[self.low_bits() as usize]
     }
 
     /// The month and the day of the month, from the leap mark and the ordinal.

@@ -1,7 +1,7 @@
 //! Dates in their four forms, their parts and their neighbours.
 use crate::tests::range::{DAYS, FIRST_JULIAN_DAY, FIRST_YEAR, LAST_JULIAN_DAY, LAST_YEAR};
 use crate::tests::{date, same, same_at, told};
-use crate::{Counted, Date, Month, Weekday};
+use crate::{Counted, Cycle, Date, Month, Weekday};
 use std::process::Abort;
 
 // The columns: Julian day, calendar date, ordinal, ISO week date, and the weeks of the year from Sunday and from Monday on.
@@ -80,6 +80,7 @@ fn check_parts(
     same(rt, (year, month as u8, day), calendar);
     let found = (date.year(), date.month(), date.day());
     same(rt, found, (year, month, day));
+    same(rt, date.month_index_and_day(), (month.index(), day));
     same(rt, date.to_ordinal_date(), (year, ordinal));
     same(rt, date.ordinal(), ordinal);
     let (iso_year, week, weekday) = date.to_iso_week_date();
@@ -108,6 +109,26 @@ fn neighbours(rt: HostRuntime) {
         let next = date(&rt, next_year, next_month, next_day);
         let found = (day.next_day(), next.previous_day());
         same(&rt, found, (Some(next), Some(day)));
+    }
+}
+
+// The first date has a day that the month of the second has, or that is past its end.
+#[test]
+fn days_in_other_months(rt: HostRuntime) {
+    for ((year, month, day), (other_year, other_month, found)) in [
+        ((2023, 1, 31), (2023, 2, 28)),
+        ((2023, 1, 31), (2024, 2, 29)),
+        ((2023, 3, 30), (1900, 2, 28)),
+        ((2023, 3, 30), (2000, 2, 29)),
+        ((2023, 12, 31), (2023, 4, 30)),
+        ((2024, 2, 29), (2023, 12, 29)),
+        ((2024, 2, 1), (FIRST_YEAR, 1, 1)),
+        ((2023, 5, 31), (LAST_YEAR, 12, 31)),
+    ] {
+        let (_, day) = date(&rt, year, month, day).month_index_and_day();
+        let other = date(&rt, other_year, other_month, found);
+        let (index, _) = other.month_index_and_day();
+        same(&rt, Date::at_month_index(other.year(), index, day), other);
     }
 }
 

@@ -1,7 +1,7 @@
 //! The dates of components, the components of dates, and dates with one replaced.
-ghost use Rattle.std.specs.Prelude.{◌≡◌, ℕ};
+ghost use Rattle.std.specs.Prelude.{◌≡◌, ℕ, ◌<◌, ◌≤◌};
 ghost use Rattle.cal_date.specs.ClosedForms.{HasKernel};
-ghost use Rattle.cal_date.specs.Date.{IsDate};
+ghost use Rattle.cal_date.specs.Date.{IsDate, IsYear};
 
 use crate::error::ComponentRange;
 use crate::tests::one_answer::Twice;
@@ -18,6 +18,15 @@ fn from_calendar_date(year: i32, month: Month, day: u8) -> Twice<Result<Date, Co
     ensures { result.0 ≡ result.1 }
 {
     twice!(Date::from_calendar_date(year, month, day))
+}
+
+fn at_month_index(year: i32, index: u8, day: u8) -> Twice<Date>
+    requires year { IsYear year }
+    requires index { index < 12 }
+    requires day { 1 ≤ day }
+    ensures { result.0 ≡ result.1 }
+{
+    twice!(Date::at_month_index(year, index, day))
 }
 
 fn from_iso_week_date(year: i32, week: u8, weekday: Weekday) -> Twice<Result<Date, ComponentRange>>
