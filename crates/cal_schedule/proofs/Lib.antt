@@ -1,5 +1,4 @@
 pub mod MonthMoves
-pub mod Ordinals
 pub mod RulePeriods
 pub mod Rules
 pub mod Untils

@@ -1,5 +1,5 @@
 -- Days counted by months. The months are counted through the years from January of the year 0, which has the number 0.
-use Rattle.std.specs.Prelude.{◌≡◌, ℕ, zero, suc, ◌+◌, ◌/◌, min, ℤ, pos, ◌+ℤ◌, ◌-ℤ◌, ◌*ℤ◌, ◌<ℤ◌, ◌≤ℤ◌}
+use Rattle.std.specs.Prelude.{◌≡◌, ℕ, ◌+◌, ◌/◌, min, ℤ, pos, ◌+ℤ◌, ◌-ℤ◌, ◌*ℤ◌, ◌<ℤ◌, ◌≤ℤ◌}
 use Rattle.cal_time.specs.Date.{first_year, last_year, year_at, month_at, day_of_month_at}
 use Rattle.cal_time.specs.Lengths.{days_in_month}
 
@@ -17,11 +17,6 @@ pub record IsMonthNumber (z : ℤ) : Type 0 where
 pub record IsMonthsLater (n : ℕ) (months : ℤ) (r : ℕ) : Type 0 where
   pub month : month_number_at r ≡ month_number_at n +ℤ months
   pub day : day_of_month_at r ≡ min (day_of_month_at n) (days_in_month (year_at r) (month_at r))
-
--- the days of the first months of a year, so many of them
-unfoldable pub days_before_month : ℤ → ℕ → ℕ
-days_before_month y zero = 0
-days_before_month y (suc i) = days_before_month y i + days_in_month y (suc i)
 
 -- the quarter of day n: three months each, from 1 to 4
 abbrev pub quarter_at : ℕ → ℕ

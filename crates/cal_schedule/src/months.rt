@@ -1,54 +1,13 @@
 //! Days moved by months and years.
 ghost use Rattle.std.specs.Prelude.{◌≡◌, ℕ, ◌+◌, ◌<◌, ◌≤◌, ◌^◌, min, pos, neg_ℤ, ◌+ℤ◌, ◌-ℤ◌, ◌*ℤ◌, ◌<ℤ◌, ◌≤ℤ◌, Some, IfSome, IfNone};
-ghost use Rattle.cal_time.specs.Date.{first_year, last_year, last_day, IsDate, IsYear, IsOrdinal, IsDayOfMonth, year_at, month_at, day_of_month_at};
+ghost use Rattle.cal_time.specs.Date.{first_year, last_year, last_day, IsDate, IsYear, year_at, month_at, day_of_month_at};
 ghost use Rattle.cal_time.specs.Lengths.{days_in_month};
-ghost use Rattle.cal_schedule.specs.Months.{month_number_at, days_before_month, IsMonthNumber, IsMonthsLater};
+ghost use Rattle.cal_schedule.specs.Months.{month_number_at, IsMonthNumber, IsMonthsLater};
 
 use cal_time::Date;
-use cal_time::util::is_leap_year;
 
 /// The months of the range of years.
 const MONTHS: i64 = 23_999_988;
-
-/// The days that come before each month, and at the end those of the year: in a common year, and in a leap year.
-const DAYS_BEFORE_MONTH: [[u16; 2]; 13] = [
-    [0, 0],
-    [31, 31],
-    [59, 60],
-    [90, 91],
-    [120, 121],
-    [151, 152],
-    [181, 182],
-    [212, 213],
-    [243, 244],
-    [273, 274],
-    [304, 305],
-    [334, 335],
-    [365, 366],
-];
-
-/// The days of the year that come before the month of that index. At 12 they are all its days.
-#[tactic(auto, using(crate::proofs::Ordinals::days_before_months))]
-fn days_before_month(year: i32, index: u8) -> u16
-    requires { index ≤ 12 }
-    ensures { result ≡ days_before_month year index }
-{
-    DAYS_BEFORE_MONTH[usize::from(index)][usize::from(is_leap_year(year))]
-}
-
-/// The index of the month, and the day of the month, of the day of the year that has this ordinal.
-///
-/// A month has at most 31 days. So an ordinal by 32 is the index of the month, or one less.
-fn month_and_day(year: i32, ordinal: u16) -> (u8, u8)
-    requires { IsOrdinal year ordinal }
-    ensures month { result.0 < 12 }
-    ensures day { IsDayOfMonth year (result.0 + 1) result.1 }
-    ensures ordinal { ordinal ≡ days_before_month year result.0 + result.1 }
-{
-    let least = (ordinal / 32) as u8;
-    let month = least + u8::from(ordinal > days_before_month(year, least + 1));
-    (month, (ordinal - days_before_month(year, month)) as u8)
-}
 
 /// The months of the range that come before the month of the day, and its day of the month.
 pub(crate) fn index_and_day(date: Date) -> (u32, u8)
@@ -58,10 +17,8 @@ pub(crate) fn index_and_day(date: Date) -> (u32, u8)
     ensures first { 1 ≤ result.1 }
     ensures in_range { IsDate date }
 {
-    // The calendar date has a month by name, which costs a jump. The index does without it.
-    let (year, ordinal) = date.to_ordinal_date();
-    let (month, day) = month_and_day(year, ordinal);
-    ((year + 999_999) as u32 * 12 + u32::from(month), day)
+    let (month, day) = date.month_index_and_day();
+    ((date.year() + 999_999) as u32 * 12 + u32::from(month), day)
 }
 
 /// The year, and the index of the month in it, that have so many months of the range before them.
@@ -84,11 +41,7 @@ pub(crate) fn day_in_month(index: u32, day: u8) -> Date
     ensures in_range { IsDate result }
 {
     let (year, month) = year_and_month(index);
-    let ordinal = days_before_month(year, month) + u16::from(day);
-    match Date::from_ordinal_date(year, ordinal.min(days_before_month(year, month + 1))) {
-        Ok(date) => date,
-        Err(_) => unreachable!(),
-    }
+    Date::at_month_index(year, month, day)
 }
 
 /// The day so many months later, or `None` where that month is not in the range.
