@@ -17,6 +17,11 @@ pub mod Leads
 pub mod Digits
 pub mod Listed
 pub mod ReadNumbers
+pub mod Templates
+pub mod ShapeBytes
+pub mod DateTemplates
+pub mod LocalTemplates
+pub mod NumberTemplates
 pub mod PartTexts
 pub mod LastBytes
 pub mod FrontDays

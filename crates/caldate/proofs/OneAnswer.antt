@@ -1,13 +1,12 @@
--- What is answered to a text is one, but for the position in an unreadable one where a reading is named.
+-- What is answered to a text is one.
 use Rattle.std.proofs.Common.{◌≡◌, ◌⊎◌, ℕ, ◌+◌, ◌≤◌, List, length, [], ◌∷◌, ◌++◌, codes, decimal, Option, Some, None, Result, Ok, Err, inl, inr, refl, ap, sym, subst, ◌∙◌, arith}
-use Rattle.std.specs.Prelude.{◌≢◌, ◌↔◌, IsOk}
+use Rattle.std.specs.Prelude.{◌↔◌, IsOk}
 use Rattle.std.specs.Fmt.{signed_decimal}
 use Rattle.std.specs.Io.KnownBytes.{Appends, Consumes, IsAtEnd}
 use Rattle.std.proofs.lemmas.Bool.{false≢true}
 use Rattle.std.proofs.lemmas.List.{append-nil}
 use Rattle.cal_time.specs.declared.error.ComponentRange.{ComponentRange}
 use Rattle.cal_datetime.specs.OffsetDateTime.{Shown}
-use Rattle.cal_text.specs.AnyForm.{HasAnyForm}
 use Rattle.cal_text.specs.Reading.{IsRefusedFor, IsRefusedForForm}
 use Rattle.cal_text.proofs.Positions.{one_position}
 use Rattle.cal_text.specs.declared.any.DateOrMoment.{DateOrMoment}
@@ -21,9 +20,6 @@ use Rattle.caldate.specs.Readings.{HasFormIn, IsFaultIn, IsTextIn}
 use Rattle.caldate.specs.Runs.{Ended, IsReplyTo}
 use Rattle.caldate.specs.Standing.{AreReplies, Writes}
 use Rattle.caldate.specs.declared.fault.Fault.{Fault}
-use Rattle.caldate.specs.declared.reading.Reading.{Reading}
-use Rattle.caldate.specs.declared.reading.Reading.TheVariants.{Any, DayFirst, MonthFirst, Local}
-use Rattle.caldate.specs.declared.reading.Reading.TheVariants as reading
 use Rattle.caldate.specs.declared.request.Filter.{Filter}
 use Rattle.caldate.specs.declared.request.Form.{Form}
 use Rattle.caldate.specs.declared.request.Form.TheVariants.{Date, Weekday, Moment, ShortWeekday, Month, Quarter, Basic}
@@ -74,33 +70,16 @@ Told filter text (Err (OutOfRange e)) words = words ≡ refused_text e
 Told filter text (Err (UnexpectedByte at)) words = IsUnreadable filter text words
 Told filter text (Err (UnexpectedEnd at)) words = IsUnreadable filter text words
 
--- two answers are the same, or the text is unreadable in a reading that is named
-abbrev Alike : Filter → List ℕ → List ℕ → List ℕ → Type 0
-Alike filter text a b = (a ≡ b) ⊎ (filter.reading ≢ Any) × IsUnreadable filter text a × IsUnreadable filter text b
+one_unreadable : (filter : Filter) (text a b : List ℕ) → IsUnreadable filter text a → IsUnreadable filter text b → a ≡ b
+one_unreadable filter text a b h k =
+    h.1.2 ∙ ap (λ at. codes "unreadable at " ++ decimal at) (one_position (HasFormIn filter.reading) text h.1.0 k.1.0 h.1.1 k.1.1) ∙ sym k.1.2
 
-is_any : (r : Reading) → (r ≡ Any) ⊎ (r ≢ Any)
-is_any Any = inl refl
-is_any reading.Basic = inr (λ e. cc)
-is_any DayFirst = inr (λ e. cc)
-is_any MonthFirst = inr (λ e. cc)
-is_any (reading.Unix unit) = inr (λ e. cc)
-is_any (Local offset) = inr (λ e. cc)
-
-one_unreadable : (filter : Filter) (text a b : List ℕ) → IsUnreadable filter text a → IsUnreadable filter text b → Alike filter text a b
-one_unreadable filter text a b h k = elim (is_any filter.reading) as (λ _. Alike filter text a b) [
-  | inl any ↦
-      let same = one_position HasAnyForm text h.1.0 k.1.0 (h.1.1 any) (k.1.1 any) in
-      inl (h.1.2 ∙ ap (λ at. codes "unreadable at " ++ decimal at) same ∙ sym k.1.2)
-  | inr named ↦ inr (named, h, k)
-]
-
-one_told : (filter : Filter) (text : List ℕ) (r : Result DateOrMoment Unreadable) (a b : List ℕ) → Told filter text r a → Told filter text r b
-    → Alike filter text a b
-one_told filter text (Ok found) a b (inl h) (inl k) = inl (one_answer_to filter.request found a b h k)
+one_told : (filter : Filter) (text : List ℕ) (r : Result DateOrMoment Unreadable) (a b : List ℕ) → Told filter text r a → Told filter text r b → a ≡ b
+one_told filter text (Ok found) a b (inl h) (inl k) = one_answer_to filter.request found a b h k
 one_told filter text (Ok found) a b (inl h) (inr k) = absurd (k.1 a h)
 one_told filter text (Ok found) a b (inr h) (inl k) = absurd (h.1 b k)
-one_told filter text (Ok found) a b (inr h) (inr k) = inl (h.0 ∙ sym k.0)
-one_told filter text (Err (OutOfRange e)) a b h k = inl (h ∙ sym k)
+one_told filter text (Ok found) a b (inr h) (inr k) = h.0 ∙ sym k.0
+one_told filter text (Err (OutOfRange e)) a b h k = h ∙ sym k
 one_told filter text (Err (UnexpectedByte at)) a b h k = one_unreadable filter text a b h k
 one_told filter text (Err (UnexpectedEnd at)) a b h k = one_unreadable filter text a b h k
 
@@ -144,8 +123,8 @@ told filter text r words every form component (inr (inr h)) = inr (
 
 one_of : (filter : Filter) (text : List ℕ) (r : Result DateOrMoment Unreadable) (a b : List ℕ)
     → IsTooLong text a ⊎ (length text ≤ 4096) × Told filter text r a → IsTooLong text b ⊎ (length text ≤ 4096) × Told filter text r b
-    → Alike filter text a b
-one_of filter text r a b (inl h) (inl k) = inl (h.1 ∙ sym k.1)
+    → a ≡ b
+one_of filter text r a b (inl h) (inl k) = h.1 ∙ sym k.1
 one_of filter text r a b (inl h) (inr k) = absurd (omega (arith, h.0, k.0))
 one_of filter text r a b (inr h) (inl k) = absurd (omega (arith, h.0, k.0))
 one_of filter text r a b (inr h) (inr k) = one_told filter text r a b h.1 k.1
@@ -153,7 +132,7 @@ one_of filter text r a b (inr h) (inr k) = one_told filter text r a b h.1 k.1
 pub one_answer : (filter : Filter) (text : List ℕ) (r : Result DateOrMoment Unreadable) (a b : List ℕ)
     → ((found : DateOrMoment) → IsTextIn filter.reading text found → r ≡ Ok found)
     → (IsRefusedForForm r ↔ ¬ HasFormIn filter.reading text) → ((why : ComponentRange) → IsRefusedFor why r ↔ IsFaultIn filter.reading text why)
-    → IsAnswer filter text a → IsAnswer filter text b → Alike filter text a b
+    → IsAnswer filter text a → IsAnswer filter text b → a ≡ b
 one_answer filter text r a b every form component h k =
     one_of filter text r a b (told filter text r a every form component h) (told filter text r b every form component k)
 

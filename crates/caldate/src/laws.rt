@@ -1,8 +1,7 @@
 //! What follows from the answers: a text has one, and a line has one reply.
-ghost use Rattle.std.specs.Prelude.{◌≡◌, ◌≢◌, ◌⊎◌, ℕ, List};
-ghost use Rattle.caldate.specs.Answers.{IsAnswer, IsUnreadable};
+ghost use Rattle.std.specs.Prelude.{◌≡◌, ℕ, List};
+ghost use Rattle.caldate.specs.Answers.{IsAnswer};
 ghost use Rattle.caldate.specs.Kept.{IsKept};
-ghost use Rattle.caldate.specs.declared.reading.Reading.TheVariants.{Any};
 ghost use Rattle.caldate.specs.declared.request.Bounds.{Bounds};
 ghost use Rattle.caldate.specs.declared.request.Request.TheVariants.{Keep};
 
@@ -12,13 +11,10 @@ use crate::reading::read_in;
 use crate::request::Filter;
 use cal_text::{DateOrMoment, Unreadable};
 
-/// No text has two answers to one request in one reading, but for the position that the words for an unreadable text name where a
-/// reading is named.
+/// No text has two answers to one request in one reading.
 pub(crate) fn one_answer(filter: &Filter, text: &[u8]) -> Result<DateOrMoment, Unreadable>
     ensures { (words others : List ℕ) → IsAnswer filter.now text.now words
-        → IsAnswer filter.now text.now others
-        → (words ≡ others) ⊎ (filter.now.reading ≢ Any) × IsUnreadable filter.now text.now words
-        × IsUnreadable filter.now text.now others }
+        → IsAnswer filter.now text.now others → words ≡ others }
 {
     read_in(filter.reading, text)
 }
