@@ -1,5 +1,5 @@
 -- The templates of the dates whose parts come in another order.
-use Rattle.std.proofs.Common.{◌≡◌, ◌⊎◌, inl, inr, ℕ, zero, suc, ◌+◌, ◌<◌, ◌≤◌, Bool, true, false, List, [], ◌∷◌, ◌++◌, length, get_or, take, Option, Some, None, refl, sym, ap, subst, ◌∙◌, arith, codes, eqb}
+use Rattle.std.proofs.Common.{◌≡◌, ◌⊎◌, inl, inr, ℕ, ◌<◌, ◌≤◌, Bool, true, false, List, [], ◌∷◌, ◌++◌, length, get_or, take, Option, Some, None, refl, sym, subst, ◌∙◌, arith, codes}
 use Rattle.std.specs.Prelude.{◌&&◌, ◌==◌, nat_le, IsSomeAnd, if◌then◌else◌}
 use Rattle.std.proofs.lemmas.Bool.{cases_lt, eqb-true, false≢true}
 use Rattle.std.proofs.lemmas.Bool.Decides.{nat_tests}
@@ -15,7 +15,7 @@ use Rattle.caldate.specs.Readings.{HasFormIn, is_parted, is_separator}
 use Rattle.caldate.specs.Templates.{Fits, IsTemplateFor, stands_at}
 use Rattle.caldate.specs.declared.reading.Reading.TheVariants as reading
 use Rattle.caldate.proofs.PartTexts.{eight, parted_long, ten}
-use Rattle.caldate.proofs.ShapeBytes.{Knows, from-first, branch-first, ruled_out}
+use Rattle.caldate.proofs.ShapeBytes.{from-first, branch-first, ruled_out}
 use Rattle.caldate.proofs.Templates.{fits-front, template_for}
 
 -- ---- digits

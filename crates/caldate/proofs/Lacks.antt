@@ -1,5 +1,5 @@
 -- A text that has no answer, by what its reader says of it.
-use Rattle.std.proofs.Common.{◌≡◌, ℕ, ◌≤◌, List, [], ◌∷◌, length, Err, refl, inl, inr}
+use Rattle.std.proofs.Common.{ℕ, ◌≤◌, List, [], ◌∷◌, length, Err, refl, inl, inr}
 use Rattle.std.specs.Prelude.{◌↔◌}
 use Rattle.cal_time.specs.declared.error.ComponentRange.{ComponentRange}
 use Rattle.cal_text.specs.Position.{IsAtStop}

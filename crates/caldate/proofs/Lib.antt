@@ -12,7 +12,7 @@ pub mod Keeps
 pub mod Steps
 pub mod OneCount
 pub mod OneAnswer
-pub mod OneKept
+pub mod OneReply
 pub mod Leads
 pub mod Digits
 pub mod Listed

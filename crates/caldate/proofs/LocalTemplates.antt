@@ -1,10 +1,9 @@
 -- The template of a moment without its offset: what fits it, and a Z, have the form of a moment.
-use Rattle.std.proofs.Common.{◌≡◌, ◌⊎◌, inl, inr, ℕ, zero, suc, ◌+◌, ◌<◌, ◌≤◌, Bool, true, false, ℤ, List, [], ◌∷◌, ◌++◌, length, take, replicate, Some, None, refl, sym, ap, ◌∙◌, arith, codes, length-append}
-use Rattle.std.specs.Prelude.{◌==◌, ◌||◌, nat_le, IsSomeAnd, if◌then◌else◌}
-use Rattle.std.proofs.lemmas.Bool.{false≢true}
+use Rattle.std.proofs.Common.{◌≡◌, ◌⊎◌, inl, inr, ℕ, zero, suc, ◌<◌, ◌≤◌, true, ℤ, List, [], ◌∷◌, ◌++◌, length, take, replicate, refl, ap, ◌∙◌, arith, codes, length-append}
+use Rattle.std.specs.Prelude.{◌==◌, ◌||◌, nat_le}
 use Rattle.std.proofs.lemmas.Bool.Decides.{nat_tests}
 use Rattle.cal_text.specs.AnyForm.{HasAnyForm}
-use Rattle.cal_text.specs.Shape.{Shape, left, Done, From, Branch, Byte, Digits, UpTo, Fraction, Separator, date, julian_day, unix_time, moment, time_offset, signed_offset}
+use Rattle.cal_text.specs.Shape.{Shape, left, Done, From, Branch, Digits, UpTo, Separator, date, julian_day, unix_time, moment, time_offset, signed_offset}
 use Rattle.cal_text.proofs.FormShapes.{date_shape}
 use Rattle.cal_text.proofs.MomentShapes.{moment_shapes}
 use Rattle.cal_text.proofs.NumberShapes.{julian_shape}

@@ -1,8 +1,7 @@
 -- The templates of whole numbers.
-use Rattle.std.proofs.Common.{◌≡◌, ◌≢◌, ◌⊎◌, inl, inr, ℕ, zero, suc, ◌+◌, ◌-◌, ◌*◌, ◌/◌, ◌%◌, ◌^◌, ◌<◌, ◌≤◌, ℤ, pos, negsuc, unsigned_abs, Bool, true, false, List, [], ◌∷◌, ◌++◌, append-nil, append_assoc, length, get_or, take, replicate, refl, sym, ap, subst, ◌∙◌, arith, codes, lit<, lit≤}
-use Rattle.std.specs.Prelude.{◌&&◌, decimal, nat_le}
+use Rattle.std.proofs.Common.{◌≡◌, ◌⊎◌, inl, inr, ℕ, zero, suc, ◌+◌, ◌-◌, ◌*◌, ◌/◌, ◌%◌, ◌^◌, ◌<◌, ◌≤◌, ℤ, pos, negsuc, List, [], ◌∷◌, ◌++◌, append-nil, append_assoc, length, get_or, take, replicate, refl, sym, ap, subst, ◌∙◌, arith, codes, lit<}
+use Rattle.std.specs.Prelude.{decimal}
 use Rattle.std.specs.Char.{digit_value}
-use Rattle.std.specs.Fmt.{signed_decimal}
 use Rattle.std.specs.Str.Parse.{AllDigits, digits_value, digits_value_after}
 use Rattle.std.proofs.Math.Nat.{mul-le-mul_left, pow-le-pow_right}
 use Rattle.std.proofs.lemmas.Bool.{eqb-true}
@@ -13,7 +12,7 @@ use Rattle.cal_text.proofs.DigitParts.{digit_is, has_value, is_digit, value-most
 use Rattle.cal_text.proofs.ReadDigits.{room, small}
 use Rattle.cal_text.proofs.Stops.{IsIn}
 use Rattle.caldate.specs.Readings.{HasFormIn, IsNumber}
-use Rattle.caldate.specs.Templates.{Fits, IsTemplateFor, stands_at}
+use Rattle.caldate.specs.Templates.{Fits, IsTemplateFor}
 use Rattle.caldate.specs.declared.reading.Reading.TheVariants.{Unix}
 use Rattle.caldate.specs.declared.request.UnixUnit.{UnixUnit}
 use Rattle.caldate.proofs.DateTemplates as date

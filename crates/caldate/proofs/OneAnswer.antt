@@ -1,10 +1,12 @@
 -- What is answered to a text is one.
-use Rattle.std.proofs.Common.{◌≡◌, ◌⊎◌, ℕ, ◌+◌, ◌≤◌, List, length, [], ◌∷◌, ◌++◌, codes, decimal, Option, Some, None, Result, Ok, Err, inl, inr, refl, ap, sym, subst, ◌∙◌, arith}
-use Rattle.std.specs.Prelude.{◌↔◌, IsOk}
+use Rattle.std.proofs.Common.{◌≡◌, ◌⊎◌, ℕ, suc, ◌+◌, ◌≤◌, List, length, [], ◌∷◌, ◌++◌, codes, decimal, Option, Some, None, Result, Ok, Err, inl, inr, ap, sym, subst, ◌∙◌, arith}
+use Rattle.std.specs.List.{slice_split}
+use Rattle.std.specs.Prelude.{◌↔◌, All, IsOk}
 use Rattle.std.specs.Fmt.{signed_decimal}
 use Rattle.std.specs.Io.KnownBytes.{Appends, Consumes, IsAtEnd}
 use Rattle.std.proofs.lemmas.Bool.{false≢true}
 use Rattle.std.proofs.lemmas.List.{append-nil}
+use Rattle.std.proofs.lemmas.List.Elements.{All-cons, All-nil}
 use Rattle.cal_time.specs.declared.error.ComponentRange.{ComponentRange}
 use Rattle.cal_datetime.specs.OffsetDateTime.{Shown}
 use Rattle.cal_text.specs.Reading.{IsRefusedFor, IsRefusedForForm}
@@ -15,10 +17,10 @@ use Rattle.cal_text.specs.declared.error.Unreadable.{Unreadable}
 use Rattle.cal_text.specs.declared.error.Unreadable.TheVariants.{UnexpectedByte, UnexpectedEnd, OutOfRange}
 use Rattle.caldate.specs.Answers.{IsAnswerTo, IsAnswer, IsBetween, IsTooLong, IsUnreadable, refused_text, moment_of, day_of, form_read, on_day}
 use Rattle.caldate.specs.Forms.{IsInForm}
-use Rattle.caldate.specs.Lines.{lines_of}
+use Rattle.caldate.specs.Lines.{is_end, lines_of, without_empty_last}
 use Rattle.caldate.specs.Readings.{HasFormIn, IsFaultIn, IsTextIn}
 use Rattle.caldate.specs.Runs.{Ended, IsReplyTo}
-use Rattle.caldate.specs.Standing.{AreReplies, Writes}
+use Rattle.caldate.specs.Standing.{AreReplies}
 use Rattle.caldate.specs.declared.fault.Fault.{Fault}
 use Rattle.caldate.specs.declared.request.Filter.{Filter}
 use Rattle.caldate.specs.declared.request.Form.{Form}
@@ -137,13 +139,27 @@ one_answer filter text r a b every form component h k =
     one_of filter text r a b (told filter text r a every form component h) (told filter text r b every form component k)
 
 -- ---- the answers to all lines
-replies-one : (Allowed : Writes) → ((before : ℕ) (line a b : List ℕ) → Allowed before line a → Allowed before line b → a ≡ b)
-    → (before : ℕ) (lines : List (List ℕ)) (a b : List ℕ) → AreReplies Allowed before lines a → AreReplies Allowed before lines b → a ≡ b
-replies-one Allowed one before [] a b h k = h ∙ sym k
-replies-one Allowed one before (line ∷ lines) a b (reply, rest, is, whole, more) (other, left, is', whole', more') =
-    let same = one before line reply other is is' in
-    let after = replies-one Allowed one (before + 1) lines rest left more more' in
+-- the line has one reply, whatever came before it
+abbrev pub HasOneReply : Filter → List ℕ → Type 0
+HasOneReply filter line = (before : ℕ) (a b : List ℕ) → IsReplyTo filter before line a → IsReplyTo filter before line b → a ≡ b
+
+replies-one : (filter : Filter) (before : ℕ) (lines : List (List ℕ)) (a b : List ℕ) → All (HasOneReply filter) lines
+    → AreReplies (IsReplyTo filter) before lines a → AreReplies (IsReplyTo filter) before lines b → a ≡ b
+replies-one filter before [] a b one h k = h ∙ sym k
+replies-one filter before (line ∷ lines) a b one (reply, rest, is, whole, more) (other, left, is', whole', more') =
+    let same = one 0 [] (omega arith) before reply other is is' in
+    let after = replies-one filter (before + 1) lines rest left (λ i d h. one (suc i) d (omega (arith, h))) more more' in
     cc
+
+-- the lines are parts between line feeds
+lines-all : (P : List ℕ → Type 0) (parts : List (List ℕ)) → All P parts → All P (without_empty_last parts)
+lines-all P [] all = all
+lines-all P ([] ∷ []) all = All-nil P
+lines-all P ((x ∷ xs) ∷ []) all = all
+lines-all P ([] ∷ next ∷ parts) all =
+    All-cons P [] (without_empty_last (next ∷ parts)) (all 0 [] (omega arith)) (lines-all P (next ∷ parts) (λ i d h. all (suc i) d (omega (arith, h))))
+lines-all P ((x ∷ xs) ∷ next ∷ parts) all =
+    All-cons P (x ∷ xs) (without_empty_last (next ∷ parts)) (all 0 [] (omega arith)) (lines-all P (next ∷ parts) (λ i d h. all (suc i) d (omega (arith, h))))
 
 -- two readers that gave all that they had, and two writers that took the answers
 all_given : (input bytes : List ℕ) (left : Option (List ℕ)) → Consumes (Some input) left bytes → IsAtEnd left → bytes ≡ input
@@ -155,12 +171,12 @@ took-one held a b None v first second same = absurd first
 took-one held a b (Some x) None first second same = absurd second
 took-one held a b (Some x) (Some y) first second same = ap Some (first ∙ ap (λ more. held ++ more) same ∙ sym second)
 
-pub ended-one : (filter : Filter) → ((before : ℕ) (line a b : List ℕ) → IsReplyTo filter before line a → IsReplyTo filter before line b → a ≡ b)
-    → (input held : List ℕ) (r s : Result Unit Fault) (left rest w v : Option (List ℕ)) → IsOk r → IsOk s
-    → Ended filter r (Some input) left (Some held) w → Ended filter s (Some input) rest (Some held) v → w ≡ v
-ended-one filter one input held (Err e) s left rest w v ok too first second = absurd (false≢true ok)
-ended-one filter one input held (Ok done) (Err e) left rest w v ok too first second = absurd (false≢true too)
-ended-one filter one input held (Ok done) (Ok end) left rest w v ok too (end_left, (bytes, given, answers)) (end_rest, (others, taken, replies)) =
-    let lines = ap lines_of (all_given input bytes left given end_left ∙ sym (all_given input others rest taken end_rest)) in
-    let there = subst (λ l. AreReplies (IsReplyTo filter) 0 l answers.out) lines answers.replies in
-    took-one held answers.out replies.out w v answers.taken replies.taken (replies-one (IsReplyTo filter) one 0 _ _ _ there replies.replies)
+pub ended-one : (filter : Filter) (input held : List ℕ) (r s : Result Unit Fault) (left rest w v : Option (List ℕ)) → All (HasOneReply filter) (slice_split is_end input)
+    → IsOk r → IsOk s → Ended filter r (Some input) left (Some held) w → Ended filter s (Some input) rest (Some held) v → w ≡ v
+ended-one filter input held (Err e) s left rest w v one ok too first second = absurd (false≢true ok)
+ended-one filter input held (Ok done) (Err e) left rest w v one ok too first second = absurd (false≢true too)
+ended-one filter input held (Ok done) (Ok end) left rest w v one ok too (end_left, (bytes, given, answers)) (end_rest, (others, taken, replies)) =
+    let here = subst (λ l. AreReplies (IsReplyTo filter) 0 (lines_of l) answers.out) (all_given input bytes left given end_left) answers.replies in
+    let there = subst (λ l. AreReplies (IsReplyTo filter) 0 (lines_of l) replies.out) (all_given input others rest taken end_rest) replies.replies in
+    let same = replies-one filter 0 (lines_of input) answers.out replies.out (lines-all (HasOneReply filter) (slice_split is_end input) one) here there in
+    took-one held answers.out replies.out w v answers.taken replies.taken same

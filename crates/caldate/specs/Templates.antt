@@ -16,6 +16,6 @@ Fits template [] = Unit {0}
 Fits [] (byte ∷ bytes) = ⊥
 Fits (place ∷ places) (byte ∷ bytes) = (stands_at place byte ≡ true) × Fits places bytes
 
--- those beginnings of the text begin the form that fit
+-- of the beginnings of the text, just those begin the form that fit
 abbrev pub IsTemplateFor : (List ℕ → Type 0) → List ℕ → List ℕ → Type 0
 IsTemplateFor IsText text template = (q : ℕ) → q ≤ length text → Begins IsText (take q text) ↔ Fits template (take q text)

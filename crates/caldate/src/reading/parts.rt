@@ -72,7 +72,7 @@ pub fn parted_template(text: &[u8]) -> [u8; 10]
     ]
 }
 
-/// The separator that the text has, or one of its own where it has none.
+/// The separator that the text has, or a point where it has none.
 fn separator_of(text: &[u8]) -> u8
     ensures is { is_separator result ≡ true }
     ensures same { 2 < length text.now → is_separator (slice_index text.now 2) ≡ true
@@ -85,7 +85,7 @@ fn separator_of(text: &[u8]) -> u8
     }
 }
 
-/// The date of the calendar date that the text says, if it says one, and else why not, by the template of such a text.
+/// The date of the calendar date that the text says, if it says one. The template is that of such a text.
 pub fn read_parts(
     calendar: Option<[u8; 10]>,
     text: &[u8],

@@ -6,13 +6,13 @@ ghost use Rattle.caldate.specs.Templates.{Fits, stands_at};
 
 use cal_text::Unreadable;
 
-/// The error, at the position where the text stops fitting the template if it names a position.
+/// The error. If it names a position, it is that where the text stops fitting the template.
 pub fn at_stop(error: Unreadable, text: &[u8], template: &[u8]) -> Unreadable
     ensures component { component_of result ≡ component_of error }
     ensures position { IsAtStop (Fits template.now) text.now result }
 {
     match error {
-        Unreadable::UnexpectedByte(_) | Unreadable::UnexpectedEnd(_) => { wrong_at(text, template) }
+        Unreadable::UnexpectedByte(_) | Unreadable::UnexpectedEnd(_) => wrong_at(text, template),
         Unreadable::OutOfRange(component) => Unreadable::OutOfRange(component),
     }
 }
@@ -25,8 +25,7 @@ pub fn wrong_at(text: &[u8], template: &[u8]) -> Unreadable
     Unreadable::at(first_wrong_byte(text, template), text.len())
 }
 
-/// The position of the first byte that does not stand at its place or comes after the last place, or the length of a text that has
-/// none.
+/// The position of the first byte that may not stand at its place or comes after the last place, or the length of a text that has none.
 fn first_wrong_byte(text: &[u8], template: &[u8]) -> usize
     ensures { IsPosition (Fits template.now) text.now result }
 {

@@ -1,4 +1,4 @@
-use Rattle.std.proofs.Common.{◌≡◌, ◌∙◌, sym, subst, arith, length-take}
+use Rattle.std.proofs.Common.{◌≡◌, ◌∙◌, sym, subst}
 use Rattle.std.specs.Prelude.{IsSomeAnd}
 use Rattle.cal_text.specs.AnyForm.{HasAnyForm, IsFault, IsTextOf}
 use Rattle.cal_text.specs.declared.any.DateOrMoment.{DateOrMoment}
