@@ -12,10 +12,15 @@ pub mod Keeps
 pub mod Steps
 pub mod OneCount
 pub mod OneAnswer
-pub mod OneKept
+pub mod OneReply
 pub mod Leads
 pub mod Listed
 pub mod ReadNumbers
+pub mod Templates
+pub mod ShapeBytes
+pub mod DateTemplates
+pub mod LocalTemplates
+pub mod NumberTemplates
 pub mod PartTexts
 pub mod LastBytes
 pub mod FrontDays

@@ -1,13 +1,14 @@
--- What is answered to a text is one, but for the position in an unreadable one where a reading is named.
-use Rattle.std.proofs.Common.{◌≡◌, ◌⊎◌, ℕ, ◌+◌, ◌≤◌, List, length, [], ◌∷◌, ◌++◌, codes, decimal, Option, Some, None, Result, Ok, Err, inl, inr, refl, ap, sym, subst, ◌∙◌, arith}
-use Rattle.std.specs.Prelude.{◌≢◌, ◌↔◌, IsOk}
+-- What is answered to a text is one.
+use Rattle.std.proofs.Common.{◌≡◌, ◌⊎◌, ℕ, suc, ◌+◌, ◌≤◌, List, length, [], ◌∷◌, ◌++◌, codes, decimal, Option, Some, None, Result, Ok, Err, inl, inr, ap, sym, subst, ◌∙◌, arith}
+use Rattle.std.specs.List.{slice_split}
+use Rattle.std.specs.Prelude.{◌↔◌, All, IsOk}
 use Rattle.std.specs.Fmt.{signed_decimal}
 use Rattle.std.specs.Io.KnownBytes.{Appends, Consumes, IsAtEnd}
 use Rattle.std.proofs.lemmas.Bool.{false≢true}
 use Rattle.std.proofs.lemmas.List.{append-nil}
+use Rattle.std.proofs.lemmas.List.Elements.{All-cons, All-nil}
 use Rattle.cal_time.specs.declared.error.ComponentRange.{ComponentRange}
 use Rattle.cal_datetime.specs.OffsetDateTime.{Shown}
-use Rattle.cal_text.specs.AnyForm.{HasAnyForm}
 use Rattle.cal_text.specs.Reading.{IsRefusedFor, IsRefusedForForm}
 use Rattle.cal_text.proofs.Positions.{one_position}
 use Rattle.cal_text.specs.declared.any.DateOrMoment.{DateOrMoment}
@@ -16,14 +17,11 @@ use Rattle.cal_text.specs.declared.error.Unreadable.{Unreadable}
 use Rattle.cal_text.specs.declared.error.Unreadable.TheVariants.{UnexpectedByte, UnexpectedEnd, OutOfRange}
 use Rattle.caldate.specs.Answers.{IsAnswerTo, IsAnswer, IsBetween, IsTooLong, IsUnreadable, refused_text, moment_of, day_of, form_read, on_day}
 use Rattle.caldate.specs.Forms.{IsInForm}
-use Rattle.caldate.specs.Lines.{lines_of}
+use Rattle.caldate.specs.Lines.{is_end, lines_of, without_empty_last}
 use Rattle.caldate.specs.Readings.{HasFormIn, IsFaultIn, IsTextIn}
 use Rattle.caldate.specs.Runs.{Ended, IsReplyTo}
-use Rattle.caldate.specs.Standing.{AreReplies, Writes}
+use Rattle.caldate.specs.Standing.{AreReplies}
 use Rattle.caldate.specs.declared.fault.Fault.{Fault}
-use Rattle.caldate.specs.declared.reading.Reading.{Reading}
-use Rattle.caldate.specs.declared.reading.Reading.TheVariants.{Any, DayFirst, MonthFirst, Local}
-use Rattle.caldate.specs.declared.reading.Reading.TheVariants as reading
 use Rattle.caldate.specs.declared.request.Filter.{Filter}
 use Rattle.caldate.specs.declared.request.Form.{Form}
 use Rattle.caldate.specs.declared.request.Form.TheVariants.{Date, Weekday, Moment, ShortWeekday, Month, Quarter, Basic}
@@ -74,33 +72,16 @@ Told filter text (Err (OutOfRange e)) words = words ≡ refused_text e
 Told filter text (Err (UnexpectedByte at)) words = IsUnreadable filter text words
 Told filter text (Err (UnexpectedEnd at)) words = IsUnreadable filter text words
 
--- two answers are the same, or the text is unreadable in a reading that is named
-abbrev Alike : Filter → List ℕ → List ℕ → List ℕ → Type 0
-Alike filter text a b = (a ≡ b) ⊎ (filter.reading ≢ Any) × IsUnreadable filter text a × IsUnreadable filter text b
+one_unreadable : (filter : Filter) (text a b : List ℕ) → IsUnreadable filter text a → IsUnreadable filter text b → a ≡ b
+one_unreadable filter text a b h k =
+    h.1.2 ∙ ap (λ at. codes "unreadable at " ++ decimal at) (one_position (HasFormIn filter.reading) text h.1.0 k.1.0 h.1.1 k.1.1) ∙ sym k.1.2
 
-is_any : (r : Reading) → (r ≡ Any) ⊎ (r ≢ Any)
-is_any Any = inl refl
-is_any reading.Basic = inr (λ e. cc)
-is_any DayFirst = inr (λ e. cc)
-is_any MonthFirst = inr (λ e. cc)
-is_any (reading.Unix unit) = inr (λ e. cc)
-is_any (Local offset) = inr (λ e. cc)
-
-one_unreadable : (filter : Filter) (text a b : List ℕ) → IsUnreadable filter text a → IsUnreadable filter text b → Alike filter text a b
-one_unreadable filter text a b h k = elim (is_any filter.reading) as (λ _. Alike filter text a b) [
-  | inl any ↦
-      let same = one_position HasAnyForm text h.1.0 k.1.0 (h.1.1 any) (k.1.1 any) in
-      inl (h.1.2 ∙ ap (λ at. codes "unreadable at " ++ decimal at) same ∙ sym k.1.2)
-  | inr named ↦ inr (named, h, k)
-]
-
-one_told : (filter : Filter) (text : List ℕ) (r : Result DateOrMoment Unreadable) (a b : List ℕ) → Told filter text r a → Told filter text r b
-    → Alike filter text a b
-one_told filter text (Ok found) a b (inl h) (inl k) = inl (one_answer_to filter.request found a b h k)
+one_told : (filter : Filter) (text : List ℕ) (r : Result DateOrMoment Unreadable) (a b : List ℕ) → Told filter text r a → Told filter text r b → a ≡ b
+one_told filter text (Ok found) a b (inl h) (inl k) = one_answer_to filter.request found a b h k
 one_told filter text (Ok found) a b (inl h) (inr k) = absurd (k.1 a h)
 one_told filter text (Ok found) a b (inr h) (inl k) = absurd (h.1 b k)
-one_told filter text (Ok found) a b (inr h) (inr k) = inl (h.0 ∙ sym k.0)
-one_told filter text (Err (OutOfRange e)) a b h k = inl (h ∙ sym k)
+one_told filter text (Ok found) a b (inr h) (inr k) = h.0 ∙ sym k.0
+one_told filter text (Err (OutOfRange e)) a b h k = h ∙ sym k
 one_told filter text (Err (UnexpectedByte at)) a b h k = one_unreadable filter text a b h k
 one_told filter text (Err (UnexpectedEnd at)) a b h k = one_unreadable filter text a b h k
 
@@ -144,8 +125,8 @@ told filter text r words every form component (inr (inr h)) = inr (
 
 one_of : (filter : Filter) (text : List ℕ) (r : Result DateOrMoment Unreadable) (a b : List ℕ)
     → IsTooLong text a ⊎ (length text ≤ 4096) × Told filter text r a → IsTooLong text b ⊎ (length text ≤ 4096) × Told filter text r b
-    → Alike filter text a b
-one_of filter text r a b (inl h) (inl k) = inl (h.1 ∙ sym k.1)
+    → a ≡ b
+one_of filter text r a b (inl h) (inl k) = h.1 ∙ sym k.1
 one_of filter text r a b (inl h) (inr k) = absurd (omega (arith, h.0, k.0))
 one_of filter text r a b (inr h) (inl k) = absurd (omega (arith, h.0, k.0))
 one_of filter text r a b (inr h) (inr k) = one_told filter text r a b h.1 k.1
@@ -153,18 +134,32 @@ one_of filter text r a b (inr h) (inr k) = one_told filter text r a b h.1 k.1
 pub one_answer : (filter : Filter) (text : List ℕ) (r : Result DateOrMoment Unreadable) (a b : List ℕ)
     → ((found : DateOrMoment) → IsTextIn filter.reading text found → r ≡ Ok found)
     → (IsRefusedForForm r ↔ ¬ HasFormIn filter.reading text) → ((why : ComponentRange) → IsRefusedFor why r ↔ IsFaultIn filter.reading text why)
-    → IsAnswer filter text a → IsAnswer filter text b → Alike filter text a b
+    → IsAnswer filter text a → IsAnswer filter text b → a ≡ b
 one_answer filter text r a b every form component h k =
     one_of filter text r a b (told filter text r a every form component h) (told filter text r b every form component k)
 
 -- ---- the answers to all lines
-replies-one : (Allowed : Writes) → ((before : ℕ) (line a b : List ℕ) → Allowed before line a → Allowed before line b → a ≡ b)
-    → (before : ℕ) (lines : List (List ℕ)) (a b : List ℕ) → AreReplies Allowed before lines a → AreReplies Allowed before lines b → a ≡ b
-replies-one Allowed one before [] a b h k = h ∙ sym k
-replies-one Allowed one before (line ∷ lines) a b (reply, rest, is, whole, more) (other, left, is', whole', more') =
-    let same = one before line reply other is is' in
-    let after = replies-one Allowed one (before + 1) lines rest left more more' in
+-- the line has one reply, whatever came before it
+abbrev pub HasOneReply : Filter → List ℕ → Type 0
+HasOneReply filter line = (before : ℕ) (a b : List ℕ) → IsReplyTo filter before line a → IsReplyTo filter before line b → a ≡ b
+
+replies-one : (filter : Filter) (before : ℕ) (lines : List (List ℕ)) (a b : List ℕ) → All (HasOneReply filter) lines
+    → AreReplies (IsReplyTo filter) before lines a → AreReplies (IsReplyTo filter) before lines b → a ≡ b
+replies-one filter before [] a b one h k = h ∙ sym k
+replies-one filter before (line ∷ lines) a b one (reply, rest, is, whole, more) (other, left, is', whole', more') =
+    let same = one 0 [] (omega arith) before reply other is is' in
+    let after = replies-one filter (before + 1) lines rest left (λ i d h. one (suc i) d (omega (arith, h))) more more' in
     cc
+
+-- the lines are parts between line feeds
+lines-all : (P : List ℕ → Type 0) (parts : List (List ℕ)) → All P parts → All P (without_empty_last parts)
+lines-all P [] all = all
+lines-all P ([] ∷ []) all = All-nil P
+lines-all P ((x ∷ xs) ∷ []) all = all
+lines-all P ([] ∷ next ∷ parts) all =
+    All-cons P [] (without_empty_last (next ∷ parts)) (all 0 [] (omega arith)) (lines-all P (next ∷ parts) (λ i d h. all (suc i) d (omega (arith, h))))
+lines-all P ((x ∷ xs) ∷ next ∷ parts) all =
+    All-cons P (x ∷ xs) (without_empty_last (next ∷ parts)) (all 0 [] (omega arith)) (lines-all P (next ∷ parts) (λ i d h. all (suc i) d (omega (arith, h))))
 
 -- two readers that gave all that they had, and two writers that took the answers
 all_given : (input bytes : List ℕ) (left : Option (List ℕ)) → Consumes (Some input) left bytes → IsAtEnd left → bytes ≡ input
@@ -176,12 +171,12 @@ took-one held a b None v first second same = absurd first
 took-one held a b (Some x) None first second same = absurd second
 took-one held a b (Some x) (Some y) first second same = ap Some (first ∙ ap (λ more. held ++ more) same ∙ sym second)
 
-pub ended-one : (filter : Filter) → ((before : ℕ) (line a b : List ℕ) → IsReplyTo filter before line a → IsReplyTo filter before line b → a ≡ b)
-    → (input held : List ℕ) (r s : Result Unit Fault) (left rest w v : Option (List ℕ)) → IsOk r → IsOk s
-    → Ended filter r (Some input) left (Some held) w → Ended filter s (Some input) rest (Some held) v → w ≡ v
-ended-one filter one input held (Err e) s left rest w v ok too first second = absurd (false≢true ok)
-ended-one filter one input held (Ok done) (Err e) left rest w v ok too first second = absurd (false≢true too)
-ended-one filter one input held (Ok done) (Ok end) left rest w v ok too (end_left, (bytes, given, answers)) (end_rest, (others, taken, replies)) =
-    let lines = ap lines_of (all_given input bytes left given end_left ∙ sym (all_given input others rest taken end_rest)) in
-    let there = subst (λ l. AreReplies (IsReplyTo filter) 0 l answers.out) lines answers.replies in
-    took-one held answers.out replies.out w v answers.taken replies.taken (replies-one (IsReplyTo filter) one 0 _ _ _ there replies.replies)
+pub ended-one : (filter : Filter) (input held : List ℕ) (r s : Result Unit Fault) (left rest w v : Option (List ℕ)) → All (HasOneReply filter) (slice_split is_end input)
+    → IsOk r → IsOk s → Ended filter r (Some input) left (Some held) w → Ended filter s (Some input) rest (Some held) v → w ≡ v
+ended-one filter input held (Err e) s left rest w v one ok too first second = absurd (false≢true ok)
+ended-one filter input held (Ok done) (Err e) left rest w v one ok too first second = absurd (false≢true too)
+ended-one filter input held (Ok done) (Ok end) left rest w v one ok too (end_left, (bytes, given, answers)) (end_rest, (others, taken, replies)) =
+    let here = subst (λ l. AreReplies (IsReplyTo filter) 0 (lines_of l) answers.out) (all_given input bytes left given end_left) answers.replies in
+    let there = subst (λ l. AreReplies (IsReplyTo filter) 0 (lines_of l) replies.out) (all_given input others rest taken end_rest) replies.replies in
+    let same = replies-one filter 0 (lines_of input) answers.out replies.out (lines-all (HasOneReply filter) (slice_split is_end input) one) here there in
+    took-one held answers.out replies.out w v answers.taken replies.taken same

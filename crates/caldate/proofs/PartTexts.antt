@@ -4,7 +4,7 @@ use Rattle.std.proofs.lemmas.Bool.{eqb-true, false≢true}
 use Rattle.caldate.specs.Readings.{calendar_text, is_parted}
 
 -- a list of so many bytes is these
-eight : (P : List ℕ → Type 0) → ((a b c d e f g h : ℕ) → P (a ∷ b ∷ c ∷ d ∷ e ∷ f ∷ g ∷ h ∷ [])) → (bs : List ℕ) → length bs ≡ 8 → P bs
+pub eight : (P : List ℕ → Type 0) → ((a b c d e f g h : ℕ) → P (a ∷ b ∷ c ∷ d ∷ e ∷ f ∷ g ∷ h ∷ [])) → (bs : List ℕ) → length bs ≡ 8 → P bs
 eight P all [] n = absurd (omega (arith, n))
 eight P all (a ∷ []) n = absurd (omega (arith, n))
 eight P all (a ∷ b ∷ []) n = absurd (omega (arith, n))
@@ -16,7 +16,7 @@ eight P all (a ∷ b ∷ c ∷ d ∷ e ∷ f ∷ g ∷ []) n = absurd (omega (ar
 eight P all (a ∷ b ∷ c ∷ d ∷ e ∷ f ∷ g ∷ h ∷ []) n = all a b c d e f g h
 eight P all (a ∷ b ∷ c ∷ d ∷ e ∷ f ∷ g ∷ h ∷ i ∷ more) n = absurd (omega (arith, n))
 
-ten : (P : List ℕ → Type 0) → ((a b c d e f g h i j : ℕ) → P (a ∷ b ∷ c ∷ d ∷ e ∷ f ∷ g ∷ h ∷ i ∷ j ∷ [])) → (bs : List ℕ) → length bs ≡ 10 → P bs
+pub ten : (P : List ℕ → Type 0) → ((a b c d e f g h i j : ℕ) → P (a ∷ b ∷ c ∷ d ∷ e ∷ f ∷ g ∷ h ∷ i ∷ j ∷ [])) → (bs : List ℕ) → length bs ≡ 10 → P bs
 ten P all [] n = absurd (omega (arith, n))
 ten P all (a ∷ []) n = absurd (omega (arith, n))
 ten P all (a ∷ b ∷ bs) n = eight (λ cs. P (a ∷ b ∷ cs)) (λ c d e f g h i j. all a b c d e f g h i j) bs (omega (arith, n))

@@ -8,7 +8,6 @@ use Rattle.cal_time.specs.SignedDuration.{whole_days}
 use Rattle.cal_time.specs.SignedDuration as duration
 use Rattle.cal_datetime.specs.DateTime.{IsDateTime, date_time, time_at}
 use Rattle.cal_datetime.specs.OffsetDateTime.{Shown, instant, local_at}
-use Rattle.cal_text.specs.AnyForm.{HasAnyForm}
 use Rattle.cal_text.specs.Position.{IsPosition}
 use Rattle.cal_text.specs.declared.error.Unreadable.{Unreadable}
 use Rattle.cal_text.specs.declared.error.Unreadable.TheVariants.{UnexpectedByte, UnexpectedEnd, OutOfRange}
@@ -22,7 +21,6 @@ pub use Rattle.caldate.specs.Found.{day_of, form_read, is_date, moment_of}
 use Rattle.caldate.specs.Moves.{LeadsTo}
 use Rattle.caldate.specs.Readings.{HasFormIn, IsFaultIn, IsTextIn}
 use Rattle.caldate.specs.Room.{longest_text}
-use Rattle.caldate.specs.declared.reading.Reading.TheVariants.{Any}
 use Rattle.caldate.specs.declared.request.DayMove.{DayMove}
 use Rattle.caldate.specs.declared.request.Filter.{Filter}
 use Rattle.caldate.specs.declared.request.Form.TheVariants.{Moment}
@@ -110,10 +108,10 @@ why_text (OutOfRange e) = refused_text e
 abbrev pub IsRefused : Filter → List ℕ → List ℕ → Type 0
 IsRefused filter text words = (why : ComponentRange) × IsFaultIn filter.reading text why × (words ≡ refused_text why)
 
--- it has not the form; where no reading is named, it stops being of the six forms at this position
+-- it has not the form, and stops being of it at this position
 abbrev pub IsUnreadable : Filter → List ℕ → List ℕ → Type 0
 IsUnreadable filter text words = (¬ HasFormIn filter.reading text)
-    × ((at : ℕ) × (filter.reading ≡ Any → IsPosition HasAnyForm text at) × (words ≡ codes "unreadable at " ++ decimal at))
+    × ((at : ℕ) × IsPosition (HasFormIn filter.reading) text at × (words ≡ codes "unreadable at " ++ decimal at))
 
 abbrev pub LacksAnswer : Filter → List ℕ → List ℕ → Type 0
 LacksAnswer filter text words = IsTooLong text words

@@ -19,4 +19,5 @@ pub mod Runs
 pub mod Senseless
 pub mod Shown
 pub mod Standing
+pub mod Templates
 pub mod Unanswered

@@ -1,20 +1,21 @@
 //! What the text of a line is read as, where a reading is named.
-ghost use Rattle.std.specs.Prelude.{◌≡◌, ◌↔◌, ◌≤◌, IfOk, IfErr, Ok, length};
+ghost use Rattle.std.specs.Prelude.{◌≡◌, ◌↔◌, IfOk, IfErr, Ok};
 ghost use Rattle.cal_time.specs.declared.error.ComponentRange.{ComponentRange};
-ghost use Rattle.cal_text.specs.AnyForm.{HasAnyForm};
 ghost use Rattle.cal_text.specs.Position.{IsAtStop};
 ghost use Rattle.cal_text.specs.Reading.{IsRefusedFor, IsRefusedForForm};
 ghost use Rattle.cal_text.specs.declared.any.DateOrMoment.{DateOrMoment};
 ghost use Rattle.caldate.specs.Readings.{HasFormIn, IsFaultIn, IsTextIn};
-ghost use Rattle.caldate.specs.declared.reading.Reading.TheVariants.{Any};
 
 mod local;
 mod number;
 mod parts;
+mod template;
 
 use crate::reading::local::read_local;
 use crate::reading::number::read_number;
-use crate::reading::parts::{basic_parts, day_first_parts, month_first_parts, read_parts};
+use crate::reading::parts::{
+    basic_parts, day_first_parts, month_first_parts, parted_template, read_parts,
+};
 use crate::request::UnixUnit;
 use cal_text::{DateOrMoment, Unreadable, read_any};
 use cal_time::UtcOffset;
@@ -46,15 +47,15 @@ pub fn read_in(reading: Reading, text: &[u8]) -> Result<DateOrMoment, Unreadable
     ensures every { (found : DateOrMoment) → IsTextIn reading text.now found → result ≡ Ok found }
     ensures has { IfOk result (IsTextIn reading text.now) }
     ensures form { IsRefusedForForm result ↔ ¬ HasFormIn reading text.now }
-    ensures position { reading ≡ Any → IfErr result (IsAtStop HasAnyForm text.now) }
+    ensures position { IfErr result (IsAtStop (HasFormIn reading) text.now) }
     ensures component { (why : ComponentRange)
         → IsRefusedFor why result ↔ IsFaultIn reading text.now why }
 {
     match reading {
         Reading::Any => read_any(text),
         Reading::Basic => read_parts(basic_parts(text), text, b"dddddddd"),
-        Reading::DayFirst => read_parts(day_first_parts(text), text, b"dd.dd.dddd"),
-        Reading::MonthFirst => read_parts(month_first_parts(text), text, b"dd.dd.dddd"),
+        Reading::DayFirst => read_parts(day_first_parts(text), text, &parted_template(text)),
+        Reading::MonthFirst => read_parts(month_first_parts(text), text, &parted_template(text)),
         Reading::Unix(unit) => read_number(unit, text),
         Reading::Local(offset) => read_local(offset, text),
     }

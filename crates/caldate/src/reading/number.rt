@@ -1,21 +1,22 @@
 //! Unix times that are a whole number of milliseconds, microseconds or nanoseconds.
-ghost use Rattle.std.specs.Prelude.{◌≡◌, ◌↔◌, ◌≤◌, ℤ, IfOk, IfSome, Ok, Some, length};
+ghost use Rattle.std.specs.Prelude.{◌≡◌, ◌<◌, ◌↔◌, ◌≤◌, ℤ, IfErr, IfOk, IfSome, IsTrue, Ok, Some, length, slice_index};
 ghost use Rattle.cal_time.specs.declared.error.ComponentRange.{ComponentRange};
+ghost use Rattle.cal_text.specs.Position.{IsAtStop};
 ghost use Rattle.cal_text.specs.Reading.{IsRefusedFor, IsRefusedForForm};
 ghost use Rattle.cal_text.specs.declared.any.DateOrMoment.{DateOrMoment};
 ghost use Rattle.caldate.specs.Readings.{HasFormIn, IsFaultIn, IsNumber, IsTextIn, nanoseconds_in};
+ghost use Rattle.caldate.specs.Templates.{IsTemplateFor};
 ghost use Rattle.caldate.specs.declared.reading.Reading.TheVariants.{Unix};
+ghost use Rattle.caldate.specs.declared.request.UnixUnit.{UnixUnit};
 
+use crate::reading::template::wrong_at;
 use crate::request::UnixUnit;
 use crate::signed::signed_text;
 use cal_datetime::OffsetDateTime;
 use cal_text::{DateOrMoment, MomentForm, Unreadable};
 use std::str;
 
-/// The most digits that a number has: those of the seconds of a Unix time, and nine more.
-const MOST_DIGITS: usize = 27;
-
-/// The least number with more digits.
+/// The least number with more digits than a number may have: those of the seconds of a Unix time, and nine more.
 const TOO_MANY: u128 = 1_000_000_000_000_000_000_000_000_000;
 
 /// The moment at UTC that is so many units after 1970-01-01.
@@ -24,11 +25,12 @@ pub fn read_number(unit: UnixUnit, text: &[u8]) -> Result<DateOrMoment, Unreadab
         → result ≡ Ok found }
     ensures has { IfOk result (IsTextIn (Unix unit) text.now) }
     ensures form { IsRefusedForForm result ↔ ¬ HasFormIn (Unix unit) text.now }
+    ensures position { IfErr result (IsAtStop (HasFormIn (Unix unit)) text.now) }
     ensures component { (why : ComponentRange)
         → IsRefusedFor why result ↔ IsFaultIn (Unix unit) text.now why }
 {
     let Some(number) = number_of(text) else {
-        return Err(Unreadable::at(first_wrong_byte(text), text.len()));
+        return Err(wrong_at(text, number_template(text)));
     };
     match OffsetDateTime::from_unix_timestamp_nanos(number * i128::from(nanoseconds_in(unit))) {
         Ok(moment) => Ok(DateOrMoment::Moment(MomentForm::Unix, moment)),
@@ -68,17 +70,24 @@ fn number_of(text: &[u8]) -> Option<i128>
     Some(number)
 }
 
-/// The position of the first byte that no such text has there, or the length of a text that ends too early.
-fn first_wrong_byte(text: &[u8]) -> usize
-    ensures { result ≤ length text.now }
+/// The template of a number that begins as the text.
+fn number_template(text: &[u8]) -> &'static [u8]
+    ensures { (unit : UnixUnit) → IsTemplateFor (HasFormIn (Unix unit)) text.now result.now }
 {
-    let start = usize::from(text.len() > 0 && text[0] == b'-');
-    for i in start..text.len() {
-        let zero_before = i == start + 1 && text[start] == b'0';
-        let minus_zero = i == start && start == 1 && text[i] == b'0';
-        if !text[i].is_ascii_digit() || zero_before || minus_zero || i == start + MOST_DIGITS {
-            return i;
-        }
+    if begins_with(text, b'-') {
+        b"-ndddddddddddddddddddddddddd"
+    } else if begins_with(text, b'0') {
+        b"0"
+    } else {
+        b"ndddddddddddddddddddddddddd"
     }
-    text.len()
+}
+
+fn begins_with(text: &[u8], byte: u8) -> bool
+    ensures { IsTrue result ↔ (0 < length text.now) × (slice_index text.now 0 ≡ byte) }
+{
+    match text {
+        [first, ..] => *first == byte,
+        [] => false,
+    }
 }

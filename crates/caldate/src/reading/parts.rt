@@ -1,12 +1,15 @@
 //! Dates whose parts come in another order than in a calendar date.
-ghost use Rattle.std.specs.Prelude.{◌≡◌, ◌↔◌, ◌≤◌, IfOk, IsSomeAnd, Ok, length};
+ghost use Rattle.std.specs.Prelude.{◌≡◌, ◌<◌, ◌↔◌, true, IfErr, IfOk, IsSomeAnd, Ok, length, slice_index};
 ghost use Rattle.cal_time.specs.declared.error.ComponentRange.{ComponentRange};
 ghost use Rattle.cal_text.specs.AnyForm.{HasAnyForm, IsFault, IsTextOf};
-ghost use Rattle.cal_text.specs.Reading.{component_of, IsRefusedFor, IsRefusedForForm};
+ghost use Rattle.cal_text.specs.Position.{IsAtStop};
+ghost use Rattle.cal_text.specs.Reading.{IsRefusedFor, IsRefusedForForm};
 ghost use Rattle.cal_text.specs.declared.any.DateOrMoment.{DateOrMoment};
-ghost use Rattle.caldate.specs.Readings.{full_text, is_parted, is_separator};
+ghost use Rattle.caldate.specs.Readings.{HasFormIn, full_text, is_parted, is_separator};
+ghost use Rattle.caldate.specs.Templates.{Fits, IsTemplateFor};
 ghost use Rattle.caldate.specs.declared.reading.Reading.TheVariants as reading;
 
+use crate::reading::template::{at_stop, wrong_at};
 use cal_text::{DateOrMoment, Unreadable, read_any};
 
 /// The calendar date of eight bytes.
@@ -58,58 +61,49 @@ fn is_separator(byte: u8) -> bool
     byte == b'.' || byte == b'/' || byte == b'-'
 }
 
-/// The date of the calendar date that the text says, if it says one. In the shape `d` is a digit.
+/// The template of such a text, with the separator that the text has.
+pub fn parted_template(text: &[u8]) -> [u8; 10]
+    ensures day_first { IsTemplateFor (HasFormIn reading.DayFirst) text.now result }
+    ensures month_first { IsTemplateFor (HasFormIn reading.MonthFirst) text.now result }
+{
+    let separator = separator_of(text);
+    [
+        b'd', b'd', separator, b'd', b'd', separator, b'd', b'd', b'd', b'd',
+    ]
+}
+
+/// The separator that the text has, or a point where it has none.
+fn separator_of(text: &[u8]) -> u8
+    ensures is { is_separator result ≡ true }
+    ensures same { 2 < length text.now → is_separator (slice_index text.now 2) ≡ true
+        → result ≡ slice_index text.now 2 }
+{
+    if text.len() > 2 && is_separator(text[2]) {
+        text[2]
+    } else {
+        b'.'
+    }
+}
+
+/// The date of the calendar date that the text says, if it says one. The template is that of such a text.
 pub fn read_parts(
     calendar: Option<[u8; 10]>,
     text: &[u8],
-    shape: &[u8],
+    template: &[u8],
 ) -> Result<DateOrMoment, Unreadable>
     ensures every { (found : DateOrMoment) → IsSomeAnd calendar (λ date. IsTextOf date found)
         → result ≡ Ok found }
     ensures has { IfOk result (λ found. IsSomeAnd calendar (λ date. IsTextOf date found)) }
     ensures form { IsRefusedForForm result ↔ ¬ IsSomeAnd calendar HasAnyForm }
+    ensures position { IfErr result (IsAtStop (Fits template.now) text.now) }
     ensures component { (why : ComponentRange)
         → IsRefusedFor why result ↔ IsSomeAnd calendar (λ date. IsFault date why) }
 {
     let Some(date) = calendar else {
-        return Err(Unreadable::at(first_wrong_byte(text, shape), text.len()));
+        return Err(wrong_at(text, template));
     };
     match read_any(&date) {
         Ok(found) => Ok(found),
-        Err(error) => Err(at_position(error, first_wrong_byte(text, shape), text.len())),
+        Err(error) => Err(at_stop(error, text, template)),
     }
-}
-
-/// The error at this position of a text of so many bytes, where it names one.
-pub fn at_position(error: Unreadable, position: usize, len: usize) -> Unreadable
-    requires { position ≤ len }
-    ensures { component_of result ≡ component_of error }
-{
-    match error {
-        Unreadable::UnexpectedByte(_) | Unreadable::UnexpectedEnd(_) => {
-            Unreadable::at(position, len)
-        }
-        Unreadable::OutOfRange(component) => Unreadable::OutOfRange(component),
-    }
-}
-
-/// The position of the first byte that no text of the shape has there, or the length of a text that ends too early.
-fn first_wrong_byte(text: &[u8], shape: &[u8]) -> usize
-    ensures { result ≤ length text.now }
-{
-    let separator = if text.len() > 2 { text[2] } else { b'.' };
-    for i in 0..text.len() {
-        if i >= shape.len() {
-            return i;
-        }
-        let fits = if shape[i] == b'd' {
-            text[i].is_ascii_digit()
-        } else {
-            is_separator(text[i]) && text[i] == separator
-        };
-        if !fits {
-            return i;
-        }
-    }
-    text.len()
 }

@@ -1,36 +1,51 @@
-//! A run leaves one answer where each text has one, or where lines are kept each line has one reply: two runs over one input that
-//! reach its end leave alike writers, and so do two that write one list, whether by steps or by a rule.
-ghost use Rattle.std.specs.Prelude.{◌≡◌, List, ℕ, Some, IsOk, MatchOption};
-ghost use Rattle.caldate.specs.Kept.{IsKept, bounds_kept};
+//! A run leaves one answer: two runs over one input that reach its end leave alike writers, and so do two that write one list, whether by
+//! steps or by a rule.
+ghost use Rattle.std.specs.List.{slice_split};
+ghost use Rattle.std.specs.Prelude.{◌≡◌, List, ℕ, All, Some, IsOk};
+ghost use Rattle.caldate.specs.Lines.{is_end};
 ghost use Rattle.caldate.specs.Lists.{IsStep};
-ghost use Rattle.caldate.specs.Runs.{IsAllowed};
+ghost use Rattle.caldate.specs.Runs.{IsReplyTo};
 
 use crate::fault::Fault;
+use crate::laws::one_reply;
+use crate::lines::first_line;
 use crate::list::list;
 use crate::recurring::list_occurrences;
 use crate::request::{Filter, Listing, Occurrences};
 use crate::run::run;
 use std::io::{Read, Write};
 
+/// Each part of the input between line feeds has one reply.
+fn one_reply_each(filter: &Filter, input: &[u8])
+    ensures { All (λ line. (before : ℕ) (reply other : List ℕ)
+        → IsReplyTo filter.now before line reply → IsReplyTo filter.now before line other
+        → reply ≡ other) (slice_split is_end input.now) }
+{
+    match first_line(input) {
+        Some((line, others)) => {
+            let _reply = one_reply(filter, line);
+            one_reply_each(filter, others);
+        }
+        None => {
+            let _reply = one_reply(filter, input);
+        }
+    }
+}
+
 fn runs<R: Read, W: Write>(
     filter: &Filter,
+    input: &[u8],
     reader: &mut R,
     twin: &mut R,
     writer: &mut W,
     other: &mut W,
 ) -> (Result<(), Fault>, Result<(), Fault>)
-    ensures { MatchOption (bounds_kept filter.now.request)
-        ((before : ℕ) (text words others : List ℕ) → IsAllowed filter.now before text words
-        → IsAllowed filter.now before text others
-        → words ≡ others)
-        (λ bounds. (before : ℕ) (line reply other : List ℕ)
-        → IsKept filter.now bounds before line reply
-        → IsKept filter.now bounds before line other → reply ≡ other)
-        → (input held : List ℕ) → R.remaining reader.old ≡ Some input
-        → R.remaining twin.old ≡ Some input
+    ensures { (held : List ℕ) → R.remaining reader.old ≡ Some input.now
+        → R.remaining twin.old ≡ Some input.now
         → W.contents writer.old ≡ Some held → W.contents other.old ≡ Some held
         → IsOk result.0 → IsOk result.1 → W.contents writer.new ≡ W.contents other.new }
 {
+    one_reply_each(filter, input);
     (run(*filter, reader, writer), run(*filter, twin, other))
 }
 

@@ -1,17 +1,13 @@
-use Rattle.std.proofs.Common.{◌≡◌, ◌∙◌, sym, subst, arith, length-take}
+use Rattle.std.proofs.Common.{◌≡◌, ◌∙◌, sym, subst}
 use Rattle.std.specs.Prelude.{IsSomeAnd}
 use Rattle.cal_text.specs.AnyForm.{HasAnyForm, IsFault, IsTextOf}
 use Rattle.cal_text.specs.declared.any.DateOrMoment.{DateOrMoment}
-use Rattle.caldate.specs.Readings.{assumed}
+use Rattle.caldate.specs.Readings.{HasFormIn, assumed}
 use Rattle.caldate.specs.declared.reading.Reading.TheVariants.{Local}
 use Rattle.caldate.proofs.LastBytes.{full_is}
+use Rattle.caldate.proofs.LocalTemplates.{local_template}
+use Rattle.caldate.proofs.Templates.{at_stop}
 use Rattle.caldate.proofs.reading.local.read_local.Goals as goal
-
-pub slice_bounds-first_wrong_byte-end : goal.slice_bounds-first_wrong_byte-end
-slice_bounds-first_wrong_byte-end c = omega (arith, c.if-text-gt-LONGEST.true, length-take 29 c.args.text.now)
-
-pub first_wrong_byte-requires : goal.first_wrong_byte-requires
-first_wrong_byte-requires c = omega (arith, length-take 29 c.args.text.now)
 
 pub returns-in-Ok-clause-has : goal.returns-in-Ok-clause-has
 returns-in-Ok-clause-has c =
@@ -33,7 +29,7 @@ returns-in-Ok-clause-component c why =
 pub returns-in-Err-clause-form : goal.returns-in-Err-clause-form
 returns-in-Err-clause-form c =
     let is = full_is c.args.offset c.args.text.now _ c.if-text-gt-LONGEST.false c.with_offset-full.ensures in
-    let same = c.at_position.ensures in (
+    let same = c.at_stop.ensures.component in (
       λ e has. c.in-Err.ensures.form.0 (sym same ∙ e) (subst (λ d. IsSomeAnd d HasAnyForm) is has),
       λ none. same ∙ c.in-Err.ensures.form.1 (λ h. none (subst (λ d. IsSomeAnd d HasAnyForm) (sym is) h)),
     )
@@ -41,8 +37,16 @@ returns-in-Err-clause-form c =
 pub returns-in-Err-clause-component : goal.returns-in-Err-clause-component
 returns-in-Err-clause-component c why =
     let is = full_is c.args.offset c.args.text.now _ c.if-text-gt-LONGEST.false c.with_offset-full.ensures in
-    let same = c.at_position.ensures in
+    let same = c.at_stop.ensures.component in
     let component = c.in-Err.ensures.component why in (
       λ e. subst (λ d. IsSomeAnd d (λ text. IsFault text why)) (sym is) (component.0 (sym same ∙ e)),
       λ fault. same ∙ component.1 (subst (λ d. IsSomeAnd d (λ text. IsFault text why)) is fault),
     )
+
+pub returns-then-text-gt-LONGEST-clause-position : goal.returns-then-text-gt-LONGEST-clause-position
+returns-then-text-gt-LONGEST-clause-position c =
+    at_stop (HasFormIn (Local c.args.offset)) _ c.args.text.now _ (local_template c.args.offset c.args.text.now) c.wrong_at.ensures.position
+
+pub returns-in-Err-clause-position : goal.returns-in-Err-clause-position
+returns-in-Err-clause-position c =
+    at_stop (HasFormIn (Local c.args.offset)) _ c.args.text.now _ (local_template c.args.offset c.args.text.now) c.at_stop.ensures.position

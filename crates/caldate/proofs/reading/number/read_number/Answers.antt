@@ -1,5 +1,8 @@
 use Rattle.std.proofs.Common.{◌∙◌, ap, pos}
+use Rattle.caldate.specs.Readings.{HasFormIn}
+use Rattle.caldate.specs.declared.reading.Reading.TheVariants.{Unix}
 use Rattle.caldate.proofs.ReadNumbers.{moment_of, no_fault, product}
+use Rattle.caldate.proofs.Templates.{at_stop}
 use Rattle.caldate.proofs.reading.number.read_number.Goals as goal
 
 pub returns-in-Ok-clause-has : goal.returns-in-Ok-clause-has
@@ -15,3 +18,8 @@ returns-in-Ok-clause-component c why =
     let n = c.in-Some.ensures.has in
     let same = product unit c.in-Some.number c.from.result n.few (c.from.ensures ∙ ap pos c.nanoseconds_in.ensures.value) in
     (λ e. absurd e, λ is. no_fault unit c.args.text.now c.in-Some.number _ why c.in-Some.ensures.every same c.in-Ok.ensures.refused.1 is)
+
+pub returns-in_default-clause-position : goal.returns-in_default-clause-position
+returns-in_default-clause-position c =
+    let text = c.args.text.now in
+    at_stop (HasFormIn (Unix c.args.unit)) _ text _ (c.number_template.ensures c.args.unit) c.wrong_at.ensures.position
