@@ -20,3 +20,4 @@ pub mod ReadNumbers
 pub mod PartTexts
 pub mod LastBytes
 pub mod FrontDays
+pub mod SomeReading

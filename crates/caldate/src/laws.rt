@@ -1,7 +1,9 @@
-//! What follows from the answers: a text has one, and a line has one reply.
-ghost use Rattle.std.specs.Prelude.{◌≡◌, ◌≢◌, ◌⊎◌, ℕ, List};
+//! What follows from the answers: a text has one, a line has one reply, and arguments have a reading.
+ghost use Rattle.std.specs.Prelude.{◌≡◌, ◌≢◌, ◌⊎◌, ℕ, List, Option};
+ghost use Rattle.cal_text.specs.declared.any.DateOrMoment.{DateOrMoment};
 ghost use Rattle.caldate.specs.Answers.{IsAnswer, IsUnreadable};
 ghost use Rattle.caldate.specs.Kept.{IsKept};
+ghost use Rattle.caldate.specs.Requests.{IsReading, arguments_of};
 ghost use Rattle.caldate.specs.declared.reading.Reading.TheVariants.{Any};
 ghost use Rattle.caldate.specs.declared.request.Bounds.{Bounds};
 ghost use Rattle.caldate.specs.declared.request.Request.TheVariants.{Keep};
@@ -10,7 +12,8 @@ use crate::fields::asked_text;
 use crate::lines::cut_return;
 use crate::reading::read_in;
 use crate::request::Filter;
-use cal_text::{DateOrMoment, Unreadable};
+use crate::spelling::cut;
+use cal_text::{DateOrMoment, Unreadable, read_any};
 
 /// No text has two answers to one request in one reading, but for the position that the words for an unreadable text name where a
 /// reading is named.
@@ -32,4 +35,16 @@ pub(crate) fn one_kept(filter: &Filter, line: &[u8]) -> Option<Result<DateOrMome
 {
     let (text, _has_return) = cut_return(line);
     Some(read_in(filter.reading, asked_text(filter.field, text)?))
+}
+
+/// Whatever the words of the arguments are, there is a reading of them.
+pub(crate) fn have_reading(arguments: &[u8])
+    ensures { (reading : List ℕ → Option DateOrMoment)
+        × IsReading reading (arguments_of arguments.now) }
+{
+    let (word, rest) = cut(arguments);
+    let _ = read_any(word);
+    if let Some(words) = rest {
+        have_reading(words);
+    }
 }

@@ -1,15 +1,19 @@
 //! A run leaves one answer where each text has one, or where lines are kept each line has one reply: two runs over one input that
-//! reach its end leave alike writers, and so do two that write one list, whether by steps or by a rule.
+//! reach its end leave alike writers, and so do two that write one list, whether by steps or by a rule. What arguments ask for is one
+//! thing, since they have a reading.
 ghost use Rattle.std.specs.Prelude.{◌≡◌, List, ℕ, Some, IsOk, MatchOption};
 ghost use Rattle.caldate.specs.Kept.{IsKept, bounds_kept};
 ghost use Rattle.caldate.specs.Lists.{IsStep};
 ghost use Rattle.caldate.specs.Runs.{IsAllowed};
 
+use crate::asked::asked_of;
 use crate::fault::Fault;
+use crate::laws::have_reading;
 use crate::list::list;
 use crate::recurring::list_occurrences;
-use crate::request::{Filter, Listing, Occurrences};
+use crate::request::{Asked, Filter, Listing, Occurrences};
 use crate::run::run;
+use crate::senseless::Senseless;
 use std::io::{Read, Write};
 
 fn runs<R: Read, W: Write>(
@@ -58,4 +62,11 @@ fn occurrences<W: Write>(
         list_occurrences(asked, writer),
         list_occurrences(asked, other),
     )
+}
+
+fn asks(arguments: &[u8]) -> (Result<Asked, Senseless>, Result<Asked, Senseless>)
+    ensures { result.0 ≡ result.1 }
+{
+    have_reading(arguments);
+    (asked_of(arguments), asked_of(arguments))
 }
