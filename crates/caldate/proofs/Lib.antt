@@ -24,3 +24,4 @@ pub mod NumberTemplates
 pub mod PartTexts
 pub mod LastBytes
 pub mod FrontDays
+pub mod SomeReading

@@ -1,12 +1,13 @@
 -- What arguments ask for, by their first word and the others.
-use Rattle.std.proofs.Common.{◌≡◌, ℕ, Bool, true, false, cond, eqb, List, [], ◌∷◌, Option, None, Some, refl, sym, ap, ◌∙◌, arith, length, ◌+◌, ◌<◌, ℤ, pos, ◌*ℤ◌}
+use Rattle.std.proofs.Common.{◌≡◌, ℕ, Bool, true, false, cond, eqb, List, [], ◌∷◌, Option, None, Some, refl, sym, ap, subst, ◌∙◌, arith, length, ◌+◌, ◌<◌, ℤ, pos, ◌*ℤ◌}
 use Rattle.std.specs.Prelude.{FitsSigned, bytes_eq, codes, option_and_then, option_map, ◌&&◌, is_some}
 use Rattle.std.specs.Int.{w64}
 use Rattle.std.specs.Option.{option_map_or, option_zip}
+use Rattle.std.proofs.lemmas.List.Elements.{All-head, All-nil, All-rest, All-tail}
 use Rattle.std.proofs.lemmas.List.Splits.{length-slice_split}
 use Rattle.cal_text.specs.declared.any.DateOrMoment.{DateOrMoment}
 use Rattle.cal_time.specs.SignedDuration.{second}
-use Rattle.caldate.specs.Requests.{arguments_of, bounds_of, cut_options, date_of, filter_of, last_of, list_of, meaning_of, no_options, range_of, request_after, request_of, request_with, seconds_in, span_of, takes_strict, target_of, unit_of, verb_of, with_strict, with_value, lacking}
+use Rattle.caldate.specs.Requests.{IsRead, IsReading, arguments_of, bounds_of, cut_options, date_of, filter_of, last_of, list_of, meaning_of, no_options, range_of, request_after, request_of, request_with, seconds_in, span_of, takes_strict, target_of, unit_of, verb_of, with_strict, with_value, lacking}
 use Rattle.caldate.specs.declared.options.Options.{Options}
 use Rattle.caldate.proofs.Numbers.{fits, guard_yes}
 use Rattle.caldate.specs.Senseless.{senseless_at, senseless_end}
@@ -50,6 +51,11 @@ some_word bytes = first_of (arguments_of bytes) (omega (arith, length-slice_spli
 pub one_too_many : (at : ℕ) (bytes : List ℕ) → senseless_end at (arguments_of bytes) ≡ senseless_at (at + 2) wanted.End
 one_too_many at bytes = let parts = some_word bytes in ap (senseless_end at) parts.2
 
+-- a reading of words is one of the first of them and of the others
+pub read_each : (reading : List ℕ → Option DateOrMoment) (first : List ℕ) (words all : List (List ℕ)) → all ≡ first ∷ words → IsReading reading all
+    → IsRead reading first × IsReading reading words
+read_each reading first words all e h = (All-head (IsRead reading) first words (subst (IsReading reading) e h), All-rest (IsRead reading) first words all e h)
+
 -- ---- the options at the front
 -- `--strict`, whatever comes after it
 pub strict_first : (options : Options) (word : List ℕ) (words : List (List ℕ)) → takes_strict options word ≡ true
@@ -64,6 +70,27 @@ pub value_first : (options more : Options) (word value : List ℕ) (words : List
 value_first options more word value words e f =
     ap (λ b. cond b (cut_options (with_strict options) (value ∷ words)) (option_map_or (λ more. cut_options more words) (with_value options word value) (options, word ∷ value ∷ words))) e
     ∙ ap (λ o. option_map_or (λ more. cut_options more words) o (options, word ∷ value ∷ words)) f
+
+-- the words after them are read where all are
+if_either : {A : Type 0} (P : A → Type 0) (b : Bool) (x y : A) → P x → P y → P (cond b x y)
+if_either P true x y h k = h
+if_either P false x y h k = k
+
+if_any : {A B : Type 0} (P : B → Type 0) (f : A → B) (o : Option A) (y : B) → ((x : A) → P (f x)) → P y → P (option_map_or f o y)
+if_any P f None y h k = k
+if_any P f (Some x) y h k = h x
+
+pub left_read : (reading : List ℕ → Option DateOrMoment) (options : Options) (words : List (List ℕ)) → IsReading reading words
+    → IsReading reading (cut_options options words).1
+left_read reading options [] h = h
+left_read reading options (word ∷ []) h =
+    if_either (λ (front : Options × List (List ℕ)). IsReading reading front.1) (takes_strict options word) (with_strict options, []) (options, word ∷ []) (All-nil (IsRead reading)) h
+left_read reading options (word ∷ value ∷ words) h =
+    let Read = λ (front : Options × List (List ℕ)). IsReading reading front.1 in
+    let rest = All-tail (IsRead reading) word (value ∷ words) h in
+    if_either Read (takes_strict options word) _ _ (left_read reading (with_strict options) (value ∷ words) rest)
+    (if_any Read (λ more. cut_options more words) (with_value options word value) (options, word ∷ value ∷ words)
+    (λ more. left_read reading more words (All-tail (IsRead reading) value words rest)) h)
 
 -- no request, whatever the options
 either : {A : Type 0} (b : Bool) (x : A) → cond b x x ≡ x

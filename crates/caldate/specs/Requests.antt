@@ -1,7 +1,7 @@
 -- What the arguments ask for, where they make sense.
 use denote.Ref.{Bor}
 use Rattle.std.specs.Prelude.{ℕ, nat_lt, not, ◌&&◌, ◌||◌, Bool, true, false, is_none, is_some, unwrap_or, ℤ, pos, neg_ℤ, ◌*ℤ◌, int_le, nat_abs, List, [], ◌∷◌, ◌==◌, length, take, Option, Some, None, MatchOption, option_map, option_and_then, bytes_eq, codes, if◌then◌else◌, ◌*◌}
-use Rattle.std.specs.List.{slice_split}
+use Rattle.std.specs.List.{All, slice_split}
 use Rattle.std.specs.Option.{option_map_or, option_zip}
 use Rattle.std.specs.Result.{result_ok}
 use Rattle.std.specs.Str.{all_ascii_digits, str_eq_ignore_ascii_case}
@@ -53,9 +53,13 @@ abbrev pub words_left : Option (Bor (List ℕ)) → List (List ℕ)
 words_left None = []
 words_left (Some words) = arguments_of words.now
 
--- what reads a text as the date or the moment whose text it is
-abbrev pub IsReading : (List ℕ → Option DateOrMoment) → Type 0
-IsReading reading = (bytes : List ℕ) → MatchOption (reading bytes) ((found : DateOrMoment) → ¬ IsTextOf bytes found) (IsTextOf bytes)
+-- the answer to the text is right: the date or the moment whose text it is, or none where it is that of none
+abbrev pub IsRead : (List ℕ → Option DateOrMoment) → List ℕ → Type 0
+IsRead reading text = MatchOption (reading text) ((found : DateOrMoment) → ¬ IsTextOf text found) (IsTextOf text)
+
+-- so is that to each of the words
+abbrev pub IsReading : (List ℕ → Option DateOrMoment) → List (List ℕ) → Type 0
+IsReading reading words = All (IsRead reading) words
 
 -- ---- words
 -- a number: digits, perhaps after a sign, that is from -9223372036854775808 to 9223372036854775807

@@ -2,7 +2,7 @@
 ghost use Rattle.std.specs.Prelude.{◌≡◌, ℕ, List, [], ◌∷◌, Option, IfOk, IfSome};
 ghost use Rattle.cal_text.specs.declared.any.DateOrMoment.{DateOrMoment};
 ghost use Rattle.caldate.specs.Lists.{IsAsked};
-ghost use Rattle.caldate.specs.Requests.{IsReading, arguments_of, meaning_of, filter_of, request_of, add_request, amount_in, duration_in, occurrence_of, target_of, request_with, cut_options, no_options};
+ghost use Rattle.caldate.specs.Requests.{IsRead, IsReading, arguments_of, meaning_of, filter_of, request_of, request_after, add_request, amount_in, duration_in, occurrence_of, target_of, request_with, cut_options, no_options};
 ghost use Rattle.caldate.specs.Senseless.{asked_of};
 
 use crate::bounds::bounds_of;
@@ -23,7 +23,8 @@ use cal_time::{SignedDuration, Weekday};
 /// `to week` asks for the lines in the form of week dates; of `add 1 fortnight` the word at index 2 is no unit.
 pub fn asked_of(arguments: &[u8]) -> Result<Asked, Senseless>
     ensures steps { IfOk result IsAsked }
-    ensures asked { (reading : List ℕ → Option DateOrMoment) → IsReading reading
+    ensures asked { (reading : List ℕ → Option DateOrMoment)
+        → IsReading reading (arguments_of arguments.now)
         → result ≡ asked_of reading (arguments_of arguments.now) }
 {
     match meaning_of(arguments) {
@@ -35,7 +36,8 @@ pub fn asked_of(arguments: &[u8]) -> Result<Asked, Senseless>
 /// What the arguments ask for, or `None` where they make no sense.
 fn meaning_of(arguments: &[u8]) -> Option<Asked>
     ensures steps { IfSome result IsAsked }
-    ensures asked { (reading : List ℕ → Option DateOrMoment) → IsReading reading
+    ensures asked { (reading : List ℕ → Option DateOrMoment)
+        → IsReading reading (arguments_of arguments.now)
         → result ≡ meaning_of reading (arguments_of arguments.now) }
 {
     let Some((first, rest)) = first_word(arguments) else {
@@ -51,7 +53,8 @@ fn meaning_of(arguments: &[u8]) -> Option<Asked>
 /// What a request asks for, perhaps after options.
 fn lines_of(arguments: &[u8]) -> Option<Asked>
     ensures steps { IfSome result IsAsked }
-    ensures asked { (reading : List ℕ → Option DateOrMoment) → IsReading reading
+    ensures asked { (reading : List ℕ → Option DateOrMoment)
+        → IsReading reading (arguments_of arguments.now)
         → result ≡ request_with reading (cut_options no_options (arguments_of arguments.now)) }
 {
     let (options, words) = options_of(arguments);
@@ -93,11 +96,19 @@ fn filter_of(options: &Options, request: Option<Request>) -> Option<Asked>
 /// The request of a verb and what comes after it.
 #[tactic(auto, using(crate::proofs::Words::one_word))]
 fn request_of(words: &[u8]) -> Option<Request>
-    ensures { (reading : List ℕ → Option DateOrMoment) → IsReading reading
+    ensures { (reading : List ℕ → Option DateOrMoment) → IsReading reading (arguments_of words.now)
         → result ≡ request_of reading (arguments_of words.now) }
 {
     let (verb, rest) = first_word(words)?;
-    match verb_of(verb)? {
+    request_after(verb_of(verb)?, rest)
+}
+
+/// The request of this verb and the words after it.
+fn request_after(verb: Verb, rest: &[u8]) -> Option<Request>
+    ensures { (reading : List ℕ → Option DateOrMoment) → IsReading reading (arguments_of rest.now)
+        → result ≡ request_after reading (arguments_of rest.now) verb }
+{
+    match verb {
         Verb::To => Some(Request::To(form_of(only_word(rest)?)?)),
         Verb::Add => add_request(rest),
         Verb::Next => {
@@ -170,7 +181,7 @@ fn occurrence_of(words: &[u8]) -> Option<(Weekday, u8)>
 
 /// A date or a moment, and perhaps a unit.
 fn target_of(words: &[u8]) -> Option<(DateOrMoment, Option<TimeUnit>)>
-    ensures { (reading : List ℕ → Option DateOrMoment) → IsReading reading
+    ensures { (reading : List ℕ → Option DateOrMoment) → IsReading reading (arguments_of words.now)
         → result ≡ target_of reading (arguments_of words.now) }
 {
     let Some((text, rest)) = first_word(words) else {
@@ -185,7 +196,7 @@ fn target_of(words: &[u8]) -> Option<(DateOrMoment, Option<TimeUnit>)>
 
 /// The date or the moment of a text, if it is one.
 pub fn found_in(text: &[u8]) -> Option<DateOrMoment>
-    ensures { (reading : List ℕ → Option DateOrMoment) → IsReading reading
+    ensures { (reading : List ℕ → Option DateOrMoment) → IsRead reading text.now
         → result ≡ reading text.now }
 {
     match read_any(text) {

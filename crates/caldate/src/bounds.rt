@@ -13,7 +13,7 @@ use cal_text::DateOrMoment;
 /// The bounds of `from A to B`, `after A` or `before B`.
 #[tactic(auto, using(crate::proofs::Words::no_bounds))]
 pub fn bounds_of(words: &[u8]) -> Option<Bounds>
-    ensures { (reading : List ℕ → Option DateOrMoment) → IsReading reading
+    ensures { (reading : List ℕ → Option DateOrMoment) → IsReading reading (arguments_of words.now)
         → result ≡ bounds_of reading (arguments_of words.now) }
 {
     let (word, rest) = first_word(words)?;
@@ -30,7 +30,7 @@ pub fn bounds_of(words: &[u8]) -> Option<Bounds>
 
 /// The one date or moment.
 fn bound_of(words: &[u8]) -> Option<DateOrMoment>
-    ensures { (reading : List ℕ → Option DateOrMoment) → IsReading reading
+    ensures { (reading : List ℕ → Option DateOrMoment) → IsReading reading (arguments_of words.now)
         → result ≡ only reading (arguments_of words.now) }
 {
     found_in(only_word(words)?)
@@ -38,7 +38,7 @@ fn bound_of(words: &[u8]) -> Option<DateOrMoment>
 
 /// From one to the other.
 fn range_of(words: &[u8]) -> Option<Bounds>
-    ensures { (reading : List ℕ → Option DateOrMoment) → IsReading reading
+    ensures { (reading : List ℕ → Option DateOrMoment) → IsReading reading (arguments_of words.now)
         → result ≡ range_of reading (arguments_of words.now) }
 {
     let (first, rest) = first_word(words)?;

@@ -1,13 +1,16 @@
-//! What follows from the answers: a text has one, and a line has one reply.
-ghost use Rattle.std.specs.Prelude.{◌≡◌, ℕ, List};
+//! What follows from the answers: a text has one, a line has one reply, and arguments have a reading.
+ghost use Rattle.std.specs.Prelude.{◌≡◌, ℕ, List, Option};
+ghost use Rattle.cal_text.specs.declared.any.DateOrMoment.{DateOrMoment};
 ghost use Rattle.caldate.specs.Answers.{IsAnswer};
+ghost use Rattle.caldate.specs.Requests.{IsReading, arguments_of};
 ghost use Rattle.caldate.specs.Runs.{IsReplyTo};
 
 use crate::fields::asked_text;
 use crate::lines::cut_return;
 use crate::reading::read_in;
 use crate::request::Filter;
-use cal_text::{DateOrMoment, Unreadable};
+use crate::spelling::cut;
+use cal_text::{DateOrMoment, Unreadable, read_any};
 
 /// No text has two answers to one request in one reading.
 pub(crate) fn one_answer(filter: &Filter, text: &[u8]) -> Result<DateOrMoment, Unreadable>
@@ -24,4 +27,16 @@ pub(crate) fn one_reply(filter: &Filter, line: &[u8]) -> Option<Result<DateOrMom
 {
     let (text, _has_return) = cut_return(line);
     Some(read_in(filter.reading, asked_text(filter.field, text)?))
+}
+
+/// Whatever the words of the arguments are, there is a reading of them.
+pub(crate) fn have_reading(arguments: &[u8])
+    ensures { (reading : List ℕ → Option DateOrMoment)
+        × IsReading reading (arguments_of arguments.now) }
+{
+    let (word, rest) = cut(arguments);
+    let _ = read_any(word);
+    if let Some(words) = rest {
+        have_reading(words);
+    }
 }

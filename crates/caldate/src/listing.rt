@@ -4,7 +4,7 @@ ghost use Rattle.std.specs.Result.{result_ok};
 ghost use Rattle.cal_recurrence.specs.Text.{recurrence_of};
 ghost use Rattle.cal_text.specs.declared.any.DateOrMoment.{DateOrMoment};
 ghost use Rattle.caldate.specs.Lists.{IsAsked, IsPace, IsStep};
-ghost use Rattle.caldate.specs.Requests.{IsReading, arguments_of, date_in, date_of, last_of, list_of, pace_of, paced, span_of, step_in};
+ghost use Rattle.caldate.specs.Requests.{IsRead, IsReading, arguments_of, date_in, date_of, last_of, list_of, pace_of, paced, span_of, step_in};
 
 use crate::asked::found_in;
 use crate::request::{Asked, Listing, Occurrences, Pace, Step, StepUnit, TimeUnit};
@@ -16,7 +16,8 @@ use cal_time::Date;
 /// The list of `from A to B`, `from A to B by N UNIT` and `from A to B by RULE`.
 pub fn list_of(words: &[u8]) -> Option<Asked>
     ensures steps { IfSome result IsAsked }
-    ensures list { (reading : List ℕ → Option DateOrMoment) → IsReading reading
+    ensures list { (reading : List ℕ → Option DateOrMoment)
+        → IsReading reading (arguments_of words.now)
         → result ≡ list_of reading (arguments_of words.now) }
 {
     let (first, (last, pace)) = span_of(words)?;
@@ -26,7 +27,8 @@ pub fn list_of(words: &[u8]) -> Option<Asked>
 /// The first date, and the last one with the pace.
 fn span_of(words: &[u8]) -> Option<(Date, (Date, Pace))>
     ensures steps { IfSome result (λ span. IsPace span.1.1) }
-    ensures span { (reading : List ℕ → Option DateOrMoment) → IsReading reading
+    ensures span { (reading : List ℕ → Option DateOrMoment)
+        → IsReading reading (arguments_of words.now)
         → result ≡ span_of reading (arguments_of words.now) }
 {
     let (from, rest) = first_word(words)?;
@@ -64,7 +66,8 @@ fn paced(first: Date, last: Date, pace: Pace) -> Asked
 /// The last date, and the pace.
 fn last_of(words: &[u8]) -> Option<(Date, Pace)>
     ensures steps { IfSome result (λ end. IsPace end.1) }
-    ensures end { (reading : List ℕ → Option DateOrMoment) → IsReading reading
+    ensures end { (reading : List ℕ → Option DateOrMoment)
+        → IsReading reading (arguments_of words.now)
         → result ≡ last_of reading (arguments_of words.now) }
 {
     let Some((last, by)) = first_word(words) else {
@@ -121,7 +124,7 @@ pub fn step_in(number: u32, unit: TimeUnit) -> Option<Step>
 
 /// The date that the text is, if it is one and no moment.
 pub fn date_of(text: &[u8]) -> Option<Date>
-    ensures { (reading : List ℕ → Option DateOrMoment) → IsReading reading
+    ensures { (reading : List ℕ → Option DateOrMoment) → IsRead reading text.now
         → result ≡ date_of reading text.now }
 {
     date_in(&found_in(text)?)

@@ -1,11 +1,9 @@
 //! What the program does for its arguments.
 ghost use Rattle.std.specs.Prelude.{◌≡◌, ℕ, List, Option, Some, None, Result, Ok, Err};
-ghost use Rattle.cal_text.specs.declared.any.DateOrMoment.{DateOrMoment};
 ghost use Rattle.caldate.specs.Ending.{Tells};
 ghost use Rattle.caldate.specs.Lists.{Lists};
 ghost use Rattle.caldate.specs.Program.{Asks, HasComplaint};
 ghost use Rattle.caldate.specs.Recurring.{ListsOccurrences};
-ghost use Rattle.caldate.specs.Requests.{IsReading};
 ghost use Rattle.caldate.specs.Runs.{Ended, Shown};
 ghost use Rattle.caldate.specs.declared.fault.Fault.{Fault};
 ghost use Rattle.caldate.specs.declared.request.Filter.{Filter};
@@ -36,34 +34,28 @@ pub fn perform<R: Read, W: Write, E: Write>(
     writer: &mut W,
     errors: &mut E,
 ) -> Ending
-    ensures lines { (reading : List ℕ → Option DateOrMoment) (filter : Filter) → IsReading reading
-        → Asks reading arguments.entry (Asked.Lines filter)
+    ensures lines { (filter : Filter) → Asks arguments.entry (Asked.Lines filter)
         → (outcome : Result Unit Fault)
         × Ended filter outcome (R.remaining reader.old) (R.remaining reader.new)
         (W.contents writer.old) (W.contents writer.new)
         × Tells outcome result (E.contents errors.old) (E.contents errors.new) }
-    ensures list { (reading : List ℕ → Option DateOrMoment) (listing : Listing) → IsReading reading
-        → Asks reading arguments.entry (Asked.Dates listing)
+    ensures list { (listing : Listing) → Asks arguments.entry (Asked.Dates listing)
         → (reader.new ≡ reader.old) × ((outcome : Result Unit Fault)
         × Lists listing outcome (W.contents writer.old) (W.contents writer.new)
         × Tells outcome result (E.contents errors.old) (E.contents errors.new)) }
-    ensures recurring { (reading : List ℕ → Option DateOrMoment) (dates : Occurrences)
-        → IsReading reading → Asks reading arguments.entry (Asked.Recurring dates)
+    ensures recurring { (dates : Occurrences) → Asks arguments.entry (Asked.Recurring dates)
         → (reader.new ≡ reader.old) × ((outcome : Result Unit Fault)
         × ListsOccurrences dates outcome (W.contents writer.old) (W.contents writer.new)
         × Tells outcome result (E.contents errors.old) (E.contents errors.new)) }
-    ensures help { (reading : List ℕ → Option DateOrMoment) → IsReading reading
-        → Asks reading arguments.entry Asked.Help
+    ensures help { Asks arguments.entry Asked.Help
         → (reader.new ≡ reader.old) × ((outcome : Result Unit Fault)
         × Shown HELP.now outcome (W.contents writer.old) (W.contents writer.new)
         × Tells outcome result (E.contents errors.old) (E.contents errors.new)) }
-    ensures version { (reading : List ℕ → Option DateOrMoment) → IsReading reading
-        → Asks reading arguments.entry Asked.Version
+    ensures version { Asks arguments.entry Asked.Version
         → (reader.new ≡ reader.old) × ((outcome : Result Unit Fault)
         × Shown VERSION.now outcome (W.contents writer.old) (W.contents writer.new)
         × Tells outcome result (E.contents errors.old) (E.contents errors.new)) }
-    ensures senseless { (reading : List ℕ → Option DateOrMoment) (words : List ℕ)
-        → IsReading reading → HasComplaint reading arguments.entry words
+    ensures senseless { (words : List ℕ) → HasComplaint arguments.entry words
         → (reader.new ≡ reader.old) × (writer.new ≡ writer.old) × (result.status ≡ 2)
         × Shown words result.told (E.contents errors.old) (E.contents errors.new) }
 {

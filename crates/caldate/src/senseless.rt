@@ -2,7 +2,7 @@
 ghost use Rattle.std.specs.Prelude.{◌≡◌, ◌+◌, ◌≤◌, ℕ, List, [], ◌∷◌, Option, MatchOption, false, is_some, length, option_and_then, slice_get};
 ghost use Rattle.std.specs.Option.{option_map_or};
 ghost use Rattle.cal_text.specs.declared.any.DateOrMoment.{DateOrMoment};
-ghost use Rattle.caldate.specs.Requests.{IsReading, arguments_of, stands_alone, words_left, step_in, unit_of};
+ghost use Rattle.caldate.specs.Requests.{IsRead, IsReading, arguments_of, stands_alone, words_left, step_in, unit_of};
 ghost use Rattle.caldate.specs.Senseless.{further_to, is_rule_like, is_wanted, list_words, needed_by, senseless_after, senseless_at, senseless_end, senseless_front, senseless_further, senseless_last, senseless_lines, senseless_of, senseless_request, senseless_unit, senseless_verb, senseless_among, senseless_rest, bounds_after, is_bounds};
 
 use crate::lines::index_of;
@@ -118,7 +118,8 @@ const BOUND_WORDS: [Wanted; 1] = [Wanted::Target];
 
 /// The first word that makes no sense, of arguments that make none: of `next frday` that at index 1, where a weekday may stand.
 pub fn senseless_of(arguments: &[u8]) -> Senseless
-    ensures { (reading : List ℕ → Option DateOrMoment) → IsReading reading
+    ensures { (reading : List ℕ → Option DateOrMoment)
+        → IsReading reading (arguments_of arguments.now)
         → result ≡ senseless_of reading (arguments_of arguments.now) }
 {
     if arguments.is_empty() {
@@ -136,7 +137,8 @@ pub fn senseless_of(arguments: &[u8]) -> Senseless
 
 /// From the options on.
 fn senseless_lines(arguments: &[u8]) -> Senseless
-    ensures { (reading : List ℕ → Option DateOrMoment) → IsReading reading
+    ensures { (reading : List ℕ → Option DateOrMoment)
+        → IsReading reading (arguments_of arguments.now)
         → result ≡ senseless_lines reading (arguments_of arguments.now) }
 {
     let (options, words) = options_of(arguments);
@@ -145,7 +147,7 @@ fn senseless_lines(arguments: &[u8]) -> Senseless
 
 /// From the word after the options on.
 fn senseless_front(options: &Options, words: Option<&[u8]>) -> Senseless
-    ensures { (reading : List ℕ → Option DateOrMoment) → IsReading reading
+    ensures { (reading : List ℕ → Option DateOrMoment) → IsReading reading (words_left words.entry)
         → result ≡ senseless_front reading options.now (words_left words.entry) }
 {
     let index = words_in(options);
@@ -161,7 +163,7 @@ fn senseless_front(options: &Options, words: Option<&[u8]>) -> Senseless
 
 /// From the verb on, where the word is no option.
 fn senseless_verb(options: &Options, words: &[u8]) -> Senseless
-    ensures { (reading : List ℕ → Option DateOrMoment) → IsReading reading
+    ensures { (reading : List ℕ → Option DateOrMoment) → IsReading reading (arguments_of words.now)
         → result ≡ senseless_verb reading options.now (arguments_of words.now) }
 {
     let index = words_in(options);
@@ -213,7 +215,7 @@ fn is_by_rule(words: Option<&[u8]>) -> bool
 /// Of words from this index on, each of which is wanted so, the first that is not, or is missing, or is one too many.
 fn senseless_among(index: usize, wanted: &[Wanted], words: Option<&[u8]>) -> Senseless
     requires { index + length wanted.now ≤ 16 }
-    ensures { (reading : List ℕ → Option DateOrMoment) → IsReading reading
+    ensures { (reading : List ℕ → Option DateOrMoment) → IsReading reading (words_left words.entry)
         → result ≡ senseless_among reading index wanted.now (words_left words.entry) }
 {
     let Some((first, others)) = wanted.split_first() else {
@@ -233,7 +235,7 @@ fn senseless_among(index: usize, wanted: &[Wanted], words: Option<&[u8]>) -> Sen
 /// From the verb on, which has this index, where this is wanted.
 fn senseless_request(index: usize, wanted: Wanted, words: &[u8]) -> Senseless
     requires { index ≤ 11 }
-    ensures { (reading : List ℕ → Option DateOrMoment) → IsReading reading
+    ensures { (reading : List ℕ → Option DateOrMoment) → IsReading reading (arguments_of words.now)
         → result ≡ senseless_request reading index wanted (arguments_of words.now) }
 {
     let (word, rest) = cut(words);
@@ -246,7 +248,7 @@ fn senseless_request(index: usize, wanted: Wanted, words: &[u8]) -> Senseless
 /// After a verb, from this index on.
 fn senseless_after(index: usize, words: Option<&[u8]>, verb: Verb) -> Senseless
     requires { index ≤ 12 }
-    ensures { (reading : List ℕ → Option DateOrMoment) → IsReading reading
+    ensures { (reading : List ℕ → Option DateOrMoment) → IsReading reading (words_left words.entry)
         → result ≡ senseless_after reading index (words_left words.entry) verb }
 {
     let needed = needed_by(verb);
@@ -264,7 +266,7 @@ fn senseless_after(index: usize, words: Option<&[u8]>, verb: Verb) -> Senseless
 /// After the word that the verb needs, which has this index.
 fn senseless_rest(index: usize, verb: Verb, word: &[u8], words: Option<&[u8]>) -> Senseless
     requires { index ≤ 12 }
-    ensures { (reading : List ℕ → Option DateOrMoment) → IsReading reading
+    ensures { (reading : List ℕ → Option DateOrMoment) → IsReading reading (words_left words.entry)
         → result ≡ senseless_rest reading index verb word.now (words_left words.entry) }
 {
     match verb {
@@ -288,7 +290,7 @@ fn bounds_after(word: &[u8]) -> &'static [Wanted]
 /// After the word that the verb needs, which has this index, where there may be another one.
 fn senseless_further(index: usize, further: Wanted, words: Option<&[u8]>) -> Senseless
     requires { index ≤ 12 }
-    ensures { (reading : List ℕ → Option DateOrMoment) → IsReading reading
+    ensures { (reading : List ℕ → Option DateOrMoment) → IsReading reading (words_left words.entry)
         → result ≡ senseless_further reading index further (words_left words.entry) }
 {
     let Some(words) = words else {
@@ -378,7 +380,7 @@ fn further_to(verb: Verb) -> Wanted
 
 /// Whether the word may stand where this is wanted.
 fn is_wanted(word: &[u8], wanted: Wanted) -> bool
-    ensures { (reading : List ℕ → Option DateOrMoment) → IsReading reading
+    ensures { (reading : List ℕ → Option DateOrMoment) → IsRead reading word.now
         → result ≡ is_wanted reading word.now wanted }
 {
     match wanted {

@@ -1,18 +1,20 @@
 //! A run leaves one answer: two runs over one input that reach its end leave alike writers, and so do two that write one list, whether by
-//! steps or by a rule.
+//! steps or by a rule. What arguments ask for is one thing, since they have a reading.
 ghost use Rattle.std.specs.List.{slice_split};
 ghost use Rattle.std.specs.Prelude.{◌≡◌, List, ℕ, All, Some, IsOk};
 ghost use Rattle.caldate.specs.Lines.{is_end};
 ghost use Rattle.caldate.specs.Lists.{IsStep};
 ghost use Rattle.caldate.specs.Runs.{IsReplyTo};
 
+use crate::asked::asked_of;
 use crate::fault::Fault;
-use crate::laws::one_reply;
+use crate::laws::{have_reading, one_reply};
 use crate::lines::first_line;
 use crate::list::list;
 use crate::recurring::list_occurrences;
-use crate::request::{Filter, Listing, Occurrences};
+use crate::request::{Asked, Filter, Listing, Occurrences};
 use crate::run::run;
+use crate::senseless::Senseless;
 use std::io::{Read, Write};
 
 /// Each part of the input between line feeds has one reply.
@@ -73,4 +75,11 @@ fn occurrences<W: Write>(
         list_occurrences(asked, writer),
         list_occurrences(asked, other),
     )
+}
+
+fn asks(arguments: &[u8]) -> (Result<Asked, Senseless>, Result<Asked, Senseless>)
+    ensures { result.0 ≡ result.1 }
+{
+    have_reading(arguments);
+    (asked_of(arguments), asked_of(arguments))
 }

@@ -7,7 +7,7 @@ use Rattle.cal_text.specs.declared.any.DateOrMoment.{DateOrMoment}
 use Rattle.caldate.specs.Requests.{stands_alone, words_left}
 use Rattle.caldate.specs.Senseless.{list_words, senseless_among, senseless_lines, senseless_of}
 use Rattle.caldate.specs.declared.senseless.Senseless.{Senseless}
-use Rattle.caldate.proofs.Words.{some_word}
+use Rattle.caldate.proofs.Words.{read_each, some_word}
 use Rattle.caldate.proofs.senseless.senseless_of.Goals as goal
 
 neither : {A : Type 0} (a b : Bool) (x y z : A) → a ≡ false → b ≡ false → cond a x (cond b y z) ≡ z
@@ -50,5 +50,5 @@ returns-then-eq c = λ reading h.
     let parts = c.cut.ensures.parts in
     let alone : stands_alone first ≡ false = search rules in
     let list : bytes_eq first (codes "list") ≡ true = search rules in
-    c.senseless_among.ensures reading h ∙ ap (λ l. senseless_among reading 1 l (words_left c.cut.result.1)) c.list_words.ensures.words
+    c.senseless_among.ensures reading (read_each reading _ _ _ parts h).1 ∙ ap (λ l. senseless_among reading 1 l (words_left c.cut.result.1)) c.list_words.ensures.words
     ∙ sym (ap (senseless_of reading) parts ∙ from_list reading first (words_left c.cut.result.1) alone list)
