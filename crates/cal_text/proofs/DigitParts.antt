@@ -8,7 +8,7 @@ use Rattle.std.proofs.lemmas.List.{append_assoc}
 use Rattle.std.proofs.lemmas.Str.{digit_value_digit}
 use Rattle.std.proofs.lemmas.Str.Parse.{digit_from_value}
 use Rattle.cal_time.specs.DateText.{digits_at_least}
-use Rattle.cal_text.specs.Shape.{Shape, left, Byte, Digits, UpTo, SomeDigits, AtLeast}
+use Rattle.cal_text.specs.Shape.{Shape, left, Byte, Digits, UpTo, SomeDigits, AtLeast, ReadsDigits}
 use Rattle.cal_text.proofs.DigitTexts.{below-nine, digits-printed, digits_at_least-digits, digits_at_least-value, digits_at_least-length}
 use Rattle.cal_text.proofs.Parts.{IsPart, Splits, HasAfter, BeginsOutside, left-outside, same_pair, renamed, byte_part}
 use Rattle.cal_text.proofs.Positions.{IsShapeOf}
@@ -64,6 +64,10 @@ exact-one (suc k) (x ∷ xs) (y ∷ ys) r s a b e =
 
 exact_part : (k : ℕ) → IsPart (IsExact k) (λ ds. ds) (Digits k)
 exact_part k = record { each = exact-each k; only = exact-only k; one = λ ds es r s a b e. exact-one k ds es r s a.1 b.1 e }
+
+-- those that a scanner read
+pub reads-scans : (k n : ℕ) (f : Shape) (old new : List ℕ) → ReadsDigits old new k n → left (Digits k f) old ≡ left f new
+reads-scans k n f old new h = ap (left (Digits k f)) h.bytes_are ∙ exact-each k f h.digits new (h.all, h.count_is)
 
 -- as a number
 pub number_part : (k : ℕ) → 1 ≤ k → k ≤ 9 → IsPart (λ n. (n < 10 ^ k) × (n < 10 ^ 9)) (digits_at_least k) (Digits k)

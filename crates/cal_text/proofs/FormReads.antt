@@ -1,5 +1,5 @@
 -- What a scanner read of a date.
-use Rattle.std.proofs.Common.{◌≡◌, ℕ, ◌+◌, ◌-◌, ◌*◌, ◌<◌, ◌≤◌, ℤ, List, [], ◌∷◌, ◌++◌, length, sym, ap, ◌∙◌, arith, lit≤, lit<}
+use Rattle.std.proofs.Common.{◌≡◌, ℕ, ◌+◌, ◌-◌, ◌*◌, ◌<◌, ◌≤◌, ℤ, List, [], ◌∷◌, ◌++◌, length, refl, sym, ap, ◌∙◌, arith, lit≤, lit<}
 use Rattle.std.specs.Str.Parse.{digits_value}
 use Rattle.std.proofs.lemmas.Int.Digits.{digits_push, digits_value_push}
 use Rattle.std.proofs.lemmas.List.{append_assoc, length-append}
@@ -7,7 +7,7 @@ use Rattle.std.proofs.lemmas.Str.{digit_value_digit}
 use Rattle.cal_time.specs.DateText.{digits_at_least}
 use Rattle.cal_text.specs.declared.form.Form.{Form}
 use Rattle.cal_text.specs.declared.form.Form.TheVariants.{Calendar, Ordinal, Week}
-use Rattle.cal_text.specs.DateForms.{year_text, year_of, rest_of, IsWrittenYear, DigitsFit, HasForm}
+use Rattle.cal_text.specs.DateForms.{year_text, month_and_day_text, year_of, rest_of, IsWrittenYear, DigitsFit, HasForm}
 use Rattle.cal_text.specs.Shape.{ReadsDigits}
 use Rattle.cal_text.proofs.DigitTexts.{digits-printed, digits_at_least-digits, digits_at_least-length, digits_at_least-value}
 use Rattle.cal_text.proofs.NumberTexts.{one_digit}
@@ -51,6 +51,10 @@ put_calendar y m d old a c e written h hyphen k end =
       (written, omega (arith, first.0), omega (arith, second.0)),
       pair (digits_at_least 2 m) (digits_at_least 2 d) old a first.1 (hyphen ∙ ap (λ r. 45 ∷ r) (at_end c (digits_at_least 2 d) e second.1 end)),
     )
+
+pub month_and_day : (m d : ℕ) (new : List ℕ) → new ≡ [] → digits_at_least 2 m ++ 45 ∷ (digits_at_least 2 d ++ new) ≡ month_and_day_text m d
+month_and_day m d new end =
+    pair (digits_at_least 2 m) (digits_at_least 2 d) _ _ refl (ap (λ r. 45 ∷ r) (at_end _ (digits_at_least 2 d) new refl end))
 
 pub put_ordinal : (y : ℤ) (m d : ℕ) (old a c : List ℕ) → IsWrittenYear y → ReadsDigits old a 2 m → (d < 10) × (a ≡ (48 + d) ∷ c) → c ≡ []
     → DigitsFit (Ordinal y (m * 10 + d)) × (old ≡ rest_of (Ordinal y (m * 10 + d)))

@@ -6,11 +6,11 @@ use Rattle.std.proofs.lemmas.Bool.Decides.{nat_tests}
 use Rattle.cal_time.specs.Digits.{without_first_zeros, without_last_zeros}
 
 -- digits that end in a zero, and such as do not
-ends_in_zero : (ds : List ℕ) → without_last_zeros (ds ++ 48 ∷ []) ≡ without_last_zeros ds
+pub ends_in_zero : (ds : List ℕ) → without_last_zeros (ds ++ 48 ∷ []) ≡ without_last_zeros ds
 unfolding without_last_zeros
 ends_in_zero ds = rw reverse-append
 
-begins_otherwise : (ds : List ℕ) (d : ℕ) → ¬ (d ≡ 48) → without_first_zeros (d ∷ ds) ≡ d ∷ ds
+pub begins_otherwise : (ds : List ℕ) (d : ℕ) → ¬ (d ≡ 48) → without_first_zeros (d ∷ ds) ≡ d ∷ ds
 begins_otherwise ds d other = grind (arith, nat_tests)
 
 ends_otherwise : (ds : List ℕ) (d : ℕ) → ¬ (d ≡ 48) → without_last_zeros (ds ++ d ∷ []) ≡ ds ++ d ∷ []

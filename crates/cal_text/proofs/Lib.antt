@@ -24,6 +24,7 @@ pub mod Stops
 pub mod Positions
 pub mod Parts
 mod Faults
+mod FirstDecimals
 mod OneAnswer
 mod AnyForms
 mod AnyPositions

@@ -1,10 +1,10 @@
 -- Digits that a scanner reads, one after another.
-use Rattle.std.proofs.Common.{◌≡◌, ◌≢◌, ℕ, zero, suc, ◌+◌, ◌-◌, ◌*◌, ◌<◌, ◌≤◌, ◌^◌, List, [], ◌∷◌, ◌++◌, refl, sym, ap, ◌∙◌, arith, lit<}
+use Rattle.std.proofs.Common.{◌≡◌, ◌≢◌, ℕ, zero, suc, ◌+◌, ◌-◌, ◌*◌, ◌<◌, ◌≤◌, ◌^◌, List, [], ◌∷◌, ◌++◌, refl, sym, ap, ◌∙◌, arith, lit<, length, get_or, take, drop}
 use Rattle.std.specs.Char.{digit_value}
 use Rattle.std.specs.Str.Parse.{AllDigits, digits_value, digits_value_after}
 use Rattle.std.proofs.lemmas.Int.Digits.{digits_push, digits_value_push, digits_value-lt}
 use Rattle.std.proofs.Math.Nat.{mul-le-mul_left, pow-le-pow_right, pow-suc}
-use Rattle.std.proofs.lemmas.List.{append_assoc, length-append}
+use Rattle.std.proofs.lemmas.List.{append_assoc, length-append, take_all}
 use Rattle.std.proofs.lemmas.Str.{digit_value_digit}
 use Rattle.cal_text.specs.Shape.{Shape, Branch, UpTo, left, ReadsDigits, ReadsMore}
 use Rattle.cal_time.specs.DateText.{digits_at_least}
@@ -29,6 +29,19 @@ one_more m d i old mid new h low e = record {
   count_is = length-append h.digits ((48 + d) ∷ []) ∙ ap (λ k. k + 1) h.count_is;
   value = digits_value_push 10 h.digits (48 + d) ∙ omega (arith, h.value, value-of d low);
   bytes_are = h.bytes_are ∙ ap (λ rest. h.digits ++ rest) e ∙ sym (append_assoc h.digits ((48 + d) ∷ []) new);
+}
+
+-- the first two bytes, where they are digits
+pub at_once : (n : ℕ) (old : List ℕ) → 2 ≤ length old → AllDigits 10 (get_or old 0 0 ∷ get_or old 1 0 ∷ []) × (n ≡ digits_value 10 (get_or old 0 0 ∷ get_or old 1 0 ∷ []))
+    → ReadsDigits old (take (length old - 2) (drop 2 old)) 2 n
+at_once n [] two h = absurd (omega arith)
+at_once n (x ∷ []) two h = absurd (omega arith)
+at_once n (x ∷ y ∷ rest) two h = record {
+  digits = x ∷ y ∷ [];
+  all = h.0;
+  count_is = refl;
+  value = sym h.1;
+  bytes_are = ap (λ r. x ∷ y ∷ r) (sym (take_all (length (x ∷ y ∷ rest) - 2) rest (omega arith)));
 }
 
 pub zero_first : (n i : ℕ) (old mid new : List ℕ) → old ≡ 48 ∷ mid → ReadsDigits mid new i n → ReadsDigits old new (suc i) n

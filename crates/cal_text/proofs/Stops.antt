@@ -1,9 +1,9 @@
 -- Where a text stops being of a shape.
-use Rattle.std.proofs.Common.{◌≡◌, ℕ, suc, ◌+◌, ◌<◌, ◌≤◌, List, [], ◌∷◌, ◌++◌, length, refl, sym, ◌∙◌, arith, inl, inr, ◌⊎◌}
+use Rattle.std.proofs.Common.{◌≡◌, ◌≢◌, ℕ, suc, ◌+◌, ◌<◌, ◌≤◌, List, [], ◌∷◌, ◌++◌, length, refl, sym, ◌∙◌, arith, inl, inr, ◌⊎◌}
 use Rattle.std.proofs.lemmas.List.{length-append}
 use Rattle.std.proofs.lemmas.Bool.Decides.{nat_tests}
 use Rattle.std.proofs.lemmas.Bool.{cases_lt}
-use Rattle.cal_text.specs.Shape.{Shape, Done, From, Branch, left}
+use Rattle.cal_text.specs.Shape.{Shape, Done, From, Branch, Sign, left}
 
 -- ---- the count, case by case
 abbrev pub IsIn : ℕ → ℕ → ℕ → Type 0
@@ -47,6 +47,17 @@ in_or_out low above x =
       | inl under ↦ inr (λ h. absurd (omega arith))
       | inr least ↦ elim (cases_lt (low + above) x) as (λ _. IsIn low above x ⊎ ¬ IsIn low above x) [ inl over ↦ inr (λ h. absurd (omega arith)) | inr most ↦ inl (least, most) ]
     ]
+
+pub left-sign : (f : Shape) (x : ℕ) (xs : List ℕ) → 43 ≤ x → x ≤ 45 → x ≢ 44 → left (Sign f) (x ∷ xs) ≡ left f xs
+left-sign f x xs low high other =
+    elim (in_or_out 43 0 x) as (λ _. left (Sign f) (x ∷ xs) ≡ left f xs) [
+      | inl here ↦ left-branch_in 43 0 f (From 45 0 f) x xs here
+      | inr out ↦ left-branch_out 43 0 f (From 45 0 f) x xs out ∙ left-in 45 0 f x xs (elim (cases_lt x 45) as (λ _. 45 ≤ x) [ inl less ↦ absurd (out (low, omega (arith, less, low, other))) | inr least ↦ least ], high)
+    ]
+
+pub left-no_sign : (f : Shape) (x : ℕ) (xs : List ℕ) → (x < 43) ⊎ ((45 < x) ⊎ (x ≡ 44)) → left (Sign f) (x ∷ xs) ≡ suc (length (x ∷ xs))
+left-no_sign f x xs other =
+    left-branch_out 43 0 f (From 45 0 f) x xs (λ h. absurd (omega (arith, h.0, h.1, other))) ∙ left-out 45 0 f x xs (λ h. absurd (omega (arith, h.0, h.1, other)))
 
 pub left-most : (f : Shape) (xs : List ℕ) → left f xs ≤ suc (length xs)
 left-most Done [] = omega (arith, left-done)

@@ -54,6 +54,16 @@ value-after n (x ∷ xs) =
     let power = pow-suc 10 (length xs) in
     omega (arith, value-after (n * 10 + digit_value x) xs, value-after (0 * 10 + digit_value x) xs, ap (λ p. n * p) power)
 
+pub two_and_two : (front back : ℕ) (old mid new : List ℕ) → ReadsDigits old mid 2 front → ReadsDigits mid new 2 back → ReadsDigits old new 4 (front * 100 + back)
+two_and_two front back old mid new h k = record {
+  digits = h.digits ++ k.digits;
+  all = all-append h.digits k.digits h.all k.all;
+  count_is = omega (arith, length-append h.digits k.digits, h.count_is, k.count_is);
+  value = value-append 0 h.digits k.digits ∙ value-after (digits_value 10 h.digits) k.digits
+      ∙ omega (arith, ap (λ size. digits_value 10 h.digits * 10 ^ size) k.count_is, h.value, k.value);
+  bytes_are = h.bytes_are ∙ ap (λ rest. h.digits ++ rest) k.bytes_are ∙ sym (append_assoc h.digits k.digits new);
+}
+
 pub record Spells (least : ℕ) (old new : List ℕ) (n : ℕ) : Type 0 where
   pub digits : List ℕ
   pub spelled : IsSpelled digits n

@@ -74,6 +74,10 @@ abbrev pub Digits : ℕ → Shape → Shape
 Digits zero f = f
 Digits (suc k) f = From 48 9 (Digits k f)
 
+-- a plus sign or a minus sign
+abbrev pub Sign : Shape → Shape
+Sign f = Branch 43 0 f (Byte 45 f)
+
 -- so many digits at most, where the next does not begin with one
 abbrev pub UpTo : ℕ → Shape → Shape
 UpTo zero f = f
@@ -162,7 +166,7 @@ abbrev pub offset_digits : Shape
 offset_digits = Digits 2 (Byte 58 (Digits 2 Done))
 
 abbrev pub signed_offset : Shape
-signed_offset = Branch 43 0 offset_digits (Byte 45 offset_digits)
+signed_offset = Sign offset_digits
 
 abbrev pub time_offset : Shape
 time_offset = Branch 90 0 Done (Branch 122 0 Done signed_offset)

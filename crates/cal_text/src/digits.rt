@@ -1,8 +1,34 @@
 //! Decimal digits.
-ghost use Rattle.std.specs.Prelude.{◌≡◌, ◌+◌, ◌*◌, ◌<◌, ◌≤◌, ◌^◌, ◌++◌, decimal, IfSome};
+ghost use Rattle.std.specs.Prelude.{◌≡◌, ◌+◌, ◌*◌, ◌<◌, ◌≤◌, ◌^◌, [], ◌∷◌, ◌++◌, decimal, IfSome, SomeIff};
+ghost use Rattle.std.specs.Char.{digit_value};
+ghost use Rattle.std.specs.Str.Parse.{AllDigits, digits_value};
 ghost use Rattle.cal_text.specs.Shape.{Shape, left, Scans, ReadsMore, UpTo, Number};
 
 use crate::scanner::Scanner;
+
+/// The number that two digits spell.
+#[inline(always)]
+pub(crate) fn number_of_two(tens: u8, ones: u8) -> Option<u32>
+    ensures { SomeIff result (AllDigits 10 (tens ∷ ones ∷ []))
+        (digits_value 10 (tens ∷ ones ∷ [])) }
+{
+    let tens = number_of_digit(tens)?;
+    let ones = number_of_digit(ones)?;
+    Some(tens * 10 + ones)
+}
+
+/// The number of a digit. It is found in 32 bits, in which the numbers of two digits need no more casts.
+#[inline(always)]
+fn number_of_digit(byte: u8) -> Option<u32>
+    ensures { SomeIff result (digit_value byte < 10) (digit_value byte) }
+{
+    // A byte below the digits wraps, far above 9.
+    let number = u32::from(byte).wrapping_sub(48);
+    if number > 9 {
+        return None;
+    }
+    Some(number)
+}
 
 /// A number above 0 without zeros before it, of one digit and so many more at most.
 pub(crate) fn number_above_0(scanner: &mut Scanner, more: usize) -> Option<u64>

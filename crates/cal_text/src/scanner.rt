@@ -1,6 +1,10 @@
 //! A text read byte by byte.
 ghost use Rattle.std.specs.Prelude.{◌≡◌, ◌+◌, ◌<◌, ◌≤◌, ◌∷◌, ◌++◌, [], IfSome, IfNone};
-ghost use Rattle.cal_text.specs.Shape.{Scans, Branches, ScansWhole, ReadsDigits, Done, From, Byte, Digits};
+ghost use Rattle.cal_time.specs.DateText.{digits_at_least};
+ghost use Rattle.cal_text.specs.Rfc3339Form.{sign_byte};
+ghost use Rattle.cal_text.specs.Shape.{Scans, Branches, ScansWhole, ReadsDigits, Done, From, Byte, Digits, Sign, TwoNumbers};
+
+use crate::digits::number_of_two;
 
 /// What is left of a text.
 ///
@@ -65,12 +69,34 @@ impl Scanner<'_> {
         Some(u32::from(byte - b'0'))
     }
 
+    /// A plus or a minus sign, and whether it is the minus. Which of them it is costs no jump.
+    #[inline(always)]
+    pub(crate) fn sign(&mut self) -> Option<bool>
+        ensures scans { Scans Sign self.old.rest.now self.new.rest.now result }
+        ensures byte { IfSome result (λ is_minus.
+            self.old.rest.now ≡ sign_byte is_minus ∷ self.new.rest.now) }
+    {
+        let (first, others) = self.rest.split_first()?;
+        if *first < b'+' || *first > b'-' || *first == b',' {
+            return None;
+        }
+        self.rest = others;
+        Some(*first == b'-')
+    }
+
+    /// Two digits at once, or else one after the other, which finds the byte that is wrong.
     #[inline(always)]
     pub(crate) fn two_digits(&mut self) -> Option<u32>
         ensures scans { Scans (Digits 2) self.old.rest.now self.new.rest.now result }
         ensures number { IfSome result (λ n. ReadsDigits self.old.rest.now self.new.rest.now 2 n) }
         ensures below { IfSome result (λ n. n < 100) }
     {
+        if let [tens, ones, others @ ..] = self.rest
+            && let Some(number) = number_of_two(*tens, *ones)
+        {
+            self.rest = others;
+            return Some(number);
+        }
         let tens = self.digit()?;
         let ones = self.digit()?;
         Some(tens * 10 + ones)
@@ -93,9 +119,25 @@ impl Scanner<'_> {
         ensures number { IfSome result (λ n. ReadsDigits self.old.rest.now self.new.rest.now 4 n) }
         ensures below { IfSome result (λ n. n < 10000) }
     {
-        let tens = self.three_digits()?;
-        let ones = self.digit()?;
-        Some(tens * 10 + ones)
+        let front = self.two_digits()?;
+        let back = self.two_digits()?;
+        Some(front * 100 + back)
+    }
+
+    /// Two numbers of two digits, each after that byte.
+    #[inline(always)]
+    pub(crate) fn two_numbers(&mut self, byte: u8) -> Option<(u8, u8)>
+        ensures scans { Scans (TwoNumbers byte) self.old.rest.now self.new.rest.now result }
+        ensures numbers { IfSome result (λ found. (found.0 < 100) × (found.1 < 100)
+            × (self.old.rest.now ≡ byte
+            ∷ (digits_at_least 2 found.0 ++ byte
+            ∷ (digits_at_least 2 found.1 ++ self.new.rest.now)))) }
+    {
+        self.byte(byte)?;
+        let first = self.two_digits()?;
+        self.byte(byte)?;
+        let second = self.two_digits()?;
+        Some((first as u8, second as u8))
     }
 
     /// The end of the text.

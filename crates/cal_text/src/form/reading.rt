@@ -15,11 +15,28 @@ pub(crate) fn form_of(text: &[u8]) -> Result<Form, usize>
     ensures has { IfOk result (HasForm text.now) }
     ensures position { IfErr result (IsPosition (HasSome HasForm) text.now) }
 {
+    if let Some(form) = plain(text) {
+        return Ok(form);
+    }
     let mut scanner = Scanner { rest: text };
     match date(&mut scanner) {
         Some(form) => Ok(form),
         None => Err(text.len() - scanner.rest.len()),
     }
+}
+
+/// The calendar date of a year of four digits, as most dates are. The number of its bytes is asked once, and not before each of them.
+fn plain(text: &[u8]) -> Option<Form>
+    ensures { IfSome result (HasForm text.now) }
+{
+    let [_, _, _, _, b'-', _, _, b'-', _, _] = text else {
+        return None;
+    };
+    let mut scanner = Scanner { rest: text };
+    let year = scanner.four_digits()?;
+    let (month, day) = scanner.two_numbers(b'-')?;
+    scanner.end()?;
+    Some(Form::Calendar(year as i32, month, day))
 }
 
 fn date(scanner: &mut Scanner) -> Option<Form>

@@ -4,7 +4,7 @@ ghost use Rattle.cal_time.specs.DateText.{digits_at_least};
 ghost use Rattle.cal_text.specs.declared.rfc3339.numbers.Numbers.{Numbers};
 ghost use Rattle.cal_text.specs.declared.rfc3339.numbers.TimeOffset.{TimeOffset};
 ghost use Rattle.cal_text.specs.Rfc3339Form.{IsSeparator, IsTimeOffset, HasFractionBefore, HasMomentForm};
-ghost use Rattle.cal_text.specs.Shape.{Scans, ScansWhole, ScansLarge, Separator, TwoNumbers, Fraction, offset_digits, signed_offset, time_offset, moment};
+ghost use Rattle.cal_text.specs.Shape.{Scans, ScansWhole, ScansLarge, Separator, Fraction, offset_digits, signed_offset, time_offset, moment};
 
 use crate::fraction::fraction;
 use crate::rfc3339::numbers::{Numbers, TimeOffset};
@@ -17,10 +17,10 @@ pub(super) fn numbers_of(scanner: &mut Scanner) -> Option<Numbers>
     ensures has { IfSome result (HasMomentForm scanner.old.rest.now) }
 {
     let year = scanner.four_digits()?;
-    let (month, day) = two_numbers(scanner, b'-')?;
+    let (month, day) = scanner.two_numbers(b'-')?;
     separator(scanner)?;
     let hour = scanner.two_digits()?;
-    let (minute, second) = two_numbers(scanner, b':')?;
+    let (minute, second) = scanner.two_numbers(b':')?;
     let (nanosecond, offset) = fraction_and_offset(scanner)?;
     Some(Numbers {
         year: year as u16,
@@ -32,22 +32,6 @@ pub(super) fn numbers_of(scanner: &mut Scanner) -> Option<Numbers>
         nanosecond,
         offset,
     })
-}
-
-/// Two numbers of two digits, each after that byte.
-#[inline(always)]
-fn two_numbers(scanner: &mut Scanner, byte: u8) -> Option<(u8, u8)>
-    ensures scans { Scans (TwoNumbers byte) scanner.old.rest.now scanner.new.rest.now result }
-    ensures numbers { IfSome result (λ found. (found.0 < 100) × (found.1 < 100)
-        × (scanner.old.rest.now ≡ byte
-        ∷ (digits_at_least 2 found.0 ++ byte
-        ∷ (digits_at_least 2 found.1 ++ scanner.new.rest.now)))) }
-{
-    scanner.byte(byte)?;
-    let first = scanner.two_digits()?;
-    scanner.byte(byte)?;
-    let second = scanner.two_digits()?;
-    Some((first as u8, second as u8))
 }
 
 /// The byte between the date and the time.
@@ -117,17 +101,9 @@ fn signed_offset(scanner: &mut Scanner) -> Option<TimeOffset>
     ensures scans { ScansWhole signed_offset scanner.old.rest.now scanner.new.rest.now result }
     ensures has { IfSome result (IsTimeOffset scanner.old.rest.now) }
 {
-    match scanner.byte(b'+') {
-        Some(()) => {
-            let (hours, minutes) = hours_and_minutes(scanner)?;
-            Some(TimeOffset::Signed(false, hours, minutes))
-        }
-        None => {
-            scanner.byte(b'-')?;
-            let (hours, minutes) = hours_and_minutes(scanner)?;
-            Some(TimeOffset::Signed(true, hours, minutes))
-        }
-    }
+    let is_west = scanner.sign()?;
+    let (hours, minutes) = hours_and_minutes(scanner)?;
+    Some(TimeOffset::Signed(is_west, hours, minutes))
 }
 
 #[inline(always)]

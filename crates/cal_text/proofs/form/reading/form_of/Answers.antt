@@ -6,7 +6,10 @@ use Rattle.cal_text.proofs.Positions.{stopped}
 use Rattle.cal_text.proofs.form.reading.form_of.Goals as goal
 
 pub returns-in-Some-clause-every : goal.returns-in-Some-clause-every
-returns-in-Some-clause-every c other has = ap Ok (date_shape.one _ _ _ c.in-Some.ensures.has has)
+returns-in-Some-clause-every c other has = ap Ok (date_shape.one _ _ _ c.in-Some.ensures has)
+
+pub returns-in-Some-date-clause-every : goal.returns-in-Some-date-clause-every
+returns-in-Some-date-clause-every c other has = ap Ok (date_shape.one _ _ _ c.in-Some-date.ensures.has has)
 
 pub overflow_sub-result : goal.overflow_sub-result
 overflow_sub-result c = (stopped HasForm date date_shape _ _ c.in-None.ensures.scans).within

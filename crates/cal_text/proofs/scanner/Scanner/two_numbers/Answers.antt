@@ -1,5 +1,5 @@
 use Rattle.cal_text.proofs.MomentShapes.{put_two}
-use Rattle.cal_text.proofs.rfc3339.form.two_numbers.Goals as goal
+use Rattle.cal_text.proofs.scanner.Scanner.two_numbers.Goals as goal
 
 pub returns-clause-numbers : goal.returns-clause-numbers
 returns-clause-numbers c =
