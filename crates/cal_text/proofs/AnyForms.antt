@@ -7,7 +7,7 @@ use Rattle.cal_text.specs.declared.any.DateOrMoment.{DateOrMoment}
 use Rattle.cal_text.specs.declared.any.DateOrMoment.TheVariants.{Date, Moment}
 use Rattle.cal_text.specs.declared.any.DateForm.TheVariants.{Calendar, Ordinal, Week, JulianDay}
 use Rattle.cal_text.specs.declared.any.MomentForm.TheVariants.{Rfc3339, Unix}
-use Rattle.cal_text.specs.declared.form.Form.{Form}
+use Rattle.cal_text.specs.declared.date_numbers.DateNumbers.{DateNumbers}
 use Rattle.cal_text.specs.declared.rfc3339.numbers.Numbers.{Numbers}
 use Rattle.cal_text.specs.AnyForm.{IsTextOf, name_of, HasAnyForm, IsFault}
 use Rattle.cal_text.specs.DateForms.{HasForm}
@@ -27,7 +27,7 @@ of_four (inr (inr (inr h))) a b c d = d h
 
 -- ---- the forms
 abbrev SomeForm : List ℕ → Type 0
-SomeForm bytes = (f : Form) × HasForm bytes f
+SomeForm bytes = (f : DateNumbers) × HasForm bytes f
 
 abbrev SomeMoment : List ℕ → Type 0
 SomeMoment bytes = (m : Numbers) × HasMomentForm bytes m
@@ -124,7 +124,7 @@ date-moment : {R : Type 0} (bytes : List ℕ) → ¬ IsSeparator (get_or bytes 1
 date-moment bytes none h = absurd (none (moment-shape bytes h.0 h.1).separator)
 
 pub date-found : (bytes : List ℕ) (P : DateOrMoment → Type 0) → IsNoOther bytes → ¬ IsSeparator (get_or bytes 10 0)
-    → ((f : Form) (n : ℕ) → IsDate n → HasOnDay bytes f n → P (Date (name_of f) n)) → (found : DateOrMoment) → IsTextOf bytes found → P found
+    → ((f : DateNumbers) (n : ℕ) → IsDate n → HasOnDay bytes f n → P (Date (name_of f) n)) → (found : DateOrMoment) → IsTextOf bytes found → P found
 date-found bytes P first none at (Date Calendar n) is = at _ n is.0 (calendar-of bytes n is.0 is.1)
 date-found bytes P first none at (Date Ordinal n) is = at _ n is.0 (ordinal-of bytes n is.0 is.1)
 date-found bytes P first none at (Date Week n) is = at _ n is.0 (week-of bytes n is.0 is.1)

@@ -11,7 +11,7 @@ use Rattle.cal_text.specs.Rfc3339Form.{IsSeparator, HasMomentForm, clock_digits}
 use Rattle.cal_text.specs.UnixText.{HasUnixForm}
 use Rattle.cal_text.specs.declared.error.Unreadable.{Unreadable}
 use Rattle.cal_text.specs.declared.error.Unreadable.TheVariants.{UnexpectedEnd}
-use Rattle.cal_text.specs.declared.form.Form.TheVariants.{Calendar}
+use Rattle.cal_text.specs.declared.date_numbers.DateNumbers.TheVariants.{Calendar}
 use Rattle.cal_text.specs.declared.rfc3339.numbers.Numbers.{Numbers}
 use Rattle.cal_text.proofs.AnyForms.{of_four, julian-any, unix-any}
 use Rattle.cal_text.proofs.Positions.{begins_less, carried}

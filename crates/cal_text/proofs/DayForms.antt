@@ -5,8 +5,8 @@ use Rattle.cal_time.specs.CalendarDay.{CalendarDay}
 use Rattle.cal_time.specs.Date.{IsDate, year_at, month_at, day_of_month_at, ordinal_at, weekday_at}
 use Rattle.cal_time.specs.DateText.{text}
 use Rattle.cal_time.specs.IsoWeekDate.{iso_year_at, iso_week_at}
-use Rattle.cal_text.specs.declared.form.Form.{Form}
-use Rattle.cal_text.specs.declared.form.Form.TheVariants.{Calendar, Ordinal, Week}
+use Rattle.cal_text.specs.declared.date_numbers.DateNumbers.{DateNumbers}
+use Rattle.cal_text.specs.declared.date_numbers.DateNumbers.TheVariants.{Calendar, Ordinal, Week}
 use Rattle.cal_text.specs.AnyForm.{date_text, name_of}
 use Rattle.cal_text.specs.DateForms.{IsDateText, HasForm, form_text, ordinal_text, week_text}
 use Rattle.cal_text.specs.Reading.{IsOnDay}
@@ -17,7 +17,7 @@ text-is : (n : ℕ) → text n ≡ form_text (Calendar (year_at n) (month_at n) 
 text-is n = simp append_assoc
 
 -- the form that each text of a day has
-abbrev pub HasOnDay : List ℕ → Form → ℕ → Type 0
+abbrev pub HasOnDay : List ℕ → DateNumbers → ℕ → Type 0
 HasOnDay bytes form n = HasForm bytes form × IsOnDay form n
 
 pub calendar-of : (bytes : List ℕ) (n : ℕ) → IsDate n → bytes ≡ text n → HasOnDay bytes (Calendar (year_at n) (month_at n) (day_of_month_at n)) n
@@ -34,7 +34,7 @@ week-of bytes n date e = (
 )
 
 pub record FormOfDay (bytes : List ℕ) (n : ℕ) : Type 0 where
-  pub form : Form
+  pub form : DateNumbers
   pub has : HasForm bytes form
   pub on_day : IsOnDay form n
 
@@ -47,7 +47,7 @@ form-of-day bytes n date t = elim t as (λ _. FormOfDay bytes n) [
   ]
 ]
 
-pub text-of-form : (bytes : List ℕ) (f : Form) (n : ℕ) → HasForm bytes f → IsOnDay f n → bytes ≡ date_text (name_of f) n
+pub text-of-form : (bytes : List ℕ) (f : DateNumbers) (n : ℕ) → HasForm bytes f → IsOnDay f n → bytes ≡ date_text (name_of f) n
 text-of-form bytes (Calendar y m d) n h e =
     h.bytes_are ∙ sym (text-is n ∙ ap (λ (c : CalendarDay). form_text (Calendar c.year c.month c.day)) e)
 text-of-form bytes (Ordinal y o) n h e =
@@ -57,5 +57,5 @@ text-of-form bytes (Week y w d) n h e =
     h.bytes_are ∙ sym (ap (λ x. form_text (Week x (iso_week_at n) (weekday_at n + 1))) e.0 ∙ ap (λ k. form_text (Week y k (weekday_at n + 1))) e.1 ∙ ap (λ k. form_text (Week y w k)) weekday)
 
 -- one text, one form
-pub same_form : (a b : Form) → Some a ≡ Some b → a ≡ b
+pub same_form : (a b : DateNumbers) → Some a ≡ Some b → a ≡ b
 same_form a b e = cc

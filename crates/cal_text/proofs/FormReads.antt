@@ -5,8 +5,8 @@ use Rattle.std.proofs.lemmas.Int.Digits.{digits_push, digits_value_push}
 use Rattle.std.proofs.lemmas.List.{append_assoc, length-append}
 use Rattle.std.proofs.lemmas.Str.{digit_value_digit}
 use Rattle.cal_time.specs.DateText.{digits_at_least}
-use Rattle.cal_text.specs.declared.form.Form.{Form}
-use Rattle.cal_text.specs.declared.form.Form.TheVariants.{Calendar, Ordinal, Week}
+use Rattle.cal_text.specs.declared.date_numbers.DateNumbers.{DateNumbers}
+use Rattle.cal_text.specs.declared.date_numbers.DateNumbers.TheVariants.{Calendar, Ordinal, Week}
 use Rattle.cal_text.specs.DateForms.{year_text, month_and_day_text, year_of, rest_of, IsWrittenYear, DigitsFit, HasForm}
 use Rattle.cal_text.specs.Shape.{ReadsDigits}
 use Rattle.cal_text.proofs.DigitTexts.{digits-printed, digits_at_least-digits, digits_at_least-length, digits_at_least-value}
@@ -62,7 +62,7 @@ put_ordinal y m d old a c written h last end =
     let three = printed old c 3 (m * 10 + d) (lit≤ tt) (lit≤ tt) (one_more m d 2 old a c h last.0 last.1) in
     ((written, omega (arith, three.0)), at_end old (digits_at_least 3 (m * 10 + d)) c three.1 end)
 
-pub put_form : (y : ℤ) (f : Form) (old mid : List ℕ) → old ≡ year_text y ++ 45 ∷ mid → DigitsFit f → year_of f ≡ y → mid ≡ rest_of f → HasForm old f
+pub put_form : (y : ℤ) (f : DateNumbers) (old mid : List ℕ) → old ≡ year_text y ++ 45 ∷ mid → DigitsFit f → year_of f ≡ y → mid ≡ rest_of f → HasForm old f
 put_form y f old mid e is same rest = record {
   form = is;
   bytes_are = e ∙ ap (λ r. year_text y ++ 45 ∷ r) rest ∙ sym (append_assoc (year_text y) (45 ∷ []) (rest_of f)) ∙ ap (λ z. (year_text z ++ 45 ∷ []) ++ rest_of f) (sym same);

@@ -3,8 +3,8 @@ use Rattle.std.proofs.Common.{◌≡◌, ℕ, ◌+◌, ◌-◌, ◌*◌, ◌/◌
 use Rattle.std.proofs.lemmas.List.{append-nil, append_assoc}
 use Rattle.std.specs.Str.Parse.{AllDigits}
 use Rattle.cal_time.specs.DateText.{digits_at_least}
-use Rattle.cal_text.specs.declared.form.Form.{Form}
-use Rattle.cal_text.specs.declared.form.Form.TheVariants.{Calendar, Ordinal, Week}
+use Rattle.cal_text.specs.declared.date_numbers.DateNumbers.{DateNumbers}
+use Rattle.cal_text.specs.declared.date_numbers.DateNumbers.TheVariants.{Calendar, Ordinal, Week}
 use Rattle.cal_text.specs.DateForms.{year_text, IsWrittenYear, HasForm}
 use Rattle.cal_text.specs.Shape.{date, week, month_or_ordinal, after_year, Digits, Done}
 use Rattle.cal_text.proofs.DigitTexts.{digits_at_least-digits, digits_at_least-length}
@@ -74,7 +74,7 @@ Parts = ℤ × WithWeek
 abbrev IsWhole : List ℕ → Parts → Type 0
 IsWhole = HasAfter IsWrittenYear year_hyphen IsAfterYear
 
-into : Parts → Form
+into : Parts → DateNumbers
 into (y, inl (letter, (w, (hyphen, d)))) = Week y w (d + 1)
 into (y, inr (m, inl (hyphen, d))) = Calendar y m d
 into (y, inr (front, inr last)) = Ordinal y (front * 10 + last)
@@ -99,7 +99,7 @@ there bytes (y, inr (front, inr last)) h =
     (h.valid, omega (arith, h.has.valid.0, h.has.has.0.0)) refl
     (h.has.bytes_are ∙ ap (λ r. digits_at_least 2 front ++ r) h.has.has.1 ∙ sym (three_digits-split front last (omega (arith, h.has.valid.0)) (omega (arith, h.has.has.0.0))))
 
-here : (bytes : List ℕ) (f : Form) → HasForm bytes f → (v : Parts) × IsWhole bytes v × (into v ≡ f)
+here : (bytes : List ℕ) (f : DateNumbers) → HasForm bytes f → (v : Parts) × IsWhole bytes v × (into v ≡ f)
 unfolding into
 here bytes (Calendar y m d) h =
     let number : IsNumber 2 (digits_at_least 2 d) d = ((omega (arith, h.form.2), omega (arith, h.form.2)), refl) in

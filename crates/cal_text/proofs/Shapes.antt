@@ -6,8 +6,8 @@ use Rattle.std.proofs.lemmas.List.{append_assoc, length-append, get_or_append_le
 use Rattle.std.proofs.lemmas.Str.Parse.{digit_at}
 use Rattle.cal_time.specs.Date.{IsDate}
 use Rattle.cal_time.specs.DateText.{digits_at_least, date_digits}
-use Rattle.cal_text.specs.declared.form.Form.{Form}
-use Rattle.cal_text.specs.declared.form.Form.TheVariants.{Calendar, Ordinal, Week}
+use Rattle.cal_text.specs.declared.date_numbers.DateNumbers.{DateNumbers}
+use Rattle.cal_text.specs.declared.date_numbers.DateNumbers.TheVariants.{Calendar, Ordinal, Week}
 use Rattle.cal_text.specs.declared.rfc3339.numbers.Numbers.{Numbers}
 use Rattle.cal_text.specs.DateForms.{year_text, form_text, rest_of, year_of, IsWrittenYear, DigitsFit, HasForm, IsDateText}
 use Rattle.cal_text.specs.JulianForm.{IsJulianForm}
@@ -56,12 +56,12 @@ year-date (pos n) small =
     ]
 year-date (negsuc k) small = more-date 45 _ (inr (inl (omega arith, omega arith))) (number-date 4 (suc k) small)
 
-written : (f : Form) → DigitsFit f → IsWrittenYear (year_of f)
+written : (f : DateNumbers) → DigitsFit f → IsWrittenYear (year_of f)
 written (Calendar y m d) h = h.0
 written (Ordinal y o) h = h.0
 written (Week y w d) h = h.0
 
-rest-date : (f : Form) → DigitsFit f → AreDateBytes (rest_of f)
+rest-date : (f : DateNumbers) → DigitsFit f → AreDateBytes (rest_of f)
 rest-date (Calendar y m d) h =
     both-date (digits_at_least 2 m ++ 45 ∷ []) (digits_at_least 2 d)
     (both-date (digits_at_least 2 m) (45 ∷ []) (number-date 2 m (omega (arith, h.1))) hyphen-date)
@@ -74,7 +74,7 @@ rest-date (Week y w d) h =
     hyphen-date)
     (number-date 1 d (omega (arith, h.3)))
 
-form-date : (f : Form) → DigitsFit f → AreDateBytes (form_text f)
+form-date : (f : DateNumbers) → DigitsFit f → AreDateBytes (form_text f)
 form-date f h =
     both-date (year_text (year_of f) ++ 45 ∷ []) (rest_of f) (both-date (year_text (year_of f)) (45 ∷ []) (year-date (year_of f) (written f h)) hyphen-date) (rest-date f h)
 
@@ -107,7 +107,7 @@ pub record IsDateShape (bytes : List ℕ) : Type 0 where
   pub first : IsNoOther bytes
   pub separator : ¬ IsSeparator (get_or bytes 10 0)
 
-pub date-shape : (bytes : List ℕ) (f : Form) → HasForm bytes f → IsDateShape bytes
+pub date-shape : (bytes : List ℕ) (f : DateNumbers) → HasForm bytes f → IsDateShape bytes
 date-shape bytes f h =
     let all : AreDateBytes bytes = subst AreDateBytes (sym h.bytes_are) (form-date f h.form) in
     record { first = no-other bytes (all 0); separator = not-separator (get_or bytes 10 0) (all 10) }

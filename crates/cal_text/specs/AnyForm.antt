@@ -10,8 +10,8 @@ use Rattle.cal_text.specs.declared.any.DateForm.{DateForm}
 use Rattle.cal_text.specs.declared.any.DateForm.TheVariants as date_form
 use Rattle.cal_text.specs.declared.any.MomentForm.{MomentForm}
 use Rattle.cal_text.specs.declared.any.MomentForm.TheVariants.{Rfc3339, Unix}
-use Rattle.cal_text.specs.declared.form.Form.{Form}
-use Rattle.cal_text.specs.declared.form.Form.TheVariants as numbers
+use Rattle.cal_text.specs.declared.date_numbers.DateNumbers.{DateNumbers}
+use Rattle.cal_text.specs.declared.date_numbers.DateNumbers.TheVariants as numbers
 use Rattle.cal_text.specs.declared.rfc3339.numbers.Numbers.{Numbers}
 use Rattle.cal_text.specs.DateForms.{ordinal_text, week_text, HasForm}
 use Rattle.cal_text.specs.JulianForm.{julian_text, IsJulianForm, IsJulianFault}
@@ -37,7 +37,7 @@ IsTextOf bytes (Date form n) = IsDate n × (bytes ≡ date_text form n)
 IsTextOf bytes (Moment form m) = IsTextOfMoment bytes form m
 
 -- the name of a form of ISO 8601, whatever its numbers
-abbrev pub name_of : Form → DateForm
+abbrev pub name_of : DateNumbers → DateForm
 name_of (numbers.Calendar y m d) = date_form.Calendar
 name_of (numbers.Ordinal y o) = date_form.Ordinal
 name_of (numbers.Week y w d) = date_form.Week
@@ -45,7 +45,7 @@ name_of (numbers.Week y w d) = date_form.Week
 -- the bytes have one of the forms, whatever its numbers
 abbrev pub HasAnyForm : List ℕ → Type 0
 HasAnyForm bytes =
-    ((f : Form) × HasForm bytes f) ⊎ ((j : ℤ) × IsJulianForm bytes j) ⊎ ((m : Numbers) × HasMomentForm bytes m) ⊎ ((v : ℤ) × HasUnixForm bytes v)
+    ((f : DateNumbers) × HasForm bytes f) ⊎ ((j : ℤ) × IsJulianForm bytes j) ⊎ ((m : Numbers) × HasMomentForm bytes m) ⊎ ((v : ℤ) × HasUnixForm bytes v)
 
 -- the component at fault of bytes that have one
 abbrev pub IsFault : List ℕ → ComponentRange → Type 0

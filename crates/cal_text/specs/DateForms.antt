@@ -5,8 +5,8 @@ use Rattle.cal_time.specs.Date.{year_at, ordinal_at, weekday_at}
 use Rattle.cal_time.specs.DateText.{digits_at_least, text}
 pub use Rattle.cal_time.specs.DateText.{year_text}
 use Rattle.cal_time.specs.IsoWeekDate.{iso_year_at, iso_week_at}
-use Rattle.cal_text.specs.declared.form.Form.{Form}
-use Rattle.cal_text.specs.declared.form.Form.TheVariants.{Calendar, Ordinal, Week}
+use Rattle.cal_text.specs.declared.date_numbers.DateNumbers.{DateNumbers}
+use Rattle.cal_text.specs.declared.date_numbers.DateNumbers.TheVariants.{Calendar, Ordinal, Week}
 
 -- what comes after the year and a hyphen: a month and a day of the month, an ordinal, a week and a weekday by its number
 abbrev pub month_and_day_text : ℕ → ℕ → List ℕ
@@ -36,26 +36,26 @@ abbrev pub IsWrittenYear : ℤ → Type 0
 IsWrittenYear y = unsigned_abs y < 10 ^ 9
 
 -- the year of a form, and what comes after it and a hyphen
-abbrev pub year_of : Form → ℤ
+abbrev pub year_of : DateNumbers → ℤ
 year_of (Calendar y m d) = y
 year_of (Ordinal y o) = y
 year_of (Week y w d) = y
 
-abbrev pub rest_of : Form → List ℕ
+abbrev pub rest_of : DateNumbers → List ℕ
 rest_of (Calendar y m d) = month_and_day_text m d
 rest_of (Ordinal y o) = ordinal_digits o
 rest_of (Week y w d) = week_and_weekday_text w d
 
-abbrev pub form_text : Form → List ℕ
+abbrev pub form_text : DateNumbers → List ℕ
 form_text f = year_text (year_of f) ++ codes "-" ++ rest_of f
 
 -- its numbers have no more digits than the form has, and its weekday is one
-abbrev pub DigitsFit : Form → Type 0
+abbrev pub DigitsFit : DateNumbers → Type 0
 DigitsFit (Calendar y m d) = IsWrittenYear y × (m < 100) × (d < 100)
 DigitsFit (Ordinal y o) = IsWrittenYear y × (o < 1000)
 DigitsFit (Week y w d) = IsWrittenYear y × (w < 100) × (1 ≤ d) × (d ≤ 7)
 
 -- the bytes have this form
-pub record HasForm (bytes : List ℕ) (f : Form) : Type 0 where
+pub record HasForm (bytes : List ℕ) (f : DateNumbers) : Type 0 where
   pub form : DigitsFit f
   pub bytes_are : bytes ≡ form_text f

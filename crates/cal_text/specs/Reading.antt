@@ -7,8 +7,8 @@ use Rattle.cal_time.specs.declared.error.ComponentRange.{ComponentRange}
 use Rattle.cal_time.specs.Refusals.{year_out_of_range, day_out_of_range, ordinal_out_of_range, week_out_of_range, weekday_out_of_range}
 use Rattle.cal_text.specs.declared.error.Unreadable.{Unreadable}
 use Rattle.cal_text.specs.declared.error.Unreadable.TheVariants.{UnexpectedByte, UnexpectedEnd, OutOfRange}
-use Rattle.cal_text.specs.declared.form.Form.{Form}
-use Rattle.cal_text.specs.declared.form.Form.TheVariants.{Calendar, Ordinal, Week}
+use Rattle.cal_text.specs.declared.date_numbers.DateNumbers.{DateNumbers}
+use Rattle.cal_text.specs.declared.date_numbers.DateNumbers.TheVariants.{Calendar, Ordinal, Week}
 
 -- ---- errors
 -- the refusal of a component, or nothing where the text has no form
@@ -32,7 +32,7 @@ HasFault {F} Has IsFaultOf bytes why = (form : F) × Has bytes form × IsFaultOf
 
 -- ---- days
 -- day n has the numbers of the form; the weekday of the form is 1 on Monday
-abbrev pub IsOnDay : Form → ℕ → Type 0
+abbrev pub IsOnDay : DateNumbers → ℕ → Type 0
 IsOnDay (Calendar y m d) n = HasCalendarDate y m d n
 IsOnDay (Ordinal y o) n = HasOrdinalDate y o n
 IsOnDay (Week y w d) n = HasIsoWeekDate y w (d - 1) n
@@ -41,7 +41,7 @@ abbrev pub IsMonth : ℕ → Type 0
 IsMonth m = (1 ≤ m) × (m ≤ 12)
 
 -- the first component at fault: the month, the year, and then what depends on them
-abbrev pub IsFaultOf : Form → ComponentRange → Type 0
+abbrev pub IsFaultOf : DateNumbers → ComponentRange → Type 0
 IsFaultOf (Calendar y m d) why =
     ((why ≡ month_out_of_range) × ¬ IsMonth m) ⊎ ((why ≡ year_out_of_range) × (IsMonth m × ¬ IsYear y))
     ⊎ ((why ≡ day_out_of_range) × (IsMonth m × IsYear y × ¬ IsDayOfMonth y m d))

@@ -2,14 +2,14 @@
 ghost use Rattle.std.specs.Prelude.{◌≡◌, ℕ, ◌↔◌, IfOk, IfErr, Ok};
 ghost use Rattle.cal_time.specs.Date.{IsDate};
 ghost use Rattle.cal_time.specs.declared.error.ComponentRange.{ComponentRange};
-ghost use Rattle.cal_text.specs.declared.form.Form.{Form};
+ghost use Rattle.cal_text.specs.declared.date_numbers.DateNumbers.{DateNumbers};
 ghost use Rattle.cal_text.specs.DateForms.{IsDateText, HasForm};
 ghost use Rattle.cal_text.specs.Position.{HasSome, IsAtStop};
 ghost use Rattle.cal_text.specs.Reading.{IsOnDay, IsFaultOf, HasFault, IsRefusedFor, IsRefusedForForm};
 
 use crate::date::of_form::date_of;
+use crate::date_numbers::{DateNumbers, form_of};
 use crate::error::Unreadable;
-use crate::form::{Form, form_of};
 use cal_time::Date;
 
 mod display;
@@ -31,7 +31,7 @@ pub fn read(text: &[u8]) -> Result<Date, Unreadable>
     ensures has { IfOk result (λ n. IsDate n × IsDateText text.now n) }
 
     // It is refused for its form exactly where it has none, and else for the first component at fault.
-    ensures form { IsRefusedForForm result ↔ ((form : Form) → ¬ HasForm text.now form) }
+    ensures form { IsRefusedForForm result ↔ ((form : DateNumbers) → ¬ HasForm text.now form) }
     ensures position { IfErr result (IsAtStop (HasSome HasForm) text.now) }
     ensures component { (why : ComponentRange)
         → IsRefusedFor why result ↔ HasFault HasForm IsFaultOf text.now why }
@@ -43,12 +43,12 @@ pub fn read(text: &[u8]) -> Result<Date, Unreadable>
 }
 
 /// The form that the text has, and its day.
-pub(crate) fn form_and_date(text: &[u8]) -> Result<(Form, Date), Unreadable>
-    ensures every { (form : Form) (n : ℕ) → IsDate n → HasForm text.now form → IsOnDay form n
+pub(crate) fn form_and_date(text: &[u8]) -> Result<(DateNumbers, Date), Unreadable>
+    ensures every { (form : DateNumbers) (n : ℕ) → IsDate n → HasForm text.now form → IsOnDay form n
         → result ≡ Ok (form, n) }
     ensures has { IfOk result (λ found.
         IsDate found.1 × HasForm text.now found.0 × IsOnDay found.0 found.1) }
-    ensures form { IsRefusedForForm result ↔ ((form : Form) → ¬ HasForm text.now form) }
+    ensures form { IsRefusedForForm result ↔ ((form : DateNumbers) → ¬ HasForm text.now form) }
     ensures position { IfErr result (IsAtStop (HasSome HasForm) text.now) }
     ensures component { (why : ComponentRange)
         → IsRefusedFor why result ↔ HasFault HasForm IsFaultOf text.now why }

@@ -2,7 +2,7 @@
 ghost use Rattle.std.specs.Prelude.{◌≡◌, ℕ};
 ghost use Rattle.cal_time.specs.Date.{IsDate};
 ghost use Rattle.cal_datetime.specs.OffsetDateTime.{Shown};
-ghost use Rattle.cal_text.specs.declared.form.Form.{Form};
+ghost use Rattle.cal_text.specs.declared.date_numbers.DateNumbers.{DateNumbers};
 ghost use Rattle.cal_text.specs.declared.any.DateOrMoment.{DateOrMoment};
 ghost use Rattle.cal_text.specs.AnyForm.{IsTextOf};
 ghost use Rattle.cal_text.specs.DateForms.{IsDateText, HasForm};
@@ -10,8 +10,8 @@ ghost use Rattle.cal_text.specs.Rfc3339Form.{IsMomentText};
 
 use crate::any::{DateOrMoment, read_any};
 use crate::date::read;
+use crate::date_numbers::{DateNumbers, form_of};
 use crate::error::Unreadable;
-use crate::form::{Form, form_of};
 use crate::rfc3339;
 use cal_datetime::OffsetDateTime;
 use cal_time::Date;
@@ -26,8 +26,8 @@ pub(crate) fn one_day(text: &[u8]) -> Result<Date, Unreadable>
 
 /// No text is in two forms, nor in one form with two sets of numbers.
 #[tactic(auto, using(crate::proofs::DayForms::same_form))]
-pub(crate) fn one_form(text: &[u8]) -> Result<Form, usize>
-    ensures { (f g : Form) → HasForm text.now f → HasForm text.now g → f ≡ g }
+pub(crate) fn one_form(text: &[u8]) -> Result<DateNumbers, usize>
+    ensures { (f g : DateNumbers) → HasForm text.now f → HasForm text.now g → f ≡ g }
 {
     form_of(text)
 }

@@ -5,9 +5,9 @@
 
 mod any;
 pub mod date;
+mod date_numbers;
 mod digits;
 mod error;
-mod form;
 mod fraction;
 pub mod julian_day;
 mod laws;

@@ -9,8 +9,8 @@ ghost use Rattle.cal_text.specs.Rfc3339Form.{IsSeparator, HasMomentForm};
 
 use crate::any::{DateForm, DateOrMoment, MomentForm};
 use crate::date::form_and_date;
+use crate::date_numbers::{DateNumbers, form_of};
 use crate::error::Unreadable;
-use crate::form::{Form, form_of};
 use crate::{julian_day, rfc3339, unix};
 
 /// The date by the Julian day that the text is.
@@ -94,12 +94,12 @@ pub(super) fn date_in(text: &[u8]) -> Result<DateOrMoment, Unreadable>
 }
 
 /// The name of a form, whatever its numbers.
-fn name_of(form: Form) -> DateForm
+fn name_of(form: DateNumbers) -> DateForm
     ensures { result ≡ name_of form }
 {
     match form {
-        Form::Calendar(..) => DateForm::Calendar,
-        Form::Ordinal(..) => DateForm::Ordinal,
-        Form::Week(..) => DateForm::Week,
+        DateNumbers::Calendar(..) => DateForm::Calendar,
+        DateNumbers::Ordinal(..) => DateForm::Ordinal,
+        DateNumbers::Week(..) => DateForm::Week,
     }
 }

@@ -9,21 +9,21 @@ ghost use Rattle.cal_time.specs.Refusals.{year_out_of_range, day_out_of_range, w
 ghost use Rattle.cal_text.specs.DateForms.{DigitsFit};
 ghost use Rattle.cal_text.specs.Reading.{IsOnDay, IsMonth, IsFaultOf};
 
-use crate::form::Form;
+use crate::date_numbers::DateNumbers;
 use cal_time::error::ComponentRange;
 use cal_time::{Cycle, Date, Month, Weekday};
 
 /// The day that has the numbers of the form, or the first component at fault.
-pub(super) fn date_of(form: Form) -> Result<Date, ComponentRange>
+pub(super) fn date_of(form: DateNumbers) -> Result<Date, ComponentRange>
     requires { DigitsFit form }
     ensures every { (n : ℕ) → IsDate n → IsOnDay form n → result ≡ Ok n }
     ensures has { IfOk result (λ n. IsDate n × IsOnDay form n) }
     ensures component { (why : ComponentRange) → IsRefused why result ↔ IsFaultOf form why }
 {
     match form {
-        Form::Calendar(year, month, day) => calendar_date(year, month, day),
-        Form::Ordinal(year, ordinal) => Date::from_ordinal_date(year, ordinal),
-        Form::Week(year, week, weekday) => week_date(year, week, weekday),
+        DateNumbers::Calendar(year, month, day) => calendar_date(year, month, day),
+        DateNumbers::Ordinal(year, ordinal) => Date::from_ordinal_date(year, ordinal),
+        DateNumbers::Week(year, week, weekday) => week_date(year, week, weekday),
     }
 }
 

@@ -1,6 +1,6 @@
 use Rattle.std.proofs.Common.{◌∙◌, ℕ, inl, Ok, ap}
 use Rattle.cal_text.specs.declared.any.DateOrMoment.TheVariants.{Date}
-use Rattle.cal_text.specs.declared.form.Form.{Form}
+use Rattle.cal_text.specs.declared.date_numbers.DateNumbers.{DateNumbers}
 use Rattle.cal_text.specs.AnyForm.{name_of}
 use Rattle.cal_text.proofs.AnyForms.{date-found, date-any, date-fault}
 use Rattle.cal_text.proofs.DayForms.{text-of-form}
@@ -13,7 +13,7 @@ returns-in-Ok-clause-every c =
     date-found c.args.text.now _ c.requires.first c.requires.separator
     (λ f n date is.
     ap (λ k. Ok (Date k c.in-Ok.found.1)) c.name_of.ensures
-    ∙ same_mapped {A = Form × ℕ} (λ p. Date (name_of p.0) p.1) c.in-Ok.found (f, n) (c.in-Ok.ensures.every f n date is.0 is.1))
+    ∙ same_mapped {A = DateNumbers × ℕ} (λ p. Date (name_of p.0) p.1) c.in-Ok.found (f, n) (c.in-Ok.ensures.every f n date is.0 is.1))
 
 pub returns-in-Ok-clause-has : goal.returns-in-Ok-clause-has
 returns-in-Ok-clause-has c =

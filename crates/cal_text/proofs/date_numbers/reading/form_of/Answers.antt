@@ -3,7 +3,7 @@ use Rattle.cal_text.specs.DateForms.{HasForm}
 use Rattle.cal_text.specs.Shape.{date}
 use Rattle.cal_text.proofs.FormShapes.{date_shape}
 use Rattle.cal_text.proofs.Positions.{stopped}
-use Rattle.cal_text.proofs.form.reading.form_of.Goals as goal
+use Rattle.cal_text.proofs.date_numbers.reading.form_of.Goals as goal
 
 pub returns-in-Some-clause-every : goal.returns-in-Some-clause-every
 returns-in-Some-clause-every c other has = ap Ok (date_shape.one _ _ _ c.in-Some.ensures has)

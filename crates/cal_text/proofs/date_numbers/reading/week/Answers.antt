@@ -2,7 +2,7 @@ use Rattle.std.proofs.Common.{rules, subst, sym, to_z, of_z, w32}
 use Rattle.std.proofs.lemmas.Int.{to_z-of_z}
 use Rattle.cal_text.specs.DateForms.{IsWrittenYear}
 use Rattle.cal_text.proofs.FormReads.{put_week}
-use Rattle.cal_text.proofs.form.reading.week.Goals as goal
+use Rattle.cal_text.proofs.date_numbers.reading.week.Goals as goal
 
 pub returns-clause-has : goal.returns-clause-has
 returns-clause-has c =

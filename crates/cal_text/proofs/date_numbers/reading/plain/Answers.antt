@@ -1,8 +1,8 @@
 use Rattle.std.proofs.Common.{refl}
-use Rattle.cal_text.specs.declared.form.Form.TheVariants.{Calendar}
+use Rattle.cal_text.specs.declared.date_numbers.DateNumbers.TheVariants.{Calendar}
 use Rattle.cal_text.proofs.FormReads.{put_form, month_and_day}
 use Rattle.cal_text.proofs.YearDigits.{put_plain}
-use Rattle.cal_text.proofs.form.reading.plain.Goals as goal
+use Rattle.cal_text.proofs.date_numbers.reading.plain.Goals as goal
 
 pub returns : goal.returns
 returns c =

@@ -1,4 +1,4 @@
-//! The forms of a date in text.
+//! The numbers of a date in text, by its form.
 
 mod reading;
 
@@ -6,7 +6,7 @@ pub(crate) use reading::form_of;
 
 /// The numbers of a date in text, which need not be those of a day.
 #[derive(Clone, Copy)]
-pub(crate) enum Form {
+pub(crate) enum DateNumbers {
     /// The year, the month and the day of the month.
     Calendar(i32, u8, u8),
     /// The year and the ordinal.

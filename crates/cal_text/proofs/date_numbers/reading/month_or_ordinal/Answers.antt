@@ -2,7 +2,7 @@ use Rattle.std.proofs.Common.{rules, subst, sym, ◌∙◌, to_z, of_z, w32}
 use Rattle.std.proofs.lemmas.Int.{to_z-of_z}
 use Rattle.cal_text.specs.DateForms.{IsWrittenYear}
 use Rattle.cal_text.proofs.FormReads.{put_calendar, put_ordinal}
-use Rattle.cal_text.proofs.form.reading.month_or_ordinal.Goals as goal
+use Rattle.cal_text.proofs.date_numbers.reading.month_or_ordinal.Goals as goal
 
 pub returns-in_ok-end-in-Some-clause-has : goal.returns-in_ok-end-in-Some-clause-has
 returns-in_ok-end-in-Some-clause-has c =

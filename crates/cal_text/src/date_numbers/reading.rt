@@ -1,17 +1,17 @@
 //! The form that a text has.
 ghost use Rattle.std.specs.Prelude.{◌≡◌, ◌∷◌, IfSome, IfOk, IfErr, Ok};
-ghost use Rattle.cal_text.specs.declared.form.Form.{Form};
+ghost use Rattle.cal_text.specs.declared.date_numbers.DateNumbers.{DateNumbers};
 ghost use Rattle.cal_text.specs.DateForms.{IsWrittenYear, year_of, rest_of, DigitsFit, HasForm};
 ghost use Rattle.cal_text.specs.Position.{HasSome, IsPosition};
 ghost use Rattle.cal_text.specs.Shape.{ScansWhole, week, month_or_ordinal, after_year, date};
 
-use crate::form::Form;
+use crate::date_numbers::DateNumbers;
 use crate::scanner::Scanner;
 use crate::year::year;
 
 /// The form that the text has, or the position where it stops being of one.
-pub(crate) fn form_of(text: &[u8]) -> Result<Form, usize>
-    ensures every { (form : Form) → HasForm text.now form → result ≡ Ok form }
+pub(crate) fn form_of(text: &[u8]) -> Result<DateNumbers, usize>
+    ensures every { (form : DateNumbers) → HasForm text.now form → result ≡ Ok form }
     ensures has { IfOk result (HasForm text.now) }
     ensures position { IfErr result (IsPosition (HasSome HasForm) text.now) }
 {
@@ -26,7 +26,7 @@ pub(crate) fn form_of(text: &[u8]) -> Result<Form, usize>
 }
 
 /// The calendar date of a year of four digits, as most dates are. The number of its bytes is asked once, and not before each of them.
-fn plain(text: &[u8]) -> Option<Form>
+fn plain(text: &[u8]) -> Option<DateNumbers>
     ensures { IfSome result (HasForm text.now) }
 {
     let [_, _, _, _, b'-', _, _, b'-', _, _] = text else {
@@ -36,10 +36,10 @@ fn plain(text: &[u8]) -> Option<Form>
     let year = scanner.four_digits()?;
     let (month, day) = scanner.two_numbers(b'-')?;
     scanner.end()?;
-    Some(Form::Calendar(year as i32, month, day))
+    Some(DateNumbers::Calendar(year as i32, month, day))
 }
 
-fn date(scanner: &mut Scanner) -> Option<Form>
+fn date(scanner: &mut Scanner) -> Option<DateNumbers>
     ensures scans { ScansWhole date scanner.old.rest.now scanner.new.rest.now result }
     ensures has { IfSome result (HasForm scanner.old.rest.now) }
 {
@@ -48,7 +48,7 @@ fn date(scanner: &mut Scanner) -> Option<Form>
 }
 
 /// The form of the year, and of what comes after it and a hyphen.
-fn after_year(scanner: &mut Scanner, year: i32) -> Option<Form>
+fn after_year(scanner: &mut Scanner, year: i32) -> Option<DateNumbers>
     requires { IsWrittenYear year }
     ensures scans { ScansWhole after_year scanner.old.rest.now scanner.new.rest.now result }
     ensures has { IfSome result (λ form.
@@ -61,7 +61,7 @@ fn after_year(scanner: &mut Scanner, year: i32) -> Option<Form>
 }
 
 /// The form of the year, and of the week and the weekday after a letter W.
-fn week(scanner: &mut Scanner, year: i32) -> Option<Form>
+fn week(scanner: &mut Scanner, year: i32) -> Option<DateNumbers>
     requires { IsWrittenYear year }
     ensures scans { ScansWhole week scanner.old.rest.now scanner.new.rest.now result }
     ensures has { IfSome result (λ form.
@@ -71,11 +71,11 @@ fn week(scanner: &mut Scanner, year: i32) -> Option<Form>
     scanner.byte(b'-')?;
     let weekday = scanner.byte_from(b'1', 6)?;
     scanner.end()?;
-    Some(Form::Week(year, week as u8, weekday - b'0'))
+    Some(DateNumbers::Week(year, week as u8, weekday - b'0'))
 }
 
 /// The form of the year, and of a month and a day, or of an ordinal.
-fn month_or_ordinal(scanner: &mut Scanner, year: i32) -> Option<Form>
+fn month_or_ordinal(scanner: &mut Scanner, year: i32) -> Option<DateNumbers>
     requires { IsWrittenYear year }
     ensures scans { ScansWhole month_or_ordinal scanner.old.rest.now scanner.new.rest.now result }
     ensures has { IfSome result (λ form.
@@ -86,12 +86,12 @@ fn month_or_ordinal(scanner: &mut Scanner, year: i32) -> Option<Form>
         Some(()) => {
             let day = scanner.two_digits()?;
             scanner.end()?;
-            Some(Form::Calendar(year, front as u8, day as u8))
+            Some(DateNumbers::Calendar(year, front as u8, day as u8))
         }
         None => {
             let last = scanner.digit()?;
             scanner.end()?;
-            Some(Form::Ordinal(year, (front * 10 + last) as u16))
+            Some(DateNumbers::Ordinal(year, (front * 10 + last) as u16))
         }
     }
 }
