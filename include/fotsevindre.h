@@ -77,6 +77,28 @@ typedef struct fots_moment {
     fots_time time;
 } fots_moment;
 
+/* A weekday of a rule: each one where the number is 0, or else the so-and-so-many-th of the month, or of the year in a yearly rule that
+ * names no month: from 1 on, or from the end by -1 for the last one. {-1, 5} is the last Friday. */
+typedef struct fots_rule_weekday {
+    int8_t number;
+    uint8_t weekday;
+} fots_rule_weekday;
+
+/* A recurrence of RFC 5545, by its parts: a rule but for its start, and where it ends. A list of length 0 leaves out no day. */
+typedef struct fots_recurrence {
+    uint32_t frequency; /* a fots_frequency */
+    uint32_t interval;
+    uint32_t week_start;
+    fots_date until; /* the last day, or {FOTS_NOTHING} where none is given */
+    uint32_t count; /* the number of times, or 0 where none is given */
+    uint32_t months_length;
+    uint32_t month_days_length;
+    uint32_t weekdays_length;
+    uint8_t months[62]; /* as many as the length says, and zeros after them, as in the next ones */
+    int8_t month_days[62];
+    fots_rule_weekday weekdays[62];
+} fots_recurrence;
+
 #define FOTS_MIN_JULIAN_DAY (-363521074)
 #define FOTS_MAX_JULIAN_DAY 366963559
 #define FOTS_MIN_YEAR (-999999)
@@ -104,7 +126,7 @@ enum fots_status {
     FOTS_UNREADABLE = 8, /* the bytes have none of the forms that the call reads: one is wrong */
     FOTS_BAD_MOMENT = 9,
     FOTS_BAD_FREQUENCY = 10, /* a number of no frequency */
-    FOTS_MANY_PARTS = 11, /* a rule of more than 12 months or 64 weekdays */
+    FOTS_MANY_PARTS = 11, /* a rule of more than 64 months or 64 weekdays */
     FOTS_BAD_CONVENTION = 12, /* a number of no convention */
     FOTS_BAD_WEEK = 13, /* marks above 127 */
     FOTS_BAD_HOLIDAYS = 14, /* holidays that do not rise, or one that is no date */
@@ -334,6 +356,23 @@ typedef struct fots_recurrence_result {
                       * the length of the text; else SIZE_MAX */
 } fots_recurrence_result;
 
+/* A recurrence that was read, or the part of the text that is at fault. */
+typedef struct fots_read_recurrence_result {
+    int32_t status;
+    uint32_t part; /* as of fots_recurrence_result, and the position */
+    size_t position;
+    fots_recurrence recurrence; /* or zeros, with {FOTS_NOTHING} for the last day */
+} fots_read_recurrence_result;
+
+/* The text of a recurrence, or the part at fault of the text that was read. */
+typedef struct fots_recurrence_text_result {
+    int32_t status;
+    uint32_t part; /* as of fots_recurrence_result, and the position */
+    size_t position;
+    uint32_t length; /* of the text, or 0 */
+    char bytes[1404]; /* the text, ASCII, and zero bytes after it */
+} fots_recurrence_text_result;
+
 /* A fraction of a year: what was counted, over what a year counts. */
 typedef struct fots_year_fraction_result {
     int32_t status;
@@ -506,13 +545,6 @@ fots_date_result fots_date_adjusted(fots_date date, uint32_t convention, uint32_
 /* What a rule counts by. */
 enum fots_frequency { FOTS_DAILY = 1, FOTS_WEEKLY = 2, FOTS_MONTHLY = 3, FOTS_YEARLY = 4 };
 
-/* A weekday of a rule: each one where the number is 0, or else the so-and-so-many-th of the month, or of the year in a yearly rule that
- * names no month: from 1 on, or from the end by -1 for the last one. {-1, 5} is the last Friday. */
-typedef struct fots_rule_weekday {
-    int8_t number;
-    uint8_t weekday;
-} fots_rule_weekday;
-
 /* Days that come back, as RFC 5545 writes them in a RRULE. A rule that names no day takes that of its start. A part of length 0 leaves out
  * no day, and of the others a day of the rule passes each. The three arrays must be there, also those of length 0. */
 typedef struct fots_rule {
@@ -529,7 +561,7 @@ typedef struct fots_rule {
     size_t weekdays_length; /* at most FOTS_MOST_WEEKDAYS */
 } fots_rule;
 
-#define FOTS_MOST_MONTHS 12
+#define FOTS_MOST_MONTHS 64
 #define FOTS_MOST_WEEKDAYS 64
 
 /* The rule of each day, or of the same day of each week, month or year, from the start on, with no end and no other part. Its weeks begin on
@@ -580,12 +612,38 @@ enum fots_rule_part {
     FOTS_RULE_COUNT = 8
 };
 
+/* What a text says, as RFC 5545 writes it behind RRULE:, of the parts above. Each call of a text refuses it for the first part at fault as
+ * FOTS_UNKNOWN_PART, FOTS_MANY_VALUES, FOTS_PART_TWICE or FOTS_PART_VALUE, or as FOTS_NO_FREQUENCY. "FREQ=MONTHLY;BYDAY=-1FR;COUNT=3" says
+ * FOTS_MONTHLY, the interval 1, weeks that begin with 1, no last day, 3 times, and the weekday {-1, 5}. */
+fots_read_recurrence_result fots_recurrence_parse(const char *text, size_t text_length);
+
+/* The text of what the text says, with its parts in one order; it is read as the same recurrence. That of "byday=-01fr;count=3;freq=monthly" is
+ * "FREQ=MONTHLY;COUNT=3;BYDAY=-1FR". */
+fots_recurrence_text_result fots_recurrence_text(const char *text, size_t text_length);
+
+/* The rule of a recurrence from a start on, without its number of times. Its arrays are those of the recurrence, which must be there as long as
+ * the rule is used. */
+static inline fots_rule fots_recurrence_rule(const fots_recurrence *recurrence, fots_date start)
+{
+    fots_rule rule = fots_rule_of(start, recurrence->frequency);
+    if (recurrence->until.julian_day != FOTS_NOTHING) {
+        rule.until = recurrence->until;
+    }
+    rule.interval = recurrence->interval;
+    rule.week_start = recurrence->week_start;
+    rule.months = recurrence->months;
+    rule.months_length = recurrence->months_length;
+    rule.month_days = recurrence->month_days;
+    rule.month_days_length = recurrence->month_days_length;
+    rule.weekdays = recurrence->weekdays;
+    rule.weekdays_length = recurrence->weekdays_length;
+    return rule;
+}
+
 /* Writes the days of the recurrence that the text says, with this start, from a date on, in order, as many as there is room for, and answers
- * how many they are: fewer where there are no more. COUNT counts from the start. The text is what RFC 5545 writes behind RRULE:, of the parts
- * above. It is refused for the first part at fault as FOTS_UNKNOWN_PART, FOTS_MANY_VALUES, FOTS_PART_TWICE or FOTS_PART_VALUE, or as
- * FOTS_NO_FREQUENCY, and after that FOTS_BAD_DATE of the start and the date, also with no room. The array must be there, also one of
- * length 0, and shares no memory with the text. Those of "FREQ=MONTHLY;BYDAY=-1FR;COUNT=3" with the start 2460311, 2024-01-01, from
- * 2460350 on are 2460364 and 2460399. */
+ * how many they are: fewer where there are no more. COUNT counts from the start. After a text at fault FOTS_BAD_DATE of the start and the date
+ * is refused, also with no room. The array must be there, also one of length 0, and shares no memory with the text. Those of
+ * "FREQ=MONTHLY;BYDAY=-1FR;COUNT=3" with the start 2460311, 2024-01-01, from 2460350 on are 2460364 and 2460399. */
 fots_recurrence_result fots_recurrence_days(const char *text, size_t text_length, fots_date start, fots_date from, fots_date *days,
     size_t days_length);
 

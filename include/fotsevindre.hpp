@@ -71,7 +71,7 @@ private:
 // The first part at fault of a text that is none of a recurrence.
 class rule_fault : public error {
 public:
-    explicit rule_fault(fots_recurrence_result result) : error(result.status, result.position), part_(result.part) {}
+    rule_fault(std::int32_t status, std::size_t position, std::uint32_t part) : error(status, position), part_(part) {}
 
     // The part, as FOTS_RULE_BYDAY, or 0 where the status is FOTS_UNKNOWN_PART or FOTS_NO_FREQUENCY.
     std::uint32_t part() const noexcept { return part_; }
@@ -98,6 +98,15 @@ template <class Result> Result read(Result result)
 {
     if (result.status != FOTS_DONE) {
         throw error(result.status, result.position);
+    }
+    return result;
+}
+
+// The answer of a call that reads the text of a recurrence.
+template <class Result> Result parsed(Result result)
+{
+    if (result.status != FOTS_DONE) {
+        throw rule_fault(result.status, result.position, result.part);
     }
     return result;
 }
@@ -594,15 +603,54 @@ private:
     }
 };
 
-// What RFC 5545 writes behind RRULE:, by its text, as "FREQ=MONTHLY;BYDAY=-1FR;COUNT=12".
+// What RFC 5545 writes behind RRULE:, as "FREQ=MONTHLY;BYDAY=-1FR;COUNT=12".
 class Recurrence {
 public:
     // What the text says. It throws a rule_fault.
-    static Recurrence parse(std::string_view text)
+    static Recurrence parse(std::string_view text) { return Recurrence(std::string(text)); }
+
+    // Its text, with its parts in one order.
+    const std::string &text() const noexcept { return text_; }
+
+    Frequency frequency() const noexcept { return static_cast<Frequency>(parts_.frequency); }
+    std::uint32_t interval() const noexcept { return parts_.interval; }
+    Weekday week_start() const noexcept { return static_cast<Weekday>(parts_.week_start); }
+    std::vector<Month> months() const
     {
-        const Recurrence recurrence(text);
-        recurrence.days(Date::max(), 0);
-        return recurrence;
+        std::vector<Month> months;
+        for (std::uint32_t index = 0; index < parts_.months_length; ++index) {
+            months.push_back(static_cast<Month>(parts_.months[index]));
+        }
+        return months;
+    }
+    std::vector<std::int8_t> month_days() const { return {parts_.month_days, parts_.month_days + parts_.month_days_length}; }
+    std::vector<ByDay> weekdays() const
+    {
+        std::vector<ByDay> weekdays;
+        for (std::uint32_t index = 0; index < parts_.weekdays_length; ++index) {
+            const fots_rule_weekday by = parts_.weekdays[index];
+            weekdays.push_back(ByDay(by.number, static_cast<Weekday>(by.weekday)));
+        }
+        return weekdays;
+    }
+    // The last day, or the number of times, where it is given.
+    std::optional<Date> until() const
+    {
+        return parts_.until.julian_day == FOTS_NOTHING ? std::nullopt : std::optional(Date(parts_.until, {}));
+    }
+    std::optional<std::uint32_t> count() const { return parts_.count == 0 ? std::nullopt : std::optional(parts_.count); }
+
+    // Its rule from a start on, without its number of times.
+    Rule rule(Date start) const
+    {
+        Rule rule(start, frequency());
+        rule.interval = interval();
+        rule.week_start = week_start();
+        rule.months = months();
+        rule.month_days = month_days();
+        rule.weekdays = weekdays();
+        rule.until = until();
+        return rule;
     }
 
     // The days from a start on, in order: so many, or fewer where there are no more.
@@ -612,18 +660,27 @@ public:
     {
         // One more than there are, so that the array is there.
         std::vector<fots_date> room(count + 1);
-        const fots_recurrence_result written = fots_recurrence_days(text_.data(), text_.size(), start.c(), from.c(), room.data(), count);
-        if (written.status != FOTS_DONE) {
-            throw rule_fault(written);
-        }
+        const fots_recurrence_result written = detail::parsed(
+            fots_recurrence_days(text_.data(), text_.size(), start.c(), from.c(), room.data(), count));
         return detail::first_dates(room, written.length);
     }
 
-private:
-    explicit Recurrence(std::string_view text) : text_(text) {}
+    // Two are equal where their parts are, which their texts say.
+    friend bool operator==(const Recurrence &one, const Recurrence &other) { return one.text_ == other.text_; }
+    friend bool operator!=(const Recurrence &one, const Recurrence &other) { return one.text_ != other.text_; }
 
+private:
+    explicit Recurrence(const std::string &text) : parts_(detail::parsed(fots_recurrence_parse(text.data(), text.size())).recurrence)
+    {
+        const fots_recurrence_text_result written = detail::parsed(fots_recurrence_text(text.data(), text.size()));
+        text_.assign(written.bytes, written.length);
+    }
+
+    fots_recurrence parts_;
     std::string text_;
 };
+
+inline std::ostream &operator<<(std::ostream &out, const Recurrence &recurrence) { return out << recurrence.text(); }
 
 // The date and the time so much later, to the nanosecond, or none past the range.
 inline std::optional<std::pair<Date, Time>> add_to_pair(Date date, Time time, Duration duration)

@@ -273,6 +273,25 @@ static void by_its_text(const recurrence *its)
     }
 }
 
+/* The parts that its text says, and the rule of them. */
+static void by_its_parts(const recurrence *its, const fots_rule *rule)
+{
+    const fots_read_recurrence_result read = fots_recurrence_parse(its->text, strlen(its->text));
+    const fots_rule said = fots_recurrence_rule(&read.recurrence, rule->start);
+    const char *count = strstr(its->text, "COUNT=");
+    check(read.status == FOTS_DONE && read.part == 0 && read.position == SIZE_MAX, its->text, read.status, (long long)read.position);
+    check(read.recurrence.count == (count == NULL ? 0 : (uint32_t)atoi(count + strlen("COUNT="))), its->text, read.recurrence.count, 0);
+    check((read.recurrence.until.julian_day == FOTS_NOTHING) == (its->until == 0), its->text, read.recurrence.until.julian_day, 0);
+    check(said.start.julian_day == rule->start.julian_day && said.until.julian_day == rule->until.julian_day, its->text, said.until.julian_day, 0);
+    check(said.frequency == rule->frequency && said.interval == rule->interval && said.week_start == rule->week_start, its->text, said.interval, 0);
+    check(said.months_length == rule->months_length && memcmp(said.months, rule->months, rule->months_length) == 0, its->text, 0, 0);
+    check(said.month_days_length == rule->month_days_length && memcmp(said.month_days, rule->month_days, rule->month_days_length) == 0, its->text, 0, 0);
+    check(said.weekdays_length == rule->weekdays_length && memcmp(said.weekdays, rule->weekdays, 2 * rule->weekdays_length) == 0, its->text, 0, 0);
+    for (size_t index = said.weekdays_length; index < 62; index++) {
+        check(said.weekdays[index].number == 0 && said.weekdays[index].weekday == 0, its->text, (long long)index, 0);
+    }
+}
+
 /* Against the first day, the next ones, a column of them, and whether each day in between is one. */
 static void recurrences_of_the_rfc(void)
 {
@@ -297,6 +316,7 @@ static void recurrences_of_the_rfc(void)
         while (its->weekdays[rule.weekdays_length].weekday != 0) {
             rule.weekdays_length++;
         }
+        by_its_parts(its, &rule);
         fots_date found[COUNT(its->days)];
         const fots_days_result written = fots_rule_days_after(&rule, date_at(rule.start.julian_day - 1), found, COUNT(found));
         check(written.status == FOTS_DONE && written.length <= (size_t)COUNT(found), its->text, row, (long long)written.length);
@@ -340,16 +360,17 @@ static void recurrences_refused(void)
     refuses(fots_rule_first(&never), FOTS_PAST_RANGE, "30 February");
     check(fots_rule_days_after(&never, never.start, days, 3).length == 0, "30 February", 0, 0);
 
-    static uint8_t months[13] = {1, 2, 3, 4, 5, 6, 7, 8, 9, 10, 11, 12, 12};
+    static uint8_t months[65];
     static fots_rule_weekday weekdays[65];
     for (int index = 0; index < 65; index++) {
+        months[index] = (uint8_t)(index % 12 + 1);
         weekdays[index].number = (int8_t)(index / 7 - 4);
         weekdays[index].weekday = (uint8_t)(index % 7 + 1);
     }
     fots_rule rule = daily;
     rule.months = months;
     rule.weekdays = weekdays;
-    rule.months_length = 12;
+    rule.months_length = 64;
     rule.weekdays_length = 64;
     is_day(fots_rule_first(&rule), day(2024, 1, 1), "as many parts as there can be");
     /* From the last part to the first, each is wrong before those that are wrong already. */
@@ -357,13 +378,13 @@ static void recurrences_refused(void)
     refuses(fots_rule_first(&rule), FOTS_BAD_WEEKDAY, "weekday 8");
     weekdays[63].weekday = 0;
     refuses(fots_rule_first(&rule), FOTS_BAD_WEEKDAY, "weekday 0");
-    months[11] = 13;
+    months[63] = 13;
     refuses(fots_rule_first(&rule), FOTS_MONTH, "month 13");
-    months[11] = 0;
+    months[63] = 0;
     refuses(fots_rule_first(&rule), FOTS_MONTH, "month 0");
-    rule.months_length = 13;
-    refuses(fots_rule_first(&rule), FOTS_MANY_PARTS, "13 months");
-    rule.months_length = 12;
+    rule.months_length = 65;
+    refuses(fots_rule_first(&rule), FOTS_MANY_PARTS, "65 months");
+    rule.months_length = 64;
     rule.weekdays_length = 65;
     refuses(fots_rule_first(&rule), FOTS_MANY_PARTS, "65 weekdays");
     rule.week_start = 8;
@@ -384,6 +405,48 @@ static void recurrences_refused(void)
     const fots_days_result none = fots_rule_days_after(&daily, date_at(FOTS_NOTHING), days, 3);
     check(none.status == FOTS_BAD_DATE && none.length == 0 && days[0].julian_day == 1, "days after no date", none.status, 0);
     check(fots_rule_days_after(&rule, daily.start, days, 3).status == FOTS_BAD_DATE && days[0].julian_day == 1, "days from no date", 0, 0);
+}
+
+/* The text of what a text says, which is read as the same; the longest one last, whose values are those of full lists. */
+static void texts_in_one_order(void)
+{
+    static char words[1024] = "FREQ=MONTHLY;INTERVAL=4294967295;COUNT=4294967295", *at;
+    static const struct {
+        const char *text, *written;
+    } rows[] = {
+        {"byday=-01fr;count=3;freq=monthly", "FREQ=MONTHLY;COUNT=3;BYDAY=-1FR"},
+        {"WKST=MO;FREQ=DAILY;INTERVAL=1", "FREQ=DAILY"},
+        {"FREQ=WEEKLY;INTERVAL=2;COUNT=4;BYDAY=TU,SU;WKST=SU", "FREQ=WEEKLY;INTERVAL=2;COUNT=4;BYDAY=TU,SU;WKST=SU"},
+        {"FREQ=MONTHLY;BYDAY=FR;BYMONTHDAY=13", "FREQ=MONTHLY;BYMONTHDAY=13;BYDAY=FR"},
+        {"byday=tu,+02we,-1su;bymonthday=-31,+07;bymonth=06,12;until=19971231;wkst=su;interval=002;freq=yearly",
+            "FREQ=YEARLY;INTERVAL=2;UNTIL=19971231;BYMONTH=6,12;BYMONTHDAY=-31,7;BYDAY=TU,2WE,-1SU;WKST=SU"},
+        {words, words},
+    };
+    for (int list = 0; list < 3; list++) {
+        static const char *const names[] = {";BYMONTH=", ";BYMONTHDAY=", ";BYDAY="}, *const values[] = {"12,", "-31,", "-53WE,"};
+        at = strcat(words, names[list]);
+        for (int value = 0; value < 62; value++) {
+            strcat(words, values[list]);
+        }
+        at[strlen(at) - 1] = 0;
+    }
+    strcat(words, ";WKST=SU");
+    for (int row = 0; row < COUNT(rows); row++) {
+        const size_t length = strlen(rows[row].written);
+        const fots_recurrence_text_result text = fots_recurrence_text(rows[row].text, strlen(rows[row].text));
+        check(text.status == FOTS_DONE && text.part == 0 && text.position == SIZE_MAX, rows[row].text, text.status, 0);
+        check(text.length == length && strcmp(text.bytes, rows[row].written) == 0, text.bytes, text.length, (long long)length);
+        for (size_t index = length; index < sizeof text.bytes; index++) {
+            check(text.bytes[index] == 0, "a byte after the text", row, (long long)index);
+        }
+        const fots_read_recurrence_result read = fots_recurrence_parse(rows[row].text, strlen(rows[row].text));
+        const fots_read_recurrence_result again = fots_recurrence_parse(text.bytes, text.length);
+        check(memcmp(&read, &again, sizeof read) == 0, "read again", row, 0);
+    }
+    const fots_read_recurrence_result longest = fots_recurrence_parse(words, strlen(words));
+    const fots_rule rule = fots_recurrence_rule(&longest.recurrence, day(2024, 1, 1));
+    check(rule.months_length == 62 && rule.months[61] == 12 && rule.month_days[61] == -31 && rule.weekdays[61].number == -53, "full lists", 0, 0);
+    refuses(fots_rule_first(&rule), FOTS_PAST_RANGE, "no 53rd Wednesday of a month");
 }
 
 /* The first part of a text that is at fault, where it stands and why; and one value more than there may be. */
@@ -415,6 +478,13 @@ static void texts_refused(void)
         const fots_recurrence_result found = of_text(rows[row].text, date_at(FOTS_NOTHING), date_at(0), days, 2);
         check(found.status == rows[row].status && found.part == rows[row].part && found.position == rows[row].position && found.length == 0
             && days[0].julian_day == 1, rows[row].text, found.status, (long long)found.position);
+        const fots_read_recurrence_result read = fots_recurrence_parse(rows[row].text, strlen(rows[row].text));
+        check(read.status == found.status && read.part == found.part && read.position == found.position, rows[row].text, read.status, 0);
+        check(read.recurrence.frequency == 0 && read.recurrence.until.julian_day == FOTS_NOTHING && read.recurrence.weekdays_length == 0
+            && read.recurrence.weekdays[61].weekday == 0, rows[row].text, read.recurrence.frequency, 0);
+        const fots_recurrence_text_result text = fots_recurrence_text(rows[row].text, strlen(rows[row].text));
+        check(text.status == found.status && text.part == found.part && text.position == found.position && text.length == 0 && text.bytes[0] == 0,
+            rows[row].text, text.status, text.length);
     }
     char many[256] = "FREQ=MONTHLY;BYMONTHDAY=1";
     for (int word = 2; word <= 62; word++) {
@@ -461,6 +531,7 @@ int main(void)
     drawn_months();
     recurrences_of_the_rfc();
     recurrences_refused();
+    texts_in_one_order();
     texts_refused();
     bad_dates();
     return ended("schedule");

@@ -606,6 +606,29 @@ static void drawn_texts(void)
 /* How many of the texts were those of a recurrence. */
 static unsigned long long recurrences_read;
 
+/* The parts and the text answer as the days do; where they are those of a recurrence, the text is read as these parts, whose rule has the days. */
+static void spelled(const char *bytes, size_t length, fots_recurrence_result found, fots_date start, const fots_date *days)
+{
+    const fots_read_recurrence_result read = fots_recurrence_parse(bytes, length);
+    const fots_recurrence_text_result text = fots_recurrence_text(bytes, length);
+    check(read.status == found.status && read.part == found.part && read.position == found.position, "its parts", read.status, found.status);
+    check(text.status == found.status && text.part == found.part && text.position == found.position, "its text", text.status, found.status);
+    const fots_rule rule = fots_recurrence_rule(&read.recurrence, start);
+    if (found.status != FOTS_DONE) {
+        check(text.length == 0 && text.bytes[0] == 0, "no text", text.length, (long long)length);
+        check(fots_rule_first(&rule).status == FOTS_BAD_FREQUENCY, "no rule", read.status, (long long)length);
+        return;
+    }
+    const fots_read_recurrence_result again = fots_recurrence_parse(text.bytes, text.length);
+    check(text.length == strlen(text.bytes) && memcmp(&again, &read, sizeof read) == 0, "read again", text.length, (long long)length);
+    if (found.length > 0) {
+        check(fots_rule_first(&rule).date.julian_day == days[0].julian_day, "the first of its rule", days[0].julian_day, (long long)length);
+    }
+    if (found.length > 1) {
+        check(fots_rule_next_after(&rule, days[0]).date.julian_day == days[1].julian_day, "the next of its rule", days[1].julian_day, (long long)length);
+    }
+}
+
 /* Days in order, or a part at fault, which begins the text or follows a semicolon, after parts that are right; and no day. */
 static void read_recurrence(const char *bytes, size_t length)
 {
@@ -613,6 +636,7 @@ static void read_recurrence(const char *bytes, size_t length)
     fots_date days[3] = {{-1}, {-1}, {-1}};
     const fots_recurrence_result found = fots_recurrence_days(bytes, length, start, start, days, 2);
     check(days[2].julian_day == -1, "a day past the room", found.status, (long long)length);
+    spelled(bytes, length, found, start, days);
     if (found.status == FOTS_DONE) {
         recurrences_read++;
         check(found.part == 0 && found.position == SIZE_MAX && found.length <= 2, "a recurrence", found.part, (long long)found.length);

@@ -229,6 +229,18 @@ void recurrences()
     check(by_text.days(start, 9) == mondays.first_days(6) && by_text.days(start, 2) == mondays.first_days(2), "by its text");
     check(by_text.days_from(start, Date::read("1998-01-01"), 9) == dates({"1998-01-19", "1998-02-16"}), "from a day on");
     check(by_text.days(start, 0).empty() && by_text.days_from(start, Date::max(), 9).empty(), "none of them");
+    check(by_text.rule(start).next_after(Date::read("1998-02-16")) == Date::read("1998-03-23") && by_text.rule(start).contains(start), "its rule");
+    check(by_text.count() == 6 && !by_text.until() && by_text.interval() == 1 && by_text.frequency() == Frequency::Monthly, "its parts");
+    const Recurrence all_parts = Recurrence::parse("byday=tu,+02we,-1su;bymonthday=-31,+07;bymonth=06,12;until=19971231;wkst=su;interval=002;freq=yearly");
+    check(all_parts.text() == "FREQ=YEARLY;INTERVAL=2;UNTIL=19971231;BYMONTH=6,12;BYMONTHDAY=-31,7;BYDAY=TU,2WE,-1SU;WKST=SU", "in one order");
+    check(all_parts.months() == std::vector{Month::June, Month::December} && all_parts.month_days() == std::vector<std::int8_t>{-31, 7}, "lists");
+    const std::vector<ByDay> by = all_parts.weekdays();
+    check(by.size() == 3 && by[0].number == 0 && by[1].number == 2 && by[2].number == -1 && by[2].weekday == Weekday::Sunday, "weekdays");
+    check(all_parts.until() == Date::read("1997-12-31") && all_parts.week_start() == Weekday::Sunday && !all_parts.count(), "the other parts");
+    check(Recurrence::parse(all_parts.text()) == all_parts && all_parts != by_text, "read again");
+    std::ostringstream printed;
+    printed << by_text;
+    check(printed.str() == by_text.text() && by_text.text() == "FREQ=MONTHLY;COUNT=6;BYDAY=-2MO", "printed");
     throws([] { Recurrence::parse("FREQ=DAILY;UNTIL=20241231;COUNT=3"); }, FOTS_PART_TWICE, "part twice at 26", "two ends");
     throws([] { Recurrence::parse(""); }, FOTS_UNKNOWN_PART, "unknown part at 0", "no text");
     try {

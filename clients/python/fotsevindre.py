@@ -93,6 +93,9 @@ class _CMoment(ctypes.Structure):
 class _CRuleWeekday(ctypes.Structure):
     _fields_ = [("number", _I8), ("weekday", _U8)]
 
+    number: int
+    weekday: int
+
 
 class _CRule(ctypes.Structure):
     _fields_ = [
@@ -101,6 +104,26 @@ class _CRule(ctypes.Structure):
         ("month_days", ctypes.POINTER(_I8)), ("month_days_length", ctypes.c_size_t),
         ("weekdays", ctypes.POINTER(_CRuleWeekday)), ("weekdays_length", ctypes.c_size_t),
     ]
+
+
+class _CRecurrence(ctypes.Structure):
+    _fields_ = [
+        ("frequency", _U32), ("interval", _U32), ("week_start", _U32), ("until", _I32), ("count", _U32),
+        ("months_length", _U32), ("month_days_length", _U32), ("weekdays_length", _U32),
+        ("months", _U8 * 62), ("month_days", _I8 * 62), ("weekdays", _CRuleWeekday * 62),
+    ]
+
+    frequency: int
+    interval: int
+    week_start: int
+    until: int
+    count: int
+    months_length: int
+    month_days_length: int
+    weekdays_length: int
+    months: Sequence[int]
+    month_days: Sequence[int]
+    weekdays: Sequence[_CRuleWeekday]
 
 
 class _Result(ctypes.Structure):
@@ -129,7 +152,9 @@ class _Result(ctypes.Structure):
     seconds: int
     length: int
     bytes: bytes
+    part: int
     position: int
+    recurrence: _CRecurrence
     years: int
     months: int
     days: int
@@ -162,6 +187,8 @@ _YEAR_FRACTION = _result(("denominator", _U32), ("numerator", _I64))
 _DAYS = _result(("length", ctypes.c_size_t))
 _TEXT = _result(("length", _U32), ("bytes", ctypes.c_char * 40))
 _RECURRENCE = _result(("part", _U32), ("length", ctypes.c_size_t), ("position", ctypes.c_size_t))
+_READ_RECURRENCE = _result(("part", _U32), ("position", ctypes.c_size_t), ("recurrence", _CRecurrence))
+_RECURRENCE_TEXT = _result(("part", _U32), ("position", ctypes.c_size_t), ("length", _U32), ("bytes", ctypes.c_char * 1404))
 _READ_DATE = _result(("date", _I32), ("position", ctypes.c_size_t))
 _READ_MOMENT = _result(("date", _I32), ("time", _U64), ("offset", _I32), ("position", ctypes.c_size_t))
 
@@ -244,6 +271,8 @@ _FORMS: List[Tuple[Any, List[Any], str]] = [
     (_DATE, [ctypes.POINTER(_CRule), _I32], "rule_next_after"),
     (_PART, [ctypes.POINTER(_CRule), _I32], "rule_contains"),
     (_DAYS, [ctypes.POINTER(_CRule), _I32, ctypes.POINTER(_I32), ctypes.c_size_t], "rule_days_after"),
+    (_READ_RECURRENCE, [ctypes.c_char_p, ctypes.c_size_t], "recurrence_parse"),
+    (_RECURRENCE_TEXT, [ctypes.c_char_p, ctypes.c_size_t], "recurrence_text"),
     (_RECURRENCE, [ctypes.c_char_p, ctypes.c_size_t, _I32, _I32, ctypes.POINTER(_I32), ctypes.c_size_t], "recurrence_days"),
 ]
 
@@ -1858,7 +1887,7 @@ class Rule:
     """Days that come back, as RFC 5545 writes them in a `RRULE`: an iteration gives them in order.
 
     They are each so-many-th day, week, month or year from the start on, of those months, days of the month and weekdays, where these are
-    named: at most 12 months and 64 weekdays, and else `ValueError`. A day of the month is counted from the end where it is below 0. A
+    named: at most 64 months and as many weekdays, and else `ValueError`. A day of the month is counted from the end where it is below 0. A
     weekday alone is each one, and with a number before it the so-many-th of the month, or of the year in a yearly rule that names no month,
     from the end where the number is below 0.
 
@@ -1967,22 +1996,62 @@ class RuleFault(ValueError):
 
 @dataclasses.dataclass(frozen=True)
 class Recurrence:
-    """What RFC 5545 writes behind `RRULE:`, by its text, which `parse` reads.
+    """What RFC 5545 writes behind `RRULE:`, which `parse` reads: its text, with the parts in one order, and the parts.
 
-    >>> last_fridays = Recurrence.parse("FREQ=MONTHLY;BYDAY=-1FR;COUNT=3")
+    Two are equal where their parts are. A list of no values leaves out no day; `until` is the last day, or `count` the number of times, where it
+    is given.
+
+    >>> last_fridays = Recurrence.parse("byday=-1fr;count=3;freq=monthly")
     >>> list(last_fridays.days(Date.read("2024-01-01")))
     [2024-01-26, 2024-02-23, 2024-03-29]
+    >>> print(last_fridays)
+    FREQ=MONTHLY;COUNT=3;BYDAY=-1FR
+    >>> last_fridays.count, last_fridays.weekdays
+    (3, ((-1, Friday),))
     """
 
     text: str
+    frequency: Frequency = dataclasses.field(init=False, repr=False, compare=False)
+    interval: int = dataclasses.field(init=False, repr=False, compare=False)
+    week_start: Weekday = dataclasses.field(init=False, repr=False, compare=False)
+    months: Tuple[Month, ...] = dataclasses.field(init=False, repr=False, compare=False)
+    month_days: Tuple[int, ...] = dataclasses.field(init=False, repr=False, compare=False)
+    weekdays: Tuple[Union[Weekday, Tuple[int, Weekday]], ...] = dataclasses.field(init=False, repr=False, compare=False)
+    until: Optional[Date] = dataclasses.field(init=False, repr=False, compare=False)
+    count: Optional[int] = dataclasses.field(init=False, repr=False, compare=False)
 
     def __post_init__(self) -> None:
-        self._written(Date.MAX._key, Date.MAX._key, (_I32 * 0)())
+        # The parts before one at fault are ASCII, so its position is the same among the characters.
+        text = _is(self.text, str).encode("utf-8", "surrogatepass")
+        parts = _parsed(_C.recurrence_parse(text, len(text))).recurrence
+        weekdays = [(by.number, Weekday(by.weekday)) for by in parts.weekdays[:parts.weekdays_length]]
+        for name, value in {
+            "text": _parsed(_C.recurrence_text(text, len(text))).bytes.decode("ascii"),
+            "frequency": Frequency(parts.frequency),
+            "interval": parts.interval,
+            "week_start": Weekday(parts.week_start),
+            "months": tuple(map(Month, parts.months[:parts.months_length])),
+            "month_days": tuple(parts.month_days[:parts.month_days_length]),
+            "weekdays": tuple((number, weekday) if number else weekday for number, weekday in weekdays),
+            "until": None if parts.until == _NOTHING else Date._of(parts.until),
+            "count": parts.count or None,
+        }.items():
+            object.__setattr__(self, name, value)
+
+    def __str__(self) -> str:
+        return self.text
+
+    def __format__(self, specification: str) -> str:
+        return format(str(self), specification)
 
     @classmethod
     def parse(cls, text: str) -> "Recurrence":
         """What the text says; `RuleFault` where it is none of a recurrence."""
         return cls(text)
+
+    def rule(self, start: Date) -> Rule:
+        """Its rule from a start on, without its number of times."""
+        return Rule(start, self.frequency, self.interval, self.week_start, self.months, self.month_days, self.weekdays, self.until)
 
     def days(self, start: Date) -> Iterator[Date]:
         """Its days from a start on, in order, up to its end."""
@@ -2003,12 +2072,14 @@ class Recurrence:
 
     def _written(self, start: int, key: int, room: "ctypes.Array[ctypes.c_int32]") -> int:
         """How many days from the Julian day on were written."""
-        # The parts before one at fault are ASCII, so its position is the same among the characters.
-        text = _is(self.text, str).encode("utf-8", "surrogatepass")
-        result = _C.recurrence_days(text, len(text), start, key, room, len(room))
-        if result.status in _REASONS:
-            raise RuleFault(result.position, _REASONS[result.status], _PARTS[result.part])
-        return _done(result).length
+        return _done(_C.recurrence_days(self.text.encode(), len(self.text), start, key, room, len(room))).length
+
+
+def _parsed(result: _Result) -> _Result:
+    """The result of a call that reads the text of a recurrence, or the part at fault."""
+    if result.status in _REASONS:
+        raise RuleFault(result.position, _REASONS[result.status], _PARTS[result.part])
+    return _done(result)
 
 
 def _rule_weekday(weekday: Union[Weekday, Tuple[int, Weekday]]) -> _CRuleWeekday:

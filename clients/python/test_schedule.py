@@ -149,6 +149,32 @@ class Recurrences(unittest.TestCase):
             self.assertEqual(list(itertools.islice(by_text.days(rule.start), len(wanted))), wanted, text)
             after = by_text.days_from(rule.start, wanted[0] + SignedDuration.days(1))
             self.assertEqual(list(itertools.islice(after, len(wanted) - 1)), wanted[1:], text)
+            self.assertEqual(by_text.rule(rule.start), rule, text)
+            count = text.partition("COUNT=")[2].partition(";")[0]
+            self.assertEqual((by_text.count, by_text.until), (int(count) if count else None, None), text)
+
+    def test_texts_in_one_order(self):
+        for text, written in {
+            "byday=-01fr;count=3;freq=monthly": "FREQ=MONTHLY;COUNT=3;BYDAY=-1FR",
+            "WKST=MO;FREQ=DAILY;INTERVAL=1": "FREQ=DAILY",
+            "FREQ=MONTHLY;BYDAY=FR;BYMONTHDAY=13": "FREQ=MONTHLY;BYMONTHDAY=13;BYDAY=FR",
+            "byday=tu,+02we,-1su;bymonthday=-31,+07;bymonth=06,12;until=19971231;wkst=su;interval=002;freq=yearly":
+                "FREQ=YEARLY;INTERVAL=2;UNTIL=19971231;BYMONTH=6,12;BYMONTHDAY=-31,7;BYDAY=TU,2WE,-1SU;WKST=SU",
+        }.items():
+            recurrence = Recurrence.parse(text)
+            self.assertEqual((recurrence.text, str(recurrence), repr(recurrence)), (written, written, f"Recurrence(text={written!r})"))
+            self.assertEqual(f"{recurrence:>99}", written.rjust(99))
+            for same in (Recurrence(written), copy.deepcopy(recurrence), pickle.loads(pickle.dumps(recurrence))):
+                self.assertEqual((same, hash(same), vars(same)), (recurrence, hash(recurrence), vars(recurrence)))
+        self.assertEqual((recurrence.frequency, recurrence.interval, recurrence.week_start), (Frequency.Yearly, 2, SU))
+        self.assertEqual((recurrence.months, recurrence.month_days), ((Month.June, Month.December), (-31, 7)))
+        self.assertEqual(recurrence.weekdays, (TU, (2, Weekday.Wednesday), (-1, SU)))
+        self.assertEqual((recurrence.until, recurrence.count), (day(1997, 12, 31), None))
+        counted, start = Recurrence.parse("FREQ=MONTHLY;COUNT=6;BYDAY=-2MO"), day(1997, 9, 22)
+        *_, last = counted.days(start)
+        self.assertEqual((last, counted.rule(start).next_after(last), last in counted.rule(start)), (day(1998, 2, 16), day(1998, 3, 23), True))
+        full = Recurrence.parse("FREQ=YEARLY;BYMONTH=1" + ",1" * 61)
+        self.assertEqual((len(full.months), list(full.rule(Date.MAX))), (62, []))
 
     def test_ends(self):
         rule = Rule(numbered(19970902), Frequency.Weekly, week_start=SU, weekdays=[TU, TH], until=numbered(19971006))
@@ -186,7 +212,7 @@ class Recurrences(unittest.TestCase):
         with self.assertRaises(ComponentRange) as refused:
             Rule(start, Frequency.Yearly, months=[13])
         self.assertEqual(refused.exception.name, "month")
-        for parts in ({"months": [300]}, {"months": [1] * 13}, {"weekdays": [FR] * 65}, {"weekdays": [(0, FR)]}):
+        for parts in ({"months": [300]}, {"months": [1] * 65}, {"weekdays": [FR] * 65}, {"weekdays": [(0, FR)]}):
             self.assertRaises(ValueError, Rule, start, Frequency.Yearly, **parts)
         for parts in ({"month_days": [128]}, {"weekdays": [(-129, FR)]}, {"interval": -1}, {"interval": 2**32}):
             self.assertRaises(OverflowError, Rule, start, Frequency.Yearly, **parts)

@@ -30,6 +30,9 @@ rule: Rule = Rule(day, Frequency.Monthly, months=[Month.June, 7], weekdays=[Week
 of_rule: List[Date] = [date for date in rule] + rule.first_days(3) + list(rule.days_after(day))
 next_of_rule: Optional[Date] = rule.next_after(day)
 by_text: List[Date] = list(Recurrence.parse("FREQ=DAILY;COUNT=2").days(day)) + list(Recurrence("FREQ=DAILY;COUNT=2").days_from(day, last))
+recurrence: Recurrence = Recurrence.parse("FREQ=DAILY;COUNT=2")
+of_text: Tuple[str, Rule, Optional[int], Optional[Date]] = (recurrence.text, recurrence.rule(day), recurrence.count, recurrence.until)
+lists: Tuple[Tuple[Month, ...], Tuple[int, ...]] = (recurrence.months, recurrence.month_days)
 fault: Tuple[int, Optional[str]] = (RuleFault(1, RuleReason.Missing).position, RuleFault(1, RuleReason.Missing).part)
 
 Date.from_calendar_date("2024", 2, 29)  # refused
@@ -53,4 +56,6 @@ Rule(day, 3)  # refused
 Rule(day, Frequency.Monthly, weekdays=[5])  # refused
 rule.next_after(day).year()  # refused
 Recurrence.parse(b"FREQ=DAILY")  # refused
+recurrence.rule(1)  # refused
+recurrence.count + 1  # refused
 shown.unix_timestamp()  # refused

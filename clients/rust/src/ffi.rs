@@ -71,6 +71,23 @@ pub(crate) struct CRule {
     pub(crate) weekdays_length: usize,
 }
 
+/// A recurrence as it crosses: as many values of each list as its length says.
+#[repr(C)]
+#[derive(Clone, Copy)]
+pub(crate) struct CRecurrence {
+    pub(crate) frequency: u32,
+    pub(crate) interval: u32,
+    pub(crate) week_start: u32,
+    pub(crate) until: i32,
+    pub(crate) count: u32,
+    pub(crate) months_length: u32,
+    pub(crate) month_days_length: u32,
+    pub(crate) weekdays_length: u32,
+    pub(crate) months: [u8; 62],
+    pub(crate) month_days: [i8; 62],
+    pub(crate) weekdays: [CRuleWeekday; 62],
+}
+
 /// What a call returned: its answer, or a status that is not [`DONE`].
 pub(crate) type Answer<T> = Result<T, i32>;
 
@@ -155,6 +172,8 @@ results! {
     YearFractionResult { denominator: u32, numerator: i64 } => (u32, i64);
     TextResult { length: u32, bytes: [u8; 40] } => (u32, [u8; 40]);
     RecurrenceResult { part: u32, length: usize, position: usize } => (u32, usize, usize);
+    ReadRecurrenceResult { part: u32, position: usize, recurrence: CRecurrence } => (u32, usize, CRecurrence);
+    RecurrenceTextResult { part: u32, position: usize, length: u32, bytes: [u8; 1404] } => (u32, usize, u32, [u8; 1404]);
     ReadDateResult { date: i32, position: usize } => (i32, usize);
     ReadMomentResult { date: i32, time: u64, offset: i32, position: usize } => (i32, u64, i32, usize);
 }
@@ -378,6 +397,32 @@ pub(crate) fn fots_recurrence_days(text: &[u8], start: i32, from: i32, days: &mu
         unsafe { declared_alone::fots_recurrence_days(text.as_ptr(), text.len(), start, from, days.as_mut_ptr(), days.len()) };
     let RecurrenceResult { part, position, .. } = result;
     result.answer().map(|(_, length, _)| length).map_err(|status| RuleFault::of_status(status, part, position))
+}
+
+/// Calls that read the text of a recurrence, and nothing else.
+macro_rules! calls_of_recurrences {
+    ($($name:ident -> $result:ident;)*) => {
+        mod declared_of_recurrences {
+            use super::*;
+
+            extern "C" {
+                $(pub(super) fn $name(text: *const u8, length: usize) -> $result;)*
+            }
+        }
+
+        $(
+            pub(crate) fn $name(text: &[u8]) -> Result<<$result as Returned>::Value, RuleFault> {
+                let result = unsafe { declared_of_recurrences::$name(text.as_ptr(), text.len()) };
+                let (part, position) = (result.part, result.position);
+                result.answer().map_err(|status| RuleFault::of_status(status, part, position))
+            }
+        )*
+    };
+}
+
+calls_of_recurrences! {
+    fots_recurrence_parse -> ReadRecurrenceResult;
+    fots_recurrence_text -> RecurrenceTextResult;
 }
 
 /// Calls of rules.

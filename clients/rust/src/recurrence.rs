@@ -9,9 +9,17 @@
 //! ```
 
 use crate::ffi::{self, unexpected};
-use crate::Date;
+use crate::{ByDay, Date, Frequency, Month, Rule, Weekday};
 use core::fmt;
 use core::iter::FusedIterator;
+
+mod parts;
+mod text;
+mod values;
+
+use parts::Parts;
+
+pub use text::RecurrenceText;
 
 /// How many days a walk asks for at once.
 const AT_ONCE: usize = 64;
@@ -98,10 +106,35 @@ impl fmt::Display for RuleFault {
 
 impl core::error::Error for RuleFault {}
 
-/// What a text says, which it borrows.
+/// Where a recurrence ends.
+#[derive(Clone, Copy, Debug, PartialEq, Eq)]
+pub enum RuleEnd {
+    /// Nowhere before the end of the range.
+    Never,
+    /// With this day, which is one of its days where the rule has it.
+    Until(Date),
+    /// After so many days.
+    Count(u32),
+}
+
+/// What a text says, which it borrows: a rule but for its start, and where it ends. Two are equal where their parts are.
+///
+/// It prints as its text, and pads the whole under a width.
+///
+/// ```
+/// use fotsevindre::recurrence::{parse, RuleEnd};
+/// use fotsevindre::{ByDay, Date, Month, Weekday};
+///
+/// let last_fridays = parse(b"byday=-1fr;count=3;freq=monthly").unwrap();
+/// assert_eq!(last_fridays.to_string(), "FREQ=MONTHLY;COUNT=3;BYDAY=-1FR");
+/// assert_eq!((last_fridays.end(), last_fridays.weekdays()), (RuleEnd::Count(3), &[ByDay::Nth(-1, Weekday::Friday)][..]));
+/// let start = Date::from_calendar_date(2024, Month::January, 1).unwrap();
+/// assert_eq!(last_fridays.rule(start).next_after(start).unwrap().to_string(), "2024-01-26");
+/// ```
 #[derive(Clone, Copy, Debug)]
 pub struct Recurrence<'a> {
     text: &'a [u8],
+    parts: Parts,
 }
 
 /// The recurrence that a text says, as `FREQ=MONTHLY;BYDAY=-1FR;COUNT=12`, or the first part that is at fault.
@@ -113,11 +146,82 @@ pub struct Recurrence<'a> {
 /// assert_eq!((fault.position, fault.reason), (26, RuleReason::Twice(RulePart::Count)));
 /// ```
 pub fn parse(text: &[u8]) -> Result<Recurrence<'_>, RuleFault> {
-    ffi::fots_recurrence_days(text, Date::MAX.to_c(), Date::MAX.to_c(), &mut [])?;
-    Ok(Recurrence { text })
+    let (_, _, parts) = ffi::fots_recurrence_parse(text)?;
+    Ok(Recurrence { text, parts: Parts::of_c(&parts) })
+}
+
+impl PartialEq for Recurrence<'_> {
+    fn eq(&self, other: &Self) -> bool {
+        self.parts == other.parts
+    }
+}
+
+impl Eq for Recurrence<'_> {}
+
+impl fmt::Display for Recurrence<'_> {
+    fn fmt(&self, f: &mut fmt::Formatter<'_>) -> fmt::Result {
+        f.pad(self.text().as_str())
+    }
 }
 
 impl<'a> Recurrence<'a> {
+    /// Its text, with its parts in one order: `FREQ=MONTHLY;COUNT=3;BYDAY=-1FR`.
+    pub fn text(&self) -> RecurrenceText {
+        RecurrenceText::of_c(ffi::fots_recurrence_text(self.text).expect("the text was read"))
+    }
+
+    /// Its rule from a start on, without a number of times, which is no part of a rule.
+    pub fn rule(&self, start: Date) -> Rule<'_> {
+        Rule {
+            start,
+            frequency: self.frequency(),
+            interval: self.interval(),
+            week_start: self.week_start(),
+            months: self.months(),
+            month_days: self.month_days(),
+            weekdays: self.weekdays(),
+            until: match self.end() {
+                RuleEnd::Until(day) => Some(day),
+                RuleEnd::Never | RuleEnd::Count(_) => None,
+            },
+        }
+    }
+
+    /// What the interval counts.
+    pub fn frequency(&self) -> Frequency {
+        self.parts.frequency
+    }
+
+    /// Each so-many-th day, week, month or year from that of the start on.
+    pub fn interval(&self) -> u32 {
+        self.parts.interval
+    }
+
+    /// The weekday that a week begins with.
+    pub fn week_start(&self) -> Weekday {
+        self.parts.week_start
+    }
+
+    /// The months.
+    pub fn months(&self) -> &[Month] {
+        self.parts.months.as_slice()
+    }
+
+    /// The days of the month, from 1 on, or from the end by -1 for the last one.
+    pub fn month_days(&self) -> &[i8] {
+        self.parts.month_days.as_slice()
+    }
+
+    /// The weekdays.
+    pub fn weekdays(&self) -> &[ByDay] {
+        self.parts.weekdays.as_slice()
+    }
+
+    /// Where it ends.
+    pub fn end(&self) -> RuleEnd {
+        self.parts.end
+    }
+
     /// The walk over its days from a start on, up to its end.
     pub fn days(self, start: Date) -> RecurrenceDays<'a> {
         self.days_from(start, start)

@@ -14,6 +14,16 @@ pub enum Frequency {
     Yearly = 4,
 }
 
+impl Frequency {
+    /// Those of the numbers, from 1.
+    const ALL: [Self; 4] = [Self::Daily, Self::Weekly, Self::Monthly, Self::Yearly];
+
+    /// That of a number that a call has answered.
+    pub(crate) fn of_number(number: u32) -> Self {
+        Self::ALL[number as usize - 1]
+    }
+}
+
 /// A weekday of a rule.
 #[derive(Clone, Copy, Debug, PartialEq, Eq)]
 pub enum ByDay {
@@ -60,7 +70,7 @@ pub struct Rule<'a> {
 
 impl<'a> Rule<'a> {
     /// The greatest number of months.
-    pub const MOST_MONTHS: usize = 12;
+    pub const MOST_MONTHS: usize = 64;
 
     /// The greatest number of weekdays.
     pub const MOST_WEEKDAYS: usize = 64;

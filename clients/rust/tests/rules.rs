@@ -1,10 +1,10 @@
 //! Recurrences, by examples of RFC 5545 with their first days.
 
-use fotsevindre::recurrence::{parse, RuleFault, RulePart, RuleReason};
+use fotsevindre::recurrence::{parse, RuleEnd, RuleFault, RulePart, RuleReason};
 use fotsevindre::ByDay::{Every, Nth};
 use fotsevindre::Frequency::{Daily, Monthly, Weekly, Yearly};
-use fotsevindre::Month::{February, January, July, June, November};
-use fotsevindre::Weekday::{Friday, Monday, Saturday, Sunday, Thursday, Tuesday};
+use fotsevindre::Month::{December, February, January, July, June, November};
+use fotsevindre::Weekday::{Friday, Monday, Saturday, Sunday, Thursday, Tuesday, Wednesday};
 use fotsevindre::{Date, Duration, Frequency, Month, Rule};
 
 /// The day with the number of eight digits, as `1997_09_02`.
@@ -32,6 +32,40 @@ fn begins(text: &str, rule: &Rule<'_>, days: &[i32], ends: bool) {
     assert!(by_text.days(rule.start).take(days.len()).eq(days.iter().copied()), "{text}");
     assert!(by_text.days_from(rule.start, days[1]).take(days.len() - 1).eq(days[1..].iter().copied()), "{text}");
     assert!(!ends || by_text.days(rule.start).count() == days.len(), "{text}");
+    assert_eq!(by_text.rule(rule.start), *rule, "{text}");
+}
+
+#[test]
+fn texts_in_one_order() {
+    for (text, written) in [
+        ("byday=-01fr;count=3;freq=monthly", "FREQ=MONTHLY;COUNT=3;BYDAY=-1FR"),
+        ("WKST=MO;FREQ=DAILY;INTERVAL=1", "FREQ=DAILY"),
+        ("FREQ=MONTHLY;BYDAY=FR;BYMONTHDAY=13", "FREQ=MONTHLY;BYMONTHDAY=13;BYDAY=FR"),
+    ] {
+        let recurrence = parse(text.as_bytes()).unwrap();
+        assert_eq!((recurrence.text().as_str(), recurrence.text().len()), (written, written.len()));
+        assert_eq!(format!("{recurrence:>40}"), format!("{written:>40}"));
+        assert_eq!(parse(written.as_bytes()), Ok(recurrence));
+    }
+}
+
+#[test]
+fn parts() {
+    let all = b"byday=tu,+02we,-1su;bymonthday=-31,+07;bymonth=06,12;until=19971231;wkst=su;interval=002;freq=yearly";
+    let all = parse(all).unwrap();
+    assert_eq!((all.frequency(), all.interval(), all.week_start()), (Yearly, 2, Sunday));
+    assert_eq!((all.months(), all.month_days()), (&[June, December][..], &[-31, 7][..]));
+    assert_eq!(all.weekdays(), [Every(Tuesday), Nth(2, Wednesday), Nth(-1, Sunday)]);
+    assert_eq!(all.end(), RuleEnd::Until(date(1997_12_31)));
+    let counted = parse(b"FREQ=MONTHLY;COUNT=6;BYDAY=-2MO").unwrap();
+    assert_eq!((counted.end(), counted.rule(Date::MIN).until), (RuleEnd::Count(6), None));
+    let last = date(1998_02_16);
+    assert_eq!(counted.days(date(1997_09_22)).last(), Some(last));
+    assert_eq!(counted.rule(date(1997_09_22)).next_after(last), Some(date(1998_03_23)));
+    assert_eq!((parse(b"FREQ=DAILY").unwrap().end(), counted == all), (RuleEnd::Never, false));
+    let months = format!("FREQ=YEARLY;BYMONTH=1{}", ",1".repeat(61));
+    let months = parse(months.as_bytes()).unwrap();
+    assert_eq!((months.months(), months.rule(Date::MAX).days().next()), (&[January; 62][..], None));
 }
 
 #[test]
@@ -162,9 +196,9 @@ fn as_many_parts_as_there_can_be() {
 }
 
 #[test]
-#[should_panic = "more than 12 months"]
+#[should_panic = "more than 64 months"]
 fn months_past_them() {
-    Rule { months: &[January; 13], ..rule(Daily, 2024_01_01) }.days();
+    Rule { months: &[January; 65], ..rule(Daily, 2024_01_01) }.days();
 }
 
 #[test]

@@ -7,6 +7,7 @@ pub mod Rows
 pub mod WeekParts
 pub mod HeldDays
 pub mod TextBytes
+pub mod Filled
 pub mod Thursdays
 pub mod Equals
 pub mod Cases

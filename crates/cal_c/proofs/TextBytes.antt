@@ -1,12 +1,12 @@
 -- The bytes of a text and zeros, put together.
 use Rattle.std.proofs.Common.{◌≡◌, ℕ, ◌+◌, ◌-◌, List, ◌++◌, drop, replicate, length, ap, sym, ◌∙◌, arith}
-use Rattle.std.proofs.lemmas.List.{drop-replicate}
 use Rattle.cal_time.specs.declared.Month.{Month}
 use Rattle.cal_time.specs.declared.Weekday.{Weekday}
 use Rattle.cal_time.specs.Month as months
 use Rattle.cal_time.specs.MonthCycle.{month_at-index}
 use Rattle.cal_time.specs.Weekday as weekdays
 use Rattle.cal_time.specs.WeekdayCycle.{weekday_at-index}
+use Rattle.cal_c.proofs.Filled.{copied-over}
 use Rattle.cal_c.specs.Statuses.{done}
 use Rattle.cal_c.specs.Texts.{text_done, month_name, weekday_name}
 use Rattle.cal_c.specs.declared.texts.TextResult.{TextResult}
@@ -15,8 +15,7 @@ abbrev pub text_with : List ℕ → List ℕ → TextResult
 text_with text bytes = record { status = done; length = length text; bytes = bytes }
 
 pub copied-over-zeros : (text copied : List ℕ) → copied ≡ text → text_with text (copied ++ drop (length text) (replicate 40 0)) ≡ text_done text
-copied-over-zeros text copied same =
-    ap (λ bytes. text_with text (bytes ++ drop (length text) (replicate 40 0))) same ∙ ap (λ zeros. text_with text (text ++ zeros)) (drop-replicate (length text) 40 0)
+copied-over-zeros text copied same = ap (text_with text) (copied-over 40 0 text copied same)
 
 -- the names of the month and the weekday that have a number
 pub month-named : (m : Month) (n : ℕ) → months.number m ≡ n → months.name m ≡ month_name n

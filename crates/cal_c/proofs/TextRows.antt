@@ -11,8 +11,6 @@ use Rattle.cal_c.specs.Results.{date_done, date_refused, nothing}
 use Rattle.cal_c.specs.Statuses.{done, component_status}
 use Rattle.cal_c.specs.TextColumns.{moment_row}
 use Rattle.cal_c.specs.Texts.{IsUnreadableDate, IsUnreadableMoment, StopsAt, read_date_done, read_date_refused, read_moment_done, read_moment_refused}
-use Rattle.cal_c.specs.declared.results.DateResult.{DateResult}
-use Rattle.cal_c.specs.declared.results.MomentResult.{MomentResult}
 use Rattle.cal_c.specs.declared.texts.ReadDateResult.{ReadDateResult}
 use Rattle.cal_c.specs.declared.texts.ReadMomentResult.{ReadMomentResult}
 

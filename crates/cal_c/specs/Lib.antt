@@ -10,3 +10,4 @@ pub mod Workweeks
 pub mod TextColumns
 pub mod RecurrenceTexts
 pub mod Recurrences
+pub mod RecurrenceParts

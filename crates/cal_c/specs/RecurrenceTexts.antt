@@ -1,13 +1,16 @@
--- What the text of a recurrence gives: its days, or the part at fault.
-use Rattle.std.specs.Prelude.{ℕ, ℤ}
+-- What the text of a recurrence gives: its days, or its own text, or the part at fault.
+use Rattle.std.specs.Prelude.{ℕ, ◌-◌, ℤ, List, ◌++◌, length, replicate, Result, Ok, Err}
 use Rattle.cal_recurrence.specs.declared.fault.RuleFault.{RuleFault}
 use Rattle.cal_recurrence.specs.declared.fault.RulePart.{RulePart}
 use Rattle.cal_recurrence.specs.declared.fault.RulePart.TheVariants.{Frequency, Interval, WeekStart, Months, MonthDays, Weekdays, Until, Count}
 use Rattle.cal_recurrence.specs.declared.fault.RuleReason.{RuleReason}
 use Rattle.cal_recurrence.specs.declared.fault.RuleReason.TheVariants.{Unknown, Twice, TooMany, Value, Missing}
+use Rattle.cal_recurrence.specs.Written.{text_of}
+use Rattle.cal_recurrence.specs.declared.recurrence.Recurrence.{Recurrence}
 use Rattle.cal_c.specs.Statuses.{done, many_values, no_frequency, part_twice, part_value, unknown_part}
 use Rattle.cal_c.specs.Texts.{nowhere}
 use Rattle.cal_c.specs.declared.schedule.recurrences.results.RecurrenceResult.{RecurrenceResult}
+use Rattle.cal_c.specs.declared.schedule.recurrences.written.RecurrenceTextResult.{RecurrenceTextResult}
 
 -- a part is its number from `FREQ`, 1
 abbrev pub part_number : RulePart → ℕ
@@ -46,3 +49,14 @@ recurrence_refused s = record { status = s; part = 0; length = 0; position = now
 abbrev pub recurrence_unread : RuleFault → RecurrenceResult
 recurrence_unread fault =
     record { status = reason_status fault.reason; part = part_of fault.reason; length = 0; position = fault.position }
+
+-- the bytes of the text, and zeros after them up to 1404
+abbrev pub written_done : List ℕ → RecurrenceTextResult
+written_done text =
+    record { status = done; part = 0; position = nowhere; length = length text; bytes = text ++ replicate (1404 - length text) 0 }
+
+-- the text of what was read
+abbrev pub written_as : Result Recurrence RuleFault → RecurrenceTextResult
+written_as (Ok its) = written_done (text_of its)
+written_as (Err fault) =
+    record { status = reason_status fault.reason; part = part_of fault.reason; position = fault.position; length = 0; bytes = replicate 1404 0 }

@@ -28,7 +28,7 @@ IsFrequency k = (1 ≤ k) × (k ≤ 4)
 
 -- as many months and weekdays as a rule takes
 abbrev pub most_months : ℕ
-most_months = 12
+most_months = 64
 
 abbrev pub most_weekdays : ℕ
 most_weekdays = 64

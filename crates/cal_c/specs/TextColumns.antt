@@ -1,5 +1,5 @@
 -- Columns of texts: one array has the bytes of all, and another one where each begins, which is where the one before it ends.
-use Rattle.std.specs.Prelude.{◌≡◌, ℕ, ◌+◌, ◌*◌, ◌≤◌, ◌<◌, ℤ, pos, ◌≤ℤ◌, unsigned_abs, List, [], length, get_or}
+use Rattle.std.specs.Prelude.{◌≡◌, ℕ, ◌+◌, ◌*◌, ◌≤◌, ℤ, pos, ◌≤ℤ◌, unsigned_abs, List, [], length, get_or}
 use Rattle.std.specs.List.{between}
 use Rattle.cal_time.specs.Date.{IsDate, julian_day_at}
 use Rattle.cal_time.specs.DateText.{text}

@@ -1,6 +1,6 @@
 //! Days that come back, by the rules of RFC 5545.
 //!
-//! A rule is a struct of its parts, of which the months, the days of the month and the weekdays are arrays: at most 12 months and 64
+//! A rule is a struct of its parts, of which the months, the days of the month and the weekdays are arrays: at most 64 months and as many
 //! weekdays.
 ghost use Rattle.std.specs.Prelude.{◌≡◌, pos, slice_get, if◌then◌else◌};
 ghost use Rattle.cal_schedule.specs.Rule.{days_after, days_of, is_on};
@@ -11,12 +11,16 @@ ghost use Rattle.cal_c.specs.Statuses.{bad_date};
 ghost use Rattle.cal_c.specs.Values.{IsJulianDay, day_of};
 
 mod laws;
+mod lists;
 mod months;
+mod parsed;
+mod parsing;
 mod parts;
 mod reading;
 mod results;
 mod texts;
 mod weekdays;
+mod written;
 
 use crate::results::{DateResult, NumberResult};
 use crate::schedule::results::DaysResult;

@@ -7,7 +7,7 @@ use cal_time::Month;
 use std::marker::Model;
 
 /// As many months as a rule takes.
-pub(super) const MOST: usize = 12;
+pub(super) const MOST: usize = 64;
 
 /// Months, seen as the list of them.
 #[derive(Drop)]

@@ -32,7 +32,7 @@ fn part_number(part: RulePart) -> u32
     }
 }
 
-fn reason_status(reason: RuleReason) -> i32
+pub(super) fn reason_status(reason: RuleReason) -> i32
     ensures { result ≡ reason_status reason }
 {
     match reason {
@@ -44,7 +44,7 @@ fn reason_status(reason: RuleReason) -> i32
     }
 }
 
-fn part_of(reason: RuleReason) -> u32
+pub(super) fn part_of(reason: RuleReason) -> u32
     ensures { result ≡ part_of reason }
 {
     match reason {

@@ -1,5 +1,4 @@
-use Rattle.std.proofs.Common.{◌≡◌, subst, sym, rules, FitsSigned, w32}
-use Rattle.std.proofs.lemmas.Int.{to_z-of_z}
+use Rattle.std.proofs.Common.{◌≡◌, subst, rules, FitsSigned, w32}
 use Rattle.cal_text.specs.Rfc3339.{HasMomentText}
 use Rattle.cal_c.specs.Values.{moment_of}
 use Rattle.cal_c.proofs.columns.texts.making.text_of_moment.Goals as goal

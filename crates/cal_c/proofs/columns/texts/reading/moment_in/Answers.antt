@@ -1,4 +1,4 @@
-use Rattle.std.proofs.Common.{◌≡◌, subst, rules, sym, FitsSigned, w32}
+use Rattle.std.proofs.Common.{◌≡◌, subst, rules, FitsSigned, w32}
 use Rattle.std.proofs.lemmas.Int.{to_z-of_z}
 use Rattle.cal_c.specs.TextColumns.{ArePartOf, IsMomentOfText, moment_row, part}
 use Rattle.cal_c.proofs.columns.texts.reading.moment_in.Goals as goal

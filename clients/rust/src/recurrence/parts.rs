@@ -1,0 +1,44 @@
+//! The parts of a recurrence.
+
+use super::values::Values;
+use super::RuleEnd;
+use crate::ffi::{CRecurrence, CRuleWeekday};
+use crate::{ByDay, Date, Frequency, Month, Weekday};
+
+/// The parts of a recurrence.
+#[derive(Clone, Copy, Debug, PartialEq, Eq)]
+pub(super) struct Parts {
+    pub(super) frequency: Frequency,
+    pub(super) interval: u32,
+    pub(super) week_start: Weekday,
+    pub(super) months: Values<Month>,
+    pub(super) month_days: Values<i8>,
+    pub(super) weekdays: Values<ByDay>,
+    pub(super) end: RuleEnd,
+}
+
+impl Parts {
+    pub(super) fn of_c(parts: &CRecurrence) -> Self {
+        Self {
+            frequency: Frequency::of_number(parts.frequency),
+            interval: parts.interval,
+            week_start: Weekday::of_number(parts.week_start),
+            months: Values::of_c(parts.months, parts.months_length, |month| Month::of_number(month.into()), Month::January),
+            month_days: Values::of_c(parts.month_days, parts.month_days_length, |day| day, 0),
+            weekdays: Values::of_c(parts.weekdays, parts.weekdays_length, by_day, ByDay::Every(Weekday::Monday)),
+            end: match parts.count {
+                0 if parts.until == i32::MIN => RuleEnd::Never,
+                0 => RuleEnd::Until(Date::of_c(parts.until)),
+                count => RuleEnd::Count(count),
+            },
+        }
+    }
+}
+
+fn by_day(by: CRuleWeekday) -> ByDay {
+    let weekday = Weekday::of_number(by.weekday.into());
+    match by.number {
+        0 => ByDay::Every(weekday),
+        number => ByDay::Nth(number, weekday),
+    }
+}

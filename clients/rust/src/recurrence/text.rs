@@ -1,0 +1,40 @@
+//! The text of a recurrence.
+
+use core::fmt;
+use core::str;
+
+/// The text of a recurrence, in place and without a formatter: ASCII, at most 1400 bytes.
+#[derive(Clone, Copy)]
+pub struct RecurrenceText {
+    bytes: [u8; 1404],
+    length: usize,
+}
+
+#[allow(clippy::len_without_is_empty)]
+impl RecurrenceText {
+    /// The text that the library answered.
+    pub(super) fn of_c((_, _, length, bytes): (u32, usize, u32, [u8; 1404])) -> Self {
+        Self { bytes, length: length as usize }
+    }
+
+    /// The text.
+    pub fn as_str(&self) -> &str {
+        str::from_utf8(self.as_bytes()).expect("the texts of the library are ASCII")
+    }
+
+    /// The bytes of the text.
+    pub fn as_bytes(&self) -> &[u8] {
+        &self.bytes[..self.length]
+    }
+
+    /// The number of bytes, at most 1400.
+    pub fn len(&self) -> usize {
+        self.length
+    }
+}
+
+impl fmt::Debug for RecurrenceText {
+    fn fmt(&self, f: &mut fmt::Formatter<'_>) -> fmt::Result {
+        self.as_str().fmt(f)
+    }
+}

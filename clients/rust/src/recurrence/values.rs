@@ -1,0 +1,43 @@
+//! The values of a part of a recurrence.
+
+use core::fmt;
+
+/// The most values of a list.
+const MOST: usize = 62;
+
+/// Values in order, in place, with others after them that are not seen.
+#[derive(Clone, Copy)]
+pub(super) struct Values<T> {
+    items: [T; MOST],
+    length: usize,
+}
+
+impl<T: Copy> Values<T> {
+    /// What the first items of an array stand for, so many.
+    pub(super) fn of_c<C: Copy>(items: [C; MOST], length: u32, of_c: impl Fn(C) -> T, filler: T) -> Self {
+        let length = length as usize;
+        let mut values = Self { items: [filler; MOST], length };
+        for (value, item) in values.items[..length].iter_mut().zip(items) {
+            *value = of_c(item);
+        }
+        values
+    }
+
+    pub(super) fn as_slice(&self) -> &[T] {
+        &self.items[..self.length]
+    }
+}
+
+impl<T: Copy + PartialEq> PartialEq for Values<T> {
+    fn eq(&self, other: &Self) -> bool {
+        self.as_slice() == other.as_slice()
+    }
+}
+
+impl<T: Copy + Eq> Eq for Values<T> {}
+
+impl<T: Copy + fmt::Debug> fmt::Debug for Values<T> {
+    fn fmt(&self, f: &mut fmt::Formatter<'_>) -> fmt::Result {
+        self.as_slice().fmt(f)
+    }
+}

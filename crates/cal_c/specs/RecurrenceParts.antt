@@ -1,0 +1,78 @@
+-- What the text of a recurrence says, as numbers.
+use Rattle.std.specs.Prelude.{ℕ, ◌+◌, ◌-◌, ℤ, pos, List, ◌++◌, length, map, replicate, Result, Ok, Err}
+use Rattle.cal_time.specs.Date.{julian_day_at}
+use Rattle.cal_time.specs.Month.{number}
+use Rattle.cal_time.specs.Weekday.{index}
+use Rattle.cal_schedule.specs.declared.rule.kinds.ByDay.{ByDay}
+use Rattle.cal_schedule.specs.declared.rule.kinds.ByDay.TheVariants.{Every, Nth}
+use Rattle.cal_recurrence.specs.declared.fault.RuleFault.{RuleFault}
+use Rattle.cal_recurrence.specs.declared.recurrence.Recurrence.{Recurrence}
+use Rattle.cal_recurrence.specs.declared.recurrence.RuleEnd.{RuleEnd}
+use Rattle.cal_recurrence.specs.declared.recurrence.RuleEnd.TheVariants.{Never, Until, Count}
+use Rattle.cal_c.specs.RecurrenceTexts.{part_of, reason_status}
+use Rattle.cal_c.specs.Recurrences.{frequency_number}
+use Rattle.cal_c.specs.Results.{nothing}
+use Rattle.cal_c.specs.Statuses.{done}
+use Rattle.cal_c.specs.Texts.{nowhere}
+use Rattle.cal_c.specs.declared.schedule.recurrences.parsed.RecurrenceParts.{RecurrenceParts}
+use Rattle.cal_c.specs.declared.schedule.recurrences.parsing.ReadRecurrenceResult.{ReadRecurrenceResult}
+use Rattle.cal_c.specs.declared.schedule.recurrences.parts.RuleWeekday.{RuleWeekday}
+
+-- the last day, or none
+abbrev pub until_in : RuleEnd → ℤ
+until_in Never = nothing
+until_in (Until day) = julian_day_at day
+until_in (Count n) = nothing
+
+-- the number of times, or 0
+abbrev pub count_in : RuleEnd → ℕ
+count_in Never = 0
+count_in (Until day) = 0
+count_in (Count n) = n
+
+-- a weekday of a rule as it crosses
+abbrev pub parts_of_weekday : ByDay → RuleWeekday
+parts_of_weekday (Every w) = record { number = pos 0; weekday = index w + 1 }
+parts_of_weekday (Nth k w) = record { number = k; weekday = index w + 1 }
+
+abbrev pub no_weekday : RuleWeekday
+no_weekday = record { number = pos 0; weekday = 0 }
+
+-- the values, and others after them up to 62
+abbrev pub filled : {X : Type 0} → X → List X → List X
+filled x xs = xs ++ replicate (62 - length xs) x
+
+abbrev pub parts_of : Recurrence → RecurrenceParts
+parts_of r = record {
+  frequency = frequency_number r.frequency;
+  interval = r.interval;
+  week_start = index r.week_start + 1;
+  until = until_in r.end;
+  count = count_in r.end;
+  months_length = length r.months;
+  month_days_length = length r.month_days;
+  weekdays_length = length r.weekdays;
+  months = filled 0 (map number r.months);
+  month_days = filled (pos 0) r.month_days;
+  weekdays = filled no_weekday (map parts_of_weekday r.weekdays);
+}
+
+abbrev pub no_parts : RecurrenceParts
+no_parts = record {
+  frequency = 0;
+  interval = 0;
+  week_start = 0;
+  until = nothing;
+  count = 0;
+  months_length = 0;
+  month_days_length = 0;
+  weekdays_length = 0;
+  months = replicate 62 0;
+  month_days = replicate 62 (pos 0);
+  weekdays = replicate 62 no_weekday;
+}
+
+-- the parts of what was read
+abbrev pub parsed_as : Result Recurrence RuleFault → ReadRecurrenceResult
+parsed_as (Ok its) = record { status = done; part = 0; position = nowhere; recurrence = parts_of its }
+parsed_as (Err fault) = record { status = reason_status fault.reason; part = part_of fault.reason; position = fault.position; recurrence = no_parts }

@@ -1,0 +1,67 @@
+//! The lists of a recurrence, in place: as many values as there are, and zeros after them.
+ghost use Rattle.std.specs.Prelude.{◌≡◌, ◌≤◌, length, map, pos};
+ghost use Rattle.cal_time.specs.Month.{number};
+ghost use Rattle.cal_recurrence.specs.Values.{most_values};
+ghost use Rattle.cal_c.specs.RecurrenceParts.{filled, no_weekday, parts_of_weekday};
+
+use super::parts::RuleWeekday;
+use cal_schedule::ByDay;
+use cal_time::{Cycle, Month};
+
+/// The most values of a list.
+pub(super) const MOST: usize = 62;
+
+pub(super) const NO_WEEKDAY: RuleWeekday = RuleWeekday {
+    number: 0,
+    weekday: 0,
+};
+
+/// The numbers of the months from January, 1.
+pub(super) fn numbers_of_months(months: &[Month]) -> [u8; MOST]
+    requires { length months.now ≤ most_values }
+    ensures { result ≡ filled 0 (map number months.now) }
+{
+    let mut numbers = [0; MOST];
+    for index in 0..months.len() {
+        numbers[index] = months[index].index() + 1;
+    }
+    numbers
+}
+
+/// The days of the month.
+pub(super) fn all_month_days(days: &[i8]) -> [i8; MOST]
+    requires { length days.now ≤ most_values }
+    ensures { result ≡ filled (pos 0) days.now }
+{
+    let mut all = [0; MOST];
+    all[..days.len()].copy_from_slice(days);
+    all
+}
+
+/// The parts of a weekday: its number in the month or the year, or 0, and that of itself from Monday, 1.
+fn parts_of_weekday(by: ByDay) -> RuleWeekday
+    ensures { result ≡ parts_of_weekday by }
+{
+    match by {
+        ByDay::Every(weekday) => RuleWeekday {
+            number: 0,
+            weekday: weekday.number_from_monday(),
+        },
+        ByDay::Nth(number, weekday) => RuleWeekday {
+            number,
+            weekday: weekday.number_from_monday(),
+        },
+    }
+}
+
+/// The parts of the weekdays.
+pub(super) fn parts_of_weekdays(weekdays: &[ByDay]) -> [RuleWeekday; MOST]
+    requires { length weekdays.now ≤ most_values }
+    ensures { result ≡ filled no_weekday (map parts_of_weekday weekdays.now) }
+{
+    let mut parts = [NO_WEEKDAY; MOST];
+    for index in 0..weekdays.len() {
+        parts[index] = parts_of_weekday(weekdays[index]);
+    }
+    parts
+}
