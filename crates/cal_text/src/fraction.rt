@@ -42,6 +42,7 @@ fn push_decimals(text: &mut ShortText, nanosecond: u32)
 }
 
 /// A fraction of a second: none, or a point, a digit and so many more at most, of which eight count.
+#[inline(always)]
 pub(crate) fn fraction(scanner: &mut Scanner, more: usize) -> Option<u32>
     ensures scans { Scans (Fraction more) scanner.old.rest.now scanner.new.rest.now result }
     ensures fraction { IfSome result
