@@ -12,6 +12,3 @@ one a b h = cc
 -- the same value, taken further
 pub same_mapped : {A B E : Type 0} (f : A → B) (a b : A) → ◌≡◌ {A = Result A E} (Ok a) (Ok b) → ◌≡◌ {A = Result B E} (Ok (f a)) (Ok (f b))
 same_mapped f a b h = ap (λ x. Ok (f x)) (one a b h)
-
-pub same_second : {A B E : Type 0} (p q : A × B) → ◌≡◌ {A = Result (A × B) E} (Ok p) (Ok q) → ◌≡◌ {A = Result B E} (Ok p.1) (Ok q.1)
-same_second p q h = same_mapped (λ r. r.1) p q h

@@ -5,10 +5,10 @@ ghost use Rattle.cal_time.specs.declared.error.ComponentRange.{ComponentRange};
 ghost use Rattle.cal_text.specs.declared.date_numbers.DateNumbers.{DateNumbers};
 ghost use Rattle.cal_text.specs.DateForms.{IsDateText, HasForm};
 ghost use Rattle.cal_text.specs.Position.{HasSome, IsAtStop};
-ghost use Rattle.cal_text.specs.Reading.{IsOnDay, IsFaultOf, HasFault, IsRefusedFor, IsRefusedForForm};
+ghost use Rattle.cal_text.specs.Reading.{IsFaultOf, HasFault, IsRefusedFor, IsRefusedForForm};
 
 use crate::date::of_form::date_of;
-use crate::date_numbers::{DateNumbers, form_of};
+use crate::date_numbers::form_of;
 use crate::error::Unreadable;
 use cal_time::Date;
 
@@ -36,26 +36,9 @@ pub fn read(text: &[u8]) -> Result<Date, Unreadable>
     ensures component { (why : ComponentRange)
         → IsRefusedFor why result ↔ HasFault HasForm IsFaultOf text.now why }
 {
-    match form_and_date(text) {
-        Ok(found) => Ok(found.1),
-        Err(error) => Err(error),
-    }
-}
-
-/// The form that the text has, and its day.
-pub(crate) fn form_and_date(text: &[u8]) -> Result<(DateNumbers, Date), Unreadable>
-    ensures every { (form : DateNumbers) (n : ℕ) → IsDate n → HasForm text.now form → IsOnDay form n
-        → result ≡ Ok (form, n) }
-    ensures has { IfOk result (λ found.
-        IsDate found.1 × HasForm text.now found.0 × IsOnDay found.0 found.1) }
-    ensures form { IsRefusedForForm result ↔ ((form : DateNumbers) → ¬ HasForm text.now form) }
-    ensures position { IfErr result (IsAtStop (HasSome HasForm) text.now) }
-    ensures component { (why : ComponentRange)
-        → IsRefusedFor why result ↔ HasFault HasForm IsFaultOf text.now why }
-{
     match form_of(text) {
         Ok(form) => match date_of(form) {
-            Ok(date) => Ok((form, date)),
+            Ok(date) => Ok(date),
             Err(error) => Err(Unreadable::OutOfRange(error)),
         },
         Err(position) => Err(Unreadable::at(position, text.len())),

@@ -8,7 +8,7 @@ ghost use Rattle.cal_text.specs.Position.{HasSome, IsAtStop};
 ghost use Rattle.cal_text.specs.Rfc3339Form.{IsSeparator, HasMomentForm};
 
 use crate::any::{DateForm, DateOrMoment, MomentForm};
-use crate::date::form_and_date;
+use crate::date::of_form::date_of;
 use crate::date_numbers::{DateNumbers, form_of};
 use crate::error::Unreadable;
 use crate::{julian_day, rfc3339, unix};
@@ -87,9 +87,12 @@ pub(super) fn date_in(text: &[u8]) -> Result<DateOrMoment, Unreadable>
     ensures position { IfErr result (IsAtStop HasAnyForm text.now) }
     ensures component { (why : ComponentRange) → IsRefusedFor why result ↔ IsFault text.now why }
 {
-    match form_and_date(text) {
-        Ok(found) => Ok(DateOrMoment::Date(name_of(found.0), found.1)),
-        Err(error) => Err(error),
+    match form_of(text) {
+        Ok(form) => match date_of(form) {
+            Ok(date) => Ok(DateOrMoment::Date(name_of(form), date)),
+            Err(error) => Err(Unreadable::OutOfRange(error)),
+        },
+        Err(position) => Err(Unreadable::at(position, text.len())),
     }
 }
 

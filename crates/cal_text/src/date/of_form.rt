@@ -14,7 +14,7 @@ use cal_time::error::ComponentRange;
 use cal_time::{Cycle, Date, Month, Weekday};
 
 /// The day that has the numbers of the form, or the first component at fault.
-pub(super) fn date_of(form: DateNumbers) -> Result<Date, ComponentRange>
+pub(crate) fn date_of(form: DateNumbers) -> Result<Date, ComponentRange>
     requires { DigitsFit form }
     ensures every { (n : ℕ) → IsDate n → IsOnDay form n → result ≡ Ok n }
     ensures has { IfOk result (λ n. IsDate n × IsOnDay form n) }

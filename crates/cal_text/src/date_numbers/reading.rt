@@ -15,28 +15,20 @@ pub(crate) fn form_of(text: &[u8]) -> Result<DateNumbers, usize>
     ensures has { IfOk result (HasForm text.now) }
     ensures position { IfErr result (IsPosition (HasSome HasForm) text.now) }
 {
-    if let Some(form) = plain(text) {
-        return Ok(form);
-    }
+    // Most dates have a year of four digits, so the number of their bytes is asked once, and not before each of them.
     let mut scanner = Scanner { rest: text };
+    if let [_, _, _, _, b'-', _, _, b'-', _, _] = text
+        && let Some(year) = scanner.four_digits()
+        && let Some((month, day)) = scanner.two_numbers(b'-')
+        && let Some(()) = scanner.end()
+    {
+        return Ok(DateNumbers::Calendar(year as i32, month, day));
+    }
+    scanner.rest = text;
     match date(&mut scanner) {
         Some(form) => Ok(form),
         None => Err(text.len() - scanner.rest.len()),
     }
-}
-
-/// The calendar date of a year of four digits, as most dates are. The number of its bytes is asked once, and not before each of them.
-fn plain(text: &[u8]) -> Option<DateNumbers>
-    ensures { IfSome result (HasForm text.now) }
-{
-    let [_, _, _, _, b'-', _, _, b'-', _, _] = text else {
-        return None;
-    };
-    let mut scanner = Scanner { rest: text };
-    let year = scanner.four_digits()?;
-    let (month, day) = scanner.two_numbers(b'-')?;
-    scanner.end()?;
-    Some(DateNumbers::Calendar(year as i32, month, day))
 }
 
 fn date(scanner: &mut Scanner) -> Option<DateNumbers>

@@ -1,13 +1,22 @@
+use Rattle.std.proofs.Common.{Ok, ap, subst, sym}
+use Rattle.cal_text.specs.Reading.{IsOnDay}
 use Rattle.cal_text.proofs.DayForms.{form-of-day}
-use Rattle.cal_text.proofs.Results.{same_second, not_ok}
+use Rattle.cal_text.proofs.Results.{one, not_ok}
 use Rattle.cal_text.proofs.date.read.Goals as goal
 
-pub returns-in-Ok-clause-every : goal.returns-in-Ok-clause-every
-returns-in-Ok-clause-every c n date t =
+pub returns-in-Ok-date_of-clause-every : goal.returns-in-Ok-date_of-clause-every
+returns-in-Ok-date_of-clause-every c n date t =
     let f = form-of-day c.args.text.now n date t in
-    same_second _ _ (c.in-Ok.ensures.every f.form n date f.has f.on_day)
+    let form = one _ _ (c.in-Ok.ensures.every f.form f.has) in
+    ap Ok (one _ _ (c.in-Ok-date_of.ensures.every n date (subst (λ g. IsOnDay g n) (sym form) f.on_day)))
+
+pub returns-in-Err-date_of-clause-every : goal.returns-in-Err-date_of-clause-every
+returns-in-Err-date_of-clause-every c n date t =
+    let f = form-of-day c.args.text.now n date t in
+    let form = one _ _ (c.in-Ok.ensures.every f.form f.has) in
+    absurd (not_ok _ _ (c.in-Err-date_of.ensures.every n date (subst (λ g. IsOnDay g n) (sym form) f.on_day)))
 
 pub returns-in-Err-clause-every : goal.returns-in-Err-clause-every
 returns-in-Err-clause-every c n date t =
     let f = form-of-day c.args.text.now n date t in
-    absurd (not_ok _ _ (c.in-Err.ensures.every f.form n date f.has f.on_day))
+    absurd (not_ok _ _ (c.in-Err.ensures.every f.form f.has))
