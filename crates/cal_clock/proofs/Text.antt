@@ -19,7 +19,7 @@ colon = IsAscii-cons 58 (codes "") (omega arith) IsAscii-nil
 point : IsAscii (codes ".")
 point = IsAscii-cons 46 (codes "") (omega arith) IsAscii-nil
 
-pub text-ascii : (t : ℕ) → t < day → IsAscii (decimals 1 (nanosecond_of t)) → IsAscii (text t)
+pub text-ascii : (t : ℕ) → t < day → IsAscii (decimals (nanosecond_of t)) → IsAscii (text t)
 text-ascii t below last =
     let h = decimal (hour_of t) in
     let m = two_digits (minute_of t) in
@@ -29,6 +29,6 @@ text-ascii t below last =
     let minute = IsAscii-append (h ++ codes ":" ++ m) (codes ":") minute colon in
     let second = IsAscii-append (h ++ codes ":" ++ m ++ codes ":") s minute (two_digits-ascii (second_of t) (omega arith)) in
     let second = IsAscii-append (h ++ codes ":" ++ m ++ codes ":" ++ s) (codes ".") second point in
-    IsAscii-append (h ++ codes ":" ++ m ++ codes ":" ++ s ++ codes ".") (decimals 1 (nanosecond_of t)) second last
+    IsAscii-append (h ++ codes ":" ++ m ++ codes ":" ++ s ++ codes ".") (decimals (nanosecond_of t)) second last
 
 pub ruleset hours = (length-hour, append_assoc)

@@ -87,4 +87,4 @@ carry Next = pos 1
 abbrev pub text : ℕ → List ℕ
 text t =
     decimal (hour_of t) ++ codes ":" ++ two_digits (minute_of t) ++ codes ":" ++ two_digits (second_of t)
-    ++ codes "." ++ decimals 1 (nanosecond_of t)
+    ++ codes "." ++ decimals (nanosecond_of t)

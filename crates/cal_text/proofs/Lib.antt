@@ -3,9 +3,8 @@ pub mod YearTexts
 pub mod Ranges
 pub mod DayForms
 pub mod NumberTexts
-mod Fractions
 mod MomentReads
-mod Stripped
+mod PrintedDecimals
 mod PrintedMoments
 mod UnixReads
 mod Results
@@ -24,7 +23,6 @@ pub mod Stops
 pub mod Positions
 pub mod Parts
 mod Faults
-mod FirstDecimals
 mod OneAnswer
 mod AnyForms
 mod AnyPositions

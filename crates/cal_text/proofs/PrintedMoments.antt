@@ -1,14 +1,14 @@
 -- The text of a moment is one that reads as that moment.
-use Rattle.std.proofs.Common.{true, false, ◌≡◌, ℕ, zero, suc, ◌-◌, ◌*◌, ◌/◌, ◌%◌, ◌<◌, ◌≤◌, ◌^◌, ℤ, pos, negsuc, ◌≤ℤ◌, unsigned_abs, List, [], ◌∷◌, ◌++◌, length, refl, sym, ap, ◌∙◌, arith, inl, inr, false}
+use Rattle.std.proofs.Common.{true, false, ◌≡◌, ℕ, zero, suc, ◌/◌, ◌%◌, ◌<◌, ◌≤◌, ℤ, pos, negsuc, ◌≤ℤ◌, unsigned_abs, List, [], ◌∷◌, ◌++◌, length, refl, sym, ap, ◌∙◌, arith, inl, inr, false}
 use Rattle.std.specs.Prelude.{◌==◌}
 use Rattle.std.proofs.lemmas.Bool.Decides.{nat_tests}
 use Rattle.std.proofs.lemmas.Int.{ints}
-use Rattle.std.proofs.lemmas.List.{append_assoc, take_all}
-use Rattle.std.specs.Str.Parse.{digits_value}
+use Rattle.std.proofs.lemmas.List.{append_assoc}
+use Rattle.cal_time.proofs.Decimals.{decimals-few}
 use Rattle.cal_time.specs.CalendarDay.{calendar_day}
 use Rattle.cal_time.specs.Date.{year_at, month_at, day_of_month_at}
 use Rattle.cal_time.specs.DateText.{digits_at_least}
-use Rattle.cal_time.specs.Digits.{nine_digits, without_last_zeros}
+use Rattle.cal_time.specs.Digits.{decimals}
 use Rattle.cal_time.specs.Time.{hour_of, minute_of, second_of, nanosecond_of}
 use Rattle.cal_datetime.specs.DateTime.{IsDateTime, date_at, time_at}
 use Rattle.cal_datetime.specs.DateTimeLaws.{IsTime-time_at}
@@ -19,41 +19,23 @@ use Rattle.cal_text.specs.declared.rfc3339.numbers.TimeOffset.TheVariants.{Utc, 
 use Rattle.cal_text.specs.Rfc3339.{fraction_text, offset_text, moment_text, HasMomentText}
 use Rattle.cal_text.specs.Rfc3339Form.{IsFraction, IsTimeOffset, IsOffsetOf, IsMomentText}
 use Rattle.cal_text.proofs.Ranges.{month_at-below, day_of_month_at-below}
-use Rattle.cal_text.proofs.Stripped.{stripped, nine}
+use Rattle.cal_text.proofs.PrintedDecimals.{decimals-digits, decimals-nanoseconds}
 use Rattle.cal_text.proofs.YearTexts.{year-plain}
 
 -- the fraction
-nonempty : (ds : List ℕ) (ns : ℕ) → ns ≡ digits_value 10 ds * 10 ^ (9 - length ds) → 0 < ns → 0 < length ds
-nonempty [] ns e some = absurd (omega (arith, e, some))
-nonempty (d ∷ ds) ns e some = omega arith
-
-kept : (ns : ℕ) → ns < 1000000000 → 0 < ns → IsFraction (46 ∷ without_last_zeros (nine_digits ns)) ns
-kept ns h some =
-    let all = nine ns h in
-    let s = stripped (nine_digits ns) 9 (omega arith) all.0 in
-    let ds = without_last_zeros (nine_digits ns) in
-    let value : ns ≡ digits_value 10 ds * 10 ^ (9 - length ds) = sym all.1 ∙ s.value in
-    let long : length ds ≤ 9 = s.long in
-    inr (
-      ds,
-      record {
-        some = nonempty ds ns value some;
-        all = s.digits;
-        bytes_are = refl;
-        value = value ∙ ap (λ xs. digits_value 10 xs * 10 ^ (9 - length ds)) (sym (take_all 9 ds long));
-      },
-    )
+digits-some : (ns : ℕ) → ns < 1000000000 → 0 < ns → IsFraction (46 ∷ decimals ns) ns
+digits-some ns h some = inr (decimals ns, record { some = omega arith; all = decimals-digits ns h; bytes_are = refl; value = sym (decimals-nanoseconds ns h) })
 
 not_zero : (k : ℕ) → (suc k == 0) ≡ false
 not_zero k = grind (arith, nat_tests)
 
 pub fraction : (ns : ℕ) → ns < 1000000000 → IsFraction (fraction_text ns) ns
 fraction zero h = inl (refl, refl)
-fraction (suc k) h = rw (not_zero k) (kept (suc k) h (omega arith))
+fraction (suc k) h = rw (not_zero k) (digits-some (suc k) h (omega arith))
 
 pub fraction-long : (ns : ℕ) → ns < 1000000000 → length (fraction_text ns) ≤ 10
 fraction-long zero h = omega arith
-fraction-long (suc k) h = rw (not_zero k) (omega (arith, (stripped (nine_digits (suc k)) 9 (omega arith) (nine (suc k) h).0).long))
+fraction-long (suc k) h = rw (not_zero k) (omega (arith, decimals-few (suc k)))
 
 -- the offset
 abbrev pub time_offset_at : ℤ → TimeOffset

@@ -2,16 +2,16 @@
 use Rattle.std.specs.Prelude.{◌≡◌, ◌==◌, ℕ, ◌/◌, ◌%◌, ◌<◌, ℤ, pos, ◌≤ℤ◌, List, [], ◌++◌, codes, unsigned_abs, if◌then◌else◌}
 use Rattle.cal_time.specs.Date.{year_at, month_at, day_of_month_at}
 use Rattle.cal_time.specs.DateText.{digits_at_least}
-use Rattle.cal_time.specs.Digits.{nine_digits, without_last_zeros}
+use Rattle.cal_time.specs.Digits.{decimals}
 use Rattle.cal_time.specs.Time.{hour_of, minute_of, second_of, nanosecond_of}
 use Rattle.cal_time.specs.UtcOffset.{sign}
 use Rattle.cal_datetime.specs.DateTime.{date_at, time_at}
 use Rattle.cal_datetime.specs.OffsetDateTime.{Shown}
 use Rattle.cal_text.specs.DateForms.{year_text}
 
--- the nanoseconds past the second: nothing for 0, or else a point and nine digits without the zeros that they end in
+-- the nanoseconds past the second: nothing for 0, or else a point and the decimals
 abbrev pub fraction_text : ℕ → List ℕ
-fraction_text n = if n == 0 then [] else codes "." ++ without_last_zeros (nine_digits n)
+fraction_text n = if n == 0 then [] else codes "." ++ decimals n
 
 -- the offset: Z for UTC, or else its sign, and two digits each of the hours and the minutes
 abbrev pub offset_text : ℤ → List ℕ

@@ -1,6 +1,5 @@
 //! Fractions of a second, as a point and digits.
 ghost use Rattle.std.specs.Prelude.{◌≡◌, ◌+◌, ◌*◌, IfSome, ◌<◌, ◌≤◌, ◌++◌, length};
-ghost use Rattle.cal_time.specs.Digits.{nine_digits, without_last_zeros};
 ghost use Rattle.cal_time.specs.ShortText.{HasRoom};
 ghost use Rattle.cal_text.specs.Rfc3339.{fraction_text};
 ghost use Rattle.cal_text.specs.Shape.{Shape, left, Scans, ReadsDecimals, ReadsSomeDecimals, UpTo, SomeUpTo, Fraction};
@@ -20,25 +19,7 @@ pub(crate) fn push_fraction(text: &mut ShortText, nanosecond: u32)
         return;
     }
     text.push(".");
-    push_decimals(text, nanosecond);
-}
-
-/// Appends the decimals of so many nanoseconds, without the zeros that they end in: two at a time, and no more once only zeros are left.
-fn push_decimals(text: &mut ShortText, nanosecond: u32)
-    requires room { HasRoom (length (without_last_zeros (nine_digits nanosecond))) text.old }
-    requires range { (0 < nanosecond) × (nanosecond < 1_000_000_000) }
-    ensures { text.new ≡ text.old ++ without_last_zeros (nine_digits nanosecond) }
-{
-    let front = nanosecond / 10_000_000;
-    let others = nanosecond % 10_000_000 * 100;
-    if others == 0 && front % 10 == 0 {
-        text.push_digit(front / 10);
-        return;
-    }
-    text.push_two_digits(front);
-    if others > 0 {
-        push_decimals(text, others);
-    }
+    text.push_decimals(nanosecond);
 }
 
 /// A fraction of a second: none, or a point, a digit and so many more at most, of which eight count.

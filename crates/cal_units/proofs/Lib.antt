@@ -1,5 +1,5 @@
+pub mod Decimals
 pub mod Digits
 pub mod Pairs
 pub mod Weeks
 pub mod YearTexts
-pub mod Zeros

@@ -1,5 +1,5 @@
 -- Decimal digits in ASCII.
-use Rattle.std.specs.Prelude.{ℕ, ◌+◌, ◌-◌, ◌/◌, ◌%◌, ◌==◌, List, [], ◌∷◌, ◌++◌, take, drop, reverse, length, decimal, replicate, if◌then◌else◌}
+use Rattle.std.specs.Prelude.{ℕ, ◌+◌, ◌-◌, ◌/◌, ◌%◌, ◌==◌, List, [], ◌∷◌, ◌++◌, take, drop, length, decimal, replicate, if◌then◌else◌}
 
 -- the digit of a number below 10
 abbrev pub digit : ℕ → ℕ
@@ -20,15 +20,16 @@ nine_digits n =
     ∷ digit (n / 100_000 % 10) ∷ digit (n / 10_000 % 10) ∷ digit (n / 1_000 % 10)
     ∷ digit (n / 100 % 10) ∷ digit (n / 10 % 10) ∷ digit (n % 10) ∷ []
 
--- digits without the zeros that they begin with
-abbrev pub without_first_zeros : List ℕ → List ℕ
-without_first_zeros [] = []
-without_first_zeros (d ∷ ds) = if d == digit 0 then without_first_zeros ds else d ∷ ds
+-- a digit before others, where it is no zero before none
+abbrev pub digit_before : ℕ → List ℕ → List ℕ
+digit_before d [] = if d == digit 0 then [] else d ∷ []
+digit_before d (e ∷ es) = d ∷ e ∷ es
 
 -- digits without the zeros that they end in
 unfoldable pub without_last_zeros : List ℕ → List ℕ
-without_last_zeros ds = reverse (without_first_zeros (reverse ds))
+without_last_zeros [] = []
+without_last_zeros (d ∷ ds) = digit_before d (without_last_zeros ds)
 
--- nine decimals without the zeros that they end in, but at least so many
-abbrev pub decimals : ℕ → ℕ → List ℕ
-decimals least n = take least (nine_digits n) ++ without_last_zeros (drop least (nine_digits n))
+-- the nine decimals of so many nanoseconds without the zeros that they end in, but at least one
+abbrev pub decimals : ℕ → List ℕ
+decimals n = take 1 (nine_digits n) ++ without_last_zeros (drop 1 (nine_digits n))

@@ -1,8 +1,8 @@
 //! Short texts in place, and the digits of the numbers in them.
-ghost use Rattle.std.specs.Prelude.{◌≡◌, ◌+◌, ◌<◌, ◌≤◌, ◌++◌, [], ◌∷◌, length, decimal, take, unsigned_abs};
+ghost use Rattle.std.specs.Prelude.{◌≡◌, ◌+◌, ◌<◌, ◌≤◌, ◌++◌, [], ◌∷◌, length, decimal, unsigned_abs};
 ghost use Rattle.std.specs.Fmt.{signed_decimal};
 ghost use Rattle.std.specs.Str.{IsAscii};
-ghost use Rattle.cal_units.specs.Digits.{decimals, digit, digits_at_least, nine_digits, two_digits, without_last_zeros};
+ghost use Rattle.cal_units.specs.Digits.{decimals, digit, digits_at_least, two_digits};
 ghost use Rattle.cal_units.specs.ShortText.{HasRoom, capacity};
 ghost use Rattle.cal_units.specs.YearText.{year_text};
 
@@ -220,19 +220,23 @@ impl ShortText {
         self.push_two_digits(number % 100);
     }
 
-    /// Appends the nine decimals of so many nanoseconds, of which those past the first `least` are without the zeros that they end in:
-    /// the decimals of half a second are `5`.
-    pub fn push_decimals(&mut self, least: usize, nanoseconds: u32)
+    /// Appends the nine decimals of so many nanoseconds without the zeros that they end in, but at least one: those of half a second
+    /// are `5`.
+    pub fn push_decimals(&mut self, nanoseconds: u32)
         requires room { HasRoom 9 self.old }
-        requires few { least ≤ 9 }
         requires below { nanoseconds < 1_000_000_000 }
-        ensures appended { self.new ≡ self.old ++ decimals least nanoseconds }
-        ensures ascii { IsAscii (decimals least nanoseconds) }
+        ensures appended { self.new ≡ self.old ++ decimals nanoseconds }
+        ensures ascii { IsAscii (decimals nanoseconds) }
         ensures short { length self.new ≤ length self.old + 9 }
     {
-        let digits = nine_digits(nanoseconds);
-        let end = least + length_without_last_zeros(&digits[least..]);
-        self.push_ascii(&digits[..end]);
+        let mut others = nanoseconds;
+        while others % 100_000_000 > 0 {
+            self.push_two_digits(others / 10_000_000);
+            others = others % 10_000_000 * 100;
+        }
+        if others > 0 || nanoseconds == 0 {
+            self.push_digit(others / 100_000_000);
+        }
     }
 }
 
@@ -245,41 +249,10 @@ fn two_digits(n: u32) -> [u8; 2]
     [DIGIT_PAIRS[index], DIGIT_PAIRS[index + 1]]
 }
 
-/// The nine ASCII digits of a number below 1000000000.
-fn nine_digits(n: u32) -> [u8; 9]
-    requires { n < 1_000_000_000 }
-    ensures { result ≡ nine_digits n }
-{
-    [
-        digit(n / 100_000_000),
-        digit(n / 10_000_000 % 10),
-        digit(n / 1_000_000 % 10),
-        digit(n / 100_000 % 10),
-        digit(n / 10_000 % 10),
-        digit(n / 1_000 % 10),
-        digit(n / 100 % 10),
-        digit(n / 10 % 10),
-        digit(n % 10),
-    ]
-}
-
 /// The ASCII digit of a number below 10: that of 7 is `b'7'`.
 fn digit(n: u32) -> u8
     requires { n < 10 }
     ensures { result ≡ digit n }
 {
     b'0' + n as u8
-}
-
-/// How many of the digits are left without the zeros that they end in.
-#[tactic(auto, using(crate::proofs::Zeros::last_zeros))]
-fn length_without_last_zeros(digits: &[u8]) -> usize
-    ensures within { result ≤ length digits.now }
-    ensures value { take result digits.now ≡ without_last_zeros digits.now }
-{
-    let mut end = digits.len();
-    while end > 0 && digits[end - 1] == b'0' {
-        end -= 1;
-    }
-    end
 }

@@ -27,7 +27,7 @@ impl Time {
         text.push(":");
         text.push_two_digits(u32::from(self.second()));
         text.push(".");
-        text.push_decimals(1, self.nanosecond());
+        text.push_decimals(self.nanosecond());
         text
     }
 }

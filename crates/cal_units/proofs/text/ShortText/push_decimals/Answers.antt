@@ -1,20 +1,58 @@
-use Rattle.std.proofs.Common.{◌≡◌, ◌∙◌, ◌+◌, ◌++◌, length, take, drop, ap, sym, subst}
-use Rattle.std.proofs.lemmas.Str.{IsAscii-take}
-use Rattle.std.specs.Str.{IsAscii}
-use Rattle.cal_units.specs.Digits.{decimals, without_last_zeros}
-use Rattle.cal_units.proofs.Digits.{nine_digits-ascii}
-use Rattle.cal_units.proofs.Zeros.{decimals-cut}
+use Rattle.std.proofs.Common.{◌/◌, ◌%◌, ◌*◌, ◌++◌, ◌∷◌, [], append_assoc, length, ap, sym, ◌∙◌, arith}
+use Rattle.std.proofs.lemmas.List.{length-append}
+use Rattle.cal_units.specs.Digits.{decimals, digit, two_digits}
+use Rattle.cal_units.proofs.Decimals.{decimals_of, decimals-ascii, decimals-few, two-decimals, two-more, digit-more, none-more}
 use Rattle.cal_units.proofs.text.ShortText.push_decimals.Goals as goal
 
--- what is appended
-cut : (c : goal.After-push_ascii) → take (c.args.least + c.length_without_last_zeros.result) c.nine_digits-digits.result ≡ decimals c.args.least c.args.nanoseconds
-cut c =
-    let digits = c.nine_digits-digits.ensures in
-    decimals-cut c.nine_digits-digits.result c.args.least c.length_without_last_zeros.result (ap length digits) c.length_without_last_zeros.ensures.value
-    ∙ ap (λ ds. take c.args.least ds ++ without_last_zeros (drop c.args.least ds)) digits
+pub push_two_digits-requires-clause-room : goal.push_two_digits-requires-clause-room
+push_two_digits-requires-clause-room c =
+    let l = c.loop-others in
+    omega (arith, c.requires.room, (two-more c.args.nanoseconds l.others c.args.self.now l.self l.invariant.below c.loop-others-test.true l.invariant.all).0)
 
-pub returns-clause-appended : goal.returns-clause-appended
-returns-clause-appended c = c.push_ascii.ensures.appended ∙ ap (λ ds. c.args.self.now ++ ds) (cut c)
+pub loop-others-smaller : goal.loop-others-smaller
+loop-others-smaller c =
+    let l = c.loop-others in
+    (two-more c.args.nanoseconds l.others c.args.self.now l.self l.invariant.below c.loop-others-test.true l.invariant.all).1
 
-pub returns-clause-ascii : goal.returns-clause-ascii
-returns-clause-ascii c = subst IsAscii (cut c) (IsAscii-take _ _ (subst IsAscii (sym c.nine_digits-digits.ensures) (nine_digits-ascii c.args.nanoseconds c.requires.below)))
+pub loop-others-preserved : goal.loop-others-preserved
+loop-others-preserved c =
+    let l = c.loop-others in
+    let rest = decimals_of (l.others % 10000000 * 100) in
+    record {
+      below = omega arith;
+      none = λ e. absurd (omega (arith, c.loop-others-test.true, l.invariant.none e));
+      all = ap (λ t. t ++ rest) c.push_two_digits.ensures.appended ∙ append_assoc l.self (two_digits (l.others / 10000000)) rest
+          ∙ ap (λ ds. l.self ++ ds) (sym (two-decimals l.others l.invariant.below c.loop-others-test.true)) ∙ l.invariant.all;
+    }
+
+-- the last digit
+pub push_digit-requires-clause-room : goal.push_digit-requires-clause-room
+push_digit-requires-clause-room c =
+    let l = c.loop-others in
+    let whole = digit-more c.args.nanoseconds l.others c.args.self.now l.self (omega (arith, c.loop-others-test.false)) l.invariant.none l.invariant.all c.then-others-gt0.either in
+    omega (arith, ap length whole, length-append l.self (digit (l.others / 100000000) ∷ []), length-append c.args.self.now (decimals c.args.nanoseconds), decimals-few c.args.nanoseconds, c.requires.room)
+
+pub returns-then-others-gt0-clause-appended : goal.returns-then-others-gt0-clause-appended
+returns-then-others-gt0-clause-appended c =
+    let l = c.loop-others in
+    c.push_digit.ensures.appended
+    ∙ digit-more c.args.nanoseconds l.others c.args.self.now l.self (omega (arith, c.loop-others-test.false)) l.invariant.none l.invariant.all c.then-others-gt0.either
+
+pub returns-then-others-gt0-clause-ascii : goal.returns-then-others-gt0-clause-ascii
+returns-then-others-gt0-clause-ascii c = decimals-ascii c.args.nanoseconds c.requires.below
+
+pub returns-then-others-gt0-clause-short : goal.returns-then-others-gt0-clause-short
+returns-then-others-gt0-clause-short c =
+    omega (arith, ap length (returns-then-others-gt0-clause-appended c), length-append c.args.self.now (decimals c.args.nanoseconds), decimals-few c.args.nanoseconds)
+
+pub returns-else-nanoseconds-eq0-clause-appended : goal.returns-else-nanoseconds-eq0-clause-appended
+returns-else-nanoseconds-eq0-clause-appended c =
+    let l = c.loop-others in
+    none-more c.args.nanoseconds l.others c.args.self.now l.self l.invariant.all (omega (arith, c.if-others-gt0.false)) c.if-nanoseconds-eq0.false
+
+pub returns-else-nanoseconds-eq0-clause-ascii : goal.returns-else-nanoseconds-eq0-clause-ascii
+returns-else-nanoseconds-eq0-clause-ascii c = decimals-ascii c.args.nanoseconds c.requires.below
+
+pub returns-else-nanoseconds-eq0-clause-short : goal.returns-else-nanoseconds-eq0-clause-short
+returns-else-nanoseconds-eq0-clause-short c =
+    omega (arith, ap length (returns-else-nanoseconds-eq0-clause-appended c), length-append c.args.self.now (decimals c.args.nanoseconds), decimals-few c.args.nanoseconds)
