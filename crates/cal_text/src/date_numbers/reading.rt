@@ -36,16 +36,6 @@ fn date(scanner: &mut Scanner) -> Option<DateNumbers>
     ensures has { IfSome result (HasForm scanner.old.rest.now) }
 {
     let year = year(scanner)?;
-    after_year(scanner, year)
-}
-
-/// The form of the year, and of what comes after it and a hyphen.
-fn after_year(scanner: &mut Scanner, year: i32) -> Option<DateNumbers>
-    requires { IsWrittenYear year }
-    ensures scans { ScansWhole after_year scanner.old.rest.now scanner.new.rest.now result }
-    ensures has { IfSome result (λ form.
-        DigitsFit form × (year_of form ≡ year) × (scanner.old.rest.now ≡ rest_of form)) }
-{
     match scanner.byte(b'W') {
         Some(()) => week(scanner, year),
         None => month_or_ordinal(scanner, year),
