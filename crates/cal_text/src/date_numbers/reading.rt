@@ -31,38 +31,19 @@ pub(crate) fn form_of(text: &[u8]) -> Result<DateNumbers, usize>
     }
 }
 
+/// The year, and after a hyphen a week and a weekday, a month and a day, or an ordinal.
 fn date(scanner: &mut Scanner) -> Option<DateNumbers>
     ensures scans { ScansWhole date scanner.old.rest.now scanner.new.rest.now result }
     ensures has { IfSome result (HasForm scanner.old.rest.now) }
 {
     let year = year(scanner)?;
-    match scanner.byte(b'W') {
-        Some(()) => week(scanner, year),
-        None => month_or_ordinal(scanner, year),
+    if let Some(()) = scanner.byte(b'W') {
+        let week = scanner.two_digits()?;
+        scanner.byte(b'-')?;
+        let weekday = scanner.byte_from(b'1', 6)?;
+        scanner.end()?;
+        return Some(DateNumbers::Week(year, week as u8, weekday - b'0'));
     }
-}
-
-/// The form of the year, and of the week and the weekday after a letter W.
-fn week(scanner: &mut Scanner, year: i32) -> Option<DateNumbers>
-    requires { IsWrittenYear year }
-    ensures scans { ScansWhole week scanner.old.rest.now scanner.new.rest.now result }
-    ensures has { IfSome result (λ form.
-        DigitsFit form × (year_of form ≡ year) × (87 ∷ scanner.old.rest.now ≡ rest_of form)) }
-{
-    let week = scanner.two_digits()?;
-    scanner.byte(b'-')?;
-    let weekday = scanner.byte_from(b'1', 6)?;
-    scanner.end()?;
-    Some(DateNumbers::Week(year, week as u8, weekday - b'0'))
-}
-
-/// The form of the year, and of a month and a day, or of an ordinal.
-fn month_or_ordinal(scanner: &mut Scanner, year: i32) -> Option<DateNumbers>
-    requires { IsWrittenYear year }
-    ensures scans { ScansWhole month_or_ordinal scanner.old.rest.now scanner.new.rest.now result }
-    ensures has { IfSome result (λ form.
-        DigitsFit form × (year_of form ≡ year) × (scanner.old.rest.now ≡ rest_of form)) }
-{
     let front = scanner.two_digits()?;
     match scanner.byte(b'-') {
         Some(()) => {
