@@ -2,7 +2,7 @@
 ghost use Rattle.std.specs.Prelude.{◌≡◌, ℕ, ◌+◌, ◌*◌, ◌<◌, ◌≤◌, ◌^◌, ◌∷◌, ◌++◌, IfSome};
 ghost use Rattle.cal_time.specs.DateText.{digits_at_least};
 ghost use Rattle.cal_text.specs.DateForms.{year_text, IsWrittenYear};
-ghost use Rattle.cal_text.specs.Shape.{Scans, ReadsDigits, Digits, SomeDigits, ZeroAndThree, Above, Below, Unsigned, Year};
+ghost use Rattle.cal_text.specs.Shape.{Scans, ReadsDigits, Digits, SomeDigits, ZeroAndThree, Above, Below, Year};
 
 use crate::digits::more_digits;
 use crate::scanner::Scanner;
@@ -13,21 +13,10 @@ pub(crate) fn year(scanner: &mut Scanner) -> Option<i32>
     ensures year { IfSome result (λ y.
         IsWrittenYear y × (scanner.old.rest.now ≡ year_text y ++ 45 ∷ scanner.new.rest.now)) }
 {
-    match scanner.byte(b'+') {
-        Some(()) => {
-            let number = above_9999(scanner)?;
-            Some(number as i32)
-        }
-        None => unsigned(scanner),
+    if let Some(()) = scanner.byte(b'+') {
+        let number = above_9999(scanner)?;
+        return Some(number as i32);
     }
-}
-
-/// A year without a plus sign, and the hyphen after it.
-fn unsigned(scanner: &mut Scanner) -> Option<i32>
-    ensures scans { Scans Unsigned scanner.old.rest.now scanner.new.rest.now result }
-    ensures year { IfSome result (λ y.
-        IsWrittenYear y × (scanner.old.rest.now ≡ year_text y ++ 45 ∷ scanner.new.rest.now)) }
-{
     match scanner.byte(b'-') {
         Some(()) => {
             let number = above_0(scanner)?;
