@@ -1,11 +1,10 @@
 //! The day that has the numbers of a form.
-ghost use Rattle.std.specs.Prelude.{◌≡◌, ◌⊎◌, ℕ, ◌-◌, ◌≤◌, ◌↔◌, IfOk, IfErr, Ok};
-ghost use Rattle.cal_time.specs.Date.{IsDate, IsYear, IsDayOfMonth, HasCalendarDate, NoDate};
-ghost use Rattle.cal_time.specs.IsoWeekDate.{IsWeek, HasIsoWeekDate};
+ghost use Rattle.std.specs.Prelude.{◌≡◌, ◌⊎◌, ℕ, ◌↔◌, IfOk, IfErr, Ok};
+ghost use Rattle.cal_time.specs.Date.{IsDate, IsYear, IsDayOfMonth, HasCalendarDate};
 ghost use Rattle.cal_time.specs.Month.{month_out_of_range};
 ghost use Rattle.cal_time.specs.Refusal.{IsRefused};
 ghost use Rattle.cal_time.specs.declared.error.ComponentRange.{ComponentRange};
-ghost use Rattle.cal_time.specs.Refusals.{year_out_of_range, day_out_of_range, week_out_of_range, weekday_out_of_range};
+ghost use Rattle.cal_time.specs.Refusals.{year_out_of_range, day_out_of_range};
 ghost use Rattle.cal_text.specs.DateForms.{DigitsFit};
 ghost use Rattle.cal_text.specs.Reading.{IsOnDay, IsMonth, IsFaultOf};
 
@@ -23,7 +22,9 @@ pub(crate) fn date_of(form: DateNumbers) -> Result<Date, ComponentRange>
     match form {
         DateNumbers::Calendar(year, month, day) => calendar_date(year, month, day),
         DateNumbers::Ordinal(year, ordinal) => Date::from_ordinal_date(year, ordinal),
-        DateNumbers::Week(year, week, weekday) => week_date(year, week, weekday),
+        DateNumbers::Week(year, week, weekday) => {
+            Date::from_iso_week_date(year, week, Weekday::at(weekday - 1))
+        }
     }
 }
 
@@ -42,19 +43,4 @@ pub(crate) fn calendar_date(year: i32, month: u8, day: u8) -> Result<Date, Compo
         Ok(month) => Date::from_calendar_date(year, month, day),
         Err(error) => Err(error),
     }
-}
-
-/// The day of the week of the ISO year that has the weekday of this number, from Monday, 1, to Sunday, 7.
-fn week_date(year: i32, week: u8, weekday: u8) -> Result<Date, ComponentRange>
-    requires { (1 ≤ weekday) × (weekday ≤ 7) }
-    ensures every { (n : ℕ) → IsDate n → HasIsoWeekDate year week (weekday - 1) n → result ≡ Ok n }
-    ensures has { IfOk result (λ n. IsDate n × HasIsoWeekDate year week (weekday - 1) n) }
-    ensures reason { IfErr result (λ e.
-        (e ≡ year_out_of_range) ⊎ (e ≡ week_out_of_range) ⊎ (e ≡ weekday_out_of_range)) }
-    ensures year { IsRefused year_out_of_range result ↔ ¬ IsYear year }
-    ensures week { IsRefused week_out_of_range result ↔ IsYear year × ¬ IsWeek year week }
-    ensures weekday { IsRefused weekday_out_of_range result
-        ↔ IsYear year × IsWeek year week × NoDate (HasIsoWeekDate year week (weekday - 1)) }
-{
-    Date::from_iso_week_date(year, week, Weekday::at(weekday - 1))
 }

@@ -1,10 +1,16 @@
-use Rattle.std.proofs.Common.{sym, subst, ◌↔◌}
+use Rattle.std.proofs.Common.{◌≡◌, ◌∙◌, ◌-◌, ℕ, ℤ, Ok, ap, arith, sym, subst, ◌↔◌, w32, to_z, of_z}
+use Rattle.std.specs.Prelude.{IfOk}
+use Rattle.cal_time.specs.Date.{IsDate, IsYear, NoDate}
+use Rattle.cal_time.specs.IsoWeekDate.{IsWeek, HasIsoWeekDate}
+use Rattle.cal_time.specs.Refusals.{weekday_out_of_range}
+use Rattle.cal_time.specs.Weekday.{index}
+use Rattle.cal_time.specs.WeekdayCycle.{index-weekday_at}
 use Rattle.cal_time.specs.Refusal.{IsRefused}
 use Rattle.cal_time.specs.declared.error.ComponentRange.{ComponentRange}
 use Rattle.cal_text.specs.DateForms.{DigitsFit}
 use Rattle.cal_text.specs.declared.date_numbers.DateNumbers.{DateNumbers}
 use Rattle.cal_text.specs.declared.date_numbers.DateNumbers.TheVariants.{Calendar, Ordinal, Week}
-use Rattle.cal_text.specs.Reading.{IsFaultOf}
+use Rattle.cal_text.specs.Reading.{IsFaultOf, IsOnDay}
 use Rattle.cal_text.proofs.Faults.{all, last, more}
 use Rattle.cal_text.proofs.YearTexts.{written-cast}
 use Rattle.cal_text.proofs.date.of_form.date_of.Goals as goal
@@ -25,10 +31,34 @@ returns-in-Ordinal-clause-component c =
     let year = written-cast f.year (subst DigitsFit f.is c.requires).0 in
     subst P (sym f.is) (subst (λ y. P (Ordinal y f.ordinal)) year (all _ (more _ _ _ e.year (last _ _ _ e.ordinal)) e.reason))
 
+-- a week date, whose weekday is one by its number
+weekday_is : (c : goal.After-from_iso_week_date) → index c.at.result ≡ c.in-Week.weekday - 1
+weekday_is c =
+    let fits = subst DigitsFit c.in-Week.is c.requires in
+    ap index c.at.ensures ∙ index-weekday_at (c.in-Week.weekday - 1) (omega (arith, fits.2, fits.3))
+
+year_is : (c : goal.After-from_iso_week_date) → to_z w32 (of_z w32 c.in-Week.year) ≡ c.in-Week.year
+year_is c = written-cast c.in-Week.year (subst DigitsFit c.in-Week.is c.requires).0
+
+pub returns-in-Week-clause-every : goal.returns-in-Week-clause-every
+returns-in-Week-clause-every c =
+    let f = c.in-Week in
+    let P = λ (y : ℤ) (p : ℕ). (n : ℕ) → IsDate n → HasIsoWeekDate y f.week p n → c.from_iso_week_date.result ≡ Ok n in
+    subst (λ g. (n : ℕ) → IsDate n → IsOnDay g n → c.from_iso_week_date.result ≡ Ok n) (sym f.is)
+      (subst (λ y. P y (f.weekday - 1)) (year_is c) (subst (P (to_z w32 (of_z w32 f.year))) (weekday_is c) c.from_iso_week_date.ensures.every))
+
+pub returns-in-Week-clause-has : goal.returns-in-Week-clause-has
+returns-in-Week-clause-has c =
+    let f = c.in-Week in
+    let P = λ (y : ℤ) (p : ℕ). IfOk c.from_iso_week_date.result (λ n. IsDate n × HasIsoWeekDate y f.week p n) in
+    subst (λ g. IfOk c.from_iso_week_date.result (λ n. IsDate n × IsOnDay g n)) (sym f.is)
+      (subst (λ y. P y (f.weekday - 1)) (year_is c) (subst (P (to_z w32 (of_z w32 f.year))) (weekday_is c) c.from_iso_week_date.ensures.has))
+
 pub returns-in-Week-clause-component : goal.returns-in-Week-clause-component
 returns-in-Week-clause-component c =
-    let e = c.week_date.ensures in
+    let e = c.from_iso_week_date.ensures in
     let f = c.in-Week in
-    let P = λ (g : DateNumbers). (why : ComponentRange) → IsRefused why c.week_date.result ↔ IsFaultOf g why in
-    let year = written-cast f.year (subst DigitsFit f.is c.requires).0 in
-    subst P (sym f.is) (subst (λ y. P (Week y f.week f.weekday)) year (all _ (more _ _ _ e.year (more _ _ _ e.week (last _ _ _ e.weekday))) e.reason))
+    let here = to_z w32 (of_z w32 f.year) in
+    let P = λ (g : DateNumbers). (why : ComponentRange) → IsRefused why c.from_iso_week_date.result ↔ IsFaultOf g why in
+    let weekday = subst (λ p. IsRefused weekday_out_of_range c.from_iso_week_date.result ↔ IsYear here × IsWeek here f.week × NoDate (HasIsoWeekDate here f.week p)) (weekday_is c) e.weekday in
+    subst P (sym f.is) (subst (λ y. P (Week y f.week f.weekday)) (year_is c) (all _ (more _ _ _ e.year (more _ _ _ e.week (last _ _ _ weekday))) e.reason))
