@@ -6,13 +6,14 @@ ghost use Rattle.cal_text.specs.AnyForm.{IsTextOf, IsFault, HasAnyForm};
 ghost use Rattle.cal_text.specs.Position.{IsAtStop};
 ghost use Rattle.cal_text.specs.Reading.{IsRefusedFor, IsRefusedForForm};
 
-use crate::any::by_form::{date_in, julian_day_in, moment_in, unix_time_in};
+use crate::any::dates::{date_in, further};
 use crate::error::Unreadable;
 use crate::rfc3339::is_separator;
+use crate::{julian_day, rfc3339, unix};
 use cal_datetime::OffsetDateTime;
 use cal_time::Date;
 
-mod by_form;
+mod dates;
 
 /// A form in which a date is written.
 #[derive(Clone, Copy, Debug, PartialEq, Eq)]
@@ -63,11 +64,20 @@ pub fn read_any(text: &[u8]) -> Result<DateOrMoment, Unreadable>
     ensures component { (why : ComponentRange) → IsRefusedFor why result ↔ IsFault text.now why }
 {
     if begins_with(text, b'J') {
-        julian_day_in(text)
+        match julian_day::read(text) {
+            Ok(date) => Ok(DateOrMoment::Date(DateForm::JulianDay, date)),
+            Err(error) => Err(error),
+        }
     } else if begins_with(text, b'@') {
-        unix_time_in(text)
+        match unix::read(text) {
+            Ok(moment) => Ok(DateOrMoment::Moment(MomentForm::Unix, moment)),
+            Err(error) => Err(error),
+        }
     } else if text.len() > 10 && is_separator(text[10]) {
-        moment_in(text)
+        match rfc3339::read(text) {
+            Ok(moment) => Ok(DateOrMoment::Moment(MomentForm::Rfc3339, moment)),
+            Err(error) => Err(further(error, text)),
+        }
     } else {
         date_in(text)
     }

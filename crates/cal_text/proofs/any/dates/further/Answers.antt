@@ -5,7 +5,7 @@ use Rattle.cal_text.specs.Rfc3339Form.{HasMomentForm}
 use Rattle.cal_text.proofs.Shapes.{date-shape}
 use Rattle.cal_text.proofs.AnyPositions.{further, ended}
 use Rattle.cal_text.proofs.Positions.{named}
-use Rattle.cal_text.proofs.any.by_form.further.Goals as goal
+use Rattle.cal_text.proofs.any.dates.further.Goals as goal
 
 pub returns-in-Ok-clause-position : goal.returns-in-Ok-clause-position
 returns-in-Ok-clause-position c = absurd ((date-shape c.args.text.now _ c.in-Ok.ensures.has).separator c.requires.separator)

@@ -10,7 +10,7 @@ use Rattle.cal_text.proofs.Faults.{not_refused, refused_for, no_form}
 use Rattle.cal_text.proofs.Positions.{named}
 use Rattle.cal_text.proofs.Results.{one, not_ok}
 use Rattle.cal_text.proofs.AnyPositions as positions
-use Rattle.cal_text.proofs.any.by_form.date_in.Goals as goal
+use Rattle.cal_text.proofs.any.dates.date_in.Goals as goal
 
 pub returns-in-Ok-date_of-clause-every : goal.returns-in-Ok-date_of-clause-every
 returns-in-Ok-date_of-clause-every c =

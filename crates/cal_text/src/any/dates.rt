@@ -1,4 +1,4 @@
-//! A text read by the one form that its first byte, or the one at 10, leaves open.
+//! The dates of ISO 8601 among the forms: a text that is none of the others.
 ghost use Rattle.std.specs.Prelude.{◌≡◌, ◌≢◌, ◌↔◌, IfOk, IfErr, Ok, get_or};
 ghost use Rattle.cal_time.specs.declared.error.ComponentRange.{ComponentRange};
 ghost use Rattle.cal_text.specs.declared.any.DateOrMoment.{DateOrMoment};
@@ -7,60 +7,13 @@ ghost use Rattle.cal_text.specs.Reading.{component_of, IsRefusedFor, IsRefusedFo
 ghost use Rattle.cal_text.specs.Position.{HasSome, IsAtStop};
 ghost use Rattle.cal_text.specs.Rfc3339Form.{IsSeparator, HasMomentForm};
 
-use crate::any::{DateForm, DateOrMoment, MomentForm};
+use crate::any::{DateForm, DateOrMoment};
 use crate::date::of_form::date_of;
 use crate::date_numbers::{DateNumbers, form_of};
 use crate::error::Unreadable;
-use crate::{julian_day, rfc3339, unix};
-
-/// The date by the Julian day that the text is.
-pub(super) fn julian_day_in(text: &[u8]) -> Result<DateOrMoment, Unreadable>
-    requires { get_or text.now 0 0 ≡ 74 }
-    ensures every { (found : DateOrMoment) → IsTextOf text.now found → result ≡ Ok found }
-    ensures has { IfOk result (IsTextOf text.now) }
-    ensures form { IsRefusedForForm result ↔ ¬ HasAnyForm text.now }
-    ensures position { IfErr result (IsAtStop HasAnyForm text.now) }
-    ensures component { (why : ComponentRange) → IsRefusedFor why result ↔ IsFault text.now why }
-{
-    match julian_day::read(text) {
-        Ok(date) => Ok(DateOrMoment::Date(DateForm::JulianDay, date)),
-        Err(error) => Err(error),
-    }
-}
-
-/// The moment of the Unix time that the text is.
-pub(super) fn unix_time_in(text: &[u8]) -> Result<DateOrMoment, Unreadable>
-    requires { get_or text.now 0 0 ≡ 64 }
-    ensures every { (found : DateOrMoment) → IsTextOf text.now found → result ≡ Ok found }
-    ensures has { IfOk result (IsTextOf text.now) }
-    ensures form { IsRefusedForForm result ↔ ¬ HasAnyForm text.now }
-    ensures position { IfErr result (IsAtStop HasAnyForm text.now) }
-    ensures component { (why : ComponentRange) → IsRefusedFor why result ↔ IsFault text.now why }
-{
-    match unix::read(text) {
-        Ok(moment) => Ok(DateOrMoment::Moment(MomentForm::Unix, moment)),
-        Err(error) => Err(error),
-    }
-}
-
-/// The moment of RFC 3339 that the text is.
-pub(super) fn moment_in(text: &[u8]) -> Result<DateOrMoment, Unreadable>
-    requires first { (get_or text.now 0 0 ≢ 74) × (get_or text.now 0 0 ≢ 64) }
-    requires separator { IsSeparator (get_or text.now 10 0) }
-    ensures every { (found : DateOrMoment) → IsTextOf text.now found → result ≡ Ok found }
-    ensures has { IfOk result (IsTextOf text.now) }
-    ensures form { IsRefusedForForm result ↔ ¬ HasAnyForm text.now }
-    ensures position { IfErr result (IsAtStop HasAnyForm text.now) }
-    ensures component { (why : ComponentRange) → IsRefusedFor why result ↔ IsFault text.now why }
-{
-    match rfc3339::read(text) {
-        Ok(moment) => Ok(DateOrMoment::Moment(MomentForm::Rfc3339, moment)),
-        Err(error) => Err(further(error, text)),
-    }
-}
 
 /// The error, at the position where a date goes on to if it goes on further: a date may have a sign.
-fn further(error: Unreadable, text: &[u8]) -> Unreadable
+pub(super) fn further(error: Unreadable, text: &[u8]) -> Unreadable
     requires first { (get_or text.now 0 0 ≢ 74) × (get_or text.now 0 0 ≢ 64) }
     requires separator { IsSeparator (get_or text.now 10 0) }
     requires position { IsAtStop (HasSome HasMomentForm) text.now error }
