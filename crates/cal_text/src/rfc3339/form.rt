@@ -1,10 +1,9 @@
 //! The numbers of the form that a text has.
 ghost use Rattle.std.specs.Prelude.{◌≡◌, ◌⊎◌, ℕ, List, ◌<◌, ◌≤◌, ◌∷◌, ◌++◌, length, IfSome, IsTrue, ◌↔◌};
-ghost use Rattle.cal_time.specs.DateText.{digits_at_least};
 ghost use Rattle.cal_text.specs.declared.rfc3339.numbers.Numbers.{Numbers};
 ghost use Rattle.cal_text.specs.declared.rfc3339.numbers.TimeOffset.{TimeOffset};
 ghost use Rattle.cal_text.specs.Rfc3339Form.{IsSeparator, IsTimeOffset, HasFractionBefore, HasMomentForm};
-ghost use Rattle.cal_text.specs.Shape.{Scans, ScansWhole, ScansLarge, Separator, Fraction, offset_digits, signed_offset, time_offset, moment};
+ghost use Rattle.cal_text.specs.Shape.{Scans, ScansWhole, ScansLarge, Separator, Fraction, time_offset, moment};
 
 use crate::fraction::fraction;
 use crate::rfc3339::numbers::{Numbers, TimeOffset};
@@ -90,31 +89,14 @@ fn time_offset(scanner: &mut Scanner) -> Option<TimeOffset>
                 scanner.end()?;
                 Some(TimeOffset::Utc)
             }
-            None => signed_offset(scanner),
+            None => {
+                let is_west = scanner.sign()?;
+                let hours = scanner.two_digits()?;
+                scanner.byte(b':')?;
+                let minutes = scanner.two_digits()?;
+                scanner.end()?;
+                Some(TimeOffset::Signed(is_west, hours as u8, minutes as u8))
+            }
         },
     }
-}
-
-/// The offset after its sign.
-#[inline(always)]
-fn signed_offset(scanner: &mut Scanner) -> Option<TimeOffset>
-    ensures scans { ScansWhole signed_offset scanner.old.rest.now scanner.new.rest.now result }
-    ensures has { IfSome result (IsTimeOffset scanner.old.rest.now) }
-{
-    let is_west = scanner.sign()?;
-    let (hours, minutes) = hours_and_minutes(scanner)?;
-    Some(TimeOffset::Signed(is_west, hours, minutes))
-}
-
-#[inline(always)]
-fn hours_and_minutes(scanner: &mut Scanner) -> Option<(u8, u8)>
-    ensures scans { ScansWhole offset_digits scanner.old.rest.now scanner.new.rest.now result }
-    ensures numbers { IfSome result (λ found. (found.0 < 100) × (found.1 < 100)
-        × (scanner.old.rest.now ≡ digits_at_least 2 found.0 ++ 58 ∷ digits_at_least 2 found.1)) }
-{
-    let hours = scanner.two_digits()?;
-    scanner.byte(b':')?;
-    let minutes = scanner.two_digits()?;
-    scanner.end()?;
-    Some((hours as u8, minutes as u8))
 }

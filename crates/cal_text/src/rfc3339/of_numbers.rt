@@ -68,22 +68,9 @@ fn offset_of(offset: TimeOffset) -> Result<UtcOffset, ComponentRange>
     ensures hour { IsRefused offset_hour_out_of_range result ↔ IsPastHours offset }
     ensures minute { IsRefused offset_minute_out_of_range result ↔ IsPastMinutes offset }
 {
-    match offset {
-        TimeOffset::Utc => Ok(UtcOffset::UTC),
-        TimeOffset::Signed(is_west, hours, minutes) => offset_at(hours, minutes, is_west),
-    }
-}
-
-/// The offset of so many hours and minutes west or east of UTC.
-fn offset_at(hours: u8, minutes: u8, is_west: bool) -> Result<UtcOffset, ComponentRange>
-    ensures value { hours ≤ 23 → minutes ≤ 59
-        → result ≡ Ok (if is_west then neg_ℤ (pos (3600 * hours + 60 * minutes)) else pos
-        (3600 * hours + 60 * minutes)) }
-    ensures reason { IfErr result (λ e.
-        (e ≡ offset_hour_out_of_range) ⊎ (e ≡ offset_minute_out_of_range)) }
-    ensures hour { IsRefused offset_hour_out_of_range result ↔ (23 < hours) }
-    ensures minute { IsRefused offset_minute_out_of_range result ↔ (hours ≤ 23) × (59 < minutes) }
-{
+    let TimeOffset::Signed(is_west, hours, minutes) = offset else {
+        return Ok(UtcOffset::UTC);
+    };
     if hours > 23 {
         return Err(ComponentRange::unconditional(Component::OffsetHour));
     }
