@@ -1,12 +1,12 @@
 //! Dates in text by their Julian day.
-ghost use Rattle.std.specs.Prelude.{◌≡◌, ℕ, ℤ, ◌<◌, ◌≤◌, ◌^◌, ◌↔◌, length, decimal, IfOk, IfErr, IfSome, Ok, Some};
+ghost use Rattle.std.specs.Prelude.{◌≡◌, ℕ, ℤ, ◌≤◌, ◌↔◌, length, IfOk, IfErr, IfSome, Ok, Some};
 ghost use Rattle.std.specs.Fmt.{padded};
 ghost use Rattle.cal_time.specs.Date.{IsDate};
 ghost use Rattle.cal_time.specs.declared.error.ComponentRange.{ComponentRange};
 ghost use Rattle.cal_text.specs.JulianForm.{julian_text, IsJulianForm, IsJulianFault};
-ghost use Rattle.cal_text.specs.Position.{HasSome, IsAtStop, IsPosition};
+ghost use Rattle.cal_text.specs.Position.{HasSome, IsAtStop};
 ghost use Rattle.cal_text.specs.Reading.{HasFault, IsRefusedFor, IsRefusedForForm};
-ghost use Rattle.cal_text.specs.Shape.{ScansWhole, natural, julian_day};
+ghost use Rattle.cal_text.specs.Shape.{ScansWhole, julian_day};
 
 use crate::digits::number_above_0;
 use crate::error::Unreadable;
@@ -54,28 +54,20 @@ pub fn read(text: &[u8]) -> Result<Date, Unreadable>
     ensures component { (why : ComponentRange)
         → IsRefusedFor why result ↔ HasFault IsJulianForm IsJulianFault text.now why }
 {
-    match julian_day_of(text) {
-        Ok(julian_day) => match Date::from_julian_day(julian_day) {
+    let mut scanner = Scanner { rest: text };
+    match julian_day(&mut scanner) {
+        Some(julian_day) => match Date::from_julian_day(julian_day) {
             Ok(date) => Ok(date),
             Err(error) => Err(Unreadable::OutOfRange(error)),
         },
-        Err(position) => Err(Unreadable::at(position, text.len())),
+        None => {
+            let position = text.len() - scanner.rest.len();
+            Err(Unreadable::at(position, text.len()))
+        }
     }
 }
 
-/// The Julian day that the text is, or the position where it stops being one.
-fn julian_day_of(text: &[u8]) -> Result<i32, usize>
-    ensures every { (j : ℤ) → IsJulianForm text.now j → result ≡ Ok j }
-    ensures has { IfOk result (IsJulianForm text.now) }
-    ensures position { IfErr result (IsPosition (HasSome IsJulianForm) text.now) }
-{
-    let mut scanner = Scanner { rest: text };
-    match julian_day(&mut scanner) {
-        Some(julian_day) => Ok(julian_day),
-        None => Err(text.len() - scanner.rest.len()),
-    }
-}
-
+/// A Julian day of at most nine digits after a letter J, and the end.
 fn julian_day(scanner: &mut Scanner) -> Option<i32>
     ensures scans { ScansWhole julian_day scanner.old.rest.now scanner.new.rest.now result }
     ensures has { IfSome result (IsJulianForm scanner.old.rest.now) }
@@ -87,27 +79,16 @@ fn julian_day(scanner: &mut Scanner) -> Option<i32>
             scanner.end()?;
             Some(-(number as i32))
         }
-        None => {
-            let number = natural(scanner)?;
-            Some(number as i32)
-        }
-    }
-}
-
-/// A number of one to nine digits without zeros before it, and the end.
-fn natural(scanner: &mut Scanner) -> Option<u64>
-    ensures scans { ScansWhole natural scanner.old.rest.now scanner.new.rest.now result }
-    ensures number { IfSome result (λ n. (n < 10 ^ 9) × (scanner.old.rest.now ≡ decimal n)) }
-{
-    match scanner.byte(b'0') {
-        Some(()) => {
-            scanner.end()?;
-            Some(0)
-        }
-        None => {
-            let number = number_above_0(scanner, 8)?;
-            scanner.end()?;
-            Some(number)
-        }
+        None => match scanner.byte(b'0') {
+            Some(()) => {
+                scanner.end()?;
+                Some(0)
+            }
+            None => {
+                let number = number_above_0(scanner, 8)?;
+                scanner.end()?;
+                Some(number as i32)
+            }
+        },
     }
 }
