@@ -7,7 +7,8 @@ ghost use Rattle.cal_text.specs.Reading.{HasFault, IsRefusedFor, IsRefusedForFor
 ghost use Rattle.cal_text.specs.UnixText.{HasUnixForm, IsUnixText, IsUnixFault};
 
 use crate::error::Unreadable;
-use crate::unix::reading::unix_of;
+use crate::scanner::Scanner;
+use crate::unix::reading::unix_time;
 use cal_datetime::OffsetDateTime;
 
 mod reading;
@@ -30,11 +31,15 @@ pub fn read(text: &[u8]) -> Result<OffsetDateTime, Unreadable>
     ensures component { (why : ComponentRange)
         → IsRefusedFor why result ↔ HasFault HasUnixForm IsUnixFault text.now why }
 {
-    match unix_of(text) {
-        Ok(nanoseconds) => match OffsetDateTime::from_unix_timestamp_nanos(nanoseconds) {
+    let mut scanner = Scanner { rest: text };
+    match unix_time(&mut scanner) {
+        Some(nanoseconds) => match OffsetDateTime::from_unix_timestamp_nanos(nanoseconds) {
             Ok(moment) => Ok(moment),
             Err(error) => Err(Unreadable::OutOfRange(error)),
         },
-        Err(position) => Err(Unreadable::at(position, text.len())),
+        None => {
+            let position = text.len() - scanner.rest.len();
+            Err(Unreadable::at(position, text.len()))
+        }
     }
 }

@@ -1,7 +1,6 @@
 //! Unix times read.
-ghost use Rattle.std.specs.Prelude.{◌≡◌, ℤ, pos, neg_ℤ, ◌+◌, ◌*◌, ◌<◌, IfSome, IfOk, IfErr, Ok};
+ghost use Rattle.std.specs.Prelude.{◌≡◌, pos, neg_ℤ, ◌+◌, ◌*◌, ◌<◌, IfSome};
 ghost use Rattle.cal_time.specs.SignedDuration.{second};
-ghost use Rattle.cal_text.specs.Position.{HasSome, IsPosition};
 ghost use Rattle.cal_text.specs.Shape.{ScansWhole, unix_time, seconds, seconds_above_0, from_one};
 ghost use Rattle.cal_text.specs.UnixText.{HasUnixForm, HasSeconds};
 
@@ -11,20 +10,8 @@ use crate::scanner::Scanner;
 
 const NANOSECONDS_PER_SECOND: i128 = 1_000_000_000;
 
-/// The Unix time that the text says, in nanoseconds, or the position where it stops being one.
-pub(super) fn unix_of(text: &[u8]) -> Result<i128, usize>
-    ensures every { (v : ℤ) → HasUnixForm text.now v → result ≡ Ok v }
-    ensures has { IfOk result (HasUnixForm text.now) }
-    ensures position { IfErr result (IsPosition (HasSome HasUnixForm) text.now) }
-{
-    let mut scanner = Scanner { rest: text };
-    match unix_time(&mut scanner) {
-        Some(nanoseconds) => Ok(nanoseconds),
-        None => Err(text.len() - scanner.rest.len()),
-    }
-}
-
-fn unix_time(scanner: &mut Scanner) -> Option<i128>
+/// The Unix time that the rest of a text says, in nanoseconds.
+pub(super) fn unix_time(scanner: &mut Scanner) -> Option<i128>
     ensures scans { ScansWhole unix_time scanner.old.rest.now scanner.new.rest.now result }
     ensures has { IfSome result (HasUnixForm scanner.old.rest.now) }
 {
