@@ -1,5 +1,5 @@
 -- The digits of a year, and its sign.
-use Rattle.std.proofs.Common.{◌≡◌, ◌≢◌, ℕ, zero, suc, ◌+◌, ◌-◌, ◌*◌, ◌<◌, ◌≤◌, ◌^◌, ℤ, pos, to_z, of_z, w32, ◌-ℤ◌, List, [], ◌∷◌, ◌++◌, length, get_or, subst, refl, sym, ap, ◌∙◌, arith, inl, inr, lit<}
+use Rattle.std.proofs.Common.{◌≡◌, ◌≢◌, ℕ, suc, ◌+◌, ◌-◌, ◌*◌, ◌<◌, ◌≤◌, ◌^◌, ℤ, to_z, w32, List, [], ◌∷◌, ◌++◌, length, get_or, subst, sym, ap, ◌∙◌, arith, inl, inr, lit<}
 use Rattle.std.specs.Prelude.{replicate}
 use Rattle.std.specs.Char.{digit_value}
 use Rattle.std.specs.Str.Parse.{AllDigits, digits_value, digits_value_after}
@@ -12,7 +12,7 @@ use Rattle.cal_time.specs.DateText.{digits_at_least}
 use Rattle.cal_text.specs.DateForms.{year_text, IsWrittenYear}
 use Rattle.cal_text.specs.Shape.{ReadsDigits, ReadsMore}
 use Rattle.cal_text.proofs.DigitTexts.{IsMagnitude, magnitude-printed, digits-printed, digits_at_least-length, below-nine}
-use Rattle.cal_text.proofs.YearTexts.{year-plain, year-plus, year-minus, plain-cast, minus-cast}
+use Rattle.cal_text.proofs.YearTexts.{year-plain, plain-cast}
 use Rattle.cal_text.proofs.ReadDigits.{value-append, all-append, value-of}
 
 -- ---- digits of a year are those that its number prints
@@ -126,15 +126,3 @@ pub put_plain : (n : ℕ) (old mid new : List ℕ) → n < 10000 → ReadsDigits
 put_plain n old mid new below h e =
     subst (IsYearBefore new old) (sym (plain-cast n (omega arith)))
     (omega arith, put_four n old mid new h e ∙ ap (λ ds. ds ++ 45 ∷ new) (sym (year-plain n (omega arith))))
-
-pub put_plus : (n : ℕ) (old mid new : List ℕ) → old ≡ 43 ∷ mid → IsNumberAbove 9999 new mid n → IsYearBefore new old (to_z w32 n)
-put_plus n old mid new e h =
-    subst (IsYearBefore new old) (sym (plain-cast n h.1))
-    (h.1, e ∙ ap (λ ds. 43 ∷ ds) h.2 ∙ ap (λ ds. ds ++ 45 ∷ new) (sym (year-plus n h.0)))
-
-pub put_minus : (n : ℕ) (old mid new : List ℕ) → old ≡ 45 ∷ mid → IsNumberAbove 0 new mid n
-    → IsYearBefore new old (to_z w32 (of_z w32 (pos 0 -ℤ to_z w32 n)))
-put_minus zero old mid new e h = absurd (omega (arith, h.0))
-put_minus (suc k) old mid new e h =
-    subst (IsYearBefore new old) (sym (minus-cast k (suc k) refl h.1))
-    (h.1, e ∙ ap (λ ds. 45 ∷ ds) h.2 ∙ ap (λ ds. ds ++ 45 ∷ new) (sym (year-minus k)))
