@@ -7,7 +7,7 @@ use Rattle.std.specs.Ordering.{nat_cmp}
 use Rattle.std.proofs.lemmas.Bool.{cases_lt}
 use Rattle.std.proofs.lemmas.Bool.Decides.{nat_tests}
 use Rattle.std.proofs.lemmas.List.{get_or-reverse, length-reverse}
-use Rattle.std.proofs.lemmas.Option.{slice_get-get_or, slice_get_past}
+use Rattle.std.proofs.lemmas.Option.{slice_get-get_or}
 use Rattle.cal_date.specs.Date.{year_at, ordinal_at, IsDate, HasOrdinalDate}
 use Rattle.cal_date.specs.Occurrence.{days_from}
 use Rattle.cal_date.proofs.Dates.{stands}
@@ -75,9 +75,6 @@ slice_get-days_from_back n k i h =
 days_of-back : (w : Walk) (b : ℕ) → w.back ≡ Some b → days_of w ≡ days_from w.front (b + 1 - w.front)
 days_of-back w b e = rw e refl
 
-days_of-no_back : (w : Walk) → w.back ≡ None → days_of w ≡ []
-days_of-no_back w e = rw e refl
-
 pub length-days_of : (w : Walk) (b : ℕ) → w.back ≡ Some b → length (days_of w) ≡ b + 1 - w.front
 length-days_of w b e = ap length (days_of-back w b e) ∙ length-days_from w.front (b + 1 - w.front)
 
@@ -88,12 +85,6 @@ slice_get-days_of w b n e h = ap (λ l. slice_get l n) (days_of-back w b e) ∙ 
 pub slice_get-days_of_back : (w : Walk) (b n : ℕ) → w.back ≡ Some b → w.front + n ≤ b → slice_get (reverse (days_of w)) n ≡ Some (b - n)
 slice_get-days_of_back w b n e h =
     ap (λ l. slice_get (reverse l) n) (days_of-back w b e) ∙ slice_get-days_from_back w.front (b + 1 - w.front) n (omega arith) ∙ ap Some (omega arith)
-
-pub slice_get-days_of_past : (w : Walk) (n : ℕ) → length (days_of w) ≤ n → slice_get (days_of w) n ≡ None
-slice_get-days_of_past w n h = slice_get_past (days_of w) n h
-
-pub slice_get-days_of_past_back : (w : Walk) (n : ℕ) → length (days_of w) ≤ n → slice_get (reverse (days_of w)) n ≡ None
-slice_get-days_of_past_back w n h = slice_get_past (reverse (days_of w)) n (omega (arith, length-reverse (days_of w)))
 
 -- what is left without the first days: the front day moves, or the back day goes
 pub without_first-some : (k : ℕ) (w : Walk) → k < length (days_of w) → without_first k w ≡ walk (w.front + k) w.back

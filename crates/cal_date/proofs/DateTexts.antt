@@ -1,5 +1,5 @@
 -- The text of a date is ASCII.
-use Rattle.std.proofs.Common.{ℕ, ◌<◌, ◌^◌, List, ◌++◌, ℤ, pos, unsigned_abs, true, false, codes, arith, inl, inr}
+use Rattle.std.proofs.Common.{ℕ, ◌<◌, ◌^◌, ◌++◌, ℤ, pos, unsigned_abs, codes, arith, inl, inr}
 use Rattle.std.specs.Prelude.{int_lt}
 use Rattle.std.specs.Str.{IsAscii}
 use Rattle.std.proofs.lemmas.Bool.{cases_Bool}

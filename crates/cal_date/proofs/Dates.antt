@@ -3,7 +3,7 @@ use Rattle.std.proofs.Common.{◌≡◌, ℕ, suc, refl, sym, ◌+◌, ◌<◌, 
 use Rattle.std.proofs.lemmas.Bool.Decides.{nat_tests}
 use Rattle.std.proofs.lemmas.Int.{ints, to_z-of_z}
 use Rattle.cal_units.specs.Lengths.{days_in_year}
-use Rattle.cal_date.specs.Date.{first_year, year_at, ordinal_at, IsYear, IsDate, IsOrdinal, HasOrdinalDate, NoDate}
+use Rattle.cal_date.specs.Date.{first_year, year_at, ordinal_at, IsYear, IsDate, IsOrdinal, HasOrdinalDate}
 use Rattle.cal_date.specs.CountLaws.{days_of_years, in_year, year_start, days_of_years-closed}
 use Rattle.cal_date.specs.PackedDate.{ordinal_number, HasOrdinalDate-ordinal_number}
 use Rattle.cal_date.proofs.Years.{year_of, IsYear-days_before, days_before-IsYear}
@@ -54,14 +54,6 @@ IsDate-ordinal_number y o h f = omega (arith, days_before-IsYear y h)
 -- a year of the range is an i32
 pub IsYear-i32 : (y : ℤ) → IsYear y → to_z w32 (of_z w32 y) ≡ y
 IsYear-i32 y h = let fits : FitsSigned w32 y = grind (arith, ints) in to_z-of_z w32 y fits
-
--- and so is the year after it
-pub next_year-i32 : (y : ℤ) → IsYear y → FitsSigned w32 (y +ℤ pos 1)
-next_year-i32 y h = grind (arith, ints)
-
--- so there is no day for another ordinal date
-pub NoDate-ordinal_date : (y : ℤ) (o : ℕ) → ¬ (IsYear y × IsOrdinal y o) → NoDate (HasOrdinalDate y o)
-NoDate-ordinal_date y o none n h has = let is = in_range n y o h has in none (is.year, is.ordinal)
 
 -- no year has more than 366 days
 pub year-most : (y : ℤ) → days_in_year y ≤ 366

@@ -87,9 +87,6 @@ IsYear-iso_year_at n h =
     let is : t ≡ n - n % 7 + 3 = thursday_of-is n in
     (in_range t (year_at t) (ordinal_at t) (omega arith) (refl, refl)).year
 
-pub IsYear-iso_year : (n : ℕ) (y : ℤ) → IsDate n → iso_year_at n ≡ y → IsYear y
-IsYear-iso_year n y h same = subst IsYear same (IsYear-iso_year_at n h)
-
 pub in_weeks : (n : ℕ) (y : ℤ) (w wd : ℕ) → IsDate n → HasIsoWeekDate y w wd n → IsInWeek y w wd n
 in_weeks n y w wd h has =
     let at = subst (λ z. StandsInWeek z (iso_week_at n) n) has.0 (stands_in_week n) in

@@ -27,9 +27,6 @@ date_nearest-after z low outside =
 pub number-date_nearest : (n : ℕ) (z : ℤ) → IsDate n → z ≡ pos n → IsDateNumber z × (n ≡ date_nearest z)
 number-date_nearest n z h e = (record { not_before = omega (arith, ints); not_after = omega (arith, ints) }, omega (arith, ints, clamps))
 
-pub IsDate-date_nearest : (z : ℤ) → IsDate (date_nearest z)
-IsDate-date_nearest z = omega (arith, ints, clamps)
-
 -- the whole days of a duration have its sign
 pub whole_days-negative : (v : ℤ) → v <ℤ pos 0 → whole_days v ≤ℤ pos 0
 whole_days-negative (pos i) h = absurd (omega (arith, ints))

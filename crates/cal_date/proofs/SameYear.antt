@@ -6,17 +6,13 @@ use Rattle.cal_units.specs.Lengths.{days_in_year}
 use Rattle.cal_date.specs.Date.{year_at, ordinal_at, IsOrdinal, IsDate}
 use Rattle.cal_date.specs.PackedDate.{ordinal_number, HasOrdinalDate-ordinal_number}
 use Rattle.cal_date.specs.Move.{IsDateNumber, IsOrdinalNumber, date_nearest}
-use Rattle.cal_date.proofs.Dates.{year-most, in_range, IsDate-ordinal_number}
+use Rattle.cal_date.proofs.Dates.{in_range, IsDate-ordinal_number}
 use Rattle.cal_date.proofs.Moves.{number-date_nearest, found_number}
 
 -- a sum that wraps is far above the indexes of a year; one that does not is the index of the moved ordinal
 pub index-added : (w : ℤ) (o : ℕ) → FitsSigned w64 w → 1 ≤ o → o ≤ 366 → (of_z w64 w + (o - 1)) % 18446744073709551616 < 366
     → pos ((of_z w64 w + (o - 1)) % 18446744073709551616 + 1) ≡ pos o +ℤ w
 index-added w o fits low high near = grind (arith, ints)
-
--- and each ordinal of the year has its index
-pub index-added-in_year : (y w : ℤ) (o : ℕ) → FitsSigned w64 w → 1 ≤ o → o ≤ 366 → IsOrdinalNumber y (pos o +ℤ w) → (of_z w64 w + (o - 1)) % 18446744073709551616 < days_in_year y
-index-added-in_year y w o fits low high h = let first = h.not_before in let last = h.not_after in let most = year-most y in grind (arith, ints)
 
 -- the day d of the year of day n that has the ordinal p + 1, which is z as a whole number; m is the number that day n moves to
 pub record IsNear (n d : ℕ) (m z : ℤ) : Type 0 where
@@ -69,13 +65,6 @@ moved_in_year n w r h moves is =
     let to : pos (p + 1) ≡ z = omega (arith, ints) in
     let here = near n (ordinal_number (year_at n) (p + 1)) p (pos n +ℤ w) z h (omega (arith, ints)) refl to (omega (arith, ints)) in
     found_in_year n w r (ordinal_number (year_at n) (p + 1)) here moves
-
--- days that cannot be negated lead past the range, and past the year
-pub past_by_least : (n : ℕ) (w : ℤ) → FitsSigned w64 w → ¬ FitsSigned w64 (neg_ℤ w) → IsDate n → ¬ IsDateNumber (pos n -ℤ w)
-past_by_least n w fits least h is = let low = is.not_before in let high = is.not_after in least (grind (arith, ints))
-
-pub past_year_by_least : (y w : ℤ) (o : ℕ) → FitsSigned w64 w → ¬ FitsSigned w64 (neg_ℤ w) → o ≤ 366 → ¬ IsOrdinalNumber y (pos o -ℤ w)
-past_year_by_least y w o fits least most is = let low = is.not_before in let high = is.not_after in let days = year-most y in least (grind (arith, ints))
 
 -- the same for days taken away
 pub moved_back_in_year : (n : ℕ) (w v : ℤ) (r : Option ℕ) → IsDate n → v ≡ neg_ℤ w → SomeIff r (IsDateNumber (pos n +ℤ v)) (date_nearest (pos n +ℤ v))

@@ -1,8 +1,8 @@
 -- The instants of date-times at an offset, and the Unix times of instants.
-use Rattle.std.proofs.Common.{◌≡◌, ℕ, ◌/◌, ◌<◌, refl, sym, arith, ℤ, pos, negsuc, neg_ℤ, unsigned_abs, ◌+ℤ◌, ◌-ℤ◌, ◌*ℤ◌, ◌≤ℤ◌, ◌<ℤ◌}
+use Rattle.std.proofs.Common.{◌≡◌, ℕ, ◌/◌, refl, sym, arith, ℤ, pos, negsuc, neg_ℤ, unsigned_abs, ◌+ℤ◌, ◌-ℤ◌, ◌*ℤ◌, ◌≤ℤ◌, ◌<ℤ◌}
 use Rattle.std.proofs.lemmas.Int.{ints}
 use Rattle.std.specs.Int.{int_div_euclid, int_rem_euclid}
-use Rattle.cal_time.specs.SignedDuration.{second, day, IsDuration}
+use Rattle.cal_time.specs.SignedDuration.{second, IsDuration}
 use Rattle.cal_time.specs.Date.{first_julian_day, IsDate, HasJulianDay, NoDate}
 use Rattle.cal_time.specs.Move.{IsDateNumber}
 use Rattle.cal_time.specs.UtcOffset.{IsOffset, greatest}
@@ -35,11 +35,6 @@ julian_day-none j none h =
 pub unix_date_time : (seconds days past nanoseconds : ℤ) (n t : ℕ) → seconds ≡ days *ℤ pos 86_400 +ℤ past → pos n ≡ epoch_day +ℤ days → pos t ≡ past *ℤ pos second +ℤ nanoseconds
     → date_time n t ≡ unix_epoch +ℤ (seconds *ℤ pos second +ℤ nanoseconds)
 unix_date_time seconds days past nanoseconds n t e f g = omega (arith, ints, e, f, g)
-
-pub unix_none : (seconds days past nanoseconds : ℤ) (t : ℕ) → seconds ≡ days *ℤ pos 86_400 +ℤ past → pos t ≡ past *ℤ pos second +ℤ nanoseconds → t < day
-    → ¬ IsDateNumber (epoch_day +ℤ days) → ¬ IsDateTime (unix_epoch +ℤ (seconds *ℤ pos second +ℤ nanoseconds))
-unix_none seconds days past nanoseconds t e g below none h =
-    none (record { not_before = omega (arith, ints, h.not_before, e, g, below); not_after = omega (arith, ints, h.not_after, e, g, below) })
 
 -- a number is its quotient and its remainder by a day of seconds
 pub days-and_past : (z : ℤ) → z ≡ int_div_euclid z (pos 86_400) *ℤ pos 86_400 +ℤ int_rem_euclid z (pos 86_400)

@@ -255,13 +255,7 @@ all_of_them rule =
     let days = days_from 0 (last_day + 1) in
     take_all 4294967295 (days_of rule) (omega (arith, length-filter (is_on rule) days, count_by-le-length (is_on rule) days, length-days_from 0 (last_day + 1)))
 
--- one day of the walk: the last one that it may give, or one with others after it
-pub last_left : (rule : Rule) (n left : ℕ) (front : Option ℕ) → left ≢ 0 → left - 1 ≡ 0
-    → take left (days_left rule (Some n)) ≡ n ∷ take (left - 1) (days_left rule front)
-last_left rule n left front some e =
-    let one : left ≡ 1 = omega arith in
-    rw one refl
-
+-- one day of the walk, with the others after it
 pub some_left : (rule : Rule) (n left : ℕ) (front : Option ℕ) → left ≢ 0 → front ≡ slice_get (days_after rule n) 0
     → take left (days_left rule (Some n)) ≡ n ∷ take (left - 1) (days_left rule front)
 some_left rule n zero front some e = absurd (some refl)

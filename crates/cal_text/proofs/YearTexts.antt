@@ -1,5 +1,5 @@
 -- The year of a date in text, by its sign.
-use Rattle.std.proofs.Common.{◌≡◌, ℕ, suc, ◌<◌, ◌≤◌, ◌^◌, ℤ, pos, negsuc, to_z, of_z, w32, FitsSigned, ◌-ℤ◌, [], ◌∷◌, ◌++◌, refl, ap, ◌∙◌, arith}
+use Rattle.std.proofs.Common.{◌≡◌, ℕ, suc, ◌<◌, ◌≤◌, ◌^◌, ℤ, pos, negsuc, to_z, of_z, w32, [], ◌∷◌, ◌++◌, refl, ap, arith}
 use Rattle.std.proofs.lemmas.Int.{ints, to_z-of_z}
 use Rattle.std.proofs.lemmas.Bool.Decides.{nat_tests}
 use Rattle.cal_time.specs.DateText.{digits_at_least, sign_text}
@@ -24,15 +24,6 @@ year-minus k = refl
 -- a magnitude as a number of 32 bits with a sign
 pub plain-cast : (m : ℕ) → m < 10 ^ 9 → to_z w32 m ≡ pos m
 plain-cast m small = grind (arith, ints)
-
-negated : (k : ℕ) → pos 0 -ℤ pos (suc k) ≡ negsuc k
-negated k = omega (arith, ints)
-
-pub minus-cast : (k m : ℕ) → m ≡ suc k → suc k < 10 ^ 9 → to_z w32 (of_z w32 (pos 0 -ℤ to_z w32 m)) ≡ negsuc k
-minus-cast k m e small =
-    let same : pos 0 -ℤ to_z w32 m ≡ negsuc k = ap (λ z. pos 0 -ℤ z) (plain-cast m (omega arith) ∙ ap pos e) ∙ negated k in
-    let fits : FitsSigned w32 (negsuc k) = record { sfits = grind (arith, ints) } in
-    ap (λ z. to_z w32 (of_z w32 z)) same ∙ to_z-of_z w32 (negsuc k) fits
 
 pub written-cast : (y : ℤ) → IsWrittenYear y → to_z w32 (of_z w32 y) ≡ y
 written-cast (pos n) small = to_z-of_z w32 (pos n) (record { sfits = grind (arith, ints) })

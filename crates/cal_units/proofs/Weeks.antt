@@ -71,23 +71,10 @@ first_weekday-next y =
     let same = days_in_year-later y k (suc n) (omega (arith, ints)) in
     rw same (omega arith)
 
--- the weekdays of January 1 come again after 400 years
-pub first_weekday-period : (y : ℤ) → first_weekday (y +ℤ pos 400) ≡ first_weekday y
-first_weekday-period y =
-    let (k, n, later) = later_year y in
-    let here = first_weekday-is y k n later in
-    let next = first_weekday-is (y +ℤ pos 400) k (n + 400) (omega (arith, ints)) in
-    omega arith
-
 pub days_in_year-period : (y : ℤ) → days_in_year (y +ℤ pos 400) ≡ days_in_year y
 days_in_year-period y =
     let (k, n, later) = later_year y in
     days_in_year-later (y +ℤ pos 400) k (n + 401) (omega (arith, ints)) ∙ sym (days_in_year-later y (k + 1) (n + 401) (omega (arith, ints)))
-
--- and so do the weeks
-pub weeks_in_year-period : (y : ℤ) → weeks_in_year (y +ℤ pos 400) ≡ weeks_in_year y
-unfolding weeks_in_year
-weeks_in_year-period y = rw (first_weekday-period y, days_in_year-period y)
 
 thursdays-is : (first n : ℕ) → thursdays first n + (first + 10) / 7 ≡ (first + n + 10) / 7
 unfolding thursdays
