@@ -92,7 +92,3 @@ not_text bs t = elim (cases_Bool (is_number bs)) [
   | inl e ↦ absurd (t (numeral_is_text bs (number-yes bs e).0))
   | inr e ↦ sym (guard_no _ _ e)
 ]
-
--- ---- and it fits 64 bits
-pub number_fits : (bs : List ℕ) (z : ℤ) → Some z ≡ number_of bs → FitsSigned w64 z
-number_fits bs z e = let s = cond_some _ _ _ (sym e) in subst (FitsSigned w64) s.1 (number-yes bs s.0).1

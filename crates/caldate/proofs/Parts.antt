@@ -36,17 +36,6 @@ arguments_of_some xs k e = split_at_some (λ b. eqb b 0) xs k e
 pub arguments_of_none : (xs : List ℕ) → position (λ b. eqb b 0) xs ≡ None → arguments_of xs ≡ xs ∷ []
 arguments_of_none xs e = slice_split_none (λ b. eqb b 0) xs (all_fail (λ b. eqb b 0) xs e)
 
--- bytes with a zero byte have two words
-two_parts : (bytes part : List ℕ) (parts : List (List ℕ)) → 0 < length parts → arguments_of bytes ≡ part ∷ parts
-    → (first second : List ℕ) × (more : List (List ℕ)) × (arguments_of bytes ≡ first ∷ second ∷ more)
-two_parts bytes part [] h e = absurd (omega arith)
-two_parts bytes part (p ∷ parts) h e = (part, p, parts, e)
-
-pub two_arguments : (xs : List ℕ) (k : ℕ) → position (λ b. eqb b 0) xs ≡ Some k
-    → (first second : List ℕ) × (more : List (List ℕ)) × (arguments_of xs ≡ first ∷ second ∷ more)
-two_arguments xs k e =
-    two_parts xs _ _ (omega (arith, length-slice_split (λ b. eqb b 0) (drop (k + 1) xs))) (split_at_some (λ b. eqb b 0) xs k e).1
-
 before : (p : ℕ → Bool) (xs : List ℕ) (j d : ℕ) → j < length (take (position_or_len p xs) xs)
     → p (get_or (take (position_or_len p xs) xs) j d) ≡ false
 before p xs j d m = let k = fails_before_first p xs j d (grind (arith, common_steps)) in grind (arith, common_steps)

@@ -229,25 +229,10 @@ pub fn first_word(bytes: &[u8]) -> Option<(&[u8], &[u8])>
 
 /// The first word, and those after it, where there are any.
 pub fn cut(words: &[u8]) -> (&[u8], Option<&[u8]>)
-    ensures parts { arguments_of words.now ≡ result.0.now ∷ words_left result.1 }
-    ensures whole { result.1 ≡ None → result.0.now ≡ words.now }
+    ensures { arguments_of words.now ≡ result.0.now ∷ words_left result.1 }
 {
     match first_word(words) {
         Some((word, rest)) => (word, Some(rest)),
         None => (words, None),
-    }
-}
-
-/// The bytes, if they are one word.
-#[tactic(auto, using(crate::proofs::Parts::two_arguments, crate::proofs::Parts::arguments_of_none))]
-pub fn only_word(bytes: &[u8]) -> Option<&[u8]>
-    ensures { MatchOption result
-        ((first second : List ℕ) × (more : List (List ℕ))
-        × (arguments_of bytes.now ≡ first ∷ second ∷ more))
-        (λ word. arguments_of bytes.now ≡ word.now ∷ []) }
-{
-    match index_of(0, bytes) {
-        Some(_) => None,
-        None => Some(bytes),
     }
 }

@@ -1,0 +1,89 @@
+//! The words of the arguments, each by its index, and what they mean where something is wanted.
+ghost use Rattle.std.specs.Fn.{FnOnceReturnsAt};
+ghost use Rattle.std.specs.Prelude.{◌≡◌, ℕ, List, MatchOption, Option, ok_or, slice_get};
+ghost use Rattle.cal_text.specs.declared.any.DateOrMoment.{DateOrMoment};
+ghost use Rattle.caldate.specs.Requests.{IsRead, IsReading, arguments_of, ended, ends_at, keyword, senseless_at, word_as};
+
+use crate::senseless::{Senseless, Wanted, senseless_at};
+use crate::spelling::cut;
+use cal_text::{DateOrMoment, read_any};
+
+/// The word at an index, if there is one.
+pub fn word_at(words: &[u8], at: usize) -> Option<&[u8]>
+    ensures { MatchOption result (slice_get (arguments_of words.now) at ≡ None)
+        (λ word. slice_get (arguments_of words.now) at ≡ Some word.now) }
+{
+    let mut left = Some(words);
+    for _ in 0..at {
+        left = cut(left?).1;
+    }
+    Some(cut(left?).0)
+}
+
+/// What the word at an index means, where this is wanted.
+pub fn word_as<T: Drop, F: FnOnce(&[u8]) -> Option<T>>(
+    words: &[u8],
+    at: usize,
+    meaning: F,
+    wanted: Wanted,
+) -> Result<T, Senseless>
+    requires { F.IsAlwaysCallable meaning }
+    ensures { MatchOption (slice_get (arguments_of words.now) at)
+        (result ≡ Err (senseless_at at wanted))
+        (λ word. (found : Option T) × FnOnceReturnsAt F.FnOnce meaning word found
+        × (result ≡ ok_or found (senseless_at at wanted))) }
+{
+    word_at(words, at)
+        .and_then(meaning)
+        .ok_or(senseless_at(at, wanted))
+}
+
+/// That the word at an index is this one.
+pub fn keyword_at(words: &[u8], at: usize, name: &[u8], wanted: Wanted) -> Result<(), Senseless>
+    ensures { result ≡ word_as (arguments_of words.now) at (keyword name.now) wanted }
+{
+    match word_at(words, at) {
+        Some(word) if word == name => Ok(()),
+        _ => Err(senseless_at(at, wanted)),
+    }
+}
+
+/// The date or the moment that the word at an index is, where this is wanted.
+pub fn found_at(words: &[u8], at: usize, wanted: Wanted) -> Result<DateOrMoment, Senseless>
+    ensures { (reading : List ℕ → Option DateOrMoment) → IsReading reading (arguments_of words.now)
+        → result ≡ word_as (arguments_of words.now) at reading wanted }
+{
+    match word_at(words, at) {
+        Some(word) => found_in(word).ok_or(senseless_at(at, wanted)),
+        None => Err(senseless_at(at, wanted)),
+    }
+}
+
+/// The date or the moment of a text, if it is one.
+fn found_in(text: &[u8]) -> Option<DateOrMoment>
+    ensures { (reading : List ℕ → Option DateOrMoment) → IsRead reading text.now
+        → result ≡ reading text.now }
+{
+    match read_any(text) {
+        Ok(found) => Some(found),
+        Err(_) => None,
+    }
+}
+
+/// Whether no word comes at the index.
+pub fn ends_at(words: &[u8], at: usize) -> bool
+    ensures { result ≡ ends_at (arguments_of words.now) at }
+{
+    word_at(words, at).is_none()
+}
+
+/// What the words before the index mean, where no word comes there.
+pub fn ended<T: Drop>(words: &[u8], at: usize, meaning: T) -> Result<T, Senseless>
+    ensures { result ≡ ended (arguments_of words.now) at meaning }
+{
+    if ends_at(words, at) {
+        Ok(meaning)
+    } else {
+        Err(senseless_at(at, Wanted::End))
+    }
+}
