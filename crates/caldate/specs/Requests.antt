@@ -35,8 +35,6 @@ use Rattle.caldate.specs.declared.request.StepUnit.TheVariants as steps
 use Rattle.caldate.specs.declared.request.TimeUnit.{TimeUnit}
 use Rattle.caldate.specs.declared.request.TimeUnit.TheVariants as unit
 use Rattle.caldate.specs.declared.request.UnixUnit.TheVariants.{Milliseconds, Microseconds, Nanoseconds}
-use Rattle.caldate.specs.declared.request.Verb.{Verb}
-use Rattle.caldate.specs.declared.request.Verb.TheVariants as verb
 use Rattle.caldate.specs.declared.request.Request.{Request}
 use Rattle.caldate.specs.declared.request.Request.TheVariants.{To, Add, Move, Until, Since, At, Keep}
 use Rattle.caldate.specs.declared.request.Bounds.{Bounds}
@@ -87,22 +85,6 @@ many_in z = if int_le (pos 1) z && int_le z (pos 4294967295) then Some (nat_abs 
 
 abbrev pub many_of : List ℕ → Option ℕ
 many_of word = option_and_then many_in (number_of word)
-
-abbrev pub verb_of : List ℕ → Option Verb
-verb_of word =
-    if bytes_eq word (codes "to") then Some verb.To else
-    if bytes_eq word (codes "add") then Some verb.Add else
-    if bytes_eq word (codes "next") then Some verb.Next else
-    if bytes_eq word (codes "last") then Some verb.Last else
-    if bytes_eq word (codes "until") then Some verb.Until else
-    if bytes_eq word (codes "since") then Some verb.Since else
-    if bytes_eq word (codes "start") then Some verb.Start else
-    if bytes_eq word (codes "end") then Some verb.End else
-    if bytes_eq word (codes "on-or-after") then Some verb.OnOrAfter else
-    if bytes_eq word (codes "on-or-before") then Some verb.OnOrBefore else
-    if bytes_eq word (codes "at") then Some verb.At else
-    if bytes_eq word (codes "keep") then Some verb.Keep else
-    None
 
 abbrev pub further_form_of : List ℕ → Option Form
 further_form_of word =
@@ -196,6 +178,10 @@ ends_at words at = is_none (slice_get words at)
 abbrev pub ended : {X : Type 0} → List (List ℕ) → ℕ → X → Result X Senseless
 ended words at x = if ends_at words at then Ok x else Err (senseless_at at wanted.End)
 
+-- what the last word means
+abbrev pub only_at : {X : Type 0} → List (List ℕ) → ℕ → (List ℕ → Option X) → Wanted → Result X Senseless
+only_at words at meaning what = and_then (word_as words at meaning what) (ended words (at + 1))
+
 -- ---- requests, by the words from an index on
 -- the N of `add N UNIT`, of which a duration has not so many as there are numbers
 abbrev pub duration_of : ℕ → ℤ → Option Request
@@ -213,9 +199,7 @@ amount_of z unit.Seconds = duration_of 1 z
 
 -- the unit of `add`, which is days where nothing is said
 abbrev pub unit_at : List (List ℕ) → ℕ → Result TimeUnit Senseless
-unit_at words at =
-    if ends_at words at then Ok unit.Days else
-    and_then (word_as words at unit_of wanted.UnitOfTime) (ended words (at + 1))
+unit_at words at = if ends_at words at then Ok unit.Days else only_at words at unit_of wanted.UnitOfTime
 
 -- `N`, `N UNIT`
 abbrev pub amount_at : List (List ℕ) → ℕ → Result Request Senseless
@@ -226,9 +210,7 @@ amount_at words at =
 
 -- how often a weekday comes, which is once where nothing is said
 abbrev pub count_at : List (List ℕ) → ℕ → Result ℕ Senseless
-count_at words at =
-    if ends_at words at then Ok 1 else
-    and_then (word_as words at count_of wanted.Count) (ended words (at + 1))
+count_at words at = if ends_at words at then Ok 1 else only_at words at count_of wanted.Count
 
 -- `WEEKDAY`, `WEEKDAY N`
 abbrev pub occurrence_at : List (List ℕ) → ℕ → Result (Weekday × ℕ) Senseless
@@ -241,7 +223,7 @@ abbrev pub in_unit_at : List (List ℕ) → ℕ → Result (Option TimeUnit) Sen
 in_unit_at words at =
     if ends_at words at then Ok None else
     and_then (word_as words at (keyword (codes "in")) wanted.In) (λ in_word.
-    and_then (word_as words (at + 1) unit_of wanted.UnitOfTime) (λ unit. ended words (at + 2) (Some unit)))
+    and_then (only_at words (at + 1) unit_of wanted.UnitOfTime) (λ unit. Ok (Some unit)))
 
 -- `TEXT`, `TEXT in UNIT`
 abbrev pub target_at : (List ℕ → Option DateOrMoment) → List (List ℕ) → ℕ → Result (DateOrMoment × Option TimeUnit) Senseless
@@ -254,36 +236,36 @@ abbrev pub range_at : (List ℕ → Option DateOrMoment) → List (List ℕ) →
 range_at reading words at =
     and_then (word_as words at reading wanted.Target) (λ first.
     and_then (word_as words (at + 1) (keyword (codes "to")) wanted.UpTo) (λ to_word.
-    and_then (word_as words (at + 2) reading wanted.Target) (λ last. ended words (at + 3) (FromTo first last))))
-
-abbrev pub bound_at : (List ℕ → Option DateOrMoment) → List (List ℕ) → ℕ → (DateOrMoment → Bounds) → Result Bounds Senseless
-bound_at reading words at bounds = and_then (word_as words at reading wanted.Target) (λ bound. ended words (at + 1) (bounds bound))
+    and_then (only_at words (at + 2) reading wanted.Target) (λ last. Ok (FromTo first last))))
 
 abbrev pub bounds_at : (List ℕ → Option DateOrMoment) → List (List ℕ) → ℕ → Result Bounds Senseless
 bounds_at reading words at =
     and_then (word_as words at Some wanted.Bounds) (λ word.
     if bytes_eq word (codes "from") then range_at reading words (at + 1) else
-    if bytes_eq word (codes "after") then bound_at reading words (at + 1) After else
-    if bytes_eq word (codes "before") then bound_at reading words (at + 1) Before else
+    if bytes_eq word (codes "after") then and_then (only_at words (at + 1) reading wanted.Target) (λ bound. Ok (After bound)) else
+    if bytes_eq word (codes "before") then and_then (only_at words (at + 1) reading wanted.Target) (λ bound. Ok (Before bound)) else
     Err (senseless_at at wanted.Bounds))
 
--- `PERIOD`, and the one word of other verbs
-abbrev pub only_at : {X Y : Type 0} → List (List ℕ) → ℕ → (List ℕ → Option X) → Wanted → (X → Y) → Result Y Senseless
-only_at words at meaning what make = and_then (word_as words at meaning what) (λ x. ended words (at + 1) (make x))
+-- the verb, and what comes after it; at the start an option that stands alone is wanted too
+abbrev pub verb_wanted : ℕ → Wanted
+verb_wanted at = if at == 0 then wanted.Start else wanted.Verb
 
-abbrev pub request_at : (List ℕ → Option DateOrMoment) → List (List ℕ) → ℕ → Verb → Result Request Senseless
-request_at reading words at verb.To = only_at words at form_of wanted.Form To
-request_at reading words at verb.Add = amount_at words at
-request_at reading words at verb.Next = and_then (occurrence_at words at) (λ o. Ok (Move (move.Next o.0 o.1)))
-request_at reading words at verb.Last = and_then (occurrence_at words at) (λ o. Ok (Move (move.Last o.0 o.1)))
-request_at reading words at verb.Until = and_then (target_at reading words at) (λ t. Ok (Until t.0 t.1))
-request_at reading words at verb.Since = and_then (target_at reading words at) (λ t. Ok (Since t.0 t.1))
-request_at reading words at verb.Start = only_at words at period_of wanted.Period (λ p. Move (move.Start p))
-request_at reading words at verb.End = only_at words at period_of wanted.Period (λ p. Move (move.End p))
-request_at reading words at verb.OnOrAfter = only_at words at weekday_of wanted.Weekday (λ w. Move (move.OnOrAfter w))
-request_at reading words at verb.OnOrBefore = only_at words at weekday_of wanted.Weekday (λ w. Move (move.OnOrBefore w))
-request_at reading words at verb.At = only_at words at offset_of wanted.Offset At
-request_at reading words at verb.Keep = and_then (bounds_at reading words at) (λ bounds. Ok (Keep bounds))
+abbrev pub request_at : (List ℕ → Option DateOrMoment) → List (List ℕ) → ℕ → Result Request Senseless
+request_at reading words at =
+    and_then (word_as words at Some (verb_wanted at)) (λ word.
+    if bytes_eq word (codes "to") then and_then (only_at words (at + 1) form_of wanted.Form) (λ form. Ok (To form)) else
+    if bytes_eq word (codes "add") then amount_at words (at + 1) else
+    if bytes_eq word (codes "next") then and_then (occurrence_at words (at + 1)) (λ o. Ok (Move (move.Next o.0 o.1))) else
+    if bytes_eq word (codes "last") then and_then (occurrence_at words (at + 1)) (λ o. Ok (Move (move.Last o.0 o.1))) else
+    if bytes_eq word (codes "until") then and_then (target_at reading words (at + 1)) (λ t. Ok (Until t.0 t.1)) else
+    if bytes_eq word (codes "since") then and_then (target_at reading words (at + 1)) (λ t. Ok (Since t.0 t.1)) else
+    if bytes_eq word (codes "start") then and_then (only_at words (at + 1) period_of wanted.Period) (λ p. Ok (Move (move.Start p))) else
+    if bytes_eq word (codes "end") then and_then (only_at words (at + 1) period_of wanted.Period) (λ p. Ok (Move (move.End p))) else
+    if bytes_eq word (codes "on-or-after") then and_then (only_at words (at + 1) weekday_of wanted.Weekday) (λ w. Ok (Move (move.OnOrAfter w))) else
+    if bytes_eq word (codes "on-or-before") then and_then (only_at words (at + 1) weekday_of wanted.Weekday) (λ w. Ok (Move (move.OnOrBefore w))) else
+    if bytes_eq word (codes "at") then and_then (only_at words (at + 1) offset_of wanted.Offset) (λ o. Ok (At o)) else
+    if bytes_eq word (codes "keep") then and_then (bounds_at reading words (at + 1)) (λ bounds. Ok (Keep bounds)) else
+    Err (senseless_at at (verb_wanted at)))
 
 -- ---- lists: `from A to B`, and a pace
 -- the day that a text is the date of
@@ -320,7 +302,7 @@ abbrev pub pace_of : List (List ℕ) → Result Pace Senseless
 pace_of words =
     if ends_at words 5 then Ok (Steps (record { every = 1; unit = steps.Days })) else
     and_then (word_as words 5 (keyword (codes "by")) wanted.By) (λ by_word.
-    if option_map_or is_rule_like (slice_get words 6) false then only_at words 6 rule_of wanted.Rule Rule else
+    if option_map_or is_rule_like (slice_get words 6) false then and_then (only_at words 6 rule_of wanted.Rule) (λ rule. Ok (Rule rule)) else
     steps_of words)
 
 abbrev pub paced : ℕ → ℕ → Pace → Asked
@@ -443,20 +425,11 @@ filter_of options request = record {
   skip = unwrap_or options.skip 0;
 }
 
--- a verb is wanted, or at the start an option that stands alone too
-abbrev pub verb_wanted : ℕ → Wanted
-verb_wanted at = if at == 0 then wanted.Start else wanted.Verb
-
--- after these options, with the verb at this index
-abbrev pub lines_at : (List ℕ → Option DateOrMoment) → List (List ℕ) → Options → ℕ → Result Asked Senseless
-lines_at reading words options at =
-    and_then (word_as words at verb_of (verb_wanted at)) (λ verb.
-    and_then (request_at reading words (at + 1) verb) (λ request. Ok (Lines (filter_of options request))))
-
 abbrev pub lines_of : (List ℕ → Option DateOrMoment) → List (List ℕ) → Result Asked Senseless
 lines_of reading words =
     and_then (options_from None no_options 0 words) (λ front.
-    option_map_or (λ what. Err (senseless_at front.1 what)) (lacking front.0) (lines_at reading words front.0 front.1))
+    option_map_or (λ what. Err (senseless_at front.1 what)) (lacking front.0)
+    (and_then (request_at reading words front.1) (λ request. Ok (Lines (filter_of front.0 request)))))
 
 -- an argument alone that is empty is as none
 abbrev pub asked_of : (List ℕ → Option DateOrMoment) → List (List ℕ) → Result Asked Senseless

@@ -2,20 +2,21 @@
 ghost use Rattle.std.specs.Prelude.{◌≡◌, ◌+◌, ◌<◌, ◌^◌, ℕ, List, Option, IfOk};
 ghost use Rattle.cal_text.specs.declared.any.DateOrMoment.{DateOrMoment};
 ghost use Rattle.caldate.specs.Lists.{IsAsked};
-ghost use Rattle.caldate.specs.Requests.{IsReading, amount_at, amount_of, arguments_of, asked_of, count_at, duration_of, filter_of, in_unit_at, lines_at, lines_of, occurrence_at, request_at, target_at, unit_at, verb_wanted};
+ghost use Rattle.caldate.specs.Offsets.{offset_of};
+ghost use Rattle.caldate.specs.Requests.{IsReading, amount_at, amount_of, arguments_of, asked_of, count_at, duration_of, filter_of, in_unit_at, lines_of, occurrence_at, only_at, request_at, target_at, unit_at, verb_wanted};
 
 use crate::bounds::bounds_at;
 use crate::listing::list_of;
 use crate::offset::offset_of;
 use crate::options::{Options, field_of, lacking, options_of, reading_in};
-use crate::request::{Asked, DayMove, Filter, Request, TimeUnit, Verb};
+use crate::request::{Asked, DayMove, Filter, Request, TimeUnit};
 use crate::senseless::{Senseless, Wanted, senseless_at};
 use crate::spelling::{
-    asks_for_help, count_of, form_of, number_of, period_of, unit_of, verb_of, weekday_of,
+    asks_for_help, count_of, form_of, number_of, period_of, unit_of, weekday_of,
 };
-use crate::words::{ended, ends_at, found_at, keyword_at, word_as, word_at};
+use crate::words::{ended, ends_at, found_at, keyword_at, only_at, word_as, word_at};
 use cal_text::DateOrMoment;
-use cal_time::{SignedDuration, Weekday};
+use cal_time::{SignedDuration, UtcOffset, Weekday};
 
 /// What the arguments ask for, or the first word that makes no sense. Between them stands a zero byte.
 ///
@@ -49,30 +50,11 @@ fn lines_of(words: &[u8]) -> Result<Asked, Senseless>
         → result ≡ lines_of reading (arguments_of words.now) }
 {
     let (options, at) = options_of(words)?;
-    match lacking(&options) {
-        Some(wanted) => Err(senseless_at(at, wanted)),
-        None => lines_at(words, &options, at),
+    if let Some(wanted) = lacking(&options) {
+        return Err(senseless_at(at, wanted));
     }
-}
-
-/// What the words from the verb on ask for, which has this index, after these options.
-fn lines_at(words: &[u8], options: &Options, at: usize) -> Result<Asked, Senseless>
-    requires { at + 5 < 2 ^ 64 }
-    ensures steps { IfOk result IsAsked }
-    ensures asked { (reading : List ℕ → Option DateOrMoment)
-        → IsReading reading (arguments_of words.now)
-        → result ≡ lines_at reading (arguments_of words.now) options.now at }
-{
-    let verb = word_as(words, at, verb_of, verb_wanted(at))?;
-    let request = request_at(words, at + 1, verb)?;
-    Ok(Asked::Lines(filter_of(options, request)))
-}
-
-/// A verb, or at the start an option that stands alone too.
-fn verb_wanted(at: usize) -> Wanted
-    ensures { result ≡ verb_wanted at }
-{
-    if at == 0 { Wanted::Start } else { Wanted::Verb }
+    let request = request_at(words, at)?;
+    Ok(Asked::Lines(filter_of(&options, request)))
 }
 
 /// To answer the lines so.
@@ -88,56 +70,60 @@ fn filter_of(options: &Options, request: Request) -> Filter
     }
 }
 
-/// The request of this verb and the words from an index on.
-fn request_at(words: &[u8], at: usize, verb: Verb) -> Result<Request, Senseless>
-    requires { at + 4 < 2 ^ 64 }
+/// The request whose verb has this index.
+fn request_at(words: &[u8], at: usize) -> Result<Request, Senseless>
+    requires { at + 5 < 2 ^ 64 }
     ensures { (reading : List ℕ → Option DateOrMoment) → IsReading reading (arguments_of words.now)
-        → result ≡ request_at reading (arguments_of words.now) at verb }
+        → result ≡ request_at reading (arguments_of words.now) at }
 {
-    match verb {
-        Verb::To => {
-            let form = word_as(words, at, form_of, Wanted::Form)?;
-            ended(words, at + 1, Request::To(form))
-        }
-        Verb::Add => amount_at(words, at),
-        Verb::Next => {
-            let (weekday, count) = occurrence_at(words, at)?;
-            Ok(Request::Move(DayMove::Next(weekday, count)))
-        }
-        Verb::Last => {
-            let (weekday, count) = occurrence_at(words, at)?;
-            Ok(Request::Move(DayMove::Last(weekday, count)))
-        }
-        Verb::Until => {
-            let (target, unit) = target_at(words, at)?;
-            Ok(Request::Until(target, unit))
-        }
-        Verb::Since => {
-            let (target, unit) = target_at(words, at)?;
-            Ok(Request::Since(target, unit))
-        }
-        Verb::Start => {
-            let period = word_as(words, at, period_of, Wanted::Period)?;
-            ended(words, at + 1, Request::Move(DayMove::Start(period)))
-        }
-        Verb::End => {
-            let period = word_as(words, at, period_of, Wanted::Period)?;
-            ended(words, at + 1, Request::Move(DayMove::End(period)))
-        }
-        Verb::OnOrAfter => {
-            let weekday = word_as(words, at, weekday_of, Wanted::Weekday)?;
-            ended(words, at + 1, Request::Move(DayMove::OnOrAfter(weekday)))
-        }
-        Verb::OnOrBefore => {
-            let weekday = word_as(words, at, weekday_of, Wanted::Weekday)?;
-            ended(words, at + 1, Request::Move(DayMove::OnOrBefore(weekday)))
-        }
-        Verb::At => {
-            let offset = word_as(words, at, offset_of, Wanted::Offset)?;
-            ended(words, at + 1, Request::At(offset))
-        }
-        Verb::Keep => Ok(Request::Keep(bounds_at(words, at)?)),
+    let senseless = senseless_at(at, verb_wanted(at));
+    let verb = word_at(words, at).ok_or(senseless)?;
+    if verb == b"to".as_slice() {
+        Ok(Request::To(only_at(words, at + 1, form_of, Wanted::Form)?))
+    } else if verb == b"add".as_slice() {
+        amount_at(words, at + 1)
+    } else if verb == b"next".as_slice() {
+        let (weekday, count) = occurrence_at(words, at + 1)?;
+        Ok(Request::Move(DayMove::Next(weekday, count)))
+    } else if verb == b"last".as_slice() {
+        let (weekday, count) = occurrence_at(words, at + 1)?;
+        Ok(Request::Move(DayMove::Last(weekday, count)))
+    } else if verb == b"until".as_slice() {
+        let (target, unit) = target_at(words, at + 1)?;
+        Ok(Request::Until(target, unit))
+    } else if verb == b"since".as_slice() {
+        let (target, unit) = target_at(words, at + 1)?;
+        Ok(Request::Since(target, unit))
+    } else if verb == b"start".as_slice() {
+        Ok(Request::Move(DayMove::Start(only_at(words, at + 1, period_of, Wanted::Period)?)))
+    } else if verb == b"end".as_slice() {
+        Ok(Request::Move(DayMove::End(only_at(words, at + 1, period_of, Wanted::Period)?)))
+    } else if verb == b"on-or-after".as_slice() {
+        Ok(Request::Move(DayMove::OnOrAfter(only_at(words, at + 1, weekday_of, Wanted::Weekday)?)))
+    } else if verb == b"on-or-before".as_slice() {
+        Ok(Request::Move(DayMove::OnOrBefore(only_at(words, at + 1, weekday_of, Wanted::Weekday)?)))
+    } else if verb == b"at".as_slice() {
+        Ok(Request::At(offset_at(words, at + 1)?))
+    } else if verb == b"keep".as_slice() {
+        Ok(Request::Keep(bounds_at(words, at + 1)?))
+    } else {
+        Err(senseless)
     }
+}
+
+/// The offset that the last word is.
+fn offset_at(words: &[u8], at: usize) -> Result<UtcOffset, Senseless>
+    requires { at + 1 < 2 ^ 64 }
+    ensures { result ≡ only_at (arguments_of words.now) at offset_of Wanted.Offset }
+{
+    only_at(words, at, offset_of, Wanted::Offset)
+}
+
+/// A verb, or at the start an option that stands alone too.
+fn verb_wanted(at: usize) -> Wanted
+    ensures { result ≡ verb_wanted at }
+{
+    if at == 0 { Wanted::Start } else { Wanted::Verb }
 }
 
 /// That many units later, days where no unit is named.
@@ -161,8 +147,7 @@ fn unit_at(words: &[u8], at: usize) -> Result<TimeUnit, Senseless>
     if ends_at(words, at) {
         return Ok(TimeUnit::Days);
     }
-    let unit = word_as(words, at, unit_of, Wanted::UnitOfTime)?;
-    ended(words, at + 1, unit)
+    only_at(words, at, unit_of, Wanted::UnitOfTime)
 }
 
 /// That many units later, if a duration has so many of its unit.
@@ -206,8 +191,7 @@ fn count_at(words: &[u8], at: usize) -> Result<u8, Senseless>
     if ends_at(words, at) {
         return Ok(1);
     }
-    let count = word_as(words, at, count_of, Wanted::Count)?;
-    ended(words, at + 1, count)
+    only_at(words, at, count_of, Wanted::Count)
 }
 
 /// A date or a moment, and perhaps a unit.
@@ -229,6 +213,6 @@ fn in_unit_at(words: &[u8], at: usize) -> Result<Option<TimeUnit>, Senseless>
         return Ok(None);
     }
     keyword_at(words, at, b"in", Wanted::In)?;
-    let unit = word_as(words, at + 1, unit_of, Wanted::UnitOfTime)?;
-    ended(words, at + 2, Some(unit))
+    let unit = only_at(words, at + 1, unit_of, Wanted::UnitOfTime)?;
+    Ok(Some(unit))
 }

@@ -2,7 +2,7 @@
 ghost use Rattle.std.specs.Prelude.{◌≡◌, ◌+◌, ◌<◌, ◌^◌, ℕ, List, Option};
 ghost use Rattle.cal_text.specs.declared.any.DateOrMoment.{DateOrMoment};
 ghost use Rattle.caldate.specs.Bounds.{are_dates, is_after, is_before, is_within, lies_in};
-ghost use Rattle.caldate.specs.Requests.{IsReading, arguments_of, bounds_at, range_at};
+ghost use Rattle.caldate.specs.Requests.{IsReading, arguments_of, bounds_at, only_at, range_at};
 
 use crate::answer::{is_date, moment_of};
 use crate::request::Bounds;
@@ -21,14 +21,22 @@ pub fn bounds_at(words: &[u8], at: usize) -> Result<Bounds, Senseless>
     if word == b"from".as_slice() {
         range_at(words, at + 1)
     } else if word == b"after".as_slice() {
-        let bound = found_at(words, at + 1, Wanted::Target)?;
-        ended(words, at + 2, Bounds::After(bound))
+        Ok(Bounds::After(bound_at(words, at + 1)?))
     } else if word == b"before".as_slice() {
-        let bound = found_at(words, at + 1, Wanted::Target)?;
-        ended(words, at + 2, Bounds::Before(bound))
+        Ok(Bounds::Before(bound_at(words, at + 1)?))
     } else {
         Err(unbound)
     }
+}
+
+/// The date or the moment that the last word is.
+fn bound_at(words: &[u8], at: usize) -> Result<DateOrMoment, Senseless>
+    requires { at + 1 < 2 ^ 64 }
+    ensures { (reading : List ℕ → Option DateOrMoment) → IsReading reading (arguments_of words.now)
+        → result ≡ only_at (arguments_of words.now) at reading Wanted.Target }
+{
+    let bound = found_at(words, at, Wanted::Target)?;
+    ended(words, at + 1, bound)
 }
 
 /// From one to the other.
@@ -39,8 +47,7 @@ fn range_at(words: &[u8], at: usize) -> Result<Bounds, Senseless>
 {
     let first = found_at(words, at, Wanted::Target)?;
     keyword_at(words, at + 1, b"to", Wanted::UpTo)?;
-    let last = found_at(words, at + 2, Wanted::Target)?;
-    ended(words, at + 3, Bounds::FromTo(first, last))
+    Ok(Bounds::FromTo(first, bound_at(words, at + 2)?))
 }
 
 /// Whether it lies within the bounds; `None` for a date where one of them is a moment.

@@ -9,7 +9,7 @@ use crate::lines::index_of;
 use crate::request::{Asked, Listing, Occurrences, Pace, Step, StepUnit, TimeUnit};
 use crate::senseless::{Senseless, Wanted, senseless_at};
 use crate::spelling::{many_of, unit_of};
-use crate::words::{ended, ends_at, found_at, keyword_at, word_as, word_at};
+use crate::words::{ended, ends_at, found_at, keyword_at, only_at, word_as, word_at};
 use cal_recurrence::{Recurrence, parse};
 use cal_text::DateOrMoment;
 use cal_time::Date;
@@ -80,8 +80,7 @@ fn pace_of(words: &[u8]) -> Result<Pace, Senseless>
     }
     keyword_at(words, 5, b"by", Wanted::By)?;
     if is_rule_like(words) {
-        let recurrence = word_as(words, 6, rule_of, Wanted::Rule)?;
-        return ended(words, 7, Pace::Rule(recurrence));
+        return Ok(Pace::Rule(only_at(words, 6, rule_of, Wanted::Rule)?));
     }
     steps_of(words)
 }

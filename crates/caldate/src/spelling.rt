@@ -1,46 +1,13 @@
 //! What single words of the arguments spell, and how the arguments are cut into words.
 ghost use Rattle.std.specs.Prelude.{◌≡◌, ◌≤◌, ℕ, List, [], ◌∷◌, length, MatchOption};
 ghost use Rattle.std.specs.Str.{str_eq_ignore_ascii_case};
-ghost use Rattle.caldate.specs.Requests.{arguments_of, asks_for_help, verb_of, number_of, count_of, form_of, further_form_of, weekday_of, period_of, unit_of, spells, spells_unit, words_left, many_of};
+ghost use Rattle.caldate.specs.Requests.{arguments_of, asks_for_help, number_of, count_of, form_of, further_form_of, weekday_of, period_of, unit_of, spells, spells_unit, words_left, many_of};
 
 use crate::lines::index_of;
-use crate::request::{Form, Period, TimeUnit, UnixUnit, Verb};
+use crate::request::{Form, Period, TimeUnit, UnixUnit};
 use cal_text::{DateForm, MomentForm};
 use cal_time::Weekday;
 use std::str;
-
-/// The verb that a word is.
-pub fn verb_of(word: &[u8]) -> Option<Verb>
-    ensures { result ≡ verb_of word.now }
-{
-    if word == b"to".as_slice() {
-        Some(Verb::To)
-    } else if word == b"add".as_slice() {
-        Some(Verb::Add)
-    } else if word == b"next".as_slice() {
-        Some(Verb::Next)
-    } else if word == b"last".as_slice() {
-        Some(Verb::Last)
-    } else if word == b"until".as_slice() {
-        Some(Verb::Until)
-    } else if word == b"since".as_slice() {
-        Some(Verb::Since)
-    } else if word == b"start".as_slice() {
-        Some(Verb::Start)
-    } else if word == b"end".as_slice() {
-        Some(Verb::End)
-    } else if word == b"on-or-after".as_slice() {
-        Some(Verb::OnOrAfter)
-    } else if word == b"on-or-before".as_slice() {
-        Some(Verb::OnOrBefore)
-    } else if word == b"at".as_slice() {
-        Some(Verb::At)
-    } else if word == b"keep".as_slice() {
-        Some(Verb::Keep)
-    } else {
-        None
-    }
-}
 
 /// Whether the word asks for the page of examples.
 pub fn asks_for_help(word: &[u8]) -> bool

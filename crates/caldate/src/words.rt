@@ -1,8 +1,8 @@
 //! The words of the arguments, each by its index, and what they mean where something is wanted.
 ghost use Rattle.std.specs.Fn.{FnOnceReturnsAt};
-ghost use Rattle.std.specs.Prelude.{◌≡◌, ℕ, List, MatchOption, Option, ok_or, slice_get};
+ghost use Rattle.std.specs.Prelude.{◌≡◌, ◌+◌, ◌<◌, ◌^◌, ℕ, List, MatchOption, Option, ok_or, slice_get};
 ghost use Rattle.cal_text.specs.declared.any.DateOrMoment.{DateOrMoment};
-ghost use Rattle.caldate.specs.Requests.{IsRead, IsReading, arguments_of, ended, ends_at, keyword, senseless_at, word_as};
+ghost use Rattle.caldate.specs.Requests.{IsRead, IsReading, and_then, arguments_of, ended, ends_at, keyword, senseless_at, word_as};
 
 use crate::senseless::{Senseless, Wanted, senseless_at};
 use crate::spelling::cut;
@@ -86,4 +86,23 @@ pub fn ended<T: Drop>(words: &[u8], at: usize, meaning: T) -> Result<T, Senseles
     } else {
         Err(senseless_at(at, Wanted::End))
     }
+}
+
+/// What the word at an index means, which is to be the last one.
+pub fn only_at<T: Drop, F: FnOnce(&[u8]) -> Option<T>>(
+    words: &[u8],
+    at: usize,
+    meaning: F,
+    wanted: Wanted,
+) -> Result<T, Senseless>
+    requires calls { F.IsAlwaysCallable meaning }
+    requires fits { at + 1 < 2 ^ 64 }
+    ensures { MatchOption (slice_get (arguments_of words.now) at)
+        (result ≡ Err (senseless_at at wanted))
+        (λ word. (found : Option T) × FnOnceReturnsAt F.FnOnce meaning word found
+        × (result ≡ and_then (ok_or found (senseless_at at wanted))
+        (ended (arguments_of words.now) (at + 1)))) }
+{
+    let meaning = word_as(words, at, meaning, wanted)?;
+    ended(words, at + 1, meaning)
 }
