@@ -24,7 +24,6 @@ use Rattle.caldate.specs.declared.request.Field.{Field}
 use Rattle.caldate.specs.declared.request.Filter.{Filter}
 use Rattle.caldate.specs.declared.request.Form.{Form}
 use Rattle.caldate.specs.declared.request.Form.TheVariants as form
-use Rattle.caldate.specs.declared.request.DayMove.{DayMove}
 use Rattle.caldate.specs.declared.request.DayMove.TheVariants as move
 use Rattle.caldate.specs.declared.request.Period.{Period}
 use Rattle.caldate.specs.declared.request.Period.TheVariants as period
@@ -158,32 +157,32 @@ seconds_in unit amount =
 abbrev pub senseless_at : ℕ → Wanted → Senseless
 senseless_at at what = record { index = at; wanted = what }
 
--- what makes sense leads on; of what makes none the first word is told
+-- some words make sense, and so do those that come after them; else the first that makes none is told
 abbrev pub and_then : {X Y : Type 0} → Result X Senseless → (X → Result Y Senseless) → Result Y Senseless
 and_then (Ok x) more = more x
 and_then (Err senseless) more = Err senseless
 
--- what the word means, where this is wanted
+-- what the word at the index means, where this is wanted
 abbrev pub word_as : {X : Type 0} → List (List ℕ) → ℕ → (List ℕ → Option X) → Wanted → Result X Senseless
 word_as words at meaning what = ok_or (option_and_then meaning (slice_get words at)) (senseless_at at what)
 
--- of a word that is to be this one
+-- nothing more than that the word is this one
 abbrev pub keyword : List ℕ → List ℕ → Option Unit
 keyword name word = if bytes_eq word name then Some tt else None
 
--- no word comes there, or one is too many
+-- no word comes at the index, or one is too many
 abbrev pub ends_at : List (List ℕ) → ℕ → Bool
 ends_at words at = is_none (slice_get words at)
 
 abbrev pub ended : {X : Type 0} → List (List ℕ) → ℕ → X → Result X Senseless
 ended words at x = if ends_at words at then Ok x else Err (senseless_at at wanted.End)
 
--- what the last word means
+-- what the word at the index means, which is to be the last one
 abbrev pub only_at : {X : Type 0} → List (List ℕ) → ℕ → (List ℕ → Option X) → Wanted → Result X Senseless
 only_at words at meaning what = and_then (word_as words at meaning what) (ended words (at + 1))
 
 -- ---- requests, by the words from an index on
--- the N of `add N UNIT`, of which a duration has not so many as there are numbers
+-- `add N UNIT`: so many units, of which a duration has not all that a number counts
 abbrev pub duration_of : ℕ → ℤ → Option Request
 duration_of unit z = option_map Add (seconds_in unit z)
 

@@ -6,7 +6,8 @@ use crate::offset::offset_of;
 use crate::reading::Reading;
 use crate::request::{Field, UnixUnit};
 use crate::senseless::{Senseless, Wanted, senseless_at};
-use crate::spelling::{cut, number_of};
+use crate::spelling::number_of;
+use crate::words::cut;
 use cal_time::UtcOffset;
 
 /// The options before a request.
@@ -107,29 +108,16 @@ fn value_of(options: &Options, word: &[u8]) -> Option<Wanted>
 fn with_value(options: &Options, value: &[u8], wanted: Wanted) -> Option<Options>
     ensures { result ≡ with_value options.now value.now wanted }
 {
+    let mut more = *options;
     match wanted {
-        Wanted::FieldNumber => Some(Options {
-            number: Some(field_number_of(value)?),
-            ..*options
-        }),
-        Wanted::Separator => Some(Options {
-            separator: Some(byte_of(value)?),
-            ..*options
-        }),
-        Wanted::Skip => Some(Options {
-            skip: Some(skip_of(value)?),
-            ..*options
-        }),
-        Wanted::Reading => Some(Options {
-            reading: Some(reading_of(value)?),
-            ..*options
-        }),
-        Wanted::Offset => Some(Options {
-            offset: Some(offset_of(value)?),
-            ..*options
-        }),
-        _ => None,
+        Wanted::FieldNumber => more.number = Some(field_number_of(value)?),
+        Wanted::Separator => more.separator = Some(byte_of(value)?),
+        Wanted::Skip => more.skip = Some(skip_of(value)?),
+        Wanted::Reading => more.reading = Some(reading_of(value)?),
+        Wanted::Offset => more.offset = Some(offset_of(value)?),
+        _ => return None,
     }
+    Some(more)
 }
 
 /// The number from 1 to 65535 that a word spells.

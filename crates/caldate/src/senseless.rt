@@ -74,6 +74,7 @@ pub struct Senseless {
     pub wanted: Wanted,
 }
 
+/// That this is wanted at the index, and does not stand there.
 pub fn senseless_at(index: usize, wanted: Wanted) -> Senseless
     ensures { result ≡ senseless_at index wanted }
 {

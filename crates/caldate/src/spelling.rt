@@ -1,9 +1,8 @@
-//! What single words of the arguments spell, and how the arguments are cut into words.
-ghost use Rattle.std.specs.Prelude.{◌≡◌, ◌≤◌, ℕ, List, [], ◌∷◌, length, MatchOption};
+//! What single words of the arguments spell.
+ghost use Rattle.std.specs.Prelude.{◌≡◌, ◌≤◌, length};
 ghost use Rattle.std.specs.Str.{str_eq_ignore_ascii_case};
-ghost use Rattle.caldate.specs.Requests.{arguments_of, asks_for_help, number_of, count_of, form_of, further_form_of, weekday_of, period_of, unit_of, spells, spells_unit, words_left, many_of};
+ghost use Rattle.caldate.specs.Requests.{asks_for_help, number_of, count_of, form_of, further_form_of, weekday_of, period_of, unit_of, spells, spells_unit, many_of};
 
-use crate::lines::index_of;
 use crate::request::{Form, Period, TimeUnit, UnixUnit};
 use cal_text::{DateForm, MomentForm};
 use cal_time::Weekday;
@@ -182,24 +181,4 @@ fn is_alike(word: &[u8], name: &[u8]) -> bool
     ensures { result ≡ str_eq_ignore_ascii_case word.now name.now }
 {
     word.eq_ignore_ascii_case(name)
-}
-
-/// The first word, and what comes after the zero byte that ends it. There is none if the bytes are one word.
-#[tactic(auto, using(crate::proofs::Parts::arguments_of_some, crate::proofs::Parts::arguments_of_none, std::proofs::lemmas::List::take_rest))]
-pub fn first_word(bytes: &[u8]) -> Option<(&[u8], &[u8])>
-    ensures { MatchOption result (arguments_of bytes.now ≡ bytes.now ∷ [])
-        (λ parts. arguments_of bytes.now ≡ parts.0.now ∷ arguments_of parts.1.now) }
-{
-    let at = index_of(0, bytes)?;
-    Some((&bytes[..at], &bytes[at + 1..]))
-}
-
-/// The first word, and those after it, where there are any.
-pub fn cut(words: &[u8]) -> (&[u8], Option<&[u8]>)
-    ensures { arguments_of words.now ≡ result.0.now ∷ words_left result.1 }
-{
-    match first_word(words) {
-        Some((word, rest)) => (word, Some(rest)),
-        None => (words, None),
-    }
 }

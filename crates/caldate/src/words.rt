@@ -1,12 +1,23 @@
 //! The words of the arguments, each by its index, and what they mean where something is wanted.
 ghost use Rattle.std.specs.Fn.{FnOnceReturnsAt};
-ghost use Rattle.std.specs.Prelude.{◌≡◌, ◌+◌, ◌<◌, ◌^◌, ℕ, List, MatchOption, Option, ok_or, slice_get};
+ghost use Rattle.std.specs.Prelude.{◌≡◌, ◌∷◌, ◌+◌, ◌<◌, ◌^◌, ℕ, List, MatchOption, Option, ok_or, slice_get};
 ghost use Rattle.cal_text.specs.declared.any.DateOrMoment.{DateOrMoment};
-ghost use Rattle.caldate.specs.Requests.{IsRead, IsReading, and_then, arguments_of, ended, ends_at, keyword, senseless_at, word_as};
+ghost use Rattle.caldate.specs.Requests.{IsRead, IsReading, and_then, arguments_of, ended, ends_at, keyword, senseless_at, word_as, words_left};
 
+use crate::lines::index_of;
 use crate::senseless::{Senseless, Wanted, senseless_at};
-use crate::spelling::cut;
 use cal_text::{DateOrMoment, read_any};
+
+/// The first word, and those after the zero byte that ends it, where there are any.
+#[tactic(auto, using(crate::proofs::Parts::arguments_of_some, crate::proofs::Parts::arguments_of_none, std::proofs::lemmas::List::take_rest))]
+pub fn cut(words: &[u8]) -> (&[u8], Option<&[u8]>)
+    ensures { arguments_of words.now ≡ result.0.now ∷ words_left result.1 }
+{
+    match index_of(0, words) {
+        Some(at) => (&words[..at], Some(&words[at + 1..])),
+        None => (words, None),
+    }
+}
 
 /// The word at an index, if there is one.
 pub fn word_at(words: &[u8], at: usize) -> Option<&[u8]>
