@@ -71,19 +71,16 @@ is_number word =
 abbrev pub number_of : List ℕ → Option ℤ
 number_of word = if is_number word then Some (signed_digits_value 10 word) else None
 
--- a number from 1 to 255
-abbrev pub count_in : ℤ → Option ℕ
-count_in z = if int_le (pos 1) z && int_le z (pos 255) then Some (nat_abs z) else None
+-- such a number from one to another, of which neither is negative
+abbrev pub number_between : ℕ → ℕ → List ℕ → Option ℕ
+number_between low high word =
+    option_and_then (λ z. if int_le (pos low) z && int_le z (pos high) then Some (nat_abs z) else None) (number_of word)
 
 abbrev pub count_of : List ℕ → Option ℕ
-count_of word = option_and_then count_in (number_of word)
-
--- a number from 1 to 4294967295
-abbrev pub many_in : ℤ → Option ℕ
-many_in z = if int_le (pos 1) z && int_le z (pos 4294967295) then Some (nat_abs z) else None
+count_of word = number_between 1 255 word
 
 abbrev pub many_of : List ℕ → Option ℕ
-many_of word = option_and_then many_in (number_of word)
+many_of word = number_between 1 4294967295 word
 
 abbrev pub further_form_of : List ℕ → Option Form
 further_form_of word =
@@ -327,24 +324,18 @@ takes_strict options word = bytes_eq word (codes "--strict") && not options.is_s
 abbrev pub with_strict : Options → Options
 with_strict options = record options { is_strict = true }
 
--- `--field N`: a number from 1 to 65535
-abbrev pub field_number_in : ℤ → Option ℕ
-field_number_in z = if int_le (pos 1) z && int_le z (pos 65535) then Some (nat_abs z) else None
-
+-- `--field N`
 abbrev pub field_number_of : List ℕ → Option ℕ
-field_number_of word = option_and_then field_number_in (number_of word)
+field_number_of word = number_between 1 65535 word
 
 -- `--separator C`: one byte
 abbrev pub byte_of : List ℕ → Option ℕ
 byte_of (byte ∷ []) = Some byte
 byte_of word = None
 
--- `--skip K`: a number that is not negative
-abbrev pub skip_in : ℤ → Option ℕ
-skip_in z = if int_le (pos 0) z then Some (nat_abs z) else None
-
+-- `--skip K`
 abbrev pub skip_of : List ℕ → Option ℕ
-skip_of word = option_and_then skip_in (number_of word)
+skip_of word = number_between 0 9223372036854775807 word
 
 -- `--read FORM`: the reading that the word names; that of `local` waits for its offset
 abbrev pub reading_of : List ℕ → Option Reading
