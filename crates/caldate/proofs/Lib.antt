@@ -1,6 +1,6 @@
 pub mod Parts
 pub mod Cuts
-pub mod Words
+pub mod Indices
 pub mod Ends
 pub mod Known
 pub mod Lacks

@@ -2,7 +2,7 @@
 use Rattle.std.proofs.Common.{◌≡◌, ℕ, ◌+◌, ◌<◌, ◌≤◌, Bool, false, eqb, get_or, List, [], ◌∷◌, ◌++◌, length, take, drop, Some, None, ap, ◌∙◌, arith, subst}
 use Rattle.std.specs.List.{slice_split, position, position_or_len}
 use Rattle.std.specs.Prelude.{All}
-use Rattle.std.proofs.lemmas.List.Splits.{slice_split_first, slice_split_none, length-slice_split}
+use Rattle.std.proofs.lemmas.List.Splits.{slice_split_first, slice_split_none}
 use Rattle.std.proofs.lemmas.List.Sums.{fails_before_first, passes_at_first, split_at_first}
 use Rattle.std.proofs.lemmas.Grind.{common_steps}
 use Rattle.std.proofs.lemmas.Bool.{eqb-true}
@@ -35,17 +35,6 @@ arguments_of_some xs k e = split_at_some (λ b. eqb b 0) xs k e
 
 pub arguments_of_none : (xs : List ℕ) → position (λ b. eqb b 0) xs ≡ None → arguments_of xs ≡ xs ∷ []
 arguments_of_none xs e = slice_split_none (λ b. eqb b 0) xs (all_fail (λ b. eqb b 0) xs e)
-
--- bytes with a zero byte have two words
-two_parts : (bytes part : List ℕ) (parts : List (List ℕ)) → 0 < length parts → arguments_of bytes ≡ part ∷ parts
-    → (first second : List ℕ) × (more : List (List ℕ)) × (arguments_of bytes ≡ first ∷ second ∷ more)
-two_parts bytes part [] h e = absurd (omega arith)
-two_parts bytes part (p ∷ parts) h e = (part, p, parts, e)
-
-pub two_arguments : (xs : List ℕ) (k : ℕ) → position (λ b. eqb b 0) xs ≡ Some k
-    → (first second : List ℕ) × (more : List (List ℕ)) × (arguments_of xs ≡ first ∷ second ∷ more)
-two_arguments xs k e =
-    two_parts xs _ _ (omega (arith, length-slice_split (λ b. eqb b 0) (drop (k + 1) xs))) (split_at_some (λ b. eqb b 0) xs k e).1
 
 before : (p : ℕ → Bool) (xs : List ℕ) (j d : ℕ) → j < length (take (position_or_len p xs) xs)
     → p (get_or (take (position_or_len p xs) xs) j d) ≡ false

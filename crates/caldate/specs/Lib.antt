@@ -1,5 +1,6 @@
 pub mod Answers
 pub mod Bounds
+pub mod Complaint
 pub mod Counts
 pub mod Ending
 pub mod Fields
@@ -16,7 +17,6 @@ pub mod Recurring
 pub mod Requests
 pub mod Room
 pub mod Runs
-pub mod Senseless
 pub mod Shown
 pub mod Standing
 pub mod Templates

@@ -2,8 +2,8 @@
 use denote.Ref.{Bor}
 use Rattle.std.specs.Prelude.{◌≡◌, ℕ, List, Option, Some, None, Ok, Err, codes, ◌++◌, [], ◌∷◌}
 use Rattle.cal_text.specs.declared.any.DateOrMoment.{DateOrMoment}
-use Rattle.caldate.specs.Requests.{IsReading, arguments_of}
-use Rattle.caldate.specs.Senseless.{asked_of, complaint}
+use Rattle.caldate.specs.Complaint.{complaint}
+use Rattle.caldate.specs.Requests.{IsReading, arguments_of, asked_of}
 use Rattle.caldate.specs.declared.request.Asked.{Asked}
 use Rattle.caldate.specs.declared.senseless.Senseless.{Senseless}
 

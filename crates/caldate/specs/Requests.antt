@@ -1,8 +1,8 @@
--- What the arguments ask for, where they make sense.
+-- What the arguments ask for, or the first word that makes no sense, with what is wanted there.
 use denote.Ref.{Bor}
-use Rattle.std.specs.Prelude.{ℕ, nat_lt, not, ◌&&◌, ◌||◌, Bool, true, false, is_none, is_some, unwrap_or, ℤ, pos, neg_ℤ, ◌*ℤ◌, int_le, nat_abs, List, [], ◌∷◌, ◌==◌, length, take, Option, Some, None, MatchOption, option_map, option_and_then, bytes_eq, codes, if◌then◌else◌, ◌*◌}
+use Rattle.std.specs.Prelude.{ℕ, ◌+◌, nat_lt, not, ◌&&◌, ◌||◌, Bool, true, false, is_none, is_some, unwrap_or, ℤ, pos, neg_ℤ, ◌*ℤ◌, int_le, nat_abs, List, [], ◌∷◌, ◌==◌, length, take, Option, Some, None, MatchOption, option_map, option_and_then, ok_or, Result, Ok, Err, slice_get, position, bytes_eq, codes, if◌then◌else◌, ◌*◌}
 use Rattle.std.specs.List.{All, slice_split}
-use Rattle.std.specs.Option.{option_map_or, option_zip}
+use Rattle.std.specs.Option.{option_map_or}
 use Rattle.std.specs.Result.{result_ok}
 use Rattle.std.specs.Str.{all_ascii_digits, str_eq_ignore_ascii_case}
 use Rattle.std.specs.Str.Parse.{signed_digits_value, without_leading_sign}
@@ -15,14 +15,15 @@ use Rattle.cal_text.specs.declared.any.DateOrMoment.{DateOrMoment}
 use Rattle.cal_text.specs.declared.any.DateOrMoment.TheVariants as dated
 use Rattle.cal_text.specs.declared.any.MomentForm.TheVariants.{Rfc3339, Unix}
 use Rattle.cal_recurrence.specs.Text.{recurrence_of}
+use Rattle.cal_recurrence.specs.declared.recurrence.Recurrence.{Recurrence}
 use Rattle.caldate.specs.Offsets.{offset_of}
 use Rattle.caldate.specs.declared.options.Options.{Options}
 use Rattle.caldate.specs.declared.reading.Reading.{Reading}
 use Rattle.caldate.specs.declared.reading.Reading.TheVariants as read
 use Rattle.caldate.specs.declared.request.Field.{Field}
+use Rattle.caldate.specs.declared.request.Filter.{Filter}
 use Rattle.caldate.specs.declared.request.Form.{Form}
 use Rattle.caldate.specs.declared.request.Form.TheVariants as form
-use Rattle.caldate.specs.declared.request.DayMove.{DayMove}
 use Rattle.caldate.specs.declared.request.DayMove.TheVariants as move
 use Rattle.caldate.specs.declared.request.Period.{Period}
 use Rattle.caldate.specs.declared.request.Period.TheVariants as period
@@ -33,14 +34,13 @@ use Rattle.caldate.specs.declared.request.StepUnit.TheVariants as steps
 use Rattle.caldate.specs.declared.request.TimeUnit.{TimeUnit}
 use Rattle.caldate.specs.declared.request.TimeUnit.TheVariants as unit
 use Rattle.caldate.specs.declared.request.UnixUnit.TheVariants.{Milliseconds, Microseconds, Nanoseconds}
-use Rattle.caldate.specs.declared.request.Verb.{Verb}
-use Rattle.caldate.specs.declared.request.Verb.TheVariants as verb
 use Rattle.caldate.specs.declared.request.Request.{Request}
 use Rattle.caldate.specs.declared.request.Request.TheVariants.{To, Add, Move, Until, Since, At, Keep}
 use Rattle.caldate.specs.declared.request.Bounds.{Bounds}
 use Rattle.caldate.specs.declared.request.Bounds.TheVariants.{FromTo, After, Before}
 use Rattle.caldate.specs.declared.request.Asked.{Asked}
 use Rattle.caldate.specs.declared.request.Asked.TheVariants.{Help, Version, Lines, Dates, Recurring}
+use Rattle.caldate.specs.declared.senseless.Senseless.{Senseless}
 use Rattle.caldate.specs.declared.senseless.Wanted.{Wanted}
 use Rattle.caldate.specs.declared.senseless.Wanted.TheVariants as wanted
 
@@ -71,35 +71,16 @@ is_number word =
 abbrev pub number_of : List ℕ → Option ℤ
 number_of word = if is_number word then Some (signed_digits_value 10 word) else None
 
--- a number from 1 to 255
-abbrev pub count_in : ℤ → Option ℕ
-count_in z = if int_le (pos 1) z && int_le z (pos 255) then Some (nat_abs z) else None
+-- such a number from one to another, of which neither is negative
+abbrev pub number_between : ℕ → ℕ → List ℕ → Option ℕ
+number_between low high word =
+    option_and_then (λ z. if int_le (pos low) z && int_le z (pos high) then Some (nat_abs z) else None) (number_of word)
 
 abbrev pub count_of : List ℕ → Option ℕ
-count_of word = option_and_then count_in (number_of word)
-
--- a number from 1 to 4294967295
-abbrev pub many_in : ℤ → Option ℕ
-many_in z = if int_le (pos 1) z && int_le z (pos 4294967295) then Some (nat_abs z) else None
+count_of word = number_between 1 255 word
 
 abbrev pub many_of : List ℕ → Option ℕ
-many_of word = option_and_then many_in (number_of word)
-
-abbrev pub verb_of : List ℕ → Option Verb
-verb_of word =
-    if bytes_eq word (codes "to") then Some verb.To else
-    if bytes_eq word (codes "add") then Some verb.Add else
-    if bytes_eq word (codes "next") then Some verb.Next else
-    if bytes_eq word (codes "last") then Some verb.Last else
-    if bytes_eq word (codes "until") then Some verb.Until else
-    if bytes_eq word (codes "since") then Some verb.Since else
-    if bytes_eq word (codes "start") then Some verb.Start else
-    if bytes_eq word (codes "end") then Some verb.End else
-    if bytes_eq word (codes "on-or-after") then Some verb.OnOrAfter else
-    if bytes_eq word (codes "on-or-before") then Some verb.OnOrBefore else
-    if bytes_eq word (codes "at") then Some verb.At else
-    if bytes_eq word (codes "keep") then Some verb.Keep else
-    None
+many_of word = number_between 1 4294967295 word
 
 abbrev pub further_form_of : List ℕ → Option Form
 further_form_of word =
@@ -168,105 +149,169 @@ seconds_in unit amount =
     let seconds = amount *ℤ pos unit in
     if int_le (neg_ℤ (pos 9223372036854775808)) seconds && int_le seconds (pos 9223372036854775807) then Some (seconds *ℤ pos second) else None
 
--- ---- requests
--- what they mean, where they are one word
-abbrev pub only : {X : Type 0} → (List ℕ → Option X) → List (List ℕ) → Option X
-only meaning (word ∷ []) = meaning word
-only meaning words = None
+-- ---- the words, each by its index among the arguments, counted from 0
+-- the first word that makes no sense has this index, where this is wanted; a word that is missing has the index that it would have
+abbrev pub senseless_at : ℕ → Wanted → Senseless
+senseless_at at what = record { index = at; wanted = what }
 
--- `to FORM`
-abbrev pub to_request : List (List ℕ) → Option Request
-to_request words = option_map To (only form_of words)
+-- some words make sense, and so do those that come after them; else the first that makes none is told
+abbrev pub and_then : {X Y : Type 0} → Result X Senseless → (X → Result Y Senseless) → Result Y Senseless
+and_then (Ok x) more = more x
+and_then (Err senseless) more = Err senseless
 
--- `add N`, in days, and `add N UNIT`
-abbrev pub duration_in : List ℕ → ℕ → Option Request
-duration_in number unit = option_map Add (option_and_then (seconds_in unit) (number_of number))
+-- what the word at the index means, where this is wanted
+abbrev pub word_as : {X : Type 0} → List (List ℕ) → ℕ → (List ℕ → Option X) → Wanted → Result X Senseless
+word_as words at meaning what = ok_or (option_and_then meaning (slice_get words at)) (senseless_at at what)
 
-abbrev pub move_in : List ℕ → (ℤ → DayMove) → Option Request
-move_in number by = option_map (λ z. Move (by z)) (number_of number)
+-- nothing more than that the word is this one
+abbrev pub keyword : List ℕ → List ℕ → Option Unit
+keyword name word = if bytes_eq word name then Some tt else None
 
-abbrev pub amount_in : List ℕ → TimeUnit → Option Request
-amount_in number unit.Years = move_in number move.Years
-amount_in number unit.Months = move_in number move.Months
-amount_in number unit.Workdays = move_in number move.Workdays
-amount_in number unit.Weeks = duration_in number 604800
-amount_in number unit.Days = duration_in number 86400
-amount_in number unit.Hours = duration_in number 3600
-amount_in number unit.Minutes = duration_in number 60
-amount_in number unit.Seconds = duration_in number 1
+-- no word comes at the index, or one is too many
+abbrev pub ends_at : List (List ℕ) → ℕ → Bool
+ends_at words at = is_none (slice_get words at)
 
-abbrev pub add_request : List (List ℕ) → Option Request
-add_request (number ∷ []) = amount_in number unit.Days
-add_request (number ∷ unit ∷ []) = option_and_then (amount_in number) (unit_of unit)
-add_request words = None
+abbrev pub ended : {X : Type 0} → List (List ℕ) → ℕ → X → Result X Senseless
+ended words at x = if ends_at words at then Ok x else Err (senseless_at at wanted.End)
 
--- a weekday, and how often it comes, which is once where nothing is said
-abbrev pub occurrence_of : List (List ℕ) → Option (Weekday × ℕ)
-occurrence_of (name ∷ []) = option_map (λ w. (w, 1)) (weekday_of name)
-occurrence_of (name ∷ count ∷ []) = option_zip (weekday_of name) (count_of count)
-occurrence_of words = None
+-- what the word at the index means, which is to be the last one
+abbrev pub only_at : {X : Type 0} → List (List ℕ) → ℕ → (List ℕ → Option X) → Wanted → Result X Senseless
+only_at words at meaning what = and_then (word_as words at meaning what) (ended words (at + 1))
 
--- `next WEEKDAY` and `next WEEKDAY N`, and the same with `last`
-abbrev pub occurrence_request : (Weekday → ℕ → DayMove) → List (List ℕ) → Option Request
-occurrence_request by words = option_map (λ o. Move (by o.0 o.1)) (occurrence_of words)
+-- ---- requests, by the words from an index on
+-- `add N UNIT`: so many units, of which a duration has not all that a number counts
+abbrev pub duration_of : ℕ → ℤ → Option Request
+duration_of unit z = option_map Add (seconds_in unit z)
 
--- `on-or-after WEEKDAY`, `on-or-before WEEKDAY`
-abbrev pub nearest_request : (Weekday → DayMove) → List (List ℕ) → Option Request
-nearest_request by words = option_map (λ w. Move (by w)) (only weekday_of words)
+abbrev pub amount_of : ℤ → TimeUnit → Option Request
+amount_of z unit.Years = Some (Move (move.Years z))
+amount_of z unit.Months = Some (Move (move.Months z))
+amount_of z unit.Workdays = Some (Move (move.Workdays z))
+amount_of z unit.Weeks = duration_of 604800 z
+amount_of z unit.Days = duration_of 86400 z
+amount_of z unit.Hours = duration_of 3600 z
+amount_of z unit.Minutes = duration_of 60 z
+amount_of z unit.Seconds = duration_of 1 z
 
--- `start PERIOD`, `end PERIOD`
-abbrev pub edge_request : (Period → DayMove) → List (List ℕ) → Option Request
-edge_request by words = option_map (λ p. Move (by p)) (only period_of words)
+-- the unit of `add`, which is days where nothing is said
+abbrev pub unit_at : List (List ℕ) → ℕ → Result TimeUnit Senseless
+unit_at words at = if ends_at words at then Ok unit.Days else only_at words at unit_of wanted.UnitOfTime
 
--- a date or a moment, and perhaps a unit
-abbrev pub target_of : (List ℕ → Option DateOrMoment) → List (List ℕ) → Option (DateOrMoment × Option TimeUnit)
-target_of reading (text ∷ []) = option_map (λ found. (found, None)) (reading text)
-target_of reading (text ∷ word ∷ unit ∷ []) =
-    if bytes_eq word (codes "in") then option_zip (reading text) (option_map Some (unit_of unit)) else None
-target_of reading words = None
+-- `N`, `N UNIT`
+abbrev pub amount_at : List (List ℕ) → ℕ → Result Request Senseless
+amount_at words at =
+    and_then (word_as words at number_of wanted.Number) (λ z.
+    and_then (unit_at words (at + 1)) (λ unit.
+    ok_or (amount_of z unit) (senseless_at at wanted.Amount)))
 
--- `until TEXT` and `until TEXT in UNIT`, and the same with `since`
-abbrev pub target_request : (DateOrMoment → Option TimeUnit → Request) → (List ℕ → Option DateOrMoment) → List (List ℕ) → Option Request
-target_request request reading words = option_map (λ t. request t.0 t.1) (target_of reading words)
+-- how often a weekday comes, which is once where nothing is said
+abbrev pub count_at : List (List ℕ) → ℕ → Result ℕ Senseless
+count_at words at = if ends_at words at then Ok 1 else only_at words at count_of wanted.Count
 
--- `at OFFSET`
-abbrev pub at_request : List (List ℕ) → Option Request
-at_request words = option_map At (only offset_of words)
+-- `WEEKDAY`, `WEEKDAY N`
+abbrev pub occurrence_at : List (List ℕ) → ℕ → Result (Weekday × ℕ) Senseless
+occurrence_at words at =
+    and_then (word_as words at weekday_of wanted.Weekday) (λ day.
+    and_then (count_at words (at + 1)) (λ n. Ok (day, n)))
 
--- `keep from A to B`, `keep after A`, `keep before B`
-abbrev pub range_of : (List ℕ → Option DateOrMoment) → List (List ℕ) → Option Bounds
-range_of reading (first ∷ to ∷ last ∷ []) =
-    if bytes_eq to (codes "to") then option_map (λ ends. FromTo ends.0 ends.1) (option_zip (reading first) (reading last)) else None
-range_of reading words = None
+-- `in UNIT`, or nothing
+abbrev pub in_unit_at : List (List ℕ) → ℕ → Result (Option TimeUnit) Senseless
+in_unit_at words at =
+    if ends_at words at then Ok None else
+    and_then (word_as words at (keyword (codes "in")) wanted.In) (λ in_word.
+    and_then (only_at words (at + 1) unit_of wanted.UnitOfTime) (λ unit. Ok (Some unit)))
 
-abbrev pub bounds_of : (List ℕ → Option DateOrMoment) → List (List ℕ) → Option Bounds
-bounds_of reading [] = None
-bounds_of reading (word ∷ words) =
-    if bytes_eq word (codes "from") then range_of reading words else
-    if bytes_eq word (codes "after") then option_map After (only reading words) else
-    if bytes_eq word (codes "before") then option_map Before (only reading words) else
-    None
+-- `TEXT`, `TEXT in UNIT`
+abbrev pub target_at : (List ℕ → Option DateOrMoment) → List (List ℕ) → ℕ → Result (DateOrMoment × Option TimeUnit) Senseless
+target_at reading words at =
+    and_then (word_as words at reading wanted.Target) (λ found.
+    and_then (in_unit_at words (at + 1)) (λ unit. Ok (found, unit)))
 
-abbrev pub keep_request : (List ℕ → Option DateOrMoment) → List (List ℕ) → Option Request
-keep_request reading words = option_map Keep (bounds_of reading words)
+-- `from A to B`, `after A`, `before B`
+abbrev pub range_at : (List ℕ → Option DateOrMoment) → List (List ℕ) → ℕ → Result Bounds Senseless
+range_at reading words at =
+    and_then (word_as words at reading wanted.Target) (λ first.
+    and_then (word_as words (at + 1) (keyword (codes "to")) wanted.UpTo) (λ to_word.
+    and_then (only_at words (at + 2) reading wanted.Target) (λ last. Ok (FromTo first last))))
 
-abbrev pub request_after : (List ℕ → Option DateOrMoment) → List (List ℕ) → Verb → Option Request
-request_after reading words verb.To = to_request words
-request_after reading words verb.Add = add_request words
-request_after reading words verb.Next = occurrence_request move.Next words
-request_after reading words verb.Last = occurrence_request move.Last words
-request_after reading words verb.Until = target_request Until reading words
-request_after reading words verb.Since = target_request Since reading words
-request_after reading words verb.Start = edge_request move.Start words
-request_after reading words verb.End = edge_request move.End words
-request_after reading words verb.OnOrAfter = nearest_request move.OnOrAfter words
-request_after reading words verb.OnOrBefore = nearest_request move.OnOrBefore words
-request_after reading words verb.At = at_request words
-request_after reading words verb.Keep = keep_request reading words
+abbrev pub bounds_at : (List ℕ → Option DateOrMoment) → List (List ℕ) → ℕ → Result Bounds Senseless
+bounds_at reading words at =
+    and_then (word_as words at Some wanted.Bounds) (λ word.
+    if bytes_eq word (codes "from") then range_at reading words (at + 1) else
+    if bytes_eq word (codes "after") then and_then (only_at words (at + 1) reading wanted.Target) (λ bound. Ok (After bound)) else
+    if bytes_eq word (codes "before") then and_then (only_at words (at + 1) reading wanted.Target) (λ bound. Ok (Before bound)) else
+    Err (senseless_at at wanted.Bounds))
 
-abbrev pub request_of : (List ℕ → Option DateOrMoment) → List (List ℕ) → Option Request
-request_of reading [] = None
-request_of reading (verb ∷ words) = option_and_then (request_after reading words) (verb_of verb)
+-- the verb, and what comes after it; at the start an option that stands alone is wanted too
+abbrev pub verb_wanted : ℕ → Wanted
+verb_wanted at = if at == 0 then wanted.Start else wanted.Verb
+
+abbrev pub request_at : (List ℕ → Option DateOrMoment) → List (List ℕ) → ℕ → Result Request Senseless
+request_at reading words at =
+    and_then (word_as words at Some (verb_wanted at)) (λ word.
+    if bytes_eq word (codes "to") then and_then (only_at words (at + 1) form_of wanted.Form) (λ form. Ok (To form)) else
+    if bytes_eq word (codes "add") then amount_at words (at + 1) else
+    if bytes_eq word (codes "next") then and_then (occurrence_at words (at + 1)) (λ o. Ok (Move (move.Next o.0 o.1))) else
+    if bytes_eq word (codes "last") then and_then (occurrence_at words (at + 1)) (λ o. Ok (Move (move.Last o.0 o.1))) else
+    if bytes_eq word (codes "until") then and_then (target_at reading words (at + 1)) (λ t. Ok (Until t.0 t.1)) else
+    if bytes_eq word (codes "since") then and_then (target_at reading words (at + 1)) (λ t. Ok (Since t.0 t.1)) else
+    if bytes_eq word (codes "start") then and_then (only_at words (at + 1) period_of wanted.Period) (λ p. Ok (Move (move.Start p))) else
+    if bytes_eq word (codes "end") then and_then (only_at words (at + 1) period_of wanted.Period) (λ p. Ok (Move (move.End p))) else
+    if bytes_eq word (codes "on-or-after") then and_then (only_at words (at + 1) weekday_of wanted.Weekday) (λ w. Ok (Move (move.OnOrAfter w))) else
+    if bytes_eq word (codes "on-or-before") then and_then (only_at words (at + 1) weekday_of wanted.Weekday) (λ w. Ok (Move (move.OnOrBefore w))) else
+    if bytes_eq word (codes "at") then and_then (only_at words (at + 1) offset_of wanted.Offset) (λ o. Ok (At o)) else
+    if bytes_eq word (codes "keep") then and_then (bounds_at reading words (at + 1)) (λ bounds. Ok (Keep bounds)) else
+    Err (senseless_at at (verb_wanted at)))
+
+-- ---- lists: `from A to B`, and a pace
+-- the day that a text is the date of
+abbrev pub date_in : DateOrMoment → Option ℕ
+date_in (dated.Date form n) = Some n
+date_in (dated.Moment form m) = None
+
+abbrev pub date_at : (List ℕ → Option DateOrMoment) → List (List ℕ) → ℕ → Result ℕ Senseless
+date_at reading words at = and_then (word_as words at reading wanted.Date) (λ found. ok_or (date_in found) (senseless_at at wanted.Date))
+
+-- so many days, weeks, months or years
+abbrev pub step_in : ℕ → TimeUnit → Option Step
+step_in n unit.Days = Some (record { every = n; unit = steps.Days })
+step_in n unit.Weeks = Some (record { every = n * 7; unit = steps.Days })
+step_in n unit.Months = Some (record { every = n; unit = steps.Months })
+step_in n unit.Years = Some (record { every = n * 12; unit = steps.Months })
+step_in n other = None
+
+-- `N UNIT`
+abbrev pub steps_of : List (List ℕ) → Result Pace Senseless
+steps_of words =
+    and_then (word_as words 6 many_of wanted.Many) (λ n.
+    and_then (word_as words 7 (λ word. option_and_then (step_in n) (unit_of word)) wanted.UnitOfDays) (λ step. ended words 8 (Steps step)))
+
+-- `RULE`: each recurrence has a `=` (61), and no number
+abbrev pub is_rule_like : List ℕ → Bool
+is_rule_like word = is_some (position (λ b. b == 61) word)
+
+abbrev pub rule_of : List ℕ → Option Recurrence
+rule_of word = result_ok (recurrence_of word)
+
+-- `by N UNIT`, `by RULE`, or each day
+abbrev pub pace_of : List (List ℕ) → Result Pace Senseless
+pace_of words =
+    if ends_at words 5 then Ok (Steps (record { every = 1; unit = steps.Days })) else
+    and_then (word_as words 5 (keyword (codes "by")) wanted.By) (λ by_word.
+    if option_map_or is_rule_like (slice_get words 6) false then and_then (only_at words 6 rule_of wanted.Rule) (λ rule. Ok (Rule rule)) else
+    steps_of words)
+
+abbrev pub paced : ℕ → ℕ → Pace → Asked
+paced a b (Steps step) = Dates (record { first = a; last = b; step = step })
+paced a b (Rule recurrence) = Recurring (record { first = a; last = b; recurrence = recurrence })
+
+abbrev pub list_of : (List ℕ → Option DateOrMoment) → List (List ℕ) → Result Asked Senseless
+list_of reading words =
+    and_then (word_as words 1 (keyword (codes "from")) wanted.From) (λ from_word.
+    and_then (date_at reading words 2) (λ first.
+    and_then (word_as words 3 (keyword (codes "to")) wanted.UpTo) (λ to_word.
+    and_then (date_at reading words 4) (λ last.
+    and_then (pace_of words) (λ pace. Ok (paced first last pace))))))
 
 -- ---- the options before a request, in any order, each at most once
 abbrev pub no_options : Options
@@ -279,24 +324,18 @@ takes_strict options word = bytes_eq word (codes "--strict") && not options.is_s
 abbrev pub with_strict : Options → Options
 with_strict options = record options { is_strict = true }
 
--- `--field N`: a number from 1 to 65535
-abbrev pub field_number_in : ℤ → Option ℕ
-field_number_in z = if int_le (pos 1) z && int_le z (pos 65535) then Some (nat_abs z) else None
-
+-- `--field N`
 abbrev pub field_number_of : List ℕ → Option ℕ
-field_number_of word = option_and_then field_number_in (number_of word)
+field_number_of word = number_between 1 65535 word
 
 -- `--separator C`: one byte
 abbrev pub byte_of : List ℕ → Option ℕ
 byte_of (byte ∷ []) = Some byte
 byte_of word = None
 
--- `--skip K`: a number that is not negative
-abbrev pub skip_in : ℤ → Option ℕ
-skip_in z = if int_le (pos 0) z then Some (nat_abs z) else None
-
+-- `--skip K`
 abbrev pub skip_of : List ℕ → Option ℕ
-skip_of word = option_and_then skip_in (number_of word)
+skip_of word = number_between 0 9223372036854775807 word
 
 -- `--read FORM`: the reading that the word names; that of `local` waits for its offset
 abbrev pub reading_of : List ℕ → Option Reading
@@ -321,80 +360,29 @@ value_of options word =
     None
 
 -- the options with the one that wants this, which has this value
-abbrev pub with_wanted : Options → List ℕ → Wanted → Option Options
-with_wanted options value wanted.FieldNumber = option_map (λ n. record options { number = Some n }) (field_number_of value)
-with_wanted options value wanted.Separator = option_map (λ c. record options { separator = Some c }) (byte_of value)
-with_wanted options value wanted.Skip = option_map (λ k. record options { skip = Some k }) (skip_of value)
-with_wanted options value wanted.Reading = option_map (λ form. record options { reading = Some form }) (reading_of value)
-with_wanted options value wanted.Offset = option_map (λ o. record options { offset = Some o }) (offset_of value)
-with_wanted options value other = None
+abbrev pub with_value : Options → List ℕ → Wanted → Option Options
+with_value options value wanted.FieldNumber = option_map (λ n. record options { number = Some n }) (field_number_of value)
+with_value options value wanted.Separator = option_map (λ c. record options { separator = Some c }) (byte_of value)
+with_value options value wanted.Skip = option_map (λ k. record options { skip = Some k }) (skip_of value)
+with_value options value wanted.Reading = option_map (λ form. record options { reading = Some form }) (reading_of value)
+with_value options value wanted.Offset = option_map (λ o. record options { offset = Some o }) (offset_of value)
+with_value options value other = None
 
-abbrev pub with_value : Options → List ℕ → List ℕ → Option Options
-with_value options word value = option_and_then (with_wanted options value) (value_of options word)
-
--- the options at the front of the words, and the words after them
-abbrev pub cut_options : Options → List (List ℕ) → Options × List (List ℕ)
-cut_options options [] = (options, [])
-cut_options options (word ∷ []) = if takes_strict options word then (with_strict options, []) else (options, word ∷ [])
-cut_options options (word ∷ value ∷ words) =
-    if takes_strict options word then cut_options (with_strict options) (value ∷ words) else
-    option_map_or (λ more. cut_options more words) (with_value options word value) (options, word ∷ value ∷ words)
-
--- ---- lists
--- the day that a text is the date of
-abbrev pub date_in : DateOrMoment → Option ℕ
-date_in (dated.Date form n) = Some n
-date_in (dated.Moment form m) = None
-
-abbrev pub date_of : (List ℕ → Option DateOrMoment) → List ℕ → Option ℕ
-date_of reading text = option_and_then date_in (reading text)
-
--- so many days, weeks, months or years
-abbrev pub step_in : ℕ → TimeUnit → Option Step
-step_in n unit.Days = Some (record { every = n; unit = steps.Days })
-step_in n unit.Weeks = Some (record { every = n * 7; unit = steps.Days })
-step_in n unit.Months = Some (record { every = n; unit = steps.Months })
-step_in n unit.Years = Some (record { every = n * 12; unit = steps.Months })
-step_in n other = None
-
-abbrev pub step_unit : List ℕ → Option TimeUnit → Option Step
-step_unit number found = option_and_then (λ n. option_and_then (step_in n) found) (many_of number)
-
--- `by N UNIT`, `by RULE`, or each day
-abbrev pub pace_of : List (List ℕ) → Option Pace
-pace_of [] = Some (Steps (record { every = 1; unit = steps.Days }))
-pace_of (by ∷ rule ∷ []) = if bytes_eq by (codes "by") then option_map Rule (result_ok (recurrence_of rule)) else None
-pace_of (by ∷ number ∷ unit ∷ []) = if bytes_eq by (codes "by") then option_map Steps (step_unit number (unit_of unit)) else None
-pace_of words = None
-
--- the last date, and the pace
-abbrev pub last_of : (List ℕ → Option DateOrMoment) → List (List ℕ) → Option (ℕ × Pace)
-last_of reading [] = None
-last_of reading (last ∷ words) = option_zip (date_of reading last) (pace_of words)
-
--- `from A to B`, and the pace
-abbrev pub paced : ℕ → ℕ → Pace → Asked
-paced a b (Steps step) = Dates (record { first = a; last = b; step = step })
-paced a b (Rule recurrence) = Recurring (record { first = a; last = b; recurrence = recurrence })
-
-abbrev pub listing : ℕ × (ℕ × Pace) → Asked
-listing days = paced days.0 days.1.0 days.1.1
-
-abbrev pub span_of : (List ℕ → Option DateOrMoment) → List (List ℕ) → Option (ℕ × (ℕ × Pace))
-span_of reading (from ∷ first ∷ to ∷ words) =
-    if bytes_eq from (codes "from") && bytes_eq to (codes "to") then option_zip (date_of reading first) (last_of reading words) else None
-span_of reading words = None
-
-abbrev pub list_of : (List ℕ → Option DateOrMoment) → List (List ℕ) → Option Asked
-list_of reading words = option_map listing (span_of reading words)
+-- the options at the front of the words that are left, of which the first has this index, and the index of the word after them. The first
+-- may be the value that the option before it wants
+abbrev pub options_from : Option Wanted → Options → ℕ → List (List ℕ) → Result (Options × ℕ) Senseless
+options_from None options at [] = Ok (options, at)
+options_from None options at (word ∷ words) =
+    if takes_strict options word then options_from None (with_strict options) (at + 1) words else
+    if is_some (value_of options word) then options_from (value_of options word) options (at + 1) words else
+    Ok (options, at)
+options_from (Some what) options at [] = Err (senseless_at at what)
+options_from (Some what) options at (word ∷ words) =
+    option_map_or (λ more. options_from None more (at + 1) words) (with_value options word what) (Err (senseless_at at what))
 
 -- ---- the whole: `--help`, `--version`, a list, or a request, perhaps after options
 abbrev pub asks_for_help : List ℕ → Bool
 asks_for_help word = bytes_eq word (codes "--help") || bytes_eq word (codes "-h") || bytes_eq word (codes "help")
-
--- an option that stands alone
-abbrev pub stands_alone : List ℕ → Bool
-stands_alone word = asks_for_help word || bytes_eq word (codes "--version")
 
 -- the field that is named, whose separator is a tab where none is said
 abbrev pub field_of : Options → Option Field
@@ -418,26 +406,27 @@ lacking options =
     if is_some options.offset && not (is_local options.reading) then Some wanted.Local else
     None
 
-abbrev pub filter_of : Options → Option Request → Option Asked
-filter_of options request =
-    if is_some (lacking options) then None else
-    option_map (λ q. Lines (record {
-      request = q;
-      reading = reading_at options.reading options.offset;
-      is_strict = options.is_strict;
-      field = field_of options;
-      skip = unwrap_or options.skip 0;
-    })) request
+abbrev pub filter_of : Options → Request → Filter
+filter_of options request = record {
+  request = request;
+  reading = reading_at options.reading options.offset;
+  is_strict = options.is_strict;
+  field = field_of options;
+  skip = unwrap_or options.skip 0;
+}
 
-abbrev pub request_with : (List ℕ → Option DateOrMoment) → Options × List (List ℕ) → Option Asked
-request_with reading front = filter_of front.0 (request_of reading front.1)
+abbrev pub lines_of : (List ℕ → Option DateOrMoment) → List (List ℕ) → Result Asked Senseless
+lines_of reading words =
+    and_then (options_from None no_options 0 words) (λ front.
+    option_map_or (λ what. Err (senseless_at front.1 what)) (lacking front.0)
+    (and_then (request_at reading words front.1) (λ request. Ok (Lines (filter_of front.0 request)))))
 
-abbrev pub meaning_of : (List ℕ → Option DateOrMoment) → List (List ℕ) → Option Asked
-meaning_of reading [] = None
-meaning_of reading (first ∷ []) =
-    if asks_for_help first then Some Help else
-    if bytes_eq first (codes "--version") then Some Version else
-    None
-meaning_of reading (first ∷ second ∷ words) =
-    if bytes_eq first (codes "list") then list_of reading (second ∷ words)
-    else request_with reading (cut_options no_options (first ∷ second ∷ words))
+-- an argument alone that is empty is as none
+abbrev pub asked_of : (List ℕ → Option DateOrMoment) → List (List ℕ) → Result Asked Senseless
+asked_of reading words =
+    and_then (word_as words 0 Some wanted.Something) (λ first.
+    if bytes_eq first [] && ends_at words 1 then Err (senseless_at 0 wanted.Something) else
+    if asks_for_help first then ended words 1 Help else
+    if bytes_eq first (codes "--version") then ended words 1 Version else
+    if bytes_eq first (codes "list") then list_of reading words else
+    lines_of reading words)

@@ -1,52 +1,53 @@
 //! Bounds, and what lies within them.
-ghost use Rattle.std.specs.Prelude.{◌≡◌, ℕ, List, Option};
+ghost use Rattle.std.specs.Prelude.{◌≡◌, ◌+◌, ◌<◌, ◌^◌, ℕ, List, Option};
 ghost use Rattle.cal_text.specs.declared.any.DateOrMoment.{DateOrMoment};
 ghost use Rattle.caldate.specs.Bounds.{are_dates, is_after, is_before, is_within, lies_in};
-ghost use Rattle.caldate.specs.Requests.{IsReading, arguments_of, bounds_of, only, range_of};
+ghost use Rattle.caldate.specs.Requests.{IsReading, arguments_of, bounds_at, only_at, range_at};
 
 use crate::answer::{is_date, moment_of};
-use crate::asked::found_in;
 use crate::request::Bounds;
-use crate::spelling::{first_word, only_word};
+use crate::senseless::{Senseless, Wanted, senseless_at};
+use crate::words::{ended, found_at, keyword_at, word_at};
 use cal_text::DateOrMoment;
 
 /// The bounds of `from A to B`, `after A` or `before B`.
-#[tactic(auto, using(crate::proofs::Words::no_bounds))]
-pub fn bounds_of(words: &[u8]) -> Option<Bounds>
+pub fn bounds_at(words: &[u8], at: usize) -> Result<Bounds, Senseless>
+    requires { at + 4 < 2 ^ 64 }
     ensures { (reading : List ℕ → Option DateOrMoment) → IsReading reading (arguments_of words.now)
-        → result ≡ bounds_of reading (arguments_of words.now) }
+        → result ≡ bounds_at reading (arguments_of words.now) at }
 {
-    let (word, rest) = first_word(words)?;
+    let unbound = senseless_at(at, Wanted::Bounds);
+    let word = word_at(words, at).ok_or(unbound)?;
     if word == b"from".as_slice() {
-        range_of(rest)
+        range_at(words, at + 1)
     } else if word == b"after".as_slice() {
-        Some(Bounds::After(bound_of(rest)?))
+        Ok(Bounds::After(bound_at(words, at + 1)?))
     } else if word == b"before".as_slice() {
-        Some(Bounds::Before(bound_of(rest)?))
+        Ok(Bounds::Before(bound_at(words, at + 1)?))
     } else {
-        None
+        Err(unbound)
     }
 }
 
-/// The one date or moment.
-fn bound_of(words: &[u8]) -> Option<DateOrMoment>
+/// The date or the moment that the last word is.
+fn bound_at(words: &[u8], at: usize) -> Result<DateOrMoment, Senseless>
+    requires { at + 1 < 2 ^ 64 }
     ensures { (reading : List ℕ → Option DateOrMoment) → IsReading reading (arguments_of words.now)
-        → result ≡ only reading (arguments_of words.now) }
+        → result ≡ only_at (arguments_of words.now) at reading Wanted.Target }
 {
-    found_in(only_word(words)?)
+    let bound = found_at(words, at, Wanted::Target)?;
+    ended(words, at + 1, bound)
 }
 
 /// From one to the other.
-fn range_of(words: &[u8]) -> Option<Bounds>
+fn range_at(words: &[u8], at: usize) -> Result<Bounds, Senseless>
+    requires { at + 3 < 2 ^ 64 }
     ensures { (reading : List ℕ → Option DateOrMoment) → IsReading reading (arguments_of words.now)
-        → result ≡ range_of reading (arguments_of words.now) }
+        → result ≡ range_at reading (arguments_of words.now) at }
 {
-    let (first, rest) = first_word(words)?;
-    let (to, last) = first_word(rest)?;
-    if to != b"to".as_slice() {
-        return None;
-    }
-    Some(Bounds::FromTo(found_in(first)?, found_in(only_word(last)?)?))
+    let first = found_at(words, at, Wanted::Target)?;
+    keyword_at(words, at + 1, b"to", Wanted::UpTo)?;
+    Ok(Bounds::FromTo(first, bound_at(words, at + 2)?))
 }
 
 /// Whether it lies within the bounds; `None` for a date where one of them is a moment.

@@ -3,13 +3,14 @@ ghost use Rattle.std.specs.Prelude.{◌≡◌, ◌+◌, ◌≤◌, ◌++◌, [],
 ghost use Rattle.caldate.specs.Requests.{arguments_of};
 ghost use Rattle.caldate.specs.Runs.{Shown};
 ghost use Rattle.std.specs.Option.{option_copied};
-ghost use Rattle.caldate.specs.Senseless.{complaint, wanted_words, why_words, word_words};
+ghost use Rattle.caldate.specs.Complaint.{complaint, wanted_words, why_words, word_words};
 
 use crate::buffer::Buffer;
 use crate::fault::Fault;
 use crate::output::write_all;
-use crate::senseless::{Senseless, Wanted, word_at};
+use crate::senseless::{Senseless, Wanted};
 use crate::shown::ShownText;
+use crate::words::word_at;
 use cal_recurrence::parse;
 use std::io::Write;
 

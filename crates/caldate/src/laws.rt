@@ -9,7 +9,7 @@ use crate::fields::asked_text;
 use crate::lines::cut_return;
 use crate::reading::read_in;
 use crate::request::Filter;
-use crate::spelling::cut;
+use crate::words::cut;
 use cal_text::{DateOrMoment, Unreadable, read_any};
 
 /// No text has two answers to one request in one reading.

@@ -38,6 +38,7 @@ mod spelling;
 #[cfg(test)]
 mod tests;
 mod unanswered;
+mod words;
 
 use std::io;
 use std::process::ExitCode;

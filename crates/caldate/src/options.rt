@@ -1,13 +1,13 @@
 //! The options before a request.
-ghost use Rattle.std.specs.Prelude.{◌≡◌, ◌<◌, ◌≤◌, ℕ, List, Option, MatchOption, length};
-ghost use Rattle.caldate.specs.Requests.{arguments_of, byte_of, cut_options, field_number_of, field_of, is_local, lacking, no_options, reading_at, reading_of, skip_of, takes_strict, value_of, with_value, words_left};
-ghost use Rattle.caldate.specs.Senseless.{verb_after, words_in};
+ghost use Rattle.std.specs.Prelude.{◌≡◌, ◌+◌, ◌≤◌, ◌^◌, IfOk, None, length};
+ghost use Rattle.caldate.specs.Requests.{arguments_of, byte_of, field_number_of, field_of, is_local, lacking, no_options, options_from, reading_at, reading_of, skip_of, takes_strict, value_of, with_value, words_left};
 
 use crate::offset::offset_of;
 use crate::reading::Reading;
 use crate::request::{Field, UnixUnit};
-use crate::senseless::Wanted;
-use crate::spelling::{cut, number_of};
+use crate::senseless::{Senseless, Wanted, senseless_at};
+use crate::spelling::number_of;
+use crate::words::cut;
 use cal_time::UtcOffset;
 
 /// The options before a request.
@@ -27,12 +27,13 @@ pub struct Options {
     pub offset: Option<UtcOffset>,
 }
 
-/// The options at the front of the arguments, and the words after them, where there are any.
-pub fn options_of(arguments: &[u8]) -> (Options, Option<&[u8]>)
-    ensures options { result.0 ≡ (cut_options no_options (arguments_of arguments.now)).0 }
-    ensures words { words_left result.1 ≡ (cut_options no_options (arguments_of arguments.now)).1 }
+/// The options at the front of the arguments, and the index of the word after them.
+#[tactic(auto, using(crate::proofs::Indices::few_words))]
+pub fn options_of(arguments: &[u8]) -> Result<(Options, usize), Senseless>
+    ensures options { result ≡ options_from None no_options 0 (arguments_of arguments.now) }
+    ensures within { IfOk result (λ front. front.1 ≤ 2 ^ 63) }
 {
-    let mut options = Options {
+    let options = Options {
         is_strict: false,
         number: None,
         separator: None,
@@ -40,35 +41,41 @@ pub fn options_of(arguments: &[u8]) -> (Options, Option<&[u8]>)
         reading: None,
         offset: None,
     };
-    let mut words = Some(arguments);
-    while let Some((more, rest)) = next_option(&options, words) {
-        options = more;
-        words = rest;
-    }
-    (options, words)
+    options_from(None, &options, 0, Some(arguments))
 }
 
-/// The options with the next one, and the words after it, where the next word is one that may stand there.
-fn next_option<'a>(
+/// The options at the front of the words that are left, of which the first has this index, and the index of the word after them. The first
+/// is the value that the option before it wants, if it wants any.
+fn options_from(
+    wanted: Option<Wanted>,
     options: &Options,
-    words: Option<&'a [u8]>,
-) -> Option<(Options, Option<&'a [u8]>)>
-    ensures cut { MatchOption result
-        (cut_options options.now (words_left words.entry) ≡ (options.now, words_left words.entry))
-        (λ next. cut_options options.now (words_left words.entry)
-        ≡ cut_options next.0 (words_left next.1)) }
-    ensures fewer { MatchOption result
-        (length (words_left words.entry) ≡ length (words_left words.entry))
-        (λ next. length (words_left next.1) < length (words_left words.entry)) }
+    at: usize,
+    words: Option<&[u8]>,
+) -> Result<(Options, usize), Senseless>
+    requires { at + length (words_left words) ≤ 2 ^ 63 }
+    ensures options { result ≡ options_from wanted options.now at (words_left words.entry) }
+    ensures within { IfOk result (λ front. front.1 ≤ 2 ^ 63) }
 {
-    let (word, rest) = cut(words?);
+    let Some(words) = words else {
+        return match wanted {
+            Some(wanted) => Err(senseless_at(at, wanted)),
+            None => Ok((*options, at)),
+        };
+    };
+    let (word, rest) = cut(words);
+    if let Some(wanted) = wanted {
+        let more = with_value(options, word, wanted).ok_or(senseless_at(at, wanted))?;
+        return options_from(None, &more, at + 1, rest);
+    }
     if takes_strict(options, word) {
         let mut more = *options;
         more.is_strict = true;
-        return Some((more, rest));
+        return options_from(None, &more, at + 1, rest);
     }
-    let (value, rest) = cut(rest?);
-    Some((with_value(options, word, value)?, rest))
+    match value_of(options, word) {
+        Some(wanted) => options_from(Some(wanted), options, at + 1, rest),
+        None => Ok((*options, at)),
+    }
 }
 
 /// Whether the word is `--strict`, and the first one.
@@ -78,33 +85,39 @@ fn takes_strict(options: &Options, word: &[u8]) -> bool
     word == b"--strict".as_slice() && !options.is_strict
 }
 
-/// The options with this one, which has this value.
-fn with_value(options: &Options, word: &[u8], value: &[u8]) -> Option<Options>
-    ensures { result ≡ with_value options.now word.now value.now }
+/// What comes after the word, where it is an option that may stand there.
+fn value_of(options: &Options, word: &[u8]) -> Option<Wanted>
+    ensures { result ≡ value_of options.now word.now }
 {
-    match value_of(options, word)? {
-        Wanted::FieldNumber => Some(Options {
-            number: Some(field_number_of(value)?),
-            ..*options
-        }),
-        Wanted::Separator => Some(Options {
-            separator: Some(byte_of(value)?),
-            ..*options
-        }),
-        Wanted::Skip => Some(Options {
-            skip: Some(skip_of(value)?),
-            ..*options
-        }),
-        Wanted::Reading => Some(Options {
-            reading: Some(reading_of(value)?),
-            ..*options
-        }),
-        Wanted::Offset => Some(Options {
-            offset: Some(offset_of(value)?),
-            ..*options
-        }),
-        _ => None,
+    if word == b"--field".as_slice() && options.number.is_none() {
+        Some(Wanted::FieldNumber)
+    } else if word == b"--separator".as_slice() && options.separator.is_none() {
+        Some(Wanted::Separator)
+    } else if word == b"--skip".as_slice() && options.skip.is_none() {
+        Some(Wanted::Skip)
+    } else if word == b"--read".as_slice() && options.reading.is_none() {
+        Some(Wanted::Reading)
+    } else if word == b"--assume".as_slice() && options.offset.is_none() {
+        Some(Wanted::Offset)
+    } else {
+        None
     }
+}
+
+/// The options with the one that wants this, which has this value.
+fn with_value(options: &Options, value: &[u8], wanted: Wanted) -> Option<Options>
+    ensures { result ≡ with_value options.now value.now wanted }
+{
+    let mut more = *options;
+    match wanted {
+        Wanted::FieldNumber => more.number = Some(field_number_of(value)?),
+        Wanted::Separator => more.separator = Some(byte_of(value)?),
+        Wanted::Skip => more.skip = Some(skip_of(value)?),
+        Wanted::Reading => more.reading = Some(reading_of(value)?),
+        Wanted::Offset => more.offset = Some(offset_of(value)?),
+        _ => return None,
+    }
+    Some(more)
 }
 
 /// The number from 1 to 65535 that a word spells.
@@ -162,20 +175,6 @@ fn reading_of(word: &[u8]) -> Option<Reading>
     }
 }
 
-/// How many words the options are.
-pub fn words_in(options: &Options) -> usize
-    ensures count { result ≡ words_in options.now }
-    ensures few { result ≤ 11 }
-{
-    let strict = if options.is_strict { 1 } else { 0 };
-    let field = if options.number.is_some() { 2 } else { 0 };
-    let separator = if options.separator.is_some() { 2 } else { 0 };
-    let skip = if options.skip.is_some() { 2 } else { 0 };
-    let reading = if options.reading.is_some() { 2 } else { 0 };
-    let offset = if options.offset.is_some() { 2 } else { 0 };
-    strict + field + separator + skip + reading + offset
-}
-
 /// The field that they name, whose separator is a tab where none is said.
 pub fn field_of(options: &Options) -> Option<Field>
     ensures { result ≡ field_of options.now }
@@ -216,38 +215,6 @@ pub fn lacking(options: &Options) -> Option<Wanted>
         Some(Wanted::Assume)
     } else if options.offset.is_some() && !is_local(options) {
         Some(Wanted::Local)
-    } else {
-        None
-    }
-}
-
-/// What the options lack, or else a verb, or at the start an option that stands alone too.
-pub fn verb_after(options: &Options) -> Wanted
-    ensures { result ≡ verb_after options.now }
-{
-    if let Some(wanted) = lacking(options) {
-        wanted
-    } else if words_in(options) == 0 {
-        Wanted::Start
-    } else {
-        Wanted::Verb
-    }
-}
-
-/// What comes after the word, where it is an option that may stand there.
-pub fn value_of(options: &Options, word: &[u8]) -> Option<Wanted>
-    ensures { result ≡ value_of options.now word.now }
-{
-    if word == b"--field".as_slice() && options.number.is_none() {
-        Some(Wanted::FieldNumber)
-    } else if word == b"--separator".as_slice() && options.separator.is_none() {
-        Some(Wanted::Separator)
-    } else if word == b"--skip".as_slice() && options.skip.is_none() {
-        Some(Wanted::Skip)
-    } else if word == b"--read".as_slice() && options.reading.is_none() {
-        Some(Wanted::Reading)
-    } else if word == b"--assume".as_slice() && options.offset.is_none() {
-        Some(Wanted::Offset)
     } else {
         None
     }

@@ -57,35 +57,6 @@ pub enum Period {
     Year,
 }
 
-/// What is done to each line.
-#[derive(Clone, Copy)]
-pub enum Verb {
-    /// `to FORM`.
-    To,
-    /// `add N`, `add N UNIT`.
-    Add,
-    /// `next WEEKDAY`, `next WEEKDAY N`.
-    Next,
-    /// `last WEEKDAY`, `last WEEKDAY N`.
-    Last,
-    /// `until TEXT`, `until TEXT in UNIT`.
-    Until,
-    /// `since TEXT`, `since TEXT in UNIT`.
-    Since,
-    /// `start PERIOD`.
-    Start,
-    /// `end PERIOD`.
-    End,
-    /// `on-or-after WEEKDAY`.
-    OnOrAfter,
-    /// `on-or-before WEEKDAY`.
-    OnOrBefore,
-    /// `at OFFSET`.
-    At,
-    /// `keep from A to B`, `keep after A`, `keep before B`.
-    Keep,
-}
-
 /// What leads from a day to another.
 #[derive(Clone, Copy)]
 pub enum DayMove {

@@ -1,46 +1,12 @@
-//! What single words of the arguments spell, and how the arguments are cut into words.
-ghost use Rattle.std.specs.Prelude.{◌≡◌, ◌≤◌, ℕ, List, [], ◌∷◌, length, MatchOption};
+//! What single words of the arguments spell.
+ghost use Rattle.std.specs.Prelude.{◌≡◌, ◌≤◌, length};
 ghost use Rattle.std.specs.Str.{str_eq_ignore_ascii_case};
-ghost use Rattle.caldate.specs.Requests.{arguments_of, asks_for_help, verb_of, number_of, count_of, form_of, further_form_of, weekday_of, period_of, unit_of, spells, spells_unit, words_left, many_of};
+ghost use Rattle.caldate.specs.Requests.{asks_for_help, number_of, count_of, form_of, further_form_of, weekday_of, period_of, unit_of, spells, spells_unit, many_of};
 
-use crate::lines::index_of;
-use crate::request::{Form, Period, TimeUnit, UnixUnit, Verb};
+use crate::request::{Form, Period, TimeUnit, UnixUnit};
 use cal_text::{DateForm, MomentForm};
 use cal_time::Weekday;
 use std::str;
-
-/// The verb that a word is.
-pub fn verb_of(word: &[u8]) -> Option<Verb>
-    ensures { result ≡ verb_of word.now }
-{
-    if word == b"to".as_slice() {
-        Some(Verb::To)
-    } else if word == b"add".as_slice() {
-        Some(Verb::Add)
-    } else if word == b"next".as_slice() {
-        Some(Verb::Next)
-    } else if word == b"last".as_slice() {
-        Some(Verb::Last)
-    } else if word == b"until".as_slice() {
-        Some(Verb::Until)
-    } else if word == b"since".as_slice() {
-        Some(Verb::Since)
-    } else if word == b"start".as_slice() {
-        Some(Verb::Start)
-    } else if word == b"end".as_slice() {
-        Some(Verb::End)
-    } else if word == b"on-or-after".as_slice() {
-        Some(Verb::OnOrAfter)
-    } else if word == b"on-or-before".as_slice() {
-        Some(Verb::OnOrBefore)
-    } else if word == b"at".as_slice() {
-        Some(Verb::At)
-    } else if word == b"keep".as_slice() {
-        Some(Verb::Keep)
-    } else {
-        None
-    }
-}
 
 /// Whether the word asks for the page of examples.
 pub fn asks_for_help(word: &[u8]) -> bool
@@ -215,39 +181,4 @@ fn is_alike(word: &[u8], name: &[u8]) -> bool
     ensures { result ≡ str_eq_ignore_ascii_case word.now name.now }
 {
     word.eq_ignore_ascii_case(name)
-}
-
-/// The first word, and what comes after the zero byte that ends it. There is none if the bytes are one word.
-#[tactic(auto, using(crate::proofs::Parts::arguments_of_some, crate::proofs::Parts::arguments_of_none, std::proofs::lemmas::List::take_rest))]
-pub fn first_word(bytes: &[u8]) -> Option<(&[u8], &[u8])>
-    ensures { MatchOption result (arguments_of bytes.now ≡ bytes.now ∷ [])
-        (λ parts. arguments_of bytes.now ≡ parts.0.now ∷ arguments_of parts.1.now) }
-{
-    let at = index_of(0, bytes)?;
-    Some((&bytes[..at], &bytes[at + 1..]))
-}
-
-/// The first word, and those after it, where there are any.
-pub fn cut(words: &[u8]) -> (&[u8], Option<&[u8]>)
-    ensures parts { arguments_of words.now ≡ result.0.now ∷ words_left result.1 }
-    ensures whole { result.1 ≡ None → result.0.now ≡ words.now }
-{
-    match first_word(words) {
-        Some((word, rest)) => (word, Some(rest)),
-        None => (words, None),
-    }
-}
-
-/// The bytes, if they are one word.
-#[tactic(auto, using(crate::proofs::Parts::two_arguments, crate::proofs::Parts::arguments_of_none))]
-pub fn only_word(bytes: &[u8]) -> Option<&[u8]>
-    ensures { MatchOption result
-        ((first second : List ℕ) × (more : List (List ℕ))
-        × (arguments_of bytes.now ≡ first ∷ second ∷ more))
-        (λ word. arguments_of bytes.now ≡ word.now ∷ []) }
-{
-    match index_of(0, bytes) {
-        Some(_) => None,
-        None => Some(bytes),
-    }
 }

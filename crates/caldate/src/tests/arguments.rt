@@ -370,12 +370,13 @@ fn bounds_that_make_no_sense(rt: HostRuntime) {
 
 #[test]
 fn arguments_that_make_no_sense(rt: HostRuntime) {
-    let cases: [(&[u8], &[u8], &[u8]); 43] = [
+    let cases: [(&[u8], &[u8], &[u8]); 45] = [
         (
             b"",
             b"",
             b"nothing to do; caldate --help shows what can be asked",
         ),
+        (b"\0", b"'' is ", NO_VERB),
         (b"\0to\0week", b"'' is ", NO_VERB),
         (b"week", b"'week' is ", NO_VERB),
         (b"To\0week", b"'To' is ", NO_VERB),
@@ -432,6 +433,7 @@ fn arguments_that_make_no_sense(rt: HostRuntime) {
             b"'--read' is ",
             NO_FURTHER_OPTION,
         ),
+        (b"--separator\0;\0--assume", b"there is ", NO_OFFSET),
         (b"--read\0local\0to\0week", b"'to' is ", NO_ASSUME),
         (b"--read\0local", b"there is ", NO_ASSUME),
         (b"--assume\0Z\0to\0week", b"'to' is ", NO_LOCAL),
@@ -474,7 +476,7 @@ fn arguments_that_make_no_sense(rt: HostRuntime) {
 
 #[test]
 fn further_arguments_that_make_no_sense(rt: HostRuntime) {
-    let cases: [(&[u8], &[u8], &[u8]); 43] = [
+    let cases: [(&[u8], &[u8], &[u8]); 44] = [
         (b"to\0Week\0x", b"'Week' is ", NO_FORM),
         (b"to\0week\0week", b"'week' is ", b"one word too many"),
         (b"--strict\0to\0week\0", b"'' is ", b"one word too many"),
@@ -499,6 +501,11 @@ fn further_arguments_that_make_no_sense(rt: HostRuntime) {
             TOO_MUCH,
         ),
         (b"add\02\0fortnights", b"'fortnights' is ", NO_UNIT),
+        (
+            b"add\09223372036854775807\0fortnights",
+            b"'fortnights' is ",
+            NO_UNIT,
+        ),
         (b"--strict\0add\01\0da", b"'da' is ", NO_UNIT),
         (b"add\01\0mins", b"'mins' is ", NO_UNIT),
         (
