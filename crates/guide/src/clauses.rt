@@ -1,6 +1,6 @@
 //! Functions that are proved from the clauses of `cal_time` alone.
 ghost use Rattle.std.specs.Prelude.{◌≡◌, pos, ◌+ℤ◌, IfOk, IfSome};
-ghost use Rattle.cal_time.specs.Date.{last_day, HasCalendarDate};
+ghost use Rattle.cal_time.specs.Date.{last_day, year_at, month_at, HasCalendarDate};
 ghost use Rattle.cal_time.specs.Move.{IsDateNumber};
 ghost use Rattle.cal_time.specs.Lengths.{days_in_month};
 ghost use Rattle.cal_time.specs.Month.{number};
@@ -16,6 +16,14 @@ fn last_of_month(year: i32, month: Month) -> Result<Date, ComponentRange>
         (days_in_month year (number month))) }
 {
     Date::from_calendar_date(year, month, days_in_month(month, year))
+}
+
+/// The first day of the month of that day, by the month's index.
+fn month_start(date: Date) -> Date
+    ensures { HasCalendarDate (year_at date) (month_at date) 1 result }
+{
+    let (index, _) = date.month_index_and_day();
+    Date::at_month_index(date.year(), index, 1)
 }
 
 /// The day itself, by way of the one after it.
@@ -42,7 +50,7 @@ fn last_day() -> Date
 
 pub fn show(rt: &impl Print) -> io::Result<()> {
     if let Ok(date) = last_of_month(2020, Month::February) {
-        println!(rt; "{date} {:?}", there_and_back(date))?;
+        println!(rt; "{} {date} {:?}", month_start(date), there_and_back(date))?;
         if date.checked_add(SignedDuration::days(7)).is_some() {
             println!(rt; "{}", a_week_on(date))?;
         }
