@@ -160,10 +160,8 @@ impl DateResult {
     pub fn of_option(date: Option<Date>) -> Self
         ensures { result ≡ date_if_any date }
     {
-        match date {
-            Some(date) => Self::of(date),
-            None => Self::refused(PAST_RANGE),
-        }
+        let date = or_return!(date, Self::refused(PAST_RANGE));
+        Self::of(date)
     }
 }
 
@@ -241,10 +239,8 @@ impl DurationResult {
     pub fn of_option(duration: Option<SignedDuration>) -> Self
         ensures { result ≡ duration_if_any duration }
     {
-        match duration {
-            Some(duration) => Self::of(duration),
-            None => Self::refused(PAST_RANGE),
-        }
+        let duration = or_return!(duration, Self::refused(PAST_RANGE));
+        Self::of(duration)
     }
 
     pub fn refused(status: i32) -> Self
@@ -369,10 +365,8 @@ impl LongResult {
         ensures done { FitsSigned w64 number → result ≡ long_done number }
         ensures none { ¬ FitsSigned w64 number → result ≡ long_refused past_range }
     {
-        match i64::try_from(number) {
-            Ok(number) => Self::of(number),
-            Err(_) => Self::refused(PAST_RANGE),
-        }
+        let number = or_return!(i64::try_from(number), _ => Self::refused(PAST_RANGE));
+        Self::of(number)
     }
 
     pub fn refused(status: i32) -> Self

@@ -1,9 +1,9 @@
 //! Columns of dates that are moved.
-ghost use Rattle.std.specs.Prelude.{◌≡◌, ℕ, ◌<◌, ◌≤◌, ◌+ℤ◌, length, get_or, count_by, pos};
+ghost use Rattle.std.specs.Prelude.{◌≡◌, ℕ, ◌<◌, ◌≤◌, ◌+ℤ◌, length, get_or, pos};
 ghost use Rattle.std.specs.Int.{int_min, int_max};
 ghost use Rattle.cal_time.specs.Date.{last_day};
 ghost use Rattle.cal_time.specs.Move.{IsDateNumber};
-ghost use Rattle.cal_c.specs.Columns.{Alike4, date_row, is_refused, IsDateMoved};
+ghost use Rattle.cal_c.specs.Columns.{int_at, nat_at, Alike4, AreAnswered, date_row, IsDateMoved};
 ghost use Rattle.cal_c.specs.Results.{date_done, date_refused};
 ghost use Rattle.cal_c.specs.Statuses.{bad_date, past_range};
 ghost use Rattle.cal_c.specs.Values.{IsJulianDay};
@@ -21,17 +21,11 @@ pub extern "C" fn fots_dates_add_days(
     moved: &mut [i32],
     statuses: &mut [u8],
 ) -> usize
-    ensures unlike { ¬ Alike4 (length dates.now) (length days.now) (length moved.old)
-        (length statuses.old)
+    ensures unlike { ¬ Alike4 dates.now days.now moved.old statuses.old
         → (result ≡ usize.MAX) × (moved.new ≡ moved.old) × (statuses.new ≡ statuses.old) }
-    ensures rows { Alike4 (length dates.now) (length days.now) (length moved.old)
-        (length statuses.old)
-        → (k : ℕ) → k < length dates.now
-        → IsDateMoved (get_or dates.now k (pos 0)) (get_or days.now k (pos 0))
-        (date_row (get_or moved.new k (pos 0)) (get_or statuses.new k 0)) }
-    ensures count { Alike4 (length dates.now) (length days.now) (length moved.old)
-        (length statuses.old)
-        → result ≡ count_by is_refused statuses.new }
+    ensures rows { Alike4 dates.now days.now moved.old statuses.old
+        → AreAnswered statuses.new result (λ k. IsDateMoved (int_at dates.now k) (int_at days.now k)
+        (date_row (int_at moved.new k) (nat_at statuses.new k))) }
 {
     let rows = dates.len();
     if days.len() != rows || moved.len() != rows || statuses.len() != rows {

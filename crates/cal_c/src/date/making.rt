@@ -7,7 +7,7 @@ ghost use Rattle.cal_c.specs.Statuses.{bad_weekday, year_refused, month_refused,
 ghost use Rattle.cal_c.specs.Values.{IsJulianDay, IsMonth, IsWeekday};
 
 use crate::results::DateResult;
-use crate::status::{BAD_WEEKDAY, DAY, DONE, JULIAN_DAY, MONTH, YEAR, date_status};
+use crate::status::{BAD_WEEKDAY, DAY, DONE, JULIAN_DAY, MONTH, YEAR};
 use crate::sums::{has_day, julian_day_at};
 use crate::values::{date_at, day_of_month_of, ordinal_of, week_of, weekday_of};
 use cal_time::Date;
@@ -20,10 +20,8 @@ pub extern "C" fn fots_date_from_julian_day(julian_day: i64) -> DateResult
     ensures julian_day { ¬ IsJulianDay julian_day → result ≡ date_refused julian_day_refused }
     ensures date { IsJulianDay julian_day → result ≡ date_done julian_day }
 {
-    match date_at(julian_day) {
-        Some(date) => DateResult::of(date),
-        None => DateResult::refused(JULIAN_DAY),
-    }
+    let date = or_return!(date_at(julian_day), DateResult::refused(JULIAN_DAY));
+    DateResult::of(date)
 }
 
 /// The date of a year, from -999999 to 999999, a month, from 1 to 12, and a day of the month.
@@ -65,10 +63,10 @@ pub extern "C" fn fots_date_from_ordinal_date(year: i32, ordinal: u32) -> DateRe
     ensures date { IsYear year → IsOrdinal year ordinal
         → IsDayWith (HasOrdinalDate year ordinal) result }
 {
-    match Date::from_ordinal_date(year, ordinal_of(ordinal)) {
-        Ok(date) => DateResult::of(date),
-        Err(error) => DateResult::refused(date_status(error)),
-    }
+    made_or_refused!(
+        DateResult,
+        Date::from_ordinal_date(year, ordinal_of(ordinal))
+    )
 }
 
 /// The date of an ISO year, from -999999 to 999999, a week, and a weekday from Monday, 1, to Sunday, 7.
@@ -88,11 +86,9 @@ pub extern "C" fn fots_date_from_iso_week_date(year: i32, week: u32, weekday: u3
         → IsWeek year week
         → result ≡ date_done (julian_day_at n) }
 {
-    let Some(weekday) = weekday_of(weekday) else {
-        return DateResult::refused(BAD_WEEKDAY);
-    };
-    match Date::from_iso_week_date(year, week_of(year, week), weekday) {
-        Ok(date) => DateResult::of(date),
-        Err(error) => DateResult::refused(date_status(error)),
-    }
+    let weekday = or_return!(weekday_of(weekday), DateResult::refused(BAD_WEEKDAY));
+    made_or_refused!(
+        DateResult,
+        Date::from_iso_week_date(year, week_of(year, week), weekday)
+    )
 }

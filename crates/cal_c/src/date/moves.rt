@@ -58,10 +58,8 @@ pub extern "C" fn fots_date_checked_add(date: i32, duration: Duration) -> DateRe
     if !is_julian_day(date) {
         return DateResult::refused(BAD_DATE);
     }
-    match duration_of(duration) {
-        Some(duration) => days_later(date, duration.whole_days()),
-        None => DateResult::refused(BAD_DURATION),
-    }
+    let duration = or_return!(duration_of(duration), DateResult::refused(BAD_DURATION));
+    days_later(date, duration.whole_days())
 }
 
 /// The day that many whole days later, cut toward zero, or the end of the range that is nearest to it.
@@ -76,10 +74,8 @@ pub extern "C" fn fots_date_saturating_add(date: i32, duration: Duration) -> Dat
     if !is_julian_day(date) {
         return DateResult::refused(BAD_DATE);
     }
-    match duration_of(duration) {
-        Some(duration) => days_later_held(date, duration.whole_days()),
-        None => DateResult::refused(BAD_DURATION),
-    }
+    let duration = or_return!(duration_of(duration), DateResult::refused(BAD_DURATION));
+    days_later_held(date, duration.whole_days())
 }
 
 /// The day that many whole days earlier, cut toward zero, or none where that is past an end of the range. 2020-12-31 less 47 hours is 2020-12-30.
@@ -98,10 +94,8 @@ pub extern "C" fn fots_date_checked_sub(date: i32, duration: Duration) -> DateRe
     if !is_julian_day(date) {
         return DateResult::refused(BAD_DATE);
     }
-    match duration_of(duration) {
-        Some(duration) => days_earlier(date, duration.whole_days()),
-        None => DateResult::refused(BAD_DURATION),
-    }
+    let duration = or_return!(duration_of(duration), DateResult::refused(BAD_DURATION));
+    days_earlier(date, duration.whole_days())
 }
 
 /// The day that many whole days earlier, cut toward zero, or the end of the range that is nearest to it.
@@ -116,10 +110,8 @@ pub extern "C" fn fots_date_saturating_sub(date: i32, duration: Duration) -> Dat
     if !is_julian_day(date) {
         return DateResult::refused(BAD_DATE);
     }
-    match duration_of(duration) {
-        Some(duration) => days_earlier_held(date, duration.whole_days()),
-        None => DateResult::refused(BAD_DURATION),
-    }
+    let duration = or_return!(duration_of(duration), DateResult::refused(BAD_DURATION));
+    days_earlier_held(date, duration.whole_days())
 }
 
 /// The day so many days later, or earlier where they are below zero, or none where that is past an end of the range. That 366 days

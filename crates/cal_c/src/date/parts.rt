@@ -18,9 +18,7 @@ pub extern "C" fn fots_date_to_calendar_date(date: i32) -> CalendarDateResult
     ensures bad_date { ¬ IsJulianDay date → result ≡ calendar_date_refused bad_date }
     ensures value { IsJulianDay date → result ≡ calendar_date_done (day_of date) }
 {
-    let Some(number) = number_of(date) else {
-        return CalendarDateResult::refused(BAD_DATE);
-    };
+    let number = or_return!(number_of(date), CalendarDateResult::refused(BAD_DATE));
     let (year, month, day) = calendar_date_at(number);
     CalendarDateResult {
         status: DONE,
@@ -36,9 +34,7 @@ pub extern "C" fn fots_date_to_ordinal_date(date: i32) -> OrdinalDateResult
     ensures bad_date { ¬ IsJulianDay date → result ≡ ordinal_date_refused bad_date }
     ensures value { IsJulianDay date → result ≡ ordinal_date_done (day_of date) }
 {
-    let Some(date) = date_of(date) else {
-        return OrdinalDateResult::refused(BAD_DATE);
-    };
+    let date = or_return!(date_of(date), OrdinalDateResult::refused(BAD_DATE));
     let (year, ordinal) = date.to_ordinal_date();
     OrdinalDateResult {
         status: DONE,
@@ -71,10 +67,8 @@ pub extern "C" fn fots_date_year(date: i32) -> NumberResult
     ensures bad_date { ¬ IsJulianDay date → result ≡ number_refused bad_date }
     ensures value { IsJulianDay date → result ≡ number_done (year_at (day_of date)) }
 {
-    match date_of(date) {
-        Some(date) => NumberResult::of(date.year()),
-        None => NumberResult::refused(BAD_DATE),
-    }
+    let date = or_return!(date_of(date), NumberResult::refused(BAD_DATE));
+    NumberResult::of(date.year())
 }
 
 /// The month of a date, from 1 to 12. That of 2451604 is 2.
@@ -83,10 +77,8 @@ pub extern "C" fn fots_date_month(date: i32) -> NumberResult
     ensures bad_date { ¬ IsJulianDay date → result ≡ number_refused bad_date }
     ensures value { IsJulianDay date → result ≡ number_done (pos (month_at (day_of date))) }
 {
-    match date_of(date) {
-        Some(date) => NumberResult::of(i32::from(date.month() as u8)),
-        None => NumberResult::refused(BAD_DATE),
-    }
+    let date = or_return!(date_of(date), NumberResult::refused(BAD_DATE));
+    NumberResult::of(i32::from(date.month() as u8))
 }
 
 /// The day of the month of a date, from 1 to 31. That of 2451604 is 29.
@@ -95,10 +87,8 @@ pub extern "C" fn fots_date_day(date: i32) -> NumberResult
     ensures bad_date { ¬ IsJulianDay date → result ≡ number_refused bad_date }
     ensures value { IsJulianDay date → result ≡ number_done (pos (day_of_month_at (day_of date))) }
 {
-    match date_of(date) {
-        Some(date) => NumberResult::of(i32::from(date.day())),
-        None => NumberResult::refused(BAD_DATE),
-    }
+    let date = or_return!(date_of(date), NumberResult::refused(BAD_DATE));
+    NumberResult::of(i32::from(date.day()))
 }
 
 /// The ordinal of a date, from 1 to 366. That of 2451604 is 60.
@@ -107,10 +97,8 @@ pub extern "C" fn fots_date_ordinal(date: i32) -> NumberResult
     ensures bad_date { ¬ IsJulianDay date → result ≡ number_refused bad_date }
     ensures value { IsJulianDay date → result ≡ number_done (pos (ordinal_at (day_of date))) }
 {
-    match date_of(date) {
-        Some(date) => NumberResult::of(i32::from(date.ordinal())),
-        None => NumberResult::refused(BAD_DATE),
-    }
+    let date = or_return!(date_of(date), NumberResult::refused(BAD_DATE));
+    NumberResult::of(i32::from(date.ordinal()))
 }
 
 /// The ISO week of a date, from 1 to 53. That of 2451604 is 9.
@@ -119,10 +107,8 @@ pub extern "C" fn fots_date_iso_week(date: i32) -> NumberResult
     ensures bad_date { ¬ IsJulianDay date → result ≡ number_refused bad_date }
     ensures value { IsJulianDay date → result ≡ number_done (pos (iso_week_at (day_of date))) }
 {
-    match date_of(date) {
-        Some(date) => NumberResult::of(i32::from(date.iso_week())),
-        None => NumberResult::refused(BAD_DATE),
-    }
+    let date = or_return!(date_of(date), NumberResult::refused(BAD_DATE));
+    NumberResult::of(i32::from(date.iso_week()))
 }
 
 /// The Sundays of the year up to a date, from 0 to 53. Those of 2451604 are 9.
@@ -131,10 +117,8 @@ pub extern "C" fn fots_date_sunday_based_week(date: i32) -> NumberResult
     ensures bad_date { ¬ IsJulianDay date → result ≡ number_refused bad_date }
     ensures value { IsJulianDay date → result ≡ number_done (pos (weekdays_upto 6 (day_of date))) }
 {
-    match date_of(date) {
-        Some(date) => NumberResult::of(i32::from(date.sunday_based_week())),
-        None => NumberResult::refused(BAD_DATE),
-    }
+    let date = or_return!(date_of(date), NumberResult::refused(BAD_DATE));
+    NumberResult::of(i32::from(date.sunday_based_week()))
 }
 
 /// The Mondays of the year up to a date, from 0 to 53. Those of 2451604 are 9.
@@ -143,10 +127,8 @@ pub extern "C" fn fots_date_monday_based_week(date: i32) -> NumberResult
     ensures bad_date { ¬ IsJulianDay date → result ≡ number_refused bad_date }
     ensures value { IsJulianDay date → result ≡ number_done (pos (weekdays_upto 0 (day_of date))) }
 {
-    match date_of(date) {
-        Some(date) => NumberResult::of(i32::from(date.monday_based_week())),
-        None => NumberResult::refused(BAD_DATE),
-    }
+    let date = or_return!(date_of(date), NumberResult::refused(BAD_DATE));
+    NumberResult::of(i32::from(date.monday_based_week()))
 }
 
 /// The weekday of a date, from Monday, 1, to Sunday, 7. That of 2451604 is 2.
@@ -155,8 +137,6 @@ pub extern "C" fn fots_date_weekday(date: i32) -> NumberResult
     ensures bad_date { ¬ IsJulianDay date → result ≡ number_refused bad_date }
     ensures value { IsJulianDay date → result ≡ number_done (pos (weekday_at (day_of date) + 1)) }
 {
-    match number_of(date) {
-        Some(number) => NumberResult::of(i32::from(weekday_of_number(number))),
-        None => NumberResult::refused(BAD_DATE),
-    }
+    let number = or_return!(number_of(date), NumberResult::refused(BAD_DATE));
+    NumberResult::of(i32::from(weekday_of_number(number)))
 }

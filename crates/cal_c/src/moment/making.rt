@@ -25,16 +25,10 @@ pub extern "C" fn fots_moment_new(date: i32, time: u64, offset: i32) -> MomentRe
     ensures moment { IsJulianDay date → IsTime time → IsOffset offset
         → result ≡ moment_done (moment_of date time offset) }
 {
-    let Some(date) = date_of(date) else {
-        return MomentResult::refused(BAD_DATE);
-    };
-    let Some(time) = time_of(time) else {
-        return MomentResult::refused(BAD_TIME);
-    };
-    match offset_of(offset) {
-        Some(offset) => MomentResult::of(OffsetDateTime::new_in_offset(date, time, offset)),
-        None => MomentResult::refused(BAD_OFFSET),
-    }
+    let date = or_return!(date_of(date), MomentResult::refused(BAD_DATE));
+    let time = or_return!(time_of(time), MomentResult::refused(BAD_TIME));
+    let offset = or_return!(offset_of(offset), MomentResult::refused(BAD_OFFSET));
+    MomentResult::of(OffsetDateTime::new_in_offset(date, time, offset))
 }
 
 /// The same instant, as a clock at that offset shows it, or none where that is past the range.
@@ -49,13 +43,9 @@ pub extern "C" fn fots_moment_to_offset(moment: Moment, offset: i32) -> MomentRe
         in IsMoment moment → IsOffset offset → IsDateTime local
         → result ≡ moment_done (record { local = local; offset = offset }) }
 {
-    let Some(moment) = moment_of(moment) else {
-        return MomentResult::refused(BAD_MOMENT);
-    };
-    match offset_of(offset) {
-        Some(offset) => shown_at(moment, offset),
-        None => MomentResult::refused(BAD_OFFSET),
-    }
+    let moment = or_return!(moment_of(moment), MomentResult::refused(BAD_MOMENT));
+    let offset = or_return!(offset_of(offset), MomentResult::refused(BAD_OFFSET));
+    shown_at(moment, offset)
 }
 
 /// The same instant at another offset.
@@ -65,10 +55,11 @@ fn shown_at(moment: OffsetDateTime, offset: UtcOffset) -> MomentResult
     ensures moment { let local = local_at (instant moment) offset
         in IsDateTime local → result ≡ moment_done (record { local = local; offset = offset }) }
 {
-    match moment.checked_to_offset(offset) {
-        Some(shown) => MomentResult::of(shown),
-        None => MomentResult::refused(PAST_RANGE),
-    }
+    let shown = or_return!(
+        moment.checked_to_offset(offset),
+        MomentResult::refused(PAST_RANGE)
+    );
+    MomentResult::of(shown)
 }
 
 /// The moment at which a clock at that offset shows the same date and time.
@@ -79,11 +70,7 @@ pub extern "C" fn fots_moment_replace_offset(moment: Moment, offset: i32) -> Mom
     ensures moment { IsMoment moment → IsOffset offset
         → result ≡ moment_done (record { local = local_in moment; offset = offset }) }
 {
-    let Some(moment) = moment_of(moment) else {
-        return MomentResult::refused(BAD_MOMENT);
-    };
-    match offset_of(offset) {
-        Some(offset) => MomentResult::of(moment.replace_offset(offset)),
-        None => MomentResult::refused(BAD_OFFSET),
-    }
+    let moment = or_return!(moment_of(moment), MomentResult::refused(BAD_MOMENT));
+    let offset = or_return!(offset_of(offset), MomentResult::refused(BAD_OFFSET));
+    MomentResult::of(moment.replace_offset(offset))
 }

@@ -27,13 +27,9 @@ pub extern "C" fn fots_moment_checked_add(moment: Moment, duration: Duration) ->
         in IsMoment moment → IsDurationPair duration → IsDateTime local
         → result ≡ moment_done (record { local = local; offset = moment.offset }) }
 {
-    let Some(moment) = moment_of(moment) else {
-        return MomentResult::refused(BAD_MOMENT);
-    };
-    match duration_of(duration) {
-        Some(duration) => later(moment, duration),
-        None => MomentResult::refused(BAD_DURATION),
-    }
+    let moment = or_return!(moment_of(moment), MomentResult::refused(BAD_MOMENT));
+    let duration = or_return!(duration_of(duration), MomentResult::refused(BAD_DURATION));
+    later(moment, duration)
 }
 
 /// The moment that much later.
@@ -44,10 +40,11 @@ fn later(moment: OffsetDateTime, duration: SignedDuration) -> MomentResult
         in IsDateTime local → result ≡ moment_done
         (record { local = local; offset = moment.offset }) }
 {
-    match moment.checked_add(duration) {
-        Some(moved) => MomentResult::of(moved),
-        None => MomentResult::refused(PAST_RANGE),
-    }
+    let moved = or_return!(
+        moment.checked_add(duration),
+        MomentResult::refused(PAST_RANGE)
+    );
+    MomentResult::of(moved)
 }
 
 /// The moment that much earlier, to the nanosecond and at the same offset, or none where that is past the range.
@@ -63,13 +60,9 @@ pub extern "C" fn fots_moment_checked_sub(moment: Moment, duration: Duration) ->
         in IsMoment moment → IsDurationPair duration → IsDateTime local
         → result ≡ moment_done (record { local = local; offset = moment.offset }) }
 {
-    let Some(moment) = moment_of(moment) else {
-        return MomentResult::refused(BAD_MOMENT);
-    };
-    match duration_of(duration) {
-        Some(duration) => earlier(moment, duration),
-        None => MomentResult::refused(BAD_DURATION),
-    }
+    let moment = or_return!(moment_of(moment), MomentResult::refused(BAD_MOMENT));
+    let duration = or_return!(duration_of(duration), MomentResult::refused(BAD_DURATION));
+    earlier(moment, duration)
 }
 
 /// The moment that much earlier.
@@ -80,10 +73,11 @@ fn earlier(moment: OffsetDateTime, duration: SignedDuration) -> MomentResult
         in IsDateTime local → result ≡ moment_done
         (record { local = local; offset = moment.offset }) }
 {
-    match moment.checked_sub(duration) {
-        Some(moved) => MomentResult::of(moved),
-        None => MomentResult::refused(PAST_RANGE),
-    }
+    let moved = or_return!(
+        moment.checked_sub(duration),
+        MomentResult::refused(PAST_RANGE)
+    );
+    MomentResult::of(moved)
 }
 
 /// The moment that much later, or the end of the range that is nearest to it on the clock at its offset.
@@ -98,13 +92,9 @@ pub extern "C" fn fots_moment_saturating_add(moment: Moment, duration: Duration)
           offset = moment.offset;
         }) }
 {
-    let Some(moment) = moment_of(moment) else {
-        return MomentResult::refused(BAD_MOMENT);
-    };
-    match duration_of(duration) {
-        Some(duration) => MomentResult::of(moment.saturating_add(duration)),
-        None => MomentResult::refused(BAD_DURATION),
-    }
+    let moment = or_return!(moment_of(moment), MomentResult::refused(BAD_MOMENT));
+    let duration = or_return!(duration_of(duration), MomentResult::refused(BAD_DURATION));
+    MomentResult::of(moment.saturating_add(duration))
 }
 
 /// The moment that much earlier, or the end of the range that is nearest to it on the clock at its offset.
@@ -119,13 +109,9 @@ pub extern "C" fn fots_moment_saturating_sub(moment: Moment, duration: Duration)
           offset = moment.offset;
         }) }
 {
-    let Some(moment) = moment_of(moment) else {
-        return MomentResult::refused(BAD_MOMENT);
-    };
-    match duration_of(duration) {
-        Some(duration) => MomentResult::of(moment.saturating_sub(duration)),
-        None => MomentResult::refused(BAD_DURATION),
-    }
+    let moment = or_return!(moment_of(moment), MomentResult::refused(BAD_MOMENT));
+    let duration = or_return!(duration_of(duration), MomentResult::refused(BAD_DURATION));
+    MomentResult::of(moment.saturating_sub(duration))
 }
 
 /// The duration from the other instant to that of the moment, below zero where the other one is later.
@@ -136,13 +122,9 @@ pub extern "C" fn fots_moment_duration_since(moment: Moment, other: Moment) -> D
     ensures value { IsMoment moment → IsMoment other
         → result ≡ duration_done (instant (shown_in moment) -ℤ instant (shown_in other)) }
 {
-    let Some(moment) = moment_of(moment) else {
-        return DurationResult::refused(BAD_MOMENT);
-    };
-    match moment_of(other) {
-        Some(other) => DurationResult::of(moment - other),
-        None => DurationResult::refused(BAD_MOMENT),
-    }
+    let moment = or_return!(moment_of(moment), DurationResult::refused(BAD_MOMENT));
+    let other = or_return!(moment_of(other), DurationResult::refused(BAD_MOMENT));
+    DurationResult::of(moment - other)
 }
 
 /// -1, 0 or 1, as the instant of the one moment is before that of the other, the same, or after it.
@@ -159,12 +141,8 @@ pub extern "C" fn fots_moment_compare(moment: Moment, other: Moment) -> NumberRe
         → instant (shown_in other) <ℤ instant (shown_in moment)
         → result ≡ number_done (pos 1) }
 {
-    let Some(moment) = moment_of(moment) else {
-        return NumberResult::refused(BAD_MOMENT);
-    };
-    let Some(other) = moment_of(other) else {
-        return NumberResult::refused(BAD_MOMENT);
-    };
+    let moment = or_return!(moment_of(moment), NumberResult::refused(BAD_MOMENT));
+    let other = or_return!(moment_of(other), NumberResult::refused(BAD_MOMENT));
     if moment < other {
         NumberResult::of(-1)
     } else if other < moment {

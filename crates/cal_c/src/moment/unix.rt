@@ -23,10 +23,9 @@ pub extern "C" fn fots_moment_from_unix_timestamp(seconds: i64) -> MomentResult
     ensures moment { let local = unix_epoch +ℤ seconds *ℤ pos second
         in IsDateTime local → result ≡ moment_done (record { local = local; offset = pos 0 }) }
 {
-    match OffsetDateTime::from_unix_timestamp(seconds) {
-        Ok(moment) => MomentResult::of(moment),
-        Err(_) => MomentResult::refused(TIMESTAMP),
-    }
+    let moment =
+        or_return!(OffsetDateTime::from_unix_timestamp(seconds), _ => MomentResult::refused(TIMESTAMP));
+    MomentResult::of(moment)
 }
 
 /// The moment at UTC of a Unix time. Refused as `timestamp`.
@@ -40,10 +39,8 @@ pub extern "C" fn fots_moment_from_unix_time(duration: Duration) -> MomentResult
         in IsDurationPair duration → IsDateTime local
         → result ≡ moment_done (record { local = local; offset = pos 0 }) }
 {
-    match duration_of(duration) {
-        Some(duration) => at_unix_time(duration),
-        None => MomentResult::refused(BAD_DURATION),
-    }
+    let duration = or_return!(duration_of(duration), MomentResult::refused(BAD_DURATION));
+    at_unix_time(duration)
 }
 
 /// The moment at UTC of a Unix time.
@@ -53,10 +50,9 @@ fn at_unix_time(duration: SignedDuration) -> MomentResult
     ensures moment { let local = unix_epoch +ℤ duration
         in IsDateTime local → result ≡ moment_done (record { local = local; offset = pos 0 }) }
 {
-    match OffsetDateTime::from_unix_timestamp_nanos(duration.whole_nanoseconds()) {
-        Ok(moment) => MomentResult::of(moment),
-        Err(_) => MomentResult::refused(TIMESTAMP),
-    }
+    let moment =
+        or_return!(OffsetDateTime::from_unix_timestamp_nanos(duration.whole_nanoseconds()), _ => MomentResult::refused(TIMESTAMP));
+    MomentResult::of(moment)
 }
 
 /// The whole seconds of the Unix time, rounded toward the past: half a second before 1970-01-01 0:00 UTC it is -1.
@@ -66,10 +62,8 @@ pub extern "C" fn fots_moment_unix_timestamp(moment: Moment) -> LongResult
     ensures value { IsMoment moment → result
         ≡ long_done (unix_seconds (instant (shown_in moment))) }
 {
-    match moment_of(moment) {
-        Some(moment) => LongResult::of(moment.unix_timestamp()),
-        None => LongResult::refused(BAD_MOMENT),
-    }
+    let moment = or_return!(moment_of(moment), LongResult::refused(BAD_MOMENT));
+    LongResult::of(moment.unix_timestamp())
 }
 
 /// The Unix time, to the nanosecond.
@@ -79,8 +73,6 @@ pub extern "C" fn fots_moment_unix_time(moment: Moment) -> DurationResult
     ensures value { IsMoment moment → result
         ≡ duration_done (unix_nanoseconds (instant (shown_in moment))) }
 {
-    match moment_of(moment) {
-        Some(moment) => DurationResult::of(moment - OffsetDateTime::unix_epoch()),
-        None => DurationResult::refused(BAD_MOMENT),
-    }
+    let moment = or_return!(moment_of(moment), DurationResult::refused(BAD_MOMENT));
+    DurationResult::of(moment - OffsetDateTime::unix_epoch())
 }

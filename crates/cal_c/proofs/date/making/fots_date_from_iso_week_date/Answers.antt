@@ -19,8 +19,8 @@ returns-in-Ok-clause-week c = λ w y out.
 pub returns-in-Ok-clause-date : goal.returns-in-Ok-clause-date
 returns-in-Ok-clause-date c = λ w n h has k.
     let f = c.ranges.year in
-    let p : index c.in-Some.weekday ≡ c.args.weekday - 1 = omega (arith, c.in-Some.ensures.1) in
+    let p : index c.in-Some.value ≡ c.args.weekday - 1 = omega (arith, c.in-Some.ensures.1) in
     let every = simp to_z-of_z at c.in-Ok.ensures.every in
     let week = simp to_z-of_z at c.week_of.ensures.has in
     let found = every n h (has.0, has.1 ∙ sym (week k), has.2 ∙ sym p) in
-    c.of.ensures ∙ ap (λ m. date_done (julian_day_at m)) (same_ok c.from_iso_week_date.result c.in-Ok.date n c.in-Ok.is (c.in-Ok.is ∙ found))
+    c.of.ensures ∙ ap (λ m. date_done (julian_day_at m)) (same_ok c.from_iso_week_date.result c.in-Ok.made n c.in-Ok.is (c.in-Ok.is ∙ found))

@@ -28,4 +28,4 @@ returns-in-Ok-clause-date c = λ y o.
     let has = simp to_z-of_z at c.in-Ok.ensures.has in
     let Has = HasOrdinalDate c.args.year c.args.ordinal in
     subst (IsDayWith Has) (sym c.of.ensures)
-    (IsDayWith-at Has c.in-Ok.date has.0 (has.1.0, has.1.1 ∙ c.ordinal_of.ensures.has c.args.year o))
+    (IsDayWith-at Has c.in-Ok.made has.0 (has.1.0, has.1.1 ∙ c.ordinal_of.ensures.has c.args.year o))

@@ -5,10 +5,10 @@ use Rattle.cal_datetime.specs.OffsetDateTime.{Shown, instant, local_at}
 use Rattle.cal_c.specs.Moments.{shown_in}
 use Rattle.cal_c.proofs.moment.making.fots_moment_to_offset.Goals as goal
 
-pub returns-in-Some-offset_of-clause-past_range : goal.returns-in-Some-offset_of-clause-past_range
-returns-in-Some-offset_of-clause-past_range c = λ m o out.
+pub returns-clause-past_range : goal.returns-clause-past_range
+returns-clause-past_range c = λ m o out.
     let g = c.ranges.offset in
-    let offset = c.in-Some-offset_of.offset in
+    let offset = c.in-Some-offset_of.value in
     let at = simp to_z-of_z at c.in-Some-offset_of.ensures in
     let same = ap (λ (m : Shown). local_at (instant m) offset) c.in-Some.ensures.1 ∙ ap (local_at (instant (shown_in c.args.moment))) at.1 in
     c.shown_at.ensures.past_range (λ is. out (subst IsDateTime same is))
