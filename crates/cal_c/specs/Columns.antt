@@ -1,4 +1,4 @@
--- What a row of a column is answered: as by the single call.
+-- What a call answers, alone or for each row of columns.
 use Rattle.std.specs.Prelude.{◌≡◌, ℕ, ℤ, pos, ◌+◌, ◌-◌, ◌<◌, ◌≤◌, ◌+ℤ◌, ◌≤ℤ◌, Bool, not, ◌==◌, List, length, get_or, count_by}
 use Rattle.cal_time.specs.Date.{julian_day_at, weekday_at, IsDate, IsYear, IsDayOfMonth, IsOrdinal, HasCalendarDate, HasOrdinalDate, NoDate}
 use Rattle.cal_time.specs.IsoWeekDate.{IsWeek, HasIsoWeekDate}

@@ -1,17 +1,17 @@
 //! Columns of dates that are made.
-ghost use Rattle.std.specs.Prelude.{◌≡◌, ◌+◌, MatchOption, pos};
+ghost use Rattle.std.specs.Prelude.{◌≡◌, pos};
 ghost use Rattle.cal_time.specs.Date.{julian_day_at, IsYear, IsDayOfMonth};
-ghost use Rattle.cal_time.specs.Weekday.{index};
 ghost use Rattle.cal_c.specs.Columns.{int_at, nat_at, Alike3, Alike4, Alike5, AreAnswered, date_row, IsDateOfJulianDay, IsDateOfCalendarDate, IsDateOfOrdinalDate, IsDateOfIsoWeekDate};
 ghost use Rattle.cal_c.specs.Results.{date_done, date_if_any, date_refused};
 ghost use Rattle.cal_c.specs.Statuses.{year_refused, month_refused, day_refused};
-ghost use Rattle.cal_c.specs.Values.{IsMonth, IsWeekday};
+ghost use Rattle.cal_c.specs.Values.{IsMonth};
 
 use super::statuses::{BAD_WEEKDAY, DAY, DONE, JULIAN_DAY, MONTH, PAST_RANGE, YEAR, status_of};
-use super::{NOTHING, UNLIKE, is_date, refused_in};
+use super::{NOTHING, UNLIKE, refused_in};
+use crate::number::{FIRST_JULIAN_DAY, LAST_JULIAN_DAY};
 use crate::sums::{has_day, julian_day_at};
-use crate::values;
-use cal_time::{Date, Weekday};
+use crate::values::weekday_of;
+use cal_time::Date;
 
 /// The dates of a column of Julian days, row by row as `fots_date_from_julian_day`, and how many rows have none.
 #[unsafe(no_mangle)]
@@ -151,19 +151,11 @@ pub(super) fn made_if_any(date: Option<Date>) -> (i32, u8)
     }
 }
 
-/// The weekday that has the number, from Monday, 1.
-fn weekday_of(weekday: u8) -> Option<Weekday>
-    ensures { MatchOption result (¬ IsWeekday weekday)
-        (λ found. IsWeekday weekday × (index found + 1 ≡ weekday)) }
-{
-    values::weekday_of(u32::from(weekday))
-}
-
 /// The date of a Julian day, and its status.
 fn date_of_julian_day(julian_day: i64) -> (i32, u8)
     ensures { IsDateOfJulianDay julian_day (date_row result.0 result.1) }
 {
-    if is_date(julian_day) {
+    if julian_day >= FIRST_JULIAN_DAY && julian_day <= LAST_JULIAN_DAY {
         (julian_day as i32, DONE)
     } else {
         (NOTHING, JULIAN_DAY)
@@ -218,7 +210,7 @@ fn date_of_ordinal_date(year: i32, ordinal: u16) -> (i32, u8)
 fn date_of_iso_week_date(year: i32, week: u8, weekday: u8) -> (i32, u8)
     ensures { IsDateOfIsoWeekDate year week weekday (date_row result.0 result.1) }
 {
-    let weekday = or_return!(weekday_of(weekday), refused(BAD_WEEKDAY));
+    let weekday = or_return!(weekday_of(u32::from(weekday)), refused(BAD_WEEKDAY));
     match Date::from_iso_week_date(year, week, weekday) {
         Ok(date) => made(date),
         Err(error) => refused(status_of(error)),

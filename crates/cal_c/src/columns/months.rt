@@ -2,10 +2,8 @@
 ghost use Rattle.std.specs.Prelude.{◌≡◌, ◌≤◌, ◌+ℤ◌, min, pos};
 ghost use Rattle.cal_time.specs.Date.{year_at, month_at, day_of_month_at};
 ghost use Rattle.cal_time.specs.Lengths.{days_in_month};
-ghost use Rattle.cal_schedule.specs.Months.{month_number_at, IsMonthNumber, IsMonthsLater};
+ghost use Rattle.cal_schedule.specs.Months.{month_number_at};
 ghost use Rattle.cal_c.specs.Columns.{int_at, nat_at, Alike4, AreAnswered, date_row, IsDateMonthsLater};
-ghost use Rattle.cal_c.specs.Results.{date_refused, IsDayWith};
-ghost use Rattle.cal_c.specs.Statuses.{bad_date, past_range};
 ghost use Rattle.cal_c.specs.Values.{IsJulianDay, day_of};
 
 use super::making::refused;
@@ -48,12 +46,7 @@ pub extern "C" fn fots_dates_add_months(
 
 /// The day so many months later, and the status.
 fn date_months_later(date: i32, months: i32) -> (i32, u8)
-    ensures bad_date { ¬ IsJulianDay date → date_row result.0 result.1 ≡ date_refused bad_date }
-    ensures past_range { IsJulianDay date
-        → ¬ IsMonthNumber (month_number_at (day_of date) +ℤ months)
-        → date_row result.0 result.1 ≡ date_refused past_range }
-    ensures day { IsJulianDay date → IsMonthNumber (month_number_at (day_of date) +ℤ months)
-        → IsDayWith (IsMonthsLater (day_of date) months) (date_row result.0 result.1) }
+    ensures { IsDateMonthsLater date months (date_row result.0 result.1) }
 {
     let (index, day) = index_and_day(date);
     // A sum below zero wraps, far above the last month.

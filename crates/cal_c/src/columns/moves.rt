@@ -4,9 +4,6 @@ ghost use Rattle.std.specs.Int.{int_min, int_max};
 ghost use Rattle.cal_time.specs.Date.{last_day};
 ghost use Rattle.cal_time.specs.Move.{IsDateNumber};
 ghost use Rattle.cal_c.specs.Columns.{int_at, nat_at, Alike4, AreAnswered, date_row, IsDateMoved};
-ghost use Rattle.cal_c.specs.Results.{date_done, date_refused};
-ghost use Rattle.cal_c.specs.Statuses.{bad_date, past_range};
-ghost use Rattle.cal_c.specs.Values.{IsJulianDay};
 
 use super::statuses::{BAD_DATE, DONE, PAST_RANGE};
 use super::{NOTHING, UNLIKE, refused_in};
@@ -56,11 +53,7 @@ fn hold_days(days: &[i64], held: &mut [i32])
 
 /// The day so many days later, and the status.
 fn moved_date(date: i32, days: i32) -> (i32, u8)
-    ensures bad_date { ¬ IsJulianDay date → date_row result.0 result.1 ≡ date_refused bad_date }
-    ensures past_range { IsJulianDay date → ¬ IsJulianDay (date +ℤ days)
-        → date_row result.0 result.1 ≡ date_refused past_range }
-    ensures day { IsJulianDay date → IsJulianDay (date +ℤ days)
-        → date_row result.0 result.1 ≡ date_done (date +ℤ days) }
+    ensures { IsDateMoved date days (date_row result.0 result.1) }
 {
     let moved = moved_number(number_held(date), days);
     if !is_julian_day(date) {

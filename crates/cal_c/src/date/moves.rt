@@ -1,6 +1,7 @@
 //! Dates moved on and back, and the durations between dates.
 ghost use Rattle.std.specs.Prelude.{◌≡◌, pos, ◌+ℤ◌, ◌-ℤ◌, ◌*ℤ◌};
 ghost use Rattle.cal_time.specs.SignedDuration.{day, whole_days};
+ghost use Rattle.cal_c.specs.Columns.{IsDateMoved};
 ghost use Rattle.cal_c.specs.Results.{date_done, date_refused, duration_done, duration_refused};
 ghost use Rattle.cal_c.specs.Statuses.{past_range, bad_date, bad_duration};
 ghost use Rattle.cal_c.specs.Values.{IsJulianDay, julian_nearest, IsDurationPair, nanoseconds_in};
@@ -118,11 +119,7 @@ pub extern "C" fn fots_date_saturating_sub(date: i32, duration: Duration) -> Dat
 /// after 2451604 is 2451970.
 #[unsafe(no_mangle)]
 pub extern "C" fn fots_date_add_days(date: i32, days: i64) -> DateResult
-    ensures bad_date { ¬ IsJulianDay date → result ≡ date_refused bad_date }
-    ensures past_range { IsJulianDay date → ¬ IsJulianDay (date +ℤ days)
-        → result ≡ date_refused past_range }
-    ensures day { IsJulianDay date → IsJulianDay (date +ℤ days)
-        → result ≡ date_done (date +ℤ days) }
+    ensures { IsDateMoved date days result }
 {
     if !is_julian_day(date) {
         return DateResult::refused(BAD_DATE);

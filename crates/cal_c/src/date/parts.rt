@@ -2,7 +2,8 @@
 ghost use Rattle.std.specs.Prelude.{◌≡◌, ◌+◌, pos};
 ghost use Rattle.cal_time.specs.Date.{year_at, month_at, day_of_month_at, ordinal_at, weekday_at};
 ghost use Rattle.cal_time.specs.IsoWeekDate.{iso_week_at, weekdays_upto};
-ghost use Rattle.cal_c.specs.Results.{number_done, number_refused, calendar_date_done, calendar_date_refused, ordinal_date_done, ordinal_date_refused, iso_week_date_done, iso_week_date_refused};
+ghost use Rattle.cal_c.specs.Columns.{IsCalendarDateOf, IsOrdinalDateOf, IsIsoWeekDateOf};
+ghost use Rattle.cal_c.specs.Results.{number_done, number_refused};
 ghost use Rattle.cal_c.specs.Statuses.{bad_date};
 ghost use Rattle.cal_c.specs.Values.{IsJulianDay, day_of};
 
@@ -15,8 +16,7 @@ use crate::values::date_of;
 /// The year, the month and the day of the month of a date. Those of 2451604 are 2000, 2 and 29.
 #[unsafe(no_mangle)]
 pub extern "C" fn fots_date_to_calendar_date(date: i32) -> CalendarDateResult
-    ensures bad_date { ¬ IsJulianDay date → result ≡ calendar_date_refused bad_date }
-    ensures value { IsJulianDay date → result ≡ calendar_date_done (day_of date) }
+    ensures { IsCalendarDateOf date result }
 {
     let number = or_return!(number_of(date), CalendarDateResult::refused(BAD_DATE));
     let (year, month, day) = calendar_date_at(number);
@@ -31,8 +31,7 @@ pub extern "C" fn fots_date_to_calendar_date(date: i32) -> CalendarDateResult
 /// The year and the ordinal of a date. Those of 2451604 are 2000 and 60.
 #[unsafe(no_mangle)]
 pub extern "C" fn fots_date_to_ordinal_date(date: i32) -> OrdinalDateResult
-    ensures bad_date { ¬ IsJulianDay date → result ≡ ordinal_date_refused bad_date }
-    ensures value { IsJulianDay date → result ≡ ordinal_date_done (day_of date) }
+    ensures { IsOrdinalDateOf date result }
 {
     let date = or_return!(date_of(date), OrdinalDateResult::refused(BAD_DATE));
     let (year, ordinal) = date.to_ordinal_date();
@@ -46,8 +45,7 @@ pub extern "C" fn fots_date_to_ordinal_date(date: i32) -> OrdinalDateResult
 /// The ISO year, the week and the weekday of a date. Those of 2451604 are 2000, 9 and 2.
 #[unsafe(no_mangle)]
 pub extern "C" fn fots_date_to_iso_week_date(date: i32) -> IsoWeekDateResult
-    ensures bad_date { ¬ IsJulianDay date → result ≡ iso_week_date_refused bad_date }
-    ensures value { IsJulianDay date → result ≡ iso_week_date_done (day_of date) }
+    ensures { IsIsoWeekDateOf date result }
 {
     if !is_julian_day(date) {
         return IsoWeekDateResult::refused(BAD_DATE);

@@ -2,6 +2,7 @@
 ghost use Rattle.std.specs.Prelude.{◌≡◌, pos, ◌+ℤ◌, ◌*ℤ◌, ◌<ℤ◌, ◌≤ℤ◌};
 ghost use Rattle.cal_time.specs.Date.{first_julian_day, first_year, last_day, last_year, julian_day_at, year_at, IsYear};
 ghost use Rattle.cal_schedule.specs.Months.{month_number_at, IsMonthNumber, IsMonthsLater};
+ghost use Rattle.cal_c.specs.Columns.{IsDateMonthsLater};
 ghost use Rattle.cal_c.specs.Results.{date_done, date_refused, IsDayWith};
 ghost use Rattle.cal_c.specs.Statuses.{bad_date, past_range};
 ghost use Rattle.cal_c.specs.Values.{IsJulianDay, day_of};
@@ -16,12 +17,7 @@ use cal_schedule::{checked_add_months, checked_add_years, saturating_add_months}
 /// 2451604, 2000-02-29.
 #[unsafe(no_mangle)]
 pub extern "C" fn fots_date_add_months(date: i32, months: i32) -> DateResult
-    ensures bad_date { ¬ IsJulianDay date → result ≡ date_refused bad_date }
-    ensures past_range { IsJulianDay date
-        → ¬ IsMonthNumber (month_number_at (day_of date) +ℤ months)
-        → result ≡ date_refused past_range }
-    ensures day { IsJulianDay date → IsMonthNumber (month_number_at (day_of date) +ℤ months)
-        → IsDayWith (IsMonthsLater (day_of date) months) result }
+    ensures { IsDateMonthsLater date months result }
 {
     let date = or_return!(date_of(date), DateResult::refused(BAD_DATE));
     DateResult::of_option(checked_add_months(date, months))

@@ -6,6 +6,7 @@ ghost use Rattle.std.specs.Prelude.{◌≡◌, ◌+◌, ◌<◌, ◌≤◌, leng
 ghost use Rattle.cal_schedule.specs.declared.workdays.convention.Convention.{Convention};
 ghost use Rattle.cal_schedule.specs.Workdays.{is_workday, nth_workday, workdays_back, workdays_from};
 ghost use Rattle.cal_schedule.specs.WorkdaysConvention.{adjusted};
+ghost use Rattle.cal_c.specs.Columns.{IsDateWorkdaysLater, IsWorkdaysBetween};
 ghost use Rattle.cal_c.specs.Results.{date_if_any, date_refused, number_done, number_refused};
 ghost use Rattle.cal_c.specs.Statuses.{bad_convention, bad_date, bad_holidays, bad_week, many_holidays};
 ghost use Rattle.cal_c.specs.Values.{IsJulianDay, day_of};
@@ -91,15 +92,7 @@ pub extern "C" fn fots_date_add_workdays(
     week: u32,
     holidays: &[i32],
 ) -> DateResult
-    ensures bad_date { ¬ IsJulianDay date → result ≡ date_refused bad_date }
-    ensures bad_week { IsJulianDay date → ¬ IsMarks week → result ≡ date_refused bad_week }
-    ensures many_holidays { IsJulianDay date → IsMarks week → most_holidays < length holidays.now
-        → result ≡ date_refused many_holidays }
-    ensures bad_holidays { IsJulianDay date → IsMarks week → length holidays.now ≤ most_holidays
-        → ¬ AreHolidays holidays.now → result ≡ date_refused bad_holidays }
-    ensures day { IsJulianDay date → IsMarks week → length holidays.now ≤ most_holidays
-        → AreHolidays holidays.now
-        → result ≡ date_if_any (nth_workday (work_week week holidays.now) days (day_of date)) }
+    ensures { IsDateWorkdaysLater date days week holidays.now result }
 {
     workdays_later(date, days, &Calendar::of(week, holidays))
 }
@@ -130,18 +123,7 @@ pub extern "C" fn fots_date_workdays_between(
     week: u32,
     holidays: &[i32],
 ) -> NumberResult
-    ensures bad_date { ¬ (IsJulianDay date × IsJulianDay other) → result ≡ number_refused bad_date }
-    ensures bad_week { IsJulianDay date → IsJulianDay other → ¬ IsMarks week
-        → result ≡ number_refused bad_week }
-    ensures many_holidays { IsJulianDay date → IsJulianDay other → IsMarks week
-        → most_holidays < length holidays.now → result ≡ number_refused many_holidays }
-    ensures bad_holidays { IsJulianDay date → IsJulianDay other → IsMarks week
-        → length holidays.now ≤ most_holidays → ¬ AreHolidays holidays.now
-        → result ≡ number_refused bad_holidays }
-    ensures value { IsJulianDay date → IsJulianDay other → IsMarks week
-        → length holidays.now ≤ most_holidays → AreHolidays holidays.now
-        → result ≡ number_done (workdays_number (work_week week holidays.now) (day_of date)
-        (day_of other)) }
+    ensures { IsWorkdaysBetween date other week holidays.now result }
 {
     workdays_to(date, other, &Calendar::of(week, holidays))
 }
