@@ -39,9 +39,7 @@ pub extern "C" fn fots_offset_from_whole_seconds(seconds: i64) -> OffsetResult
     ensures seconds { ¬ IsOffset seconds → result ≡ offset_refused seconds_refused }
     ensures offset { IsOffset seconds → result ≡ offset_done seconds }
 {
-    let Ok(seconds) = i32::try_from(seconds) else {
-        return OffsetResult::refused(SECONDS);
-    };
+    let seconds = or_return!(i32::try_from(seconds), _ => OffsetResult::refused(SECONDS));
     let offset = or_return!(offset_of(seconds), OffsetResult::refused(SECONDS));
     OffsetResult::of(offset)
 }

@@ -46,8 +46,5 @@ pub(super) fn status_of(error: ComponentRange) -> u8
 pub(super) fn byte_of(status: i32) -> u8
     ensures { IsByte status → pos result ≡ status }
 {
-    match u8::try_from(status) {
-        Ok(byte) => byte,
-        Err(_) => u8::MAX,
-    }
+    u8::try_from(status).unwrap_or(u8::MAX)
 }

@@ -82,12 +82,8 @@ fn part(bytes: &[u8], from: i32, to: i32) -> Option<&[u8]>
     ensures { MatchOption result (¬ ArePartOf bytes.now from to)
         (λ text. ArePartOf bytes.now from to × (text.now ≡ part bytes.now from to)) }
 {
-    let Ok(from) = usize::try_from(from) else {
-        return None;
-    };
-    let Ok(to) = usize::try_from(to) else {
-        return None;
-    };
+    let from = usize::try_from(from).ok()?;
+    let to = usize::try_from(to).ok()?;
     if from <= to && to <= bytes.len() {
         Some(&bytes[from..to])
     } else {
