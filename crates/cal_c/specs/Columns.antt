@@ -4,7 +4,7 @@ use Rattle.cal_time.specs.Date.{julian_day_at, weekday_at, IsDate, IsYear, IsDay
 use Rattle.cal_time.specs.IsoWeekDate.{IsWeek, HasIsoWeekDate}
 use Rattle.cal_schedule.specs.Months.{month_number_at, IsMonthNumber, IsMonthsLater}
 use Rattle.cal_schedule.specs.Workdays.{nth_workday}
-use Rattle.cal_c.specs.Results.{date_done, date_if_any, date_refused, number_done, number_refused, IsDayWith, calendar_date_done, calendar_date_refused, ordinal_date_done, ordinal_date_refused, iso_week_date_done, iso_week_date_refused}
+use Rattle.cal_c.specs.Results.{IsDateIfAny, date_done, date_if_any, date_refused, number_done, number_refused, IsDayWith, calendar_date_done, calendar_date_refused, ordinal_date_done, ordinal_date_refused, iso_week_date_done, iso_week_date_refused}
 use Rattle.cal_c.specs.Statuses.{done, past_range, bad_date, bad_weekday, bad_week, bad_holidays, many_holidays, year_refused, month_refused, julian_day_refused, day_refused, ordinal_refused, week_refused, weekday_refused}
 use Rattle.cal_c.specs.Values.{IsJulianDay, IsMonth, IsWeekday, day_of}
 use Rattle.cal_c.specs.Workweeks.{most_holidays, work_week, workdays_number, AreHolidays, IsMarks}
@@ -122,8 +122,7 @@ pub record IsIsoWeekDateOfCalendarDate (year : ℤ) (month : ℕ) (day : ℕ) (r
 -- as `fots_date_add_days`
 pub record IsDateMoved (date : ℤ) (days : ℤ) (r : DateResult) : Type 0 where
   pub bad_date : (IsJulianDay date → ⊥) → r ≡ date_refused bad_date
-  pub past_range : IsJulianDay date → (IsJulianDay (date +ℤ days) → ⊥) → r ≡ date_refused past_range
-  pub day : IsJulianDay date → IsJulianDay (date +ℤ days) → r ≡ date_done (date +ℤ days)
+  pub day : IsJulianDay date → IsDateIfAny (date +ℤ days) r
 
 -- as `fots_date_add_months`
 pub record IsDateMonthsLater (date : ℤ) (months : ℤ) (r : DateResult) : Type 0 where

@@ -3,13 +3,12 @@ use Rattle.std.specs.Prelude.{◌≡◌, ℕ, ◌+◌, ℤ, pos, neg_ℤ, ◌+�
 use Rattle.cal_time.specs.Date.{year_at, month_at, day_of_month_at, ordinal_at, weekday_at, julian_day_at}
 use Rattle.cal_time.specs.IsoWeekDate.{iso_year_at, iso_week_at}
 use Rattle.cal_time.specs.Pair.{PairAt}
-use Rattle.cal_time.specs.SignedDuration.{second, day, cut, past_second, whole_days}
+use Rattle.cal_time.specs.SignedDuration.{second, day, cut, past_second, whole_days, IsDuration}
 use Rattle.cal_time.specs.Time.{IsTime, hour_of, minute_of, second_of, nanosecond_of}
 use Rattle.cal_time.specs.UtcOffset.{whole_hours, minutes_past_hour, seconds_past_minute}
 use Rattle.cal_datetime.specs.DateTime.{date_at, time_at}
 use Rattle.cal_c.specs.Statuses.{done, past_range}
 use Rattle.cal_c.specs.Values.{day_of, IsJulianDay}
-use Rattle.cal_c.specs.declared.results.Duration.{Duration}
 use Rattle.cal_c.specs.declared.results.DurationResult.{DurationResult}
 use Rattle.cal_c.specs.declared.results.DateResult.{DateResult}
 use Rattle.cal_c.specs.declared.results.NumberResult.{NumberResult}
@@ -40,6 +39,11 @@ pub record IsDayWith (Has : ℕ → Type 0) (r : DateResult) : Type 0 where
   pub status_is : r.status ≡ done
   pub in_range : IsJulianDay r.date
   pub has : Has (day_of r.date)
+
+-- the answer is the date that has the Julian day, where there is one
+pub record IsDateIfAny (j : ℤ) (r : DateResult) : Type 0 where
+  pub past_range : (IsJulianDay j → ⊥) → r ≡ date_refused past_range
+  pub day : IsJulianDay j → r ≡ date_done j
 
 -- the answer is the day, where there is one
 abbrev pub date_if_any : Option ℕ → DateResult
@@ -74,11 +78,8 @@ iso_week_date_refused s = record { status = s; year = nothing; week = 0; weekday
 
 -- ---- durations
 -- the whole seconds of a number of nanoseconds, and what is past them
-abbrev pub duration_pair : ℤ → Duration
-duration_pair v = record { seconds = cut v (pos second); nanoseconds = past_second v }
-
 abbrev pub duration_done : ℤ → DurationResult
-duration_done v = record { status = done; duration = duration_pair v }
+duration_done v = record { status = done; duration = record { seconds = cut v (pos second); nanoseconds = past_second v } }
 
 abbrev pub duration_refused : ℤ → DurationResult
 duration_refused s = record { status = s; duration = record { seconds = neg_ℤ (pos 9_223_372_036_854_775_808); nanoseconds = nothing } }
@@ -87,6 +88,11 @@ duration_refused s = record { status = s; duration = record { seconds = neg_ℤ 
 abbrev pub duration_if_any : Option ℤ → DurationResult
 duration_if_any (Some v) = duration_done v
 duration_if_any None = duration_refused past_range
+
+-- the answer is the duration of so many nanoseconds, where there is one
+pub record IsDurationIfAny (v : ℤ) (r : DurationResult) : Type 0 where
+  pub past_range : (IsDuration v → ⊥) → r ≡ duration_refused past_range
+  pub duration : IsDuration v → r ≡ duration_done v
 
 abbrev pub long_done : ℤ → LongResult
 long_done z = record { status = done; number = z }

@@ -1,8 +1,8 @@
 //! Durations made, and what they have.
 ghost use Rattle.std.specs.Prelude.{◌≡◌, pos, ◌+ℤ◌, ◌*ℤ◌, FitsSigned};
 ghost use Rattle.std.specs.Int.{w64};
-ghost use Rattle.cal_time.specs.SignedDuration.{microsecond, millisecond, second, minute, hour, day, week, IsDuration, cut, past_second};
-ghost use Rattle.cal_c.specs.Results.{duration_done, duration_refused, number_done, number_refused, long_done, long_refused};
+ghost use Rattle.cal_time.specs.SignedDuration.{microsecond, millisecond, second, minute, hour, day, week, cut, past_second};
+ghost use Rattle.cal_c.specs.Results.{IsDurationIfAny, duration_done, number_done, number_refused, long_done, long_refused};
 ghost use Rattle.cal_c.specs.Statuses.{past_range, bad_duration};
 ghost use Rattle.cal_c.specs.Values.{IsDurationPair, nanoseconds_in};
 
@@ -18,10 +18,7 @@ mod arithmetic;
 /// None where that is no duration. That of -1 and 1 has 0 seconds and -999999999 nanoseconds.
 #[unsafe(no_mangle)]
 pub extern "C" fn fots_duration_new(seconds: i64, nanoseconds: i32) -> DurationResult
-    ensures past_range { ¬ IsDuration (seconds *ℤ pos second +ℤ nanoseconds)
-        → result ≡ duration_refused past_range }
-    ensures duration { IsDuration (seconds *ℤ pos second +ℤ nanoseconds)
-        → result ≡ duration_done (seconds *ℤ pos second +ℤ nanoseconds) }
+    ensures { IsDurationIfAny (seconds *ℤ pos second +ℤ nanoseconds) result }
 {
     let past = SignedDuration::nanoseconds(i64::from(nanoseconds));
     DurationResult::of_option(SignedDuration::seconds(seconds).checked_add(past))
@@ -30,8 +27,7 @@ pub extern "C" fn fots_duration_new(seconds: i64, nanoseconds: i32) -> DurationR
 /// The duration of so many weeks of 7 days, or none where that is no duration.
 #[unsafe(no_mangle)]
 pub extern "C" fn fots_duration_weeks(weeks: i64) -> DurationResult
-    ensures past_range { ¬ IsDuration (weeks *ℤ pos week) → result ≡ duration_refused past_range }
-    ensures duration { IsDuration (weeks *ℤ pos week) → result ≡ duration_done (weeks *ℤ pos week) }
+    ensures { IsDurationIfAny (weeks *ℤ pos week) result }
 {
     let seconds = or_return!(
         weeks.checked_mul(604800),
@@ -43,8 +39,7 @@ pub extern "C" fn fots_duration_weeks(weeks: i64) -> DurationResult
 /// The duration of so many days of 24 hours, or none where that is no duration.
 #[unsafe(no_mangle)]
 pub extern "C" fn fots_duration_days(days: i64) -> DurationResult
-    ensures past_range { ¬ IsDuration (days *ℤ pos day) → result ≡ duration_refused past_range }
-    ensures duration { IsDuration (days *ℤ pos day) → result ≡ duration_done (days *ℤ pos day) }
+    ensures { IsDurationIfAny (days *ℤ pos day) result }
 {
     let seconds = or_return!(days.checked_mul(86400), DurationResult::refused(PAST_RANGE));
     DurationResult::of(SignedDuration::seconds(seconds))
@@ -53,8 +48,7 @@ pub extern "C" fn fots_duration_days(days: i64) -> DurationResult
 /// The duration of so many hours, or none where that is no duration.
 #[unsafe(no_mangle)]
 pub extern "C" fn fots_duration_hours(hours: i64) -> DurationResult
-    ensures past_range { ¬ IsDuration (hours *ℤ pos hour) → result ≡ duration_refused past_range }
-    ensures duration { IsDuration (hours *ℤ pos hour) → result ≡ duration_done (hours *ℤ pos hour) }
+    ensures { IsDurationIfAny (hours *ℤ pos hour) result }
 {
     let seconds = or_return!(hours.checked_mul(3600), DurationResult::refused(PAST_RANGE));
     DurationResult::of(SignedDuration::seconds(seconds))
@@ -63,10 +57,7 @@ pub extern "C" fn fots_duration_hours(hours: i64) -> DurationResult
 /// The duration of so many minutes, or none where that is no duration.
 #[unsafe(no_mangle)]
 pub extern "C" fn fots_duration_minutes(minutes: i64) -> DurationResult
-    ensures past_range { ¬ IsDuration (minutes *ℤ pos minute)
-        → result ≡ duration_refused past_range }
-    ensures duration { IsDuration (minutes *ℤ pos minute)
-        → result ≡ duration_done (minutes *ℤ pos minute) }
+    ensures { IsDurationIfAny (minutes *ℤ pos minute) result }
 {
     let seconds = or_return!(minutes.checked_mul(60), DurationResult::refused(PAST_RANGE));
     DurationResult::of(SignedDuration::seconds(seconds))

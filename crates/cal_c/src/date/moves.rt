@@ -2,8 +2,8 @@
 ghost use Rattle.std.specs.Prelude.{◌≡◌, pos, ◌+ℤ◌, ◌-ℤ◌, ◌*ℤ◌};
 ghost use Rattle.cal_time.specs.SignedDuration.{day, whole_days};
 ghost use Rattle.cal_c.specs.Columns.{IsDateMoved};
-ghost use Rattle.cal_c.specs.Results.{date_done, date_refused, duration_done, duration_refused};
-ghost use Rattle.cal_c.specs.Statuses.{past_range, bad_date, bad_duration};
+ghost use Rattle.cal_c.specs.Results.{IsDateIfAny, date_done, date_refused, duration_done, duration_refused};
+ghost use Rattle.cal_c.specs.Statuses.{bad_date, bad_duration};
 ghost use Rattle.cal_c.specs.Values.{IsJulianDay, julian_nearest, IsDurationPair, nanoseconds_in};
 
 use crate::number::{
@@ -17,10 +17,7 @@ use crate::values::duration_of;
 #[unsafe(no_mangle)]
 pub extern "C" fn fots_date_next_day(date: i32) -> DateResult
     ensures bad_date { ¬ IsJulianDay date → result ≡ date_refused bad_date }
-    ensures past_range { IsJulianDay date → ¬ IsJulianDay (date +ℤ pos 1)
-        → result ≡ date_refused past_range }
-    ensures day { IsJulianDay date → IsJulianDay (date +ℤ pos 1)
-        → result ≡ date_done (date +ℤ pos 1) }
+    ensures day { IsJulianDay date → IsDateIfAny (date +ℤ pos 1) result }
 {
     if !is_julian_day(date) {
         return DateResult::refused(BAD_DATE);
@@ -32,10 +29,7 @@ pub extern "C" fn fots_date_next_day(date: i32) -> DateResult
 #[unsafe(no_mangle)]
 pub extern "C" fn fots_date_previous_day(date: i32) -> DateResult
     ensures bad_date { ¬ IsJulianDay date → result ≡ date_refused bad_date }
-    ensures past_range { IsJulianDay date → ¬ IsJulianDay (date -ℤ pos 1)
-        → result ≡ date_refused past_range }
-    ensures day { IsJulianDay date → IsJulianDay (date -ℤ pos 1)
-        → result ≡ date_done (date -ℤ pos 1) }
+    ensures day { IsJulianDay date → IsDateIfAny (date -ℤ pos 1) result }
 {
     if !is_julian_day(date) {
         return DateResult::refused(BAD_DATE);
@@ -49,12 +43,8 @@ pub extern "C" fn fots_date_checked_add(date: i32, duration: Duration) -> DateRe
     ensures bad_date { ¬ IsJulianDay date → result ≡ date_refused bad_date }
     ensures bad_duration { IsJulianDay date → ¬ IsDurationPair duration
         → result ≡ date_refused bad_duration }
-    ensures past_range { IsJulianDay date → IsDurationPair duration
-        → ¬ IsJulianDay (date +ℤ whole_days (nanoseconds_in duration))
-        → result ≡ date_refused past_range }
     ensures day { IsJulianDay date → IsDurationPair duration
-        → IsJulianDay (date +ℤ whole_days (nanoseconds_in duration))
-        → result ≡ date_done (date +ℤ whole_days (nanoseconds_in duration)) }
+        → IsDateIfAny (date +ℤ whole_days (nanoseconds_in duration)) result }
 {
     if !is_julian_day(date) {
         return DateResult::refused(BAD_DATE);
@@ -85,12 +75,8 @@ pub extern "C" fn fots_date_checked_sub(date: i32, duration: Duration) -> DateRe
     ensures bad_date { ¬ IsJulianDay date → result ≡ date_refused bad_date }
     ensures bad_duration { IsJulianDay date → ¬ IsDurationPair duration
         → result ≡ date_refused bad_duration }
-    ensures past_range { IsJulianDay date → IsDurationPair duration
-        → ¬ IsJulianDay (date -ℤ whole_days (nanoseconds_in duration))
-        → result ≡ date_refused past_range }
     ensures day { IsJulianDay date → IsDurationPair duration
-        → IsJulianDay (date -ℤ whole_days (nanoseconds_in duration))
-        → result ≡ date_done (date -ℤ whole_days (nanoseconds_in duration)) }
+        → IsDateIfAny (date -ℤ whole_days (nanoseconds_in duration)) result }
 {
     if !is_julian_day(date) {
         return DateResult::refused(BAD_DATE);

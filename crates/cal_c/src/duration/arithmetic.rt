@@ -1,7 +1,7 @@
 //! Sums, differences, products and quotients of durations.
 ghost use Rattle.std.specs.Prelude.{◌≡◌, pos, neg_ℤ, ◌+ℤ◌, ◌-ℤ◌, ◌*ℤ◌, ◌<ℤ◌, unsigned_abs};
-ghost use Rattle.cal_time.specs.SignedDuration.{IsDuration, HasQuotient, clamp, cut};
-ghost use Rattle.cal_c.specs.Results.{duration_done, duration_refused, number_done, number_refused};
+ghost use Rattle.cal_time.specs.SignedDuration.{HasQuotient, clamp, cut};
+ghost use Rattle.cal_c.specs.Results.{IsDurationIfAny, duration_done, duration_refused, number_done, number_refused};
 ghost use Rattle.cal_c.specs.Statuses.{past_range, bad_duration};
 ghost use Rattle.cal_c.specs.Values.{IsDurationPair, nanoseconds_in};
 
@@ -14,12 +14,8 @@ use crate::values::duration_of;
 pub extern "C" fn fots_duration_checked_add(duration: Duration, other: Duration) -> DurationResult
     ensures bad_duration { ¬ (IsDurationPair duration × IsDurationPair other)
         → result ≡ duration_refused bad_duration }
-    ensures past_range { IsDurationPair duration → IsDurationPair other
-        → ¬ IsDuration (nanoseconds_in duration +ℤ nanoseconds_in other)
-        → result ≡ duration_refused past_range }
     ensures value { IsDurationPair duration → IsDurationPair other
-        → IsDuration (nanoseconds_in duration +ℤ nanoseconds_in other)
-        → result ≡ duration_done (nanoseconds_in duration +ℤ nanoseconds_in other) }
+        → IsDurationIfAny (nanoseconds_in duration +ℤ nanoseconds_in other) result }
 {
     let duration = or_return!(duration_of(duration), DurationResult::refused(BAD_DURATION));
     let other = or_return!(duration_of(other), DurationResult::refused(BAD_DURATION));
@@ -47,12 +43,8 @@ pub extern "C" fn fots_duration_saturating_add(
 pub extern "C" fn fots_duration_checked_sub(duration: Duration, other: Duration) -> DurationResult
     ensures bad_duration { ¬ (IsDurationPair duration × IsDurationPair other)
         → result ≡ duration_refused bad_duration }
-    ensures past_range { IsDurationPair duration → IsDurationPair other
-        → ¬ IsDuration (nanoseconds_in duration -ℤ nanoseconds_in other)
-        → result ≡ duration_refused past_range }
     ensures value { IsDurationPair duration → IsDurationPair other
-        → IsDuration (nanoseconds_in duration -ℤ nanoseconds_in other)
-        → result ≡ duration_done (nanoseconds_in duration -ℤ nanoseconds_in other) }
+        → IsDurationIfAny (nanoseconds_in duration -ℤ nanoseconds_in other) result }
 {
     let duration = or_return!(duration_of(duration), DurationResult::refused(BAD_DURATION));
     let other = or_return!(duration_of(other), DurationResult::refused(BAD_DURATION));
@@ -79,10 +71,8 @@ pub extern "C" fn fots_duration_saturating_sub(
 #[unsafe(no_mangle)]
 pub extern "C" fn fots_duration_checked_mul(duration: Duration, factor: i32) -> DurationResult
     ensures bad_duration { ¬ IsDurationPair duration → result ≡ duration_refused bad_duration }
-    ensures past_range { IsDurationPair duration → ¬ IsDuration (nanoseconds_in duration *ℤ factor)
-        → result ≡ duration_refused past_range }
-    ensures value { IsDurationPair duration → IsDuration (nanoseconds_in duration *ℤ factor)
-        → result ≡ duration_done (nanoseconds_in duration *ℤ factor) }
+    ensures value { IsDurationPair duration
+        → IsDurationIfAny (nanoseconds_in duration *ℤ factor) result }
 {
     let duration = or_return!(duration_of(duration), DurationResult::refused(BAD_DURATION));
     DurationResult::of_option(duration.checked_mul(factor))
@@ -105,10 +95,8 @@ pub extern "C" fn fots_duration_checked_div(duration: Duration, divisor: i32) ->
 #[unsafe(no_mangle)]
 pub extern "C" fn fots_duration_checked_neg(duration: Duration) -> DurationResult
     ensures bad_duration { ¬ IsDurationPair duration → result ≡ duration_refused bad_duration }
-    ensures past_range { IsDurationPair duration → ¬ IsDuration (neg_ℤ (nanoseconds_in duration))
-        → result ≡ duration_refused past_range }
-    ensures value { IsDurationPair duration → IsDuration (neg_ℤ (nanoseconds_in duration))
-        → result ≡ duration_done (neg_ℤ (nanoseconds_in duration)) }
+    ensures value { IsDurationPair duration
+        → IsDurationIfAny (neg_ℤ (nanoseconds_in duration)) result }
 {
     let duration = or_return!(duration_of(duration), DurationResult::refused(BAD_DURATION));
     DurationResult::of_option(duration.checked_neg())
