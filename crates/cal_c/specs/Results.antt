@@ -1,5 +1,6 @@
 -- The answers of the calls. Where there is none, each number beside the status is one that no value has.
-use Rattle.std.specs.Prelude.{◌≡◌, ℕ, ◌+◌, ℤ, pos, neg_ℤ, ◌+ℤ◌, ◌-ℤ◌, ◌*ℤ◌, ◌≤ℤ◌, Option, Some, None}
+use Rattle.std.specs.Prelude.{◌≡◌, ℕ, ◌+◌, ℤ, pos, neg_ℤ, ◌+ℤ◌, ◌-ℤ◌, ◌*ℤ◌, ◌≤ℤ◌, Option, Some, None, FitsSigned}
+use Rattle.std.specs.Int.{w64}
 use Rattle.cal_time.specs.Date.{year_at, month_at, day_of_month_at, ordinal_at, weekday_at, julian_day_at}
 use Rattle.cal_time.specs.IsoWeekDate.{iso_year_at, iso_week_at}
 use Rattle.cal_time.specs.Pair.{PairAt}
@@ -99,6 +100,11 @@ long_done z = record { status = done; number = z }
 
 abbrev pub long_refused : ℤ → LongResult
 long_refused s = record { status = s; number = neg_ℤ (pos 9_223_372_036_854_775_808) }
+
+-- the answer is the number, where it has no more than 64 bits
+pub record IsLongIfAny (z : ℤ) (r : LongResult) : Type 0 where
+  pub past_range : (FitsSigned w64 z → ⊥) → r ≡ long_refused past_range
+  pub number : FitsSigned w64 z → r ≡ long_done z
 
 -- ---- times
 abbrev pub time_done : ℕ → TimeResult

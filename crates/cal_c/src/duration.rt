@@ -1,9 +1,8 @@
 //! Durations made, and what they have.
-ghost use Rattle.std.specs.Prelude.{◌≡◌, pos, ◌+ℤ◌, ◌*ℤ◌, FitsSigned};
-ghost use Rattle.std.specs.Int.{w64};
+ghost use Rattle.std.specs.Prelude.{◌≡◌, pos, ◌+ℤ◌, ◌*ℤ◌};
 ghost use Rattle.cal_time.specs.SignedDuration.{microsecond, millisecond, second, minute, hour, day, week, cut, past_second};
-ghost use Rattle.cal_c.specs.Results.{IsDurationIfAny, duration_done, number_done, number_refused, long_done, long_refused};
-ghost use Rattle.cal_c.specs.Statuses.{past_range, bad_duration};
+ghost use Rattle.cal_c.specs.Results.{IsDurationIfAny, IsLongIfAny, duration_done, number_done, number_refused, long_done, long_refused};
+ghost use Rattle.cal_c.specs.Statuses.{bad_duration};
 ghost use Rattle.cal_c.specs.Values.{IsDurationPair, nanoseconds_in};
 
 use crate::results::{Duration, DurationResult, LongResult, NumberResult};
@@ -154,12 +153,8 @@ pub extern "C" fn fots_duration_whole_seconds(duration: Duration) -> LongResult
 #[unsafe(no_mangle)]
 pub extern "C" fn fots_duration_whole_milliseconds(duration: Duration) -> LongResult
     ensures bad_duration { ¬ IsDurationPair duration → result ≡ long_refused bad_duration }
-    ensures past_range { IsDurationPair duration
-        → ¬ FitsSigned w64 (cut (nanoseconds_in duration) (pos millisecond))
-        → result ≡ long_refused past_range }
     ensures value { IsDurationPair duration
-        → FitsSigned w64 (cut (nanoseconds_in duration) (pos millisecond))
-        → result ≡ long_done (cut (nanoseconds_in duration) (pos millisecond)) }
+        → IsLongIfAny (cut (nanoseconds_in duration) (pos millisecond)) result }
 {
     let duration = or_return!(duration_of(duration), LongResult::refused(BAD_DURATION));
     LongResult::of_wide(duration.whole_milliseconds())
@@ -169,12 +164,8 @@ pub extern "C" fn fots_duration_whole_milliseconds(duration: Duration) -> LongRe
 #[unsafe(no_mangle)]
 pub extern "C" fn fots_duration_whole_microseconds(duration: Duration) -> LongResult
     ensures bad_duration { ¬ IsDurationPair duration → result ≡ long_refused bad_duration }
-    ensures past_range { IsDurationPair duration
-        → ¬ FitsSigned w64 (cut (nanoseconds_in duration) (pos microsecond))
-        → result ≡ long_refused past_range }
     ensures value { IsDurationPair duration
-        → FitsSigned w64 (cut (nanoseconds_in duration) (pos microsecond))
-        → result ≡ long_done (cut (nanoseconds_in duration) (pos microsecond)) }
+        → IsLongIfAny (cut (nanoseconds_in duration) (pos microsecond)) result }
 {
     let duration = or_return!(duration_of(duration), LongResult::refused(BAD_DURATION));
     LongResult::of_wide(duration.whole_microseconds())
@@ -184,10 +175,7 @@ pub extern "C" fn fots_duration_whole_microseconds(duration: Duration) -> LongRe
 #[unsafe(no_mangle)]
 pub extern "C" fn fots_duration_whole_nanoseconds(duration: Duration) -> LongResult
     ensures bad_duration { ¬ IsDurationPair duration → result ≡ long_refused bad_duration }
-    ensures past_range { IsDurationPair duration → ¬ FitsSigned w64 (nanoseconds_in duration)
-        → result ≡ long_refused past_range }
-    ensures value { IsDurationPair duration → FitsSigned w64 (nanoseconds_in duration)
-        → result ≡ long_done (nanoseconds_in duration) }
+    ensures value { IsDurationPair duration → IsLongIfAny (nanoseconds_in duration) result }
 {
     let duration = or_return!(duration_of(duration), LongResult::refused(BAD_DURATION));
     LongResult::of_wide(duration.whole_nanoseconds())

@@ -2,9 +2,8 @@
 ghost use Rattle.std.specs.Prelude.{◌≡◌};
 ghost use Rattle.cal_time.specs.Time.{IsTime};
 ghost use Rattle.cal_time.specs.UtcOffset.{IsOffset};
-ghost use Rattle.cal_datetime.specs.DateTime.{IsDateTime};
 ghost use Rattle.cal_datetime.specs.OffsetDateTime.{instant, local_at};
-ghost use Rattle.cal_c.specs.Moments.{IsMoment, local_in, moment_done, moment_refused, shown_in};
+ghost use Rattle.cal_c.specs.Moments.{IsMoment, IsMomentOr, local_in, moment_done, moment_refused, shown_in};
 ghost use Rattle.cal_c.specs.Statuses.{bad_date, bad_moment, bad_offset, bad_time, past_range};
 ghost use Rattle.cal_c.specs.Values.{IsJulianDay, moment_of};
 
@@ -36,12 +35,8 @@ pub extern "C" fn fots_moment_new(date: i32, time: u64, offset: i32) -> MomentRe
 pub extern "C" fn fots_moment_to_offset(moment: Moment, offset: i32) -> MomentResult
     ensures bad_moment { ¬ IsMoment moment → result ≡ moment_refused bad_moment }
     ensures bad_offset { IsMoment moment → ¬ IsOffset offset → result ≡ moment_refused bad_offset }
-    ensures past_range { let local = local_at (instant (shown_in moment)) offset
-        in IsMoment moment → IsOffset offset → ¬ IsDateTime local
-        → result ≡ moment_refused past_range }
-    ensures moment { let local = local_at (instant (shown_in moment)) offset
-        in IsMoment moment → IsOffset offset → IsDateTime local
-        → result ≡ moment_done (record { local = local; offset = offset }) }
+    ensures moment { IsMoment moment → IsOffset offset
+        → IsMomentOr past_range (local_at (instant (shown_in moment)) offset) offset result }
 {
     let moment = or_return!(moment_of(moment), MomentResult::refused(BAD_MOMENT));
     let offset = or_return!(offset_of(offset), MomentResult::refused(BAD_OFFSET));
@@ -50,10 +45,7 @@ pub extern "C" fn fots_moment_to_offset(moment: Moment, offset: i32) -> MomentRe
 
 /// The same instant at another offset.
 fn shown_at(moment: OffsetDateTime, offset: UtcOffset) -> MomentResult
-    ensures past_range { let local = local_at (instant moment) offset
-        in ¬ IsDateTime local → result ≡ moment_refused past_range }
-    ensures moment { let local = local_at (instant moment) offset
-        in IsDateTime local → result ≡ moment_done (record { local = local; offset = offset }) }
+    ensures { IsMomentOr past_range (local_at (instant moment) offset) offset result }
 {
     let shown = or_return!(
         moment.checked_to_offset(offset),

@@ -1,8 +1,8 @@
 //! Moments moved on and back, compared, and the durations between them.
 ghost use Rattle.std.specs.Prelude.{◌≡◌, pos, neg_ℤ, ◌+ℤ◌, ◌-ℤ◌, ◌<ℤ◌};
-ghost use Rattle.cal_datetime.specs.DateTime.{IsDateTime, nearest};
+ghost use Rattle.cal_datetime.specs.DateTime.{nearest};
 ghost use Rattle.cal_datetime.specs.OffsetDateTime.{instant};
-ghost use Rattle.cal_c.specs.Moments.{IsMoment, local_in, moment_done, moment_refused, shown_in};
+ghost use Rattle.cal_c.specs.Moments.{IsMoment, IsMomentOr, local_in, moment_done, moment_refused, shown_in};
 ghost use Rattle.cal_c.specs.Results.{duration_done, duration_refused, number_done, number_refused};
 ghost use Rattle.cal_c.specs.Statuses.{bad_duration, bad_moment, past_range};
 ghost use Rattle.cal_c.specs.Values.{IsDurationPair, nanoseconds_in};
@@ -20,12 +20,8 @@ pub extern "C" fn fots_moment_checked_add(moment: Moment, duration: Duration) ->
     ensures bad_moment { ¬ IsMoment moment → result ≡ moment_refused bad_moment }
     ensures bad_duration { IsMoment moment → ¬ IsDurationPair duration
         → result ≡ moment_refused bad_duration }
-    ensures past_range { let local = local_in moment +ℤ nanoseconds_in duration
-        in IsMoment moment → IsDurationPair duration → ¬ IsDateTime local
-        → result ≡ moment_refused past_range }
-    ensures moment { let local = local_in moment +ℤ nanoseconds_in duration
-        in IsMoment moment → IsDurationPair duration → IsDateTime local
-        → result ≡ moment_done (record { local = local; offset = moment.offset }) }
+    ensures moment { IsMoment moment → IsDurationPair duration
+        → IsMomentOr past_range (local_in moment +ℤ nanoseconds_in duration) moment.offset result }
 {
     let moment = or_return!(moment_of(moment), MomentResult::refused(BAD_MOMENT));
     let duration = or_return!(duration_of(duration), MomentResult::refused(BAD_DURATION));
@@ -34,11 +30,7 @@ pub extern "C" fn fots_moment_checked_add(moment: Moment, duration: Duration) ->
 
 /// The moment that much later.
 fn later(moment: OffsetDateTime, duration: SignedDuration) -> MomentResult
-    ensures past_range { ¬ IsDateTime (moment.local +ℤ duration)
-        → result ≡ moment_refused past_range }
-    ensures moment { let local = moment.local +ℤ duration
-        in IsDateTime local → result ≡ moment_done
-        (record { local = local; offset = moment.offset }) }
+    ensures { IsMomentOr past_range (moment.local +ℤ duration) moment.offset result }
 {
     let moved = or_return!(
         moment.checked_add(duration),
@@ -53,12 +45,8 @@ pub extern "C" fn fots_moment_checked_sub(moment: Moment, duration: Duration) ->
     ensures bad_moment { ¬ IsMoment moment → result ≡ moment_refused bad_moment }
     ensures bad_duration { IsMoment moment → ¬ IsDurationPair duration
         → result ≡ moment_refused bad_duration }
-    ensures past_range { let local = local_in moment -ℤ nanoseconds_in duration
-        in IsMoment moment → IsDurationPair duration → ¬ IsDateTime local
-        → result ≡ moment_refused past_range }
-    ensures moment { let local = local_in moment -ℤ nanoseconds_in duration
-        in IsMoment moment → IsDurationPair duration → IsDateTime local
-        → result ≡ moment_done (record { local = local; offset = moment.offset }) }
+    ensures moment { IsMoment moment → IsDurationPair duration
+        → IsMomentOr past_range (local_in moment -ℤ nanoseconds_in duration) moment.offset result }
 {
     let moment = or_return!(moment_of(moment), MomentResult::refused(BAD_MOMENT));
     let duration = or_return!(duration_of(duration), MomentResult::refused(BAD_DURATION));
@@ -67,11 +55,7 @@ pub extern "C" fn fots_moment_checked_sub(moment: Moment, duration: Duration) ->
 
 /// The moment that much earlier.
 fn earlier(moment: OffsetDateTime, duration: SignedDuration) -> MomentResult
-    ensures past_range { ¬ IsDateTime (moment.local -ℤ duration)
-        → result ≡ moment_refused past_range }
-    ensures moment { let local = moment.local -ℤ duration
-        in IsDateTime local → result ≡ moment_done
-        (record { local = local; offset = moment.offset }) }
+    ensures { IsMomentOr past_range (moment.local -ℤ duration) moment.offset result }
 {
     let moved = or_return!(
         moment.checked_sub(duration),

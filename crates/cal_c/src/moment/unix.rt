@@ -1,9 +1,8 @@
 //! Moments and their Unix times.
 ghost use Rattle.std.specs.Prelude.{◌≡◌, pos, ◌+ℤ◌, ◌*ℤ◌};
 ghost use Rattle.cal_time.specs.SignedDuration.{second};
-ghost use Rattle.cal_datetime.specs.DateTime.{IsDateTime};
 ghost use Rattle.cal_datetime.specs.OffsetDateTime.{instant, unix_epoch, unix_nanoseconds, unix_seconds};
-ghost use Rattle.cal_c.specs.Moments.{IsMoment, moment_done, moment_refused, shown_in};
+ghost use Rattle.cal_c.specs.Moments.{IsMoment, IsMomentOr, moment_refused, shown_in};
 ghost use Rattle.cal_c.specs.Results.{duration_done, duration_refused, long_done, long_refused};
 ghost use Rattle.cal_c.specs.Statuses.{bad_duration, bad_moment, timestamp_refused};
 ghost use Rattle.cal_c.specs.Values.{IsDurationPair, nanoseconds_in};
@@ -18,10 +17,7 @@ use cal_time::SignedDuration;
 /// The moment at UTC so many seconds after 1970-01-01 0:00, or before where they are below zero. Refused as `timestamp`.
 #[unsafe(no_mangle)]
 pub extern "C" fn fots_moment_from_unix_timestamp(seconds: i64) -> MomentResult
-    ensures timestamp { ¬ IsDateTime (unix_epoch +ℤ seconds *ℤ pos second)
-        → result ≡ moment_refused timestamp_refused }
-    ensures moment { let local = unix_epoch +ℤ seconds *ℤ pos second
-        in IsDateTime local → result ≡ moment_done (record { local = local; offset = pos 0 }) }
+    ensures { IsMomentOr timestamp_refused (unix_epoch +ℤ seconds *ℤ pos second) (pos 0) result }
 {
     let moment =
         or_return!(OffsetDateTime::from_unix_timestamp(seconds), _ => MomentResult::refused(TIMESTAMP));
@@ -32,12 +28,8 @@ pub extern "C" fn fots_moment_from_unix_timestamp(seconds: i64) -> MomentResult
 #[unsafe(no_mangle)]
 pub extern "C" fn fots_moment_from_unix_time(duration: Duration) -> MomentResult
     ensures bad_duration { ¬ IsDurationPair duration → result ≡ moment_refused bad_duration }
-    ensures timestamp { IsDurationPair duration
-        → ¬ IsDateTime (unix_epoch +ℤ nanoseconds_in duration)
-        → result ≡ moment_refused timestamp_refused }
-    ensures moment { let local = unix_epoch +ℤ nanoseconds_in duration
-        in IsDurationPair duration → IsDateTime local
-        → result ≡ moment_done (record { local = local; offset = pos 0 }) }
+    ensures moment { IsDurationPair duration
+        → IsMomentOr timestamp_refused (unix_epoch +ℤ nanoseconds_in duration) (pos 0) result }
 {
     let duration = or_return!(duration_of(duration), MomentResult::refused(BAD_DURATION));
     at_unix_time(duration)
@@ -45,10 +37,7 @@ pub extern "C" fn fots_moment_from_unix_time(duration: Duration) -> MomentResult
 
 /// The moment at UTC of a Unix time.
 fn at_unix_time(duration: SignedDuration) -> MomentResult
-    ensures timestamp { ¬ IsDateTime (unix_epoch +ℤ duration)
-        → result ≡ moment_refused timestamp_refused }
-    ensures moment { let local = unix_epoch +ℤ duration
-        in IsDateTime local → result ≡ moment_done (record { local = local; offset = pos 0 }) }
+    ensures { IsMomentOr timestamp_refused (unix_epoch +ℤ duration) (pos 0) result }
 {
     let moment =
         or_return!(OffsetDateTime::from_unix_timestamp_nanos(duration.whole_nanoseconds()), _ => MomentResult::refused(TIMESTAMP));
