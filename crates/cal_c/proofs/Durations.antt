@@ -1,6 +1,7 @@
 -- What a duration that may be none comes to.
 use Rattle.std.proofs.Common.{◌≡◌, refl, ap, ℤ, Option, Some, None, SomeIff}
-use Rattle.cal_c.specs.Results.{duration_done, duration_refused, duration_if_any}
+use Rattle.cal_time.specs.SignedDuration.{IsDuration}
+use Rattle.cal_c.specs.Results.{duration_done, duration_refused, duration_if_any, IsDurationIfAny}
 use Rattle.cal_c.specs.Statuses.{past_range}
 
 pub duration-none : (r : Option ℤ) (P : Type 0) (v : ℤ) → SomeIff r P v → (P → ⊥) → duration_if_any r ≡ duration_refused past_range
@@ -10,3 +11,6 @@ duration-none (Some x) P v e out = absurd (out e.0)
 pub duration-some : (r : Option ℤ) (P : Type 0) (v : ℤ) → SomeIff r P v → P → duration_if_any r ≡ duration_done v
 duration-some None P v e h = absurd (e h)
 duration-some (Some x) P v e h = ap duration_done e.1
+
+pub duration-if-any : (r : Option ℤ) (v : ℤ) → SomeIff r (IsDuration v) v → IsDurationIfAny v (duration_if_any r)
+duration-if-any r v e = record { past_range = duration-none r _ v e; duration = duration-some r _ v e }

@@ -18,7 +18,9 @@ same_if_moved date days is moved = omega (arith, ints, clamps, is.not_before, is
 pub IsDateMoved-held : (date days : ℤ) (r : DateResult) → IsDateMoved date (held days) r → IsDateMoved date days r
 IsDateMoved-held date days r moved = record {
   bad_date = moved.bad_date;
-  past_range = λ is none. moved.past_range is (λ h. none (subst (λ d. IsJulianDay (date +ℤ d)) (same_if_held date days is h) h));
-  day = λ is h. let same = same_if_moved date days is h in
-      subst (λ d. r ≡ record { status = pos 0; date = date +ℤ d }) same (moved.day is (subst (λ d. IsJulianDay (date +ℤ d)) (sym same) h));
+  day = λ is. record {
+    past_range = λ none. (moved.day is).past_range (λ h. none (subst (λ d. IsJulianDay (date +ℤ d)) (same_if_held date days is h) h));
+    day = λ h. let same = same_if_moved date days is h in
+        subst (λ d. r ≡ record { status = pos 0; date = date +ℤ d }) same ((moved.day is).day (subst (λ d. IsJulianDay (date +ℤ d)) (sym same) h));
+  };
 }

@@ -1,10 +1,10 @@
--- What a row of a column is answered: as by the single call.
-use Rattle.std.specs.Prelude.{◌≡◌, ℕ, ℤ, pos, ◌+◌, ◌-◌, ◌<◌, ◌≤◌, ◌+ℤ◌, ◌≤ℤ◌, Bool, not, ◌==◌, List, length}
+-- What a call answers, alone or for each row of columns.
+use Rattle.std.specs.Prelude.{◌≡◌, ℕ, ℤ, pos, ◌+◌, ◌-◌, ◌<◌, ◌≤◌, ◌+ℤ◌, ◌≤ℤ◌, Bool, not, ◌==◌, List, length, get_or, count_by}
 use Rattle.cal_time.specs.Date.{julian_day_at, weekday_at, IsDate, IsYear, IsDayOfMonth, IsOrdinal, HasCalendarDate, HasOrdinalDate, NoDate}
 use Rattle.cal_time.specs.IsoWeekDate.{IsWeek, HasIsoWeekDate}
 use Rattle.cal_schedule.specs.Months.{month_number_at, IsMonthNumber, IsMonthsLater}
 use Rattle.cal_schedule.specs.Workdays.{nth_workday}
-use Rattle.cal_c.specs.Results.{date_done, date_if_any, date_refused, number_done, number_refused, IsDayWith, calendar_date_done, calendar_date_refused, ordinal_date_done, ordinal_date_refused, iso_week_date_done, iso_week_date_refused}
+use Rattle.cal_c.specs.Results.{IsDateIfAny, date_done, date_if_any, date_refused, number_done, number_refused, IsDayWith, calendar_date_done, calendar_date_refused, ordinal_date_done, ordinal_date_refused, iso_week_date_done, iso_week_date_refused}
 use Rattle.cal_c.specs.Statuses.{done, past_range, bad_date, bad_weekday, bad_week, bad_holidays, many_holidays, year_refused, month_refused, julian_day_refused, day_refused, ordinal_refused, week_refused, weekday_refused}
 use Rattle.cal_c.specs.Values.{IsJulianDay, IsMonth, IsWeekday, day_of}
 use Rattle.cal_c.specs.Workweeks.{most_holidays, work_week, workdays_number, AreHolidays, IsMarks}
@@ -23,17 +23,31 @@ abbrev pub IsByte : ℤ → Type 0
 IsByte status = (pos 0 ≤ℤ status) × (status ≤ℤ pos 255)
 
 -- the arrays are of one length
-abbrev pub Alike3 : ℕ → ℕ → ℕ → Type 0
-Alike3 a b c = (b ≡ a) × (c ≡ a)
+abbrev pub Alike3 : {A B C : Type 0} → List A → List B → List C → Type 0
+Alike3 a b c = (length b ≡ length a) × (length c ≡ length a)
 
-abbrev pub Alike4 : ℕ → ℕ → ℕ → ℕ → Type 0
-Alike4 a b c d = (b ≡ a) × (c ≡ a) × (d ≡ a)
+abbrev pub Alike4 : {A B C D : Type 0} → List A → List B → List C → List D → Type 0
+Alike4 a b c d = (length b ≡ length a) × (length c ≡ length a) × (length d ≡ length a)
 
-abbrev pub Alike5 : ℕ → ℕ → ℕ → ℕ → ℕ → Type 0
-Alike5 a b c d e = (b ≡ a) × (c ≡ a) × (d ≡ a) × (e ≡ a)
+abbrev pub Alike5 : {A B C D E : Type 0} → List A → List B → List C → List D → List E → Type 0
+Alike5 a b c d e = (length b ≡ length a) × (length c ≡ length a) × (length d ≡ length a) × (length e ≡ length a)
 
-abbrev pub Alike7 : ℕ → ℕ → ℕ → ℕ → ℕ → ℕ → ℕ → Type 0
-Alike7 a b c d e f g = (b ≡ a) × (c ≡ a) × (d ≡ a) × (e ≡ a) × (f ≡ a) × (g ≡ a)
+abbrev pub Alike7 : {A B C D E F G : Type 0} → List A → List B → List C → List D → List E → List F → List G → Type 0
+Alike7 a b c d e f g =
+    (length b ≡ length a) × (length c ≡ length a) × (length d ≡ length a) × (length e ≡ length a) × (length f ≡ length a)
+    × (length g ≡ length a)
+
+-- what a row has in an array
+abbrev pub int_at : List ℤ → ℕ → ℤ
+int_at xs k = get_or xs k (pos 0)
+
+abbrev pub nat_at : List ℕ → ℕ → ℕ
+nat_at xs k = get_or xs k 0
+
+-- each row is answered so, and those that have no answer are counted
+pub record AreAnswered (statuses : List ℕ) (refused : ℕ) (Row : ℕ → Type 0) : Type 0 where
+  pub each : (k : ℕ) → k < length statuses → Row k
+  pub count : refused ≡ count_by is_refused statuses
 
 -- ---- a row of several arrays, as the result of the single call
 abbrev pub date_row : ℤ → ℕ → DateResult
@@ -108,8 +122,7 @@ pub record IsIsoWeekDateOfCalendarDate (year : ℤ) (month : ℕ) (day : ℕ) (r
 -- as `fots_date_add_days`
 pub record IsDateMoved (date : ℤ) (days : ℤ) (r : DateResult) : Type 0 where
   pub bad_date : (IsJulianDay date → ⊥) → r ≡ date_refused bad_date
-  pub past_range : IsJulianDay date → (IsJulianDay (date +ℤ days) → ⊥) → r ≡ date_refused past_range
-  pub day : IsJulianDay date → IsJulianDay (date +ℤ days) → r ≡ date_done (date +ℤ days)
+  pub day : IsJulianDay date → IsDateIfAny (date +ℤ days) r
 
 -- as `fots_date_add_months`
 pub record IsDateMonthsLater (date : ℤ) (months : ℤ) (r : DateResult) : Type 0 where

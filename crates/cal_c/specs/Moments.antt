@@ -1,9 +1,9 @@
 -- Moments, as they cross: a date and a time of day, each as its number, at an offset.
-use Rattle.std.specs.Prelude.{ℤ}
+use Rattle.std.specs.Prelude.{◌≡◌, ℤ}
 use Rattle.cal_time.specs.Date.{julian_day_at}
 use Rattle.cal_time.specs.Time.{IsTime}
 use Rattle.cal_time.specs.UtcOffset.{IsOffset}
-use Rattle.cal_datetime.specs.DateTime.{date_time, date_at, time_at}
+use Rattle.cal_datetime.specs.DateTime.{date_time, date_at, time_at, IsDateTime}
 use Rattle.cal_datetime.specs.OffsetDateTime.{Shown}
 use Rattle.cal_c.specs.Results.{nothing}
 use Rattle.cal_c.specs.Statuses.{done}
@@ -31,3 +31,8 @@ moment_done m =
 abbrev pub moment_refused : ℤ → MomentResult
 moment_refused s =
     record { status = s; moment = record { date = nothing; offset = nothing; time = 18_446_744_073_709_551_615 } }
+
+-- the answer is the moment of a local date-time at an offset, where there is one, and else it has the status
+pub record IsMomentOr (s local offset : ℤ) (r : MomentResult) : Type 0 where
+  pub none : (IsDateTime local → ⊥) → r ≡ moment_refused s
+  pub moment : IsDateTime local → r ≡ moment_done (record { local = local; offset = offset })

@@ -1,15 +1,15 @@
 -- The answers of the calls. Where there is none, each number beside the status is one that no value has.
-use Rattle.std.specs.Prelude.{◌≡◌, ℕ, ◌+◌, ℤ, pos, neg_ℤ, ◌+ℤ◌, ◌-ℤ◌, ◌*ℤ◌, ◌≤ℤ◌, Option, Some, None}
+use Rattle.std.specs.Prelude.{◌≡◌, ℕ, ◌+◌, ℤ, pos, neg_ℤ, ◌+ℤ◌, ◌-ℤ◌, ◌*ℤ◌, ◌≤ℤ◌, Option, Some, None, FitsSigned}
+use Rattle.std.specs.Int.{w64}
 use Rattle.cal_time.specs.Date.{year_at, month_at, day_of_month_at, ordinal_at, weekday_at, julian_day_at}
 use Rattle.cal_time.specs.IsoWeekDate.{iso_year_at, iso_week_at}
 use Rattle.cal_time.specs.Pair.{PairAt}
-use Rattle.cal_time.specs.SignedDuration.{second, day, cut, past_second, whole_days}
+use Rattle.cal_time.specs.SignedDuration.{second, day, cut, past_second, whole_days, IsDuration}
 use Rattle.cal_time.specs.Time.{IsTime, hour_of, minute_of, second_of, nanosecond_of}
 use Rattle.cal_time.specs.UtcOffset.{whole_hours, minutes_past_hour, seconds_past_minute}
 use Rattle.cal_datetime.specs.DateTime.{date_at, time_at}
 use Rattle.cal_c.specs.Statuses.{done, past_range}
 use Rattle.cal_c.specs.Values.{day_of, IsJulianDay}
-use Rattle.cal_c.specs.declared.results.Duration.{Duration}
 use Rattle.cal_c.specs.declared.results.DurationResult.{DurationResult}
 use Rattle.cal_c.specs.declared.results.DateResult.{DateResult}
 use Rattle.cal_c.specs.declared.results.NumberResult.{NumberResult}
@@ -40,6 +40,11 @@ pub record IsDayWith (Has : ℕ → Type 0) (r : DateResult) : Type 0 where
   pub status_is : r.status ≡ done
   pub in_range : IsJulianDay r.date
   pub has : Has (day_of r.date)
+
+-- the answer is the date that has the Julian day, where there is one
+pub record IsDateIfAny (j : ℤ) (r : DateResult) : Type 0 where
+  pub past_range : (IsJulianDay j → ⊥) → r ≡ date_refused past_range
+  pub day : IsJulianDay j → r ≡ date_done j
 
 -- the answer is the day, where there is one
 abbrev pub date_if_any : Option ℕ → DateResult
@@ -74,11 +79,8 @@ iso_week_date_refused s = record { status = s; year = nothing; week = 0; weekday
 
 -- ---- durations
 -- the whole seconds of a number of nanoseconds, and what is past them
-abbrev pub duration_pair : ℤ → Duration
-duration_pair v = record { seconds = cut v (pos second); nanoseconds = past_second v }
-
 abbrev pub duration_done : ℤ → DurationResult
-duration_done v = record { status = done; duration = duration_pair v }
+duration_done v = record { status = done; duration = record { seconds = cut v (pos second); nanoseconds = past_second v } }
 
 abbrev pub duration_refused : ℤ → DurationResult
 duration_refused s = record { status = s; duration = record { seconds = neg_ℤ (pos 9_223_372_036_854_775_808); nanoseconds = nothing } }
@@ -88,11 +90,21 @@ abbrev pub duration_if_any : Option ℤ → DurationResult
 duration_if_any (Some v) = duration_done v
 duration_if_any None = duration_refused past_range
 
+-- the answer is the duration of so many nanoseconds, where there is one
+pub record IsDurationIfAny (v : ℤ) (r : DurationResult) : Type 0 where
+  pub past_range : (IsDuration v → ⊥) → r ≡ duration_refused past_range
+  pub duration : IsDuration v → r ≡ duration_done v
+
 abbrev pub long_done : ℤ → LongResult
 long_done z = record { status = done; number = z }
 
 abbrev pub long_refused : ℤ → LongResult
 long_refused s = record { status = s; number = neg_ℤ (pos 9_223_372_036_854_775_808) }
+
+-- the answer is the number, where it has no more than 64 bits
+pub record IsLongIfAny (z : ℤ) (r : LongResult) : Type 0 where
+  pub past_range : (FitsSigned w64 z → ⊥) → r ≡ long_refused past_range
+  pub number : FitsSigned w64 z → r ≡ long_done z
 
 -- ---- times
 abbrev pub time_done : ℕ → TimeResult

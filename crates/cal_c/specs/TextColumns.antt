@@ -1,5 +1,5 @@
 -- Columns of texts: one array has the bytes of all, and another one where each begins, which is where the one before it ends.
-use Rattle.std.specs.Prelude.{◌≡◌, ℕ, ◌+◌, ◌*◌, ◌≤◌, ℤ, pos, ◌≤ℤ◌, unsigned_abs, List, [], length, get_or}
+use Rattle.std.specs.Prelude.{◌≡◌, ℕ, ◌+◌, ◌*◌, ◌<◌, ◌≤◌, ℤ, pos, ◌≤ℤ◌, unsigned_abs, List, [], length, drop, count_by}
 use Rattle.std.specs.List.{between}
 use Rattle.cal_time.specs.Date.{IsDate, julian_day_at}
 use Rattle.cal_time.specs.DateText.{text}
@@ -10,6 +10,7 @@ use Rattle.cal_datetime.specs.OffsetDateTime.{Shown}
 use Rattle.cal_text.specs.DateForms.{IsDateText}
 use Rattle.cal_text.specs.Rfc3339.{HasMomentText, moment_text}
 use Rattle.cal_text.specs.Rfc3339Form.{IsMomentText}
+use Rattle.cal_c.specs.Columns.{int_at, nat_at, is_refused}
 use Rattle.cal_c.specs.Moments.{moment_done, moment_refused}
 use Rattle.cal_c.specs.Results.{date_done, date_refused}
 use Rattle.cal_c.specs.Statuses.{done, past_range, bad_date, bad_time, bad_offset, bounds_refused, component_status}
@@ -29,19 +30,28 @@ part bytes from to = between (unsigned_abs from) (unsigned_abs to) bytes
 
 -- the text of a row
 abbrev pub text_at : List ℕ → List ℤ → ℕ → List ℕ
-text_at bytes bounds k = part bytes (get_or bounds k (pos 0)) (get_or bounds (k + 1) (pos 0))
+text_at bytes bounds k = part bytes (int_at bounds k) (int_at bounds (k + 1))
 
 -- the arrays are of one length, but that there is one bound more than there are rows
-abbrev pub Bounded2 : ℕ → ℕ → ℕ → Type 0
-Bounded2 rows bounds a = (bounds ≡ rows + 1) × (a ≡ rows)
+abbrev pub Bounded2 : {A B C : Type 0} → List A → List B → List C → Type 0
+Bounded2 rows bounds a = (length bounds ≡ length rows + 1) × (length a ≡ length rows)
 
-abbrev pub Bounded4 : ℕ → ℕ → ℕ → ℕ → ℕ → Type 0
-Bounded4 rows bounds a b c = (bounds ≡ rows + 1) × (a ≡ rows) × (b ≡ rows) × (c ≡ rows)
+abbrev pub Bounded4 : {A B C D E : Type 0} → List A → List B → List C → List D → List E → Type 0
+Bounded4 rows bounds a b c = (length bounds ≡ length rows + 1) × (length a ≡ length rows) × (length b ≡ length rows) × (length c ≡ length rows)
 
 -- the bytes have room for rows of that length, and the last bound is a number of 32 bits
 pub record HasRoomFor (longest rows bytes : ℕ) : Type 0 where
   pub room : rows * longest ≤ bytes
   pub few : rows * longest ≤ 2_147_483_647
+
+-- the texts stand one after another from the front, each between its bounds and answered so; the bytes after them stay as they were, and
+-- the rows that have none are counted
+pub record ArePrinted (old new : List ℕ) (bounds : List ℤ) (statuses : List ℕ) (refused : ℕ) (Row : ℕ → List ℕ → ℕ → Type 0) : Type 0 where
+  pub first : int_at bounds 0 ≡ pos 0
+  pub part : (k : ℕ) → k < length statuses → ArePartOf new (int_at bounds k) (int_at bounds (k + 1))
+  pub text : (k : ℕ) → k < length statuses → Row k (text_at new bounds k) (nat_at statuses k)
+  pub rest : let end = unsigned_abs (int_at bounds (length statuses)) in drop end new ≡ drop end old
+  pub count : refused ≡ count_by is_refused statuses
 
 -- ---- a row of several arrays, as the result of the single call
 abbrev pub moment_row : ℤ → ℕ → ℤ → ℕ → MomentResult

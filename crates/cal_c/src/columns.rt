@@ -2,9 +2,8 @@
 //!
 //! A column is one array for each part of a value, and one of status bytes. What one call writes is what the next one takes. Where
 //! the arrays of a call are not of one length, nothing is written, and the answer is the greatest number.
-ghost use Rattle.std.specs.Prelude.{◌≡◌, ◌≤◌, ◌↔◌, IsTrue, count_by, length, if◌then◌else◌};
+ghost use Rattle.std.specs.Prelude.{◌≡◌, ◌≤◌, count_by, length, if◌then◌else◌};
 ghost use Rattle.cal_c.specs.Columns.{is_refused};
-ghost use Rattle.cal_c.specs.Values.{IsJulianDay};
 
 mod making;
 mod months;
@@ -14,7 +13,6 @@ mod statuses;
 mod texts;
 mod workdays;
 
-use crate::number::{FIRST_JULIAN_DAY, LAST_JULIAN_DAY};
 use statuses::DONE;
 
 /// What a call answers where its arrays are not of one length.
@@ -25,14 +23,6 @@ const BLOCK: usize = 192;
 
 /// What stands for the date or the year of a row that has none.
 const NOTHING: i32 = i32::MIN;
-
-/// Whether a date has the Julian day.
-#[inline(always)]
-fn is_date(julian_day: i64) -> bool
-    ensures { IsTrue result ↔ IsJulianDay julian_day }
-{
-    julian_day >= FIRST_JULIAN_DAY && julian_day <= LAST_JULIAN_DAY
-}
 
 /// How many rows have no answer.
 fn refused_in(statuses: &[u8]) -> usize

@@ -17,10 +17,8 @@ pub extern "C" fn fots_month_length(month: u32, year: i32) -> NumberResult
     ensures month { ¬ IsMonth month → result ≡ number_refused month_refused }
     ensures value { IsMonth month → result ≡ number_done (pos (days_in_month year month)) }
 {
-    match month_of(month) {
-        Some(month) => NumberResult::of(i32::from(month.length(year))),
-        None => NumberResult::refused(MONTH),
-    }
+    let month = or_return!(month_of(month), NumberResult::refused(MONTH));
+    NumberResult::of(i32::from(month.length(year)))
 }
 
 /// The month `n` after, round the year as often as it takes. Nine months after 7 is 4.
@@ -29,10 +27,8 @@ pub extern "C" fn fots_month_nth_next(month: u32, n: u32) -> NumberResult
     ensures month { ¬ IsMonth month → result ≡ number_refused month_refused }
     ensures value { IsMonth month → result ≡ number_done (pos ((month - 1 + n) % 12 + 1)) }
 {
-    match month_of(month) {
-        Some(month) => NumberResult::of(i32::from(month.nth_next((n % 12) as u8) as u8)),
-        None => NumberResult::refused(MONTH),
-    }
+    let month = or_return!(month_of(month), NumberResult::refused(MONTH));
+    NumberResult::of(i32::from(month.nth_next((n % 12) as u8) as u8))
 }
 
 /// The month `n` before, round the year as often as it takes. Nine months before 4 is 7.
@@ -41,10 +37,8 @@ pub extern "C" fn fots_month_nth_prev(month: u32, n: u32) -> NumberResult
     ensures month { ¬ IsMonth month → result ≡ number_refused month_refused }
     ensures value { IsMonth month → result ≡ number_done (pos ((month + 11 - n % 12) % 12 + 1)) }
 {
-    match month_of(month) {
-        Some(month) => NumberResult::of(i32::from(month.nth_prev((n % 12) as u8) as u8)),
-        None => NumberResult::refused(MONTH),
-    }
+    let month = or_return!(month_of(month), NumberResult::refused(MONTH));
+    NumberResult::of(i32::from(month.nth_prev((n % 12) as u8) as u8))
 }
 
 /// The weekday `n` days after. Ten days after 7 is 3.
@@ -53,12 +47,8 @@ pub extern "C" fn fots_weekday_nth_next(weekday: u32, n: u32) -> NumberResult
     ensures bad_weekday { ¬ IsWeekday weekday → result ≡ number_refused bad_weekday }
     ensures value { IsWeekday weekday → result ≡ number_done (pos ((weekday - 1 + n) % 7 + 1)) }
 {
-    match weekday_of(weekday) {
-        Some(weekday) => {
-            NumberResult::of(i32::from(weekday.nth_next((n % 7) as u8).number_from_monday()))
-        }
-        None => NumberResult::refused(BAD_WEEKDAY),
-    }
+    let weekday = or_return!(weekday_of(weekday), NumberResult::refused(BAD_WEEKDAY));
+    NumberResult::of(i32::from(weekday.nth_next((n % 7) as u8).number_from_monday()))
 }
 
 /// The weekday `n` days before. Ten days before 3 is 7.
@@ -67,12 +57,8 @@ pub extern "C" fn fots_weekday_nth_prev(weekday: u32, n: u32) -> NumberResult
     ensures bad_weekday { ¬ IsWeekday weekday → result ≡ number_refused bad_weekday }
     ensures value { IsWeekday weekday → result ≡ number_done (pos ((weekday + 6 - n % 7) % 7 + 1)) }
 {
-    match weekday_of(weekday) {
-        Some(weekday) => {
-            NumberResult::of(i32::from(weekday.nth_prev((n % 7) as u8).number_from_monday()))
-        }
-        None => NumberResult::refused(BAD_WEEKDAY),
-    }
+    let weekday = or_return!(weekday_of(weekday), NumberResult::refused(BAD_WEEKDAY));
+    NumberResult::of(i32::from(weekday.nth_prev((n % 7) as u8).number_from_monday()))
 }
 
 /// The number of the weekday from Sunday, 1, to Saturday, 7. That of Friday, 5, is 6.
@@ -81,10 +67,8 @@ pub extern "C" fn fots_weekday_number_from_sunday(weekday: u32) -> NumberResult
     ensures bad_weekday { ¬ IsWeekday weekday → result ≡ number_refused bad_weekday }
     ensures value { IsWeekday weekday → result ≡ number_done (pos (weekday % 7 + 1)) }
 {
-    match weekday_of(weekday) {
-        Some(weekday) => NumberResult::of(i32::from(weekday.number_from_sunday())),
-        None => NumberResult::refused(BAD_WEEKDAY),
-    }
+    let weekday = or_return!(weekday_of(weekday), NumberResult::refused(BAD_WEEKDAY));
+    NumberResult::of(i32::from(weekday.number_from_sunday()))
 }
 
 /// 1 where the year is a leap year, else 0. It is 1 for 2000 and 0 for 1900.

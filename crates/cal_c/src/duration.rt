@@ -1,9 +1,8 @@
 //! Durations made, and what they have.
-ghost use Rattle.std.specs.Prelude.{◌≡◌, pos, ◌+ℤ◌, ◌*ℤ◌, ◌<ℤ◌, FitsSigned, unsigned_abs};
-ghost use Rattle.std.specs.Int.{w64};
-ghost use Rattle.cal_time.specs.SignedDuration.{microsecond, millisecond, second, minute, hour, day, week, IsDuration, clamp, cut, past_second};
-ghost use Rattle.cal_c.specs.Results.{duration_done, duration_refused, number_done, number_refused, long_done, long_refused};
-ghost use Rattle.cal_c.specs.Statuses.{past_range, bad_duration};
+ghost use Rattle.std.specs.Prelude.{◌≡◌, pos, ◌+ℤ◌, ◌*ℤ◌};
+ghost use Rattle.cal_time.specs.SignedDuration.{microsecond, millisecond, second, minute, hour, day, week, cut, past_second};
+ghost use Rattle.cal_c.specs.Results.{IsDurationIfAny, IsLongIfAny, duration_done, number_done, number_refused, long_done, long_refused};
+ghost use Rattle.cal_c.specs.Statuses.{bad_duration};
 ghost use Rattle.cal_c.specs.Values.{IsDurationPair, nanoseconds_in};
 
 use crate::results::{Duration, DurationResult, LongResult, NumberResult};
@@ -18,10 +17,7 @@ mod arithmetic;
 /// None where that is no duration. That of -1 and 1 has 0 seconds and -999999999 nanoseconds.
 #[unsafe(no_mangle)]
 pub extern "C" fn fots_duration_new(seconds: i64, nanoseconds: i32) -> DurationResult
-    ensures past_range { ¬ IsDuration (seconds *ℤ pos second +ℤ nanoseconds)
-        → result ≡ duration_refused past_range }
-    ensures duration { IsDuration (seconds *ℤ pos second +ℤ nanoseconds)
-        → result ≡ duration_done (seconds *ℤ pos second +ℤ nanoseconds) }
+    ensures { IsDurationIfAny (seconds *ℤ pos second +ℤ nanoseconds) result }
 {
     let past = SignedDuration::nanoseconds(i64::from(nanoseconds));
     DurationResult::of_option(SignedDuration::seconds(seconds).checked_add(past))
@@ -30,51 +26,40 @@ pub extern "C" fn fots_duration_new(seconds: i64, nanoseconds: i32) -> DurationR
 /// The duration of so many weeks of 7 days, or none where that is no duration.
 #[unsafe(no_mangle)]
 pub extern "C" fn fots_duration_weeks(weeks: i64) -> DurationResult
-    ensures past_range { ¬ IsDuration (weeks *ℤ pos week) → result ≡ duration_refused past_range }
-    ensures duration { IsDuration (weeks *ℤ pos week) → result ≡ duration_done (weeks *ℤ pos week) }
+    ensures { IsDurationIfAny (weeks *ℤ pos week) result }
 {
-    match weeks.checked_mul(604800) {
-        Some(seconds) => DurationResult::of(SignedDuration::seconds(seconds)),
-        None => DurationResult::refused(PAST_RANGE),
-    }
+    let seconds = or_return!(
+        weeks.checked_mul(604800),
+        DurationResult::refused(PAST_RANGE)
+    );
+    DurationResult::of(SignedDuration::seconds(seconds))
 }
 
 /// The duration of so many days of 24 hours, or none where that is no duration.
 #[unsafe(no_mangle)]
 pub extern "C" fn fots_duration_days(days: i64) -> DurationResult
-    ensures past_range { ¬ IsDuration (days *ℤ pos day) → result ≡ duration_refused past_range }
-    ensures duration { IsDuration (days *ℤ pos day) → result ≡ duration_done (days *ℤ pos day) }
+    ensures { IsDurationIfAny (days *ℤ pos day) result }
 {
-    match days.checked_mul(86400) {
-        Some(seconds) => DurationResult::of(SignedDuration::seconds(seconds)),
-        None => DurationResult::refused(PAST_RANGE),
-    }
+    let seconds = or_return!(days.checked_mul(86400), DurationResult::refused(PAST_RANGE));
+    DurationResult::of(SignedDuration::seconds(seconds))
 }
 
 /// The duration of so many hours, or none where that is no duration.
 #[unsafe(no_mangle)]
 pub extern "C" fn fots_duration_hours(hours: i64) -> DurationResult
-    ensures past_range { ¬ IsDuration (hours *ℤ pos hour) → result ≡ duration_refused past_range }
-    ensures duration { IsDuration (hours *ℤ pos hour) → result ≡ duration_done (hours *ℤ pos hour) }
+    ensures { IsDurationIfAny (hours *ℤ pos hour) result }
 {
-    match hours.checked_mul(3600) {
-        Some(seconds) => DurationResult::of(SignedDuration::seconds(seconds)),
-        None => DurationResult::refused(PAST_RANGE),
-    }
+    let seconds = or_return!(hours.checked_mul(3600), DurationResult::refused(PAST_RANGE));
+    DurationResult::of(SignedDuration::seconds(seconds))
 }
 
 /// The duration of so many minutes, or none where that is no duration.
 #[unsafe(no_mangle)]
 pub extern "C" fn fots_duration_minutes(minutes: i64) -> DurationResult
-    ensures past_range { ¬ IsDuration (minutes *ℤ pos minute)
-        → result ≡ duration_refused past_range }
-    ensures duration { IsDuration (minutes *ℤ pos minute)
-        → result ≡ duration_done (minutes *ℤ pos minute) }
+    ensures { IsDurationIfAny (minutes *ℤ pos minute) result }
 {
-    match minutes.checked_mul(60) {
-        Some(seconds) => DurationResult::of(SignedDuration::seconds(seconds)),
-        None => DurationResult::refused(PAST_RANGE),
-    }
+    let seconds = or_return!(minutes.checked_mul(60), DurationResult::refused(PAST_RANGE));
+    DurationResult::of(SignedDuration::seconds(seconds))
 }
 
 /// The duration of so many seconds, of which each number has one.
@@ -116,10 +101,8 @@ pub extern "C" fn fots_duration_whole_weeks(duration: Duration) -> LongResult
     ensures value { IsDurationPair duration
         → result ≡ long_done (cut (nanoseconds_in duration) (pos week)) }
 {
-    match duration_of(duration) {
-        Some(duration) => LongResult::of(duration.whole_weeks()),
-        None => LongResult::refused(BAD_DURATION),
-    }
+    let duration = or_return!(duration_of(duration), LongResult::refused(BAD_DURATION));
+    LongResult::of(duration.whole_weeks())
 }
 
 /// The whole days of a duration, cut toward zero.
@@ -129,10 +112,8 @@ pub extern "C" fn fots_duration_whole_days(duration: Duration) -> LongResult
     ensures value { IsDurationPair duration
         → result ≡ long_done (cut (nanoseconds_in duration) (pos day)) }
 {
-    match duration_of(duration) {
-        Some(duration) => LongResult::of(duration.whole_days()),
-        None => LongResult::refused(BAD_DURATION),
-    }
+    let duration = or_return!(duration_of(duration), LongResult::refused(BAD_DURATION));
+    LongResult::of(duration.whole_days())
 }
 
 /// The whole hours of a duration, cut toward zero.
@@ -142,10 +123,8 @@ pub extern "C" fn fots_duration_whole_hours(duration: Duration) -> LongResult
     ensures value { IsDurationPair duration
         → result ≡ long_done (cut (nanoseconds_in duration) (pos hour)) }
 {
-    match duration_of(duration) {
-        Some(duration) => LongResult::of(duration.whole_hours()),
-        None => LongResult::refused(BAD_DURATION),
-    }
+    let duration = or_return!(duration_of(duration), LongResult::refused(BAD_DURATION));
+    LongResult::of(duration.whole_hours())
 }
 
 /// The whole minutes of a duration, cut toward zero.
@@ -155,10 +134,8 @@ pub extern "C" fn fots_duration_whole_minutes(duration: Duration) -> LongResult
     ensures value { IsDurationPair duration
         → result ≡ long_done (cut (nanoseconds_in duration) (pos minute)) }
 {
-    match duration_of(duration) {
-        Some(duration) => LongResult::of(duration.whole_minutes()),
-        None => LongResult::refused(BAD_DURATION),
-    }
+    let duration = or_return!(duration_of(duration), LongResult::refused(BAD_DURATION));
+    LongResult::of(duration.whole_minutes())
 }
 
 /// The whole seconds of a duration, cut toward zero.
@@ -168,59 +145,40 @@ pub extern "C" fn fots_duration_whole_seconds(duration: Duration) -> LongResult
     ensures value { IsDurationPair duration
         → result ≡ long_done (cut (nanoseconds_in duration) (pos second)) }
 {
-    match duration_of(duration) {
-        Some(duration) => LongResult::of(duration.whole_seconds()),
-        None => LongResult::refused(BAD_DURATION),
-    }
+    let duration = or_return!(duration_of(duration), LongResult::refused(BAD_DURATION));
+    LongResult::of(duration.whole_seconds())
 }
 
 /// The whole milliseconds of a duration, cut toward zero, or none where they are no `i64`.
 #[unsafe(no_mangle)]
 pub extern "C" fn fots_duration_whole_milliseconds(duration: Duration) -> LongResult
     ensures bad_duration { ¬ IsDurationPair duration → result ≡ long_refused bad_duration }
-    ensures past_range { IsDurationPair duration
-        → ¬ FitsSigned w64 (cut (nanoseconds_in duration) (pos millisecond))
-        → result ≡ long_refused past_range }
     ensures value { IsDurationPair duration
-        → FitsSigned w64 (cut (nanoseconds_in duration) (pos millisecond))
-        → result ≡ long_done (cut (nanoseconds_in duration) (pos millisecond)) }
+        → IsLongIfAny (cut (nanoseconds_in duration) (pos millisecond)) result }
 {
-    match duration_of(duration) {
-        Some(duration) => LongResult::of_wide(duration.whole_milliseconds()),
-        None => LongResult::refused(BAD_DURATION),
-    }
+    let duration = or_return!(duration_of(duration), LongResult::refused(BAD_DURATION));
+    LongResult::of_wide(duration.whole_milliseconds())
 }
 
 /// The whole microseconds of a duration, cut toward zero, or none where they are no `i64`.
 #[unsafe(no_mangle)]
 pub extern "C" fn fots_duration_whole_microseconds(duration: Duration) -> LongResult
     ensures bad_duration { ¬ IsDurationPair duration → result ≡ long_refused bad_duration }
-    ensures past_range { IsDurationPair duration
-        → ¬ FitsSigned w64 (cut (nanoseconds_in duration) (pos microsecond))
-        → result ≡ long_refused past_range }
     ensures value { IsDurationPair duration
-        → FitsSigned w64 (cut (nanoseconds_in duration) (pos microsecond))
-        → result ≡ long_done (cut (nanoseconds_in duration) (pos microsecond)) }
+        → IsLongIfAny (cut (nanoseconds_in duration) (pos microsecond)) result }
 {
-    match duration_of(duration) {
-        Some(duration) => LongResult::of_wide(duration.whole_microseconds()),
-        None => LongResult::refused(BAD_DURATION),
-    }
+    let duration = or_return!(duration_of(duration), LongResult::refused(BAD_DURATION));
+    LongResult::of_wide(duration.whole_microseconds())
 }
 
 /// The whole nanoseconds of a duration, cut toward zero, or none where they are no `i64`.
 #[unsafe(no_mangle)]
 pub extern "C" fn fots_duration_whole_nanoseconds(duration: Duration) -> LongResult
     ensures bad_duration { ¬ IsDurationPair duration → result ≡ long_refused bad_duration }
-    ensures past_range { IsDurationPair duration → ¬ FitsSigned w64 (nanoseconds_in duration)
-        → result ≡ long_refused past_range }
-    ensures value { IsDurationPair duration → FitsSigned w64 (nanoseconds_in duration)
-        → result ≡ long_done (nanoseconds_in duration) }
+    ensures value { IsDurationPair duration → IsLongIfAny (nanoseconds_in duration) result }
 {
-    match duration_of(duration) {
-        Some(duration) => LongResult::of_wide(duration.whole_nanoseconds()),
-        None => LongResult::refused(BAD_DURATION),
-    }
+    let duration = or_return!(duration_of(duration), LongResult::refused(BAD_DURATION));
+    LongResult::of_wide(duration.whole_nanoseconds())
 }
 
 /// What a duration has past its whole seconds, in whole milliseconds, cut toward zero.
@@ -230,10 +188,8 @@ pub extern "C" fn fots_duration_subsec_milliseconds(duration: Duration) -> Numbe
     ensures value { IsDurationPair duration
         → result ≡ number_done (cut (past_second (nanoseconds_in duration)) (pos millisecond)) }
 {
-    match duration_of(duration) {
-        Some(duration) => NumberResult::of(i32::from(duration.subsec_milliseconds())),
-        None => NumberResult::refused(BAD_DURATION),
-    }
+    let duration = or_return!(duration_of(duration), NumberResult::refused(BAD_DURATION));
+    NumberResult::of(i32::from(duration.subsec_milliseconds()))
 }
 
 /// What a duration has past its whole seconds, in whole microseconds, cut toward zero.
@@ -243,8 +199,6 @@ pub extern "C" fn fots_duration_subsec_microseconds(duration: Duration) -> Numbe
     ensures value { IsDurationPair duration
         → result ≡ number_done (cut (past_second (nanoseconds_in duration)) (pos microsecond)) }
 {
-    match duration_of(duration) {
-        Some(duration) => NumberResult::of(duration.subsec_microseconds()),
-        None => NumberResult::refused(BAD_DURATION),
-    }
+    let duration = or_return!(duration_of(duration), NumberResult::refused(BAD_DURATION));
+    NumberResult::of(duration.subsec_microseconds())
 }

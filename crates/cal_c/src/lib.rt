@@ -5,6 +5,32 @@
 //! pointer, allocates, or has a state.
 #![tactic(auto)]
 
+/// The value that is there, or a return of what the call answers where there is none.
+macro_rules! or_return {
+    ($option:expr, $answer:expr) => {
+        match $option {
+            Some(value) => value,
+            None => return $answer,
+        }
+    };
+    ($result:expr, $error:pat => $answer:expr) => {
+        match $result {
+            Ok(value) => value,
+            Err($error) => return $answer,
+        }
+    };
+}
+
+/// The answer of what is made, or the one with the status of its refusal.
+macro_rules! made_or_refused {
+    ($answer:ident, $made:expr) => {
+        match $made {
+            Ok(made) => $answer::of(made),
+            Err(error) => $answer::refused($crate::status::status_of(error)),
+        }
+    };
+}
+
 mod columns;
 mod cycle;
 mod date;

@@ -2,8 +2,7 @@
 ghost use Rattle.std.specs.Prelude.{◌≡◌, ◌+◌, ◌%◌, ◌≤◌, IsTrue, ◌↔◌, ◌+ℤ◌, ◌-ℤ◌, ◌*ℤ◌, pos, Some, None, SomeIff, nat_le, if◌then◌else◌};
 ghost use Rattle.cal_time.specs.Date.{last_day, weekday_at};
 ghost use Rattle.cal_time.specs.SignedDuration.{day};
-ghost use Rattle.cal_c.specs.Results.{date_done, date_refused, date_if_any};
-ghost use Rattle.cal_c.specs.Statuses.{past_range};
+ghost use Rattle.cal_c.specs.Results.{IsDateIfAny, date_done, date_if_any};
 ghost use Rattle.cal_c.specs.Values.{IsJulianDay, day_of, julian_nearest};
 
 use crate::results::DateResult;
@@ -43,8 +42,7 @@ pub fn number_of(julian_day: i32) -> Option<u32>
 
 /// The date that has the Julian day.
 pub fn date_with(julian_day: i64) -> DateResult
-    ensures past_range { ¬ IsJulianDay julian_day → result ≡ date_refused past_range }
-    ensures day { IsJulianDay julian_day → result ≡ date_done julian_day }
+    ensures { IsDateIfAny julian_day result }
 {
     if julian_day < FIRST_JULIAN_DAY || julian_day > LAST_JULIAN_DAY {
         return DateResult::refused(PAST_RANGE);
@@ -57,8 +55,7 @@ pub fn date_with(julian_day: i64) -> DateResult
 
 /// The date so many days later.
 pub fn days_later(julian_day: i32, days: i64) -> DateResult
-    ensures past_range { ¬ IsJulianDay (julian_day +ℤ days) → result ≡ date_refused past_range }
-    ensures day { IsJulianDay (julian_day +ℤ days) → result ≡ date_done (julian_day +ℤ days) }
+    ensures { IsDateIfAny (julian_day +ℤ days) result }
 {
     // A sum past 64 bits wraps to one that is past the range as well.
     date_with(i64::from(julian_day).wrapping_add(days))
@@ -66,8 +63,7 @@ pub fn days_later(julian_day: i32, days: i64) -> DateResult
 
 /// The date so many days earlier.
 pub fn days_earlier(julian_day: i32, days: i64) -> DateResult
-    ensures past_range { ¬ IsJulianDay (julian_day -ℤ days) → result ≡ date_refused past_range }
-    ensures day { IsJulianDay (julian_day -ℤ days) → result ≡ date_done (julian_day -ℤ days) }
+    ensures { IsDateIfAny (julian_day -ℤ days) result }
 {
     date_with(i64::from(julian_day).wrapping_sub(days))
 }

@@ -5,7 +5,7 @@ ghost use Rattle.cal_c.specs.Results.{offset_done, offset_refused, offset_parts_
 ghost use Rattle.cal_c.specs.Statuses.{bad_offset, offset_hour_refused, offset_minute_refused, offset_second_refused, seconds_refused};
 
 use crate::results::{NumberResult, OffsetPartsResult, OffsetResult};
-use crate::status::{BAD_OFFSET, DONE, SECONDS, offset_status};
+use crate::status::{BAD_OFFSET, DONE, SECONDS};
 use crate::values::{offset_of, signed_byte_of};
 use cal_time::UtcOffset;
 
@@ -23,14 +23,14 @@ pub extern "C" fn fots_offset_from_hms(hours: i32, minutes: i32, seconds: i32) -
     ensures offset { unsigned_abs hours ≤ 25 → unsigned_abs minutes ≤ 59 → unsigned_abs seconds ≤ 59
         → result ≡ offset_done (offset_of hours minutes seconds) }
 {
-    match UtcOffset::from_hms(
-        signed_byte_of(hours),
-        signed_byte_of(minutes),
-        signed_byte_of(seconds),
-    ) {
-        Ok(offset) => OffsetResult::of(offset),
-        Err(error) => OffsetResult::refused(offset_status(error)),
-    }
+    made_or_refused!(
+        OffsetResult,
+        UtcOffset::from_hms(
+            signed_byte_of(hours),
+            signed_byte_of(minutes),
+            signed_byte_of(seconds),
+        )
+    )
 }
 
 /// The offset of so many seconds, from -93599 to 93599, which it is itself. Refused as `seconds`.
@@ -39,13 +39,9 @@ pub extern "C" fn fots_offset_from_whole_seconds(seconds: i64) -> OffsetResult
     ensures seconds { ¬ IsOffset seconds → result ≡ offset_refused seconds_refused }
     ensures offset { IsOffset seconds → result ≡ offset_done seconds }
 {
-    let Ok(seconds) = i32::try_from(seconds) else {
-        return OffsetResult::refused(SECONDS);
-    };
-    match offset_of(seconds) {
-        Some(offset) => OffsetResult::of(offset),
-        None => OffsetResult::refused(SECONDS),
-    }
+    let seconds = or_return!(i32::try_from(seconds), _ => OffsetResult::refused(SECONDS));
+    let offset = or_return!(offset_of(seconds), OffsetResult::refused(SECONDS));
+    OffsetResult::of(offset)
 }
 
 /// The whole hours, the minutes past them and the seconds past these, of one sign. Those of -5400 are -1, -30 and 0.
@@ -54,9 +50,7 @@ pub extern "C" fn fots_offset_as_hms(offset: i32) -> OffsetPartsResult
     ensures bad_offset { ¬ IsOffset offset → result ≡ offset_parts_refused bad_offset }
     ensures value { IsOffset offset → result ≡ offset_parts_done offset }
 {
-    let Some(offset) = offset_of(offset) else {
-        return OffsetPartsResult::refused(BAD_OFFSET);
-    };
+    let offset = or_return!(offset_of(offset), OffsetPartsResult::refused(BAD_OFFSET));
     let (hours, minutes, seconds) = offset.as_hms();
     OffsetPartsResult {
         status: DONE,
@@ -72,10 +66,8 @@ pub extern "C" fn fots_offset_negated(offset: i32) -> OffsetResult
     ensures bad_offset { ¬ IsOffset offset → result ≡ offset_refused bad_offset }
     ensures value { IsOffset offset → result ≡ offset_done (neg_ℤ offset) }
 {
-    match offset_of(offset) {
-        Some(offset) => OffsetResult::of(-offset),
-        None => OffsetResult::refused(BAD_OFFSET),
-    }
+    let offset = or_return!(offset_of(offset), OffsetResult::refused(BAD_OFFSET));
+    OffsetResult::of(-offset)
 }
 
 /// The whole hours of an offset, cut toward zero. Those of -5400 are -1.
@@ -84,10 +76,8 @@ pub extern "C" fn fots_offset_whole_hours(offset: i32) -> NumberResult
     ensures bad_offset { ¬ IsOffset offset → result ≡ number_refused bad_offset }
     ensures value { IsOffset offset → result ≡ number_done (whole_hours offset) }
 {
-    match offset_of(offset) {
-        Some(offset) => NumberResult::of(i32::from(offset.whole_hours())),
-        None => NumberResult::refused(BAD_OFFSET),
-    }
+    let offset = or_return!(offset_of(offset), NumberResult::refused(BAD_OFFSET));
+    NumberResult::of(i32::from(offset.whole_hours()))
 }
 
 /// The whole minutes of an offset, cut toward zero. Those of -5400 are -90.
@@ -96,10 +86,8 @@ pub extern "C" fn fots_offset_whole_minutes(offset: i32) -> NumberResult
     ensures bad_offset { ¬ IsOffset offset → result ≡ number_refused bad_offset }
     ensures value { IsOffset offset → result ≡ number_done (whole_minutes offset) }
 {
-    match offset_of(offset) {
-        Some(offset) => NumberResult::of(i32::from(offset.whole_minutes())),
-        None => NumberResult::refused(BAD_OFFSET),
-    }
+    let offset = or_return!(offset_of(offset), NumberResult::refused(BAD_OFFSET));
+    NumberResult::of(i32::from(offset.whole_minutes()))
 }
 
 /// The minutes past the whole hours, with the sign of the offset. Those of -5400 are -30.
@@ -108,10 +96,8 @@ pub extern "C" fn fots_offset_minutes_past_hour(offset: i32) -> NumberResult
     ensures bad_offset { ¬ IsOffset offset → result ≡ number_refused bad_offset }
     ensures value { IsOffset offset → result ≡ number_done (minutes_past_hour offset) }
 {
-    match offset_of(offset) {
-        Some(offset) => NumberResult::of(i32::from(offset.minutes_past_hour())),
-        None => NumberResult::refused(BAD_OFFSET),
-    }
+    let offset = or_return!(offset_of(offset), NumberResult::refused(BAD_OFFSET));
+    NumberResult::of(i32::from(offset.minutes_past_hour()))
 }
 
 /// The seconds past the whole minutes, with the sign of the offset. Those of -5400 are 0.
@@ -120,8 +106,6 @@ pub extern "C" fn fots_offset_seconds_past_minute(offset: i32) -> NumberResult
     ensures bad_offset { ¬ IsOffset offset → result ≡ number_refused bad_offset }
     ensures value { IsOffset offset → result ≡ number_done (seconds_past_minute offset) }
 {
-    match offset_of(offset) {
-        Some(offset) => NumberResult::of(i32::from(offset.seconds_past_minute())),
-        None => NumberResult::refused(BAD_OFFSET),
-    }
+    let offset = or_return!(offset_of(offset), NumberResult::refused(BAD_OFFSET));
+    NumberResult::of(i32::from(offset.seconds_past_minute()))
 }

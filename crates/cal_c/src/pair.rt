@@ -21,16 +21,10 @@ pub extern "C" fn fots_add_to_pair(date: i32, time: u64, duration: Duration) -> 
     ensures pair { IsJulianDay date → IsTime time → IsDurationPair duration
         → IsPairAt (pair_number (day_of date) time +ℤ nanoseconds_in duration) result }
 {
-    let Some(date) = date_of(date) else {
-        return PairResult::refused(BAD_DATE);
-    };
-    let Some(time) = time_of(time) else {
-        return PairResult::refused(BAD_TIME);
-    };
-    match duration_of(duration) {
-        Some(duration) => PairResult::of_option(add_to_pair(date, time, duration)),
-        None => PairResult::refused(BAD_DURATION),
-    }
+    let date = or_return!(date_of(date), PairResult::refused(BAD_DATE));
+    let time = or_return!(time_of(time), PairResult::refused(BAD_TIME));
+    let duration = or_return!(duration_of(duration), PairResult::refused(BAD_DURATION));
+    PairResult::of_option(add_to_pair(date, time, duration))
 }
 
 /// The date and the time that come so much earlier, to the nanosecond, or none where that date is past the range.
@@ -43,14 +37,8 @@ pub extern "C" fn fots_sub_from_pair(date: i32, time: u64, duration: Duration) -
     ensures pair { IsJulianDay date → IsTime time → IsDurationPair duration
         → IsPairAt (pair_number (day_of date) time -ℤ nanoseconds_in duration) result }
 {
-    let Some(date) = date_of(date) else {
-        return PairResult::refused(BAD_DATE);
-    };
-    let Some(time) = time_of(time) else {
-        return PairResult::refused(BAD_TIME);
-    };
-    match duration_of(duration) {
-        Some(duration) => PairResult::of_option(sub_from_pair(date, time, duration)),
-        None => PairResult::refused(BAD_DURATION),
-    }
+    let date = or_return!(date_of(date), PairResult::refused(BAD_DATE));
+    let time = or_return!(time_of(time), PairResult::refused(BAD_TIME));
+    let duration = or_return!(duration_of(duration), PairResult::refused(BAD_DURATION));
+    PairResult::of_option(sub_from_pair(date, time, duration))
 }

@@ -1,11 +1,9 @@
 //! What crosses to C: a duration, and answers with the status of the call. Where there is no answer, each number beside the status
 //! is one that no value has.
-ghost use Rattle.std.specs.Prelude.{◌≡◌, FitsSigned};
-ghost use Rattle.std.specs.Int.{w64};
+ghost use Rattle.std.specs.Prelude.{◌≡◌};
 ghost use Rattle.cal_time.specs.Date.{julian_day_at};
-ghost use Rattle.cal_c.specs.Results.{date_done, date_refused, date_if_any, number_done, number_refused, calendar_date_refused, ordinal_date_refused, iso_week_date_refused, duration_done, duration_if_any, duration_refused, time_done, time_refused, clock_refused, adjusted_time_done, adjusted_time_refused, offset_done, offset_refused, offset_parts_refused, long_done, long_refused, pair_if_any, pair_refused};
+ghost use Rattle.cal_c.specs.Results.{IsLongIfAny, date_done, date_refused, date_if_any, number_done, number_refused, calendar_date_refused, ordinal_date_refused, iso_week_date_refused, duration_done, duration_if_any, duration_refused, time_done, time_refused, clock_refused, adjusted_time_done, adjusted_time_refused, offset_done, offset_refused, offset_parts_refused, long_done, long_refused, pair_if_any, pair_refused};
 ghost use Rattle.cal_c.specs.Moments.{moment_done, moment_refused};
-ghost use Rattle.cal_c.specs.Statuses.{past_range};
 ghost use Rattle.cal_time.specs.Time.{carry};
 
 use crate::status::{DONE, PAST_RANGE};
@@ -160,10 +158,8 @@ impl DateResult {
     pub fn of_option(date: Option<Date>) -> Self
         ensures { result ≡ date_if_any date }
     {
-        match date {
-            Some(date) => Self::of(date),
-            None => Self::refused(PAST_RANGE),
-        }
+        let date = or_return!(date, Self::refused(PAST_RANGE));
+        Self::of(date)
     }
 }
 
@@ -241,10 +237,8 @@ impl DurationResult {
     pub fn of_option(duration: Option<SignedDuration>) -> Self
         ensures { result ≡ duration_if_any duration }
     {
-        match duration {
-            Some(duration) => Self::of(duration),
-            None => Self::refused(PAST_RANGE),
-        }
+        let duration = or_return!(duration, Self::refused(PAST_RANGE));
+        Self::of(duration)
     }
 
     pub fn refused(status: i32) -> Self
@@ -366,13 +360,10 @@ impl LongResult {
 
     /// The number, or none where it is no `i64`.
     pub fn of_wide(number: i128) -> Self
-        ensures done { FitsSigned w64 number → result ≡ long_done number }
-        ensures none { ¬ FitsSigned w64 number → result ≡ long_refused past_range }
+        ensures { IsLongIfAny number result }
     {
-        match i64::try_from(number) {
-            Ok(number) => Self::of(number),
-            Err(_) => Self::refused(PAST_RANGE),
-        }
+        let number = or_return!(i64::try_from(number), _ => Self::refused(PAST_RANGE));
+        Self::of(number)
     }
 
     pub fn refused(status: i32) -> Self

@@ -1,9 +1,6 @@
 //! The status of a call, as a number: the header has them as an enum.
 ghost use Rattle.std.specs.Prelude.{◌≡◌};
-ghost use Rattle.cal_time.specs.Refusals.{year_out_of_range, day_out_of_range, ordinal_out_of_range, week_out_of_range, weekday_out_of_range};
-ghost use Rattle.cal_time.specs.Time.{hour_out_of_range, minute_out_of_range, second_out_of_range, millisecond_out_of_range, microsecond_out_of_range, nanosecond_out_of_range};
-ghost use Rattle.cal_time.specs.UtcOffset.{offset_hour_out_of_range, offset_minute_out_of_range, offset_second_out_of_range};
-ghost use Rattle.cal_c.specs.Statuses.{hour_refused, minute_refused, second_refused, millisecond_refused, microsecond_refused, nanosecond_refused, offset_hour_refused, offset_minute_refused, offset_second_refused, year_refused, day_refused, ordinal_refused, week_refused, weekday_refused, component_status};
+ghost use Rattle.cal_c.specs.Statuses.{component_status};
 
 use cal_time::error::{Component, ComponentRange};
 
@@ -104,60 +101,11 @@ pub const WEEK: i32 = 66;
 
 pub const WEEKDAY: i32 = 67;
 
-/// The status of a refusal by a constructor or a replacement of a date.
-pub fn date_status(error: ComponentRange) -> i32
-    ensures year { error ≡ year_out_of_range → result ≡ year_refused }
-    ensures day { error ≡ day_out_of_range → result ≡ day_refused }
-    ensures ordinal { error ≡ ordinal_out_of_range → result ≡ ordinal_refused }
-    ensures week { error ≡ week_out_of_range → result ≡ week_refused }
-    ensures weekday { error ≡ weekday_out_of_range → result ≡ weekday_refused }
+/// The status of a refusal, by the component that it is of.
+pub fn status_of(error: ComponentRange) -> i32
+    ensures { result ≡ component_status error.component }
 {
     match error.component() {
-        Component::Year => YEAR,
-        Component::Day => DAY,
-        Component::Ordinal => ORDINAL,
-        Component::Week => WEEK,
-        _ => WEEKDAY,
-    }
-}
-
-/// The status of a refusal by a constructor or a replacement of a time.
-pub fn time_status(error: ComponentRange) -> i32
-    ensures hour { error ≡ hour_out_of_range → result ≡ hour_refused }
-    ensures minute { error ≡ minute_out_of_range → result ≡ minute_refused }
-    ensures second { error ≡ second_out_of_range → result ≡ second_refused }
-    ensures millisecond { error ≡ millisecond_out_of_range → result ≡ millisecond_refused }
-    ensures microsecond { error ≡ microsecond_out_of_range → result ≡ microsecond_refused }
-    ensures nanosecond { error ≡ nanosecond_out_of_range → result ≡ nanosecond_refused }
-{
-    match error.component() {
-        Component::Hour => HOUR,
-        Component::Minute => MINUTE,
-        Component::Second => SECOND,
-        Component::Millisecond => MILLISECOND,
-        Component::Microsecond => MICROSECOND,
-        _ => NANOSECOND,
-    }
-}
-
-/// The status of a refusal of the parts of an offset.
-pub fn offset_status(error: ComponentRange) -> i32
-    ensures hour { error ≡ offset_hour_out_of_range → result ≡ offset_hour_refused }
-    ensures minute { error ≡ offset_minute_out_of_range → result ≡ offset_minute_refused }
-    ensures second { error ≡ offset_second_out_of_range → result ≡ offset_second_refused }
-{
-    match error.component() {
-        Component::OffsetHour => OFFSET_HOUR,
-        Component::OffsetMinute => OFFSET_MINUTE,
-        _ => OFFSET_SECOND,
-    }
-}
-
-/// The status of a refusal by this component.
-pub fn component_status(component: Component) -> i32
-    ensures { result ≡ component_status component }
-{
-    match component {
         Component::Year => YEAR,
         Component::Month => MONTH,
         Component::JulianDay => JULIAN_DAY,

@@ -3,7 +3,7 @@ ghost use Rattle.std.specs.Prelude.{◌≡◌, ◌≤◌, length};
 ghost use Rattle.cal_c.specs.Texts.{no_date_read, no_moment_read, read_date_done, read_moment_done, text_done, text_refused};
 ghost use Rattle.cal_c.specs.Unread.{unread_date, unread_moment};
 
-use crate::status::{DONE, UNEXPECTED_END, UNREADABLE, component_status};
+use crate::status::{DONE, UNEXPECTED_END, UNREADABLE, status_of};
 use crate::values::nanoseconds_of;
 use cal_datetime::OffsetDateTime;
 use cal_text::Unreadable;
@@ -86,9 +86,7 @@ impl ReadDateResult {
         match error {
             Unreadable::UnexpectedByte(position) => Self::none(UNREADABLE, position),
             Unreadable::UnexpectedEnd(position) => Self::none(UNEXPECTED_END, position),
-            Unreadable::OutOfRange(error) => {
-                Self::none(component_status(error.component()), usize::MAX)
-            }
+            Unreadable::OutOfRange(error) => Self::none(status_of(error), usize::MAX),
         }
     }
 
@@ -122,9 +120,7 @@ impl ReadMomentResult {
         match error {
             Unreadable::UnexpectedByte(position) => Self::none(UNREADABLE, position),
             Unreadable::UnexpectedEnd(position) => Self::none(UNEXPECTED_END, position),
-            Unreadable::OutOfRange(error) => {
-                Self::none(component_status(error.component()), usize::MAX)
-            }
+            Unreadable::OutOfRange(error) => Self::none(status_of(error), usize::MAX),
         }
     }
 

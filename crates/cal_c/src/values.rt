@@ -35,10 +35,7 @@ pub fn month_of(month: u32) -> Option<Month>
     ensures { MatchOption result (¬ IsMonth month)
         (λ found. IsMonth month × (number found ≡ month)) }
 {
-    match Month::try_from(byte_of(month)) {
-        Ok(month) => Some(month),
-        Err(_) => None,
-    }
+    Month::try_from(byte_of(month)).ok()
 }
 
 /// The weekday that has the number, from Monday, 1.
@@ -105,10 +102,7 @@ pub fn week_of(year: i32, week: u32) -> u8
 pub fn date_at(julian_day: i64) -> Option<Date>
     ensures { SomeIff result (IsJulianDay julian_day) (day_of julian_day) }
 {
-    match i32::try_from(julian_day) {
-        Ok(julian_day) => date_of(julian_day),
-        Err(_) => None,
-    }
+    date_of(i32::try_from(julian_day).ok()?)
 }
 
 /// The duration of seconds and nanoseconds.
@@ -157,10 +151,7 @@ pub fn nanoseconds_of(time: Time) -> u64
 pub fn offset_of(seconds: i32) -> Option<UtcOffset>
     ensures { SomeIff result (IsOffset seconds) seconds }
 {
-    match UtcOffset::from_whole_seconds(seconds) {
-        Ok(offset) => Some(offset),
-        Err(_) => None,
-    }
+    UtcOffset::from_whole_seconds(seconds).ok()
 }
 
 /// The number, or the nearest `i8`, which no component of an offset is, where it is past those.
@@ -168,8 +159,5 @@ pub fn signed_byte_of(number: i32) -> i8
     ensures same { unsigned_abs number ≤ 127 → result ≡ number }
     ensures above { (n : ℕ) → n < 127 → n < unsigned_abs number → n < unsigned_abs result }
 {
-    match i8::try_from(number) {
-        Ok(number) => number,
-        Err(_) => i8::MAX,
-    }
+    i8::try_from(number).unwrap_or(i8::MAX)
 }

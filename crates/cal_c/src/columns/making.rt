@@ -1,18 +1,17 @@
 //! Columns of dates that are made.
-ghost use Rattle.std.specs.Prelude.{◌≡◌, ℕ, ◌+◌, ◌-◌, ◌<◌, MatchOption, length, get_or, count_by, pos};
-ghost use Rattle.cal_time.specs.Date.{julian_day_at, IsDate, IsYear, IsDayOfMonth, IsOrdinal, HasCalendarDate, HasOrdinalDate, NoDate};
-ghost use Rattle.cal_time.specs.IsoWeekDate.{IsWeek, HasIsoWeekDate};
-ghost use Rattle.cal_time.specs.Weekday.{index};
-ghost use Rattle.cal_c.specs.Columns.{Alike3, Alike4, Alike5, date_row, is_refused, IsDateOfJulianDay, IsDateOfCalendarDate, IsDateOfOrdinalDate, IsDateOfIsoWeekDate};
-ghost use Rattle.cal_c.specs.Results.{date_done, date_if_any, date_refused, IsDayWith};
-ghost use Rattle.cal_c.specs.Statuses.{bad_weekday, julian_day_refused, year_refused, month_refused, day_refused, ordinal_refused, week_refused, weekday_refused};
-ghost use Rattle.cal_c.specs.Values.{IsJulianDay, IsMonth, IsWeekday};
+ghost use Rattle.std.specs.Prelude.{◌≡◌, pos};
+ghost use Rattle.cal_time.specs.Date.{julian_day_at, IsYear, IsDayOfMonth};
+ghost use Rattle.cal_c.specs.Columns.{int_at, nat_at, Alike3, Alike4, Alike5, AreAnswered, date_row, IsDateOfJulianDay, IsDateOfCalendarDate, IsDateOfOrdinalDate, IsDateOfIsoWeekDate};
+ghost use Rattle.cal_c.specs.Results.{date_done, date_if_any, date_refused};
+ghost use Rattle.cal_c.specs.Statuses.{year_refused, month_refused, day_refused};
+ghost use Rattle.cal_c.specs.Values.{IsMonth};
 
 use super::statuses::{BAD_WEEKDAY, DAY, DONE, JULIAN_DAY, MONTH, PAST_RANGE, YEAR, status_of};
-use super::{NOTHING, UNLIKE, is_date, refused_in};
+use super::{NOTHING, UNLIKE, refused_in};
+use crate::number::{FIRST_JULIAN_DAY, LAST_JULIAN_DAY};
 use crate::sums::{has_day, julian_day_at};
-use crate::values;
-use cal_time::{Date, Weekday};
+use crate::values::weekday_of;
+use cal_time::Date;
 
 /// The dates of a column of Julian days, row by row as `fots_date_from_julian_day`, and how many rows have none.
 #[unsafe(no_mangle)]
@@ -21,14 +20,11 @@ pub extern "C" fn fots_dates_from_julian_days(
     dates: &mut [i32],
     statuses: &mut [u8],
 ) -> usize
-    ensures unlike { ¬ Alike3 (length julian_days.now) (length dates.old) (length statuses.old)
+    ensures unlike { ¬ Alike3 julian_days.now dates.old statuses.old
         → (result ≡ usize.MAX) × (dates.new ≡ dates.old) × (statuses.new ≡ statuses.old) }
-    ensures rows { Alike3 (length julian_days.now) (length dates.old) (length statuses.old)
-        → (k : ℕ) → k < length julian_days.now
-        → IsDateOfJulianDay (get_or julian_days.now k (pos 0))
-        (date_row (get_or dates.new k (pos 0)) (get_or statuses.new k 0)) }
-    ensures count { Alike3 (length julian_days.now) (length dates.old) (length statuses.old)
-        → result ≡ count_by is_refused statuses.new }
+    ensures rows { Alike3 julian_days.now dates.old statuses.old
+        → AreAnswered statuses.new result (λ k. IsDateOfJulianDay (int_at julian_days.now k)
+        (date_row (int_at dates.new k) (nat_at statuses.new k))) }
 {
     let rows = julian_days.len();
     if dates.len() != rows || statuses.len() != rows {
@@ -51,18 +47,12 @@ pub extern "C" fn fots_dates_from_calendar_dates(
     dates: &mut [i32],
     statuses: &mut [u8],
 ) -> usize
-    ensures unlike { ¬ Alike5 (length years.now) (length months.now) (length days.now)
-        (length dates.old) (length statuses.old)
+    ensures unlike { ¬ Alike5 years.now months.now days.now dates.old statuses.old
         → (result ≡ usize.MAX) × (dates.new ≡ dates.old) × (statuses.new ≡ statuses.old) }
-    ensures rows { Alike5 (length years.now) (length months.now) (length days.now)
-        (length dates.old) (length statuses.old)
-        → (k : ℕ) → k < length years.now
-        → IsDateOfCalendarDate (get_or years.now k (pos 0)) (get_or months.now k 0)
-        (get_or days.now k 0) (date_row (get_or dates.new k (pos 0))
-        (get_or statuses.new k 0)) }
-    ensures count { Alike5 (length years.now) (length months.now) (length days.now)
-        (length dates.old) (length statuses.old)
-        → result ≡ count_by is_refused statuses.new }
+    ensures rows { Alike5 years.now months.now days.now dates.old statuses.old
+        → AreAnswered statuses.new result (λ k. IsDateOfCalendarDate (int_at years.now k)
+        (nat_at months.now k) (nat_at days.now k) (date_row (int_at dates.new k)
+        (nat_at statuses.new k))) }
 {
     let rows = years.len();
     if months.len() != rows || days.len() != rows || dates.len() != rows || statuses.len() != rows {
@@ -84,17 +74,11 @@ pub extern "C" fn fots_dates_from_ordinal_dates(
     dates: &mut [i32],
     statuses: &mut [u8],
 ) -> usize
-    ensures unlike { ¬ Alike4 (length years.now) (length ordinals.now) (length dates.old)
-        (length statuses.old)
+    ensures unlike { ¬ Alike4 years.now ordinals.now dates.old statuses.old
         → (result ≡ usize.MAX) × (dates.new ≡ dates.old) × (statuses.new ≡ statuses.old) }
-    ensures rows { Alike4 (length years.now) (length ordinals.now) (length dates.old)
-        (length statuses.old)
-        → (k : ℕ) → k < length years.now
-        → IsDateOfOrdinalDate (get_or years.now k (pos 0)) (get_or ordinals.now k 0)
-        (date_row (get_or dates.new k (pos 0)) (get_or statuses.new k 0)) }
-    ensures count { Alike4 (length years.now) (length ordinals.now) (length dates.old)
-        (length statuses.old)
-        → result ≡ count_by is_refused statuses.new }
+    ensures rows { Alike4 years.now ordinals.now dates.old statuses.old
+        → AreAnswered statuses.new result (λ k. IsDateOfOrdinalDate (int_at years.now k)
+        (nat_at ordinals.now k) (date_row (int_at dates.new k) (nat_at statuses.new k))) }
 {
     let rows = years.len();
     if ordinals.len() != rows || dates.len() != rows || statuses.len() != rows {
@@ -117,18 +101,12 @@ pub extern "C" fn fots_dates_from_iso_week_dates(
     dates: &mut [i32],
     statuses: &mut [u8],
 ) -> usize
-    ensures unlike { ¬ Alike5 (length years.now) (length weeks.now) (length weekdays.now)
-        (length dates.old) (length statuses.old)
+    ensures unlike { ¬ Alike5 years.now weeks.now weekdays.now dates.old statuses.old
         → (result ≡ usize.MAX) × (dates.new ≡ dates.old) × (statuses.new ≡ statuses.old) }
-    ensures rows { Alike5 (length years.now) (length weeks.now) (length weekdays.now)
-        (length dates.old) (length statuses.old)
-        → (k : ℕ) → k < length years.now
-        → IsDateOfIsoWeekDate (get_or years.now k (pos 0)) (get_or weeks.now k 0)
-        (get_or weekdays.now k 0) (date_row (get_or dates.new k (pos 0))
-        (get_or statuses.new k 0)) }
-    ensures count { Alike5 (length years.now) (length weeks.now) (length weekdays.now)
-        (length dates.old) (length statuses.old)
-        → result ≡ count_by is_refused statuses.new }
+    ensures rows { Alike5 years.now weeks.now weekdays.now dates.old statuses.old
+        → AreAnswered statuses.new result (λ k. IsDateOfIsoWeekDate (int_at years.now k)
+        (nat_at weeks.now k) (nat_at weekdays.now k) (date_row (int_at dates.new k)
+        (nat_at statuses.new k))) }
 {
     let rows = years.len();
     if weeks.len() != rows
@@ -173,21 +151,11 @@ pub(super) fn made_if_any(date: Option<Date>) -> (i32, u8)
     }
 }
 
-/// The weekday that has the number, from Monday, 1.
-fn weekday_of(weekday: u8) -> Option<Weekday>
-    ensures { MatchOption result (¬ IsWeekday weekday)
-        (λ found. IsWeekday weekday × (index found + 1 ≡ weekday)) }
-{
-    values::weekday_of(u32::from(weekday))
-}
-
 /// The date of a Julian day, and its status.
 fn date_of_julian_day(julian_day: i64) -> (i32, u8)
-    ensures no_julian_day { ¬ IsJulianDay julian_day
-        → date_row result.0 result.1 ≡ date_refused julian_day_refused }
-    ensures date { IsJulianDay julian_day → date_row result.0 result.1 ≡ date_done julian_day }
+    ensures { IsDateOfJulianDay julian_day (date_row result.0 result.1) }
 {
-    if is_date(julian_day) {
+    if julian_day >= FIRST_JULIAN_DAY && julian_day <= LAST_JULIAN_DAY {
         (julian_day as i32, DONE)
     } else {
         (NOTHING, JULIAN_DAY)
@@ -196,13 +164,7 @@ fn date_of_julian_day(julian_day: i64) -> (i32, u8)
 
 /// The date of a year, a month and a day of the month, and its status.
 fn date_of_calendar_date(year: i32, month: u8, day: u8) -> (i32, u8)
-    ensures no_month { ¬ IsMonth month → date_row result.0 result.1 ≡ date_refused month_refused }
-    ensures no_year { IsMonth month → ¬ IsYear year
-        → date_row result.0 result.1 ≡ date_refused year_refused }
-    ensures no_day { IsMonth month → IsYear year → ¬ IsDayOfMonth year month day
-        → date_row result.0 result.1 ≡ date_refused day_refused }
-    ensures date { IsMonth month → IsYear year → IsDayOfMonth year month day
-        → IsDayWith (HasCalendarDate year month day) (date_row result.0 result.1) }
+    ensures { IsDateOfCalendarDate year month day (date_row result.0 result.1) }
 {
     let date = julian_day_at(year, month, day);
     let status = status_of_calendar_date(year, month, day);
@@ -236,11 +198,7 @@ pub(super) fn status_of_calendar_date(year: i32, month: u8, day: u8) -> u8
 
 /// The date of a year and an ordinal, and its status.
 fn date_of_ordinal_date(year: i32, ordinal: u16) -> (i32, u8)
-    ensures no_year { ¬ IsYear year → date_row result.0 result.1 ≡ date_refused year_refused }
-    ensures no_ordinal { IsYear year → ¬ IsOrdinal year ordinal
-        → date_row result.0 result.1 ≡ date_refused ordinal_refused }
-    ensures date { IsYear year → IsOrdinal year ordinal
-        → IsDayWith (HasOrdinalDate year ordinal) (date_row result.0 result.1) }
+    ensures { IsDateOfOrdinalDate year ordinal (date_row result.0 result.1) }
 {
     match Date::from_ordinal_date(year, ordinal) {
         Ok(date) => made(date),
@@ -250,22 +208,9 @@ fn date_of_ordinal_date(year: i32, ordinal: u16) -> (i32, u8)
 
 /// The date of an ISO year, a week and a weekday, and its status.
 fn date_of_iso_week_date(year: i32, week: u8, weekday: u8) -> (i32, u8)
-    ensures bad_weekday { ¬ IsWeekday weekday
-        → date_row result.0 result.1 ≡ date_refused bad_weekday }
-    ensures no_year { IsWeekday weekday → ¬ IsYear year
-        → date_row result.0 result.1 ≡ date_refused year_refused }
-    ensures no_week { IsWeekday weekday → IsYear year → ¬ IsWeek year week
-        → date_row result.0 result.1 ≡ date_refused week_refused }
-    ensures no_weekday { IsWeekday weekday → IsYear year → IsWeek year week
-        → NoDate (HasIsoWeekDate year week (weekday - 1))
-        → date_row result.0 result.1 ≡ date_refused weekday_refused }
-    ensures date { IsWeekday weekday → (n : ℕ) → IsDate n → HasIsoWeekDate year week (weekday - 1) n
-        → IsWeek year week
-        → date_row result.0 result.1 ≡ date_done (julian_day_at n) }
+    ensures { IsDateOfIsoWeekDate year week weekday (date_row result.0 result.1) }
 {
-    let Some(weekday) = weekday_of(weekday) else {
-        return refused(BAD_WEEKDAY);
-    };
+    let weekday = or_return!(weekday_of(u32::from(weekday)), refused(BAD_WEEKDAY));
     match Date::from_iso_week_date(year, week, weekday) {
         Ok(date) => made(date),
         Err(error) => refused(status_of(error)),

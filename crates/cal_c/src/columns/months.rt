@@ -1,11 +1,9 @@
 //! Columns of dates that are moved by months.
-ghost use Rattle.std.specs.Prelude.{◌≡◌, ℕ, ◌<◌, ◌≤◌, ◌+ℤ◌, min, length, get_or, count_by, pos};
+ghost use Rattle.std.specs.Prelude.{◌≡◌, ◌≤◌, ◌+ℤ◌, min, pos};
 ghost use Rattle.cal_time.specs.Date.{year_at, month_at, day_of_month_at};
 ghost use Rattle.cal_time.specs.Lengths.{days_in_month};
-ghost use Rattle.cal_schedule.specs.Months.{month_number_at, IsMonthNumber, IsMonthsLater};
-ghost use Rattle.cal_c.specs.Columns.{Alike4, date_row, is_refused, IsDateMonthsLater};
-ghost use Rattle.cal_c.specs.Results.{date_refused, IsDayWith};
-ghost use Rattle.cal_c.specs.Statuses.{bad_date, past_range};
+ghost use Rattle.cal_schedule.specs.Months.{month_number_at};
+ghost use Rattle.cal_c.specs.Columns.{int_at, nat_at, Alike4, AreAnswered, date_row, IsDateMonthsLater};
 ghost use Rattle.cal_c.specs.Values.{IsJulianDay, day_of};
 
 use super::making::refused;
@@ -28,17 +26,11 @@ pub extern "C" fn fots_dates_add_months(
     moved: &mut [i32],
     statuses: &mut [u8],
 ) -> usize
-    ensures unlike { ¬ Alike4 (length dates.now) (length months.now) (length moved.old)
-        (length statuses.old)
+    ensures unlike { ¬ Alike4 dates.now months.now moved.old statuses.old
         → (result ≡ usize.MAX) × (moved.new ≡ moved.old) × (statuses.new ≡ statuses.old) }
-    ensures rows { Alike4 (length dates.now) (length months.now) (length moved.old)
-        (length statuses.old)
-        → (k : ℕ) → k < length dates.now
-        → IsDateMonthsLater (get_or dates.now k (pos 0)) (get_or months.now k (pos 0))
-        (date_row (get_or moved.new k (pos 0)) (get_or statuses.new k 0)) }
-    ensures count { Alike4 (length dates.now) (length months.now) (length moved.old)
-        (length statuses.old)
-        → result ≡ count_by is_refused statuses.new }
+    ensures rows { Alike4 dates.now months.now moved.old statuses.old
+        → AreAnswered statuses.new result (λ k. IsDateMonthsLater (int_at dates.now k)
+        (int_at months.now k) (date_row (int_at moved.new k) (nat_at statuses.new k))) }
 {
     let rows = dates.len();
     if months.len() != rows || moved.len() != rows || statuses.len() != rows {
@@ -54,12 +46,7 @@ pub extern "C" fn fots_dates_add_months(
 
 /// The day so many months later, and the status.
 fn date_months_later(date: i32, months: i32) -> (i32, u8)
-    ensures bad_date { ¬ IsJulianDay date → date_row result.0 result.1 ≡ date_refused bad_date }
-    ensures past_range { IsJulianDay date
-        → ¬ IsMonthNumber (month_number_at (day_of date) +ℤ months)
-        → date_row result.0 result.1 ≡ date_refused past_range }
-    ensures day { IsJulianDay date → IsMonthNumber (month_number_at (day_of date) +ℤ months)
-        → IsDayWith (IsMonthsLater (day_of date) months) (date_row result.0 result.1) }
+    ensures { IsDateMonthsLater date months (date_row result.0 result.1) }
 {
     let (index, day) = index_and_day(date);
     // A sum below zero wraps, far above the last month.

@@ -1,12 +1,9 @@
 //! Columns of dates that are moved.
-ghost use Rattle.std.specs.Prelude.{◌≡◌, ℕ, ◌<◌, ◌≤◌, ◌+ℤ◌, length, get_or, count_by, pos};
+ghost use Rattle.std.specs.Prelude.{◌≡◌, ℕ, ◌<◌, ◌≤◌, ◌+ℤ◌, length, get_or, pos};
 ghost use Rattle.std.specs.Int.{int_min, int_max};
 ghost use Rattle.cal_time.specs.Date.{last_day};
 ghost use Rattle.cal_time.specs.Move.{IsDateNumber};
-ghost use Rattle.cal_c.specs.Columns.{Alike4, date_row, is_refused, IsDateMoved};
-ghost use Rattle.cal_c.specs.Results.{date_done, date_refused};
-ghost use Rattle.cal_c.specs.Statuses.{bad_date, past_range};
-ghost use Rattle.cal_c.specs.Values.{IsJulianDay};
+ghost use Rattle.cal_c.specs.Columns.{int_at, nat_at, Alike4, AreAnswered, date_row, IsDateMoved};
 
 use super::statuses::{BAD_DATE, DONE, PAST_RANGE};
 use super::{NOTHING, UNLIKE, refused_in};
@@ -21,17 +18,11 @@ pub extern "C" fn fots_dates_add_days(
     moved: &mut [i32],
     statuses: &mut [u8],
 ) -> usize
-    ensures unlike { ¬ Alike4 (length dates.now) (length days.now) (length moved.old)
-        (length statuses.old)
+    ensures unlike { ¬ Alike4 dates.now days.now moved.old statuses.old
         → (result ≡ usize.MAX) × (moved.new ≡ moved.old) × (statuses.new ≡ statuses.old) }
-    ensures rows { Alike4 (length dates.now) (length days.now) (length moved.old)
-        (length statuses.old)
-        → (k : ℕ) → k < length dates.now
-        → IsDateMoved (get_or dates.now k (pos 0)) (get_or days.now k (pos 0))
-        (date_row (get_or moved.new k (pos 0)) (get_or statuses.new k 0)) }
-    ensures count { Alike4 (length dates.now) (length days.now) (length moved.old)
-        (length statuses.old)
-        → result ≡ count_by is_refused statuses.new }
+    ensures rows { Alike4 dates.now days.now moved.old statuses.old
+        → AreAnswered statuses.new result (λ k. IsDateMoved (int_at dates.now k) (int_at days.now k)
+        (date_row (int_at moved.new k) (nat_at statuses.new k))) }
 {
     let rows = dates.len();
     if days.len() != rows || moved.len() != rows || statuses.len() != rows {
@@ -62,11 +53,7 @@ fn hold_days(days: &[i64], held: &mut [i32])
 
 /// The day so many days later, and the status.
 fn moved_date(date: i32, days: i32) -> (i32, u8)
-    ensures bad_date { ¬ IsJulianDay date → date_row result.0 result.1 ≡ date_refused bad_date }
-    ensures past_range { IsJulianDay date → ¬ IsJulianDay (date +ℤ days)
-        → date_row result.0 result.1 ≡ date_refused past_range }
-    ensures day { IsJulianDay date → IsJulianDay (date +ℤ days)
-        → date_row result.0 result.1 ≡ date_done (date +ℤ days) }
+    ensures { IsDateMoved date days (date_row result.0 result.1) }
 {
     let moved = moved_number(number_held(date), days);
     if !is_julian_day(date) {

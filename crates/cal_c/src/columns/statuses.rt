@@ -1,11 +1,10 @@
 //! The status of a row in one byte: each status is below 256.
 ghost use Rattle.std.specs.Prelude.{◌≡◌, pos};
-ghost use Rattle.cal_time.specs.Refusals.{year_out_of_range, day_out_of_range, ordinal_out_of_range, week_out_of_range, weekday_out_of_range};
 ghost use Rattle.cal_c.specs.Columns.{IsByte};
-ghost use Rattle.cal_c.specs.Statuses.{year_refused, day_refused, ordinal_refused, week_refused, weekday_refused};
+ghost use Rattle.cal_c.specs.Statuses.{component_status};
 
 use crate::status;
-use cal_time::error::{Component, ComponentRange};
+use cal_time::error::ComponentRange;
 
 pub(super) const DONE: u8 = status::DONE as u8;
 
@@ -35,29 +34,17 @@ pub(super) const WEEK: u8 = status::WEEK as u8;
 
 pub(super) const WEEKDAY: u8 = status::WEEKDAY as u8;
 
-/// The status of a refusal by a constructor of a date.
+/// The status of a refusal, by the component that it is of.
+#[tactic(auto, using(crate::proofs::TextRows::is_byte))]
 pub(super) fn status_of(error: ComponentRange) -> u8
-    ensures year { error ≡ year_out_of_range → pos result ≡ year_refused }
-    ensures day { error ≡ day_out_of_range → pos result ≡ day_refused }
-    ensures ordinal { error ≡ ordinal_out_of_range → pos result ≡ ordinal_refused }
-    ensures week { error ≡ week_out_of_range → pos result ≡ week_refused }
-    ensures weekday { error ≡ weekday_out_of_range → pos result ≡ weekday_refused }
+    ensures { pos result ≡ component_status error.component }
 {
-    match error.component() {
-        Component::Year => YEAR,
-        Component::Day => DAY,
-        Component::Ordinal => ORDINAL,
-        Component::Week => WEEK,
-        _ => WEEKDAY,
-    }
+    byte_of(status::status_of(error))
 }
 
 /// The status in one byte.
 pub(super) fn byte_of(status: i32) -> u8
     ensures { IsByte status → pos result ≡ status }
 {
-    match u8::try_from(status) {
-        Ok(byte) => byte,
-        Err(_) => u8::MAX,
-    }
+    u8::try_from(status).unwrap_or(u8::MAX)
 }

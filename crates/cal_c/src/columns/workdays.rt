@@ -1,7 +1,7 @@
 //! Columns of dates that are moved by working days, and of working days counted between dates.
-ghost use Rattle.std.specs.Prelude.{◌≡◌, ℕ, ◌<◌, length, get_or, count_by, pos, IfErr, IfOk};
+ghost use Rattle.std.specs.Prelude.{◌≡◌, IfErr, IfOk};
 ghost use Rattle.cal_schedule.specs.Workdays.{nth_workday};
-ghost use Rattle.cal_c.specs.Columns.{Alike4, date_row, number_row, is_refused, IsByte, IsDateWorkdaysLater, IsWorkdaysBetween};
+ghost use Rattle.cal_c.specs.Columns.{int_at, nat_at, Alike4, AreAnswered, date_row, number_row, IsByte, IsDateWorkdaysLater, IsWorkdaysBetween};
 ghost use Rattle.cal_c.specs.Results.{date_if_any, date_refused, number_done, number_refused};
 ghost use Rattle.cal_c.specs.Statuses.{bad_date};
 ghost use Rattle.cal_c.specs.Values.{IsJulianDay, day_of};
@@ -25,18 +25,12 @@ pub extern "C" fn fots_dates_add_workdays(
     moved: &mut [i32],
     statuses: &mut [u8],
 ) -> usize
-    ensures unlike { ¬ Alike4 (length dates.now) (length days.now) (length moved.old)
-        (length statuses.old)
+    ensures unlike { ¬ Alike4 dates.now days.now moved.old statuses.old
         → (result ≡ usize.MAX) × (moved.new ≡ moved.old) × (statuses.new ≡ statuses.old) }
-    ensures rows { Alike4 (length dates.now) (length days.now) (length moved.old)
-        (length statuses.old)
-        → (k : ℕ) → k < length dates.now
-        → IsDateWorkdaysLater (get_or dates.now k (pos 0))
-        (get_or days.now k (pos 0)) week holidays.now
-        (date_row (get_or moved.new k (pos 0)) (get_or statuses.new k 0)) }
-    ensures count { Alike4 (length dates.now) (length days.now) (length moved.old)
-        (length statuses.old)
-        → result ≡ count_by is_refused statuses.new }
+    ensures rows { Alike4 dates.now days.now moved.old statuses.old
+        → AreAnswered statuses.new result (λ k. IsDateWorkdaysLater (int_at dates.now k)
+        (int_at days.now k) week holidays.now (date_row (int_at moved.new k)
+        (nat_at statuses.new k))) }
 {
     let rows = dates.len();
     if days.len() != rows || moved.len() != rows || statuses.len() != rows {
@@ -63,18 +57,12 @@ pub extern "C" fn fots_dates_workdays_between(
     numbers: &mut [i32],
     statuses: &mut [u8],
 ) -> usize
-    ensures unlike { ¬ Alike4 (length dates.now) (length others.now) (length numbers.old)
-        (length statuses.old)
+    ensures unlike { ¬ Alike4 dates.now others.now numbers.old statuses.old
         → (result ≡ usize.MAX) × (numbers.new ≡ numbers.old) × (statuses.new ≡ statuses.old) }
-    ensures rows { Alike4 (length dates.now) (length others.now) (length numbers.old)
-        (length statuses.old)
-        → (k : ℕ) → k < length dates.now
-        → IsWorkdaysBetween (get_or dates.now k (pos 0))
-        (get_or others.now k (pos 0)) week holidays.now
-        (number_row (get_or numbers.new k (pos 0)) (get_or statuses.new k 0)) }
-    ensures count { Alike4 (length dates.now) (length others.now) (length numbers.old)
-        (length statuses.old)
-        → result ≡ count_by is_refused statuses.new }
+    ensures rows { Alike4 dates.now others.now numbers.old statuses.old
+        → AreAnswered statuses.new result (λ k. IsWorkdaysBetween (int_at dates.now k)
+        (int_at others.now k) week holidays.now (number_row (int_at numbers.new k)
+        (nat_at statuses.new k))) }
 {
     let rows = dates.len();
     if others.len() != rows || numbers.len() != rows || statuses.len() != rows {
@@ -99,13 +87,9 @@ fn date_workdays_later(date: i32, days: i32, workdays: &Result<Workdays<'_>, i32
     ensures day { IsJulianDay date → IfOk workdays.now
         (λ w. date_row result.0 result.1 ≡ date_if_any (nth_workday w days (day_of date))) }
 {
-    let Some(date) = date_of(date) else {
-        return refused(BAD_DATE);
-    };
-    match workdays {
-        Ok(workdays) => made_if_any(workdays.checked_add_workdays(date, days)),
-        Err(status) => refused(byte_of(*status)),
-    }
+    let date = or_return!(date_of(date), refused(BAD_DATE));
+    let workdays = or_return!(workdays, status => refused(byte_of(*status)));
+    made_if_any(workdays.checked_add_workdays(date, days))
 }
 
 /// How many working days there are from the date to the day before the other, and the status.
@@ -119,12 +103,8 @@ fn workdays_to(date: i32, other: i32, workdays: &Result<Workdays<'_>, i32>) -> (
         → IfOk workdays.now (λ w. number_row result.0 result.1
         ≡ number_done (workdays_number w (day_of date) (day_of other))) }
 {
-    let Some(date) = date_of(date) else {
-        return (NOTHING, BAD_DATE);
-    };
-    let Some(other) = date_of(other) else {
-        return (NOTHING, BAD_DATE);
-    };
+    let date = or_return!(date_of(date), (NOTHING, BAD_DATE));
+    let other = or_return!(date_of(other), (NOTHING, BAD_DATE));
     match workdays {
         Ok(workdays) => (workdays.workdays_between(date, other), DONE),
         Err(status) => (NOTHING, byte_of(*status)),

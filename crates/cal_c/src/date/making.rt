@@ -1,13 +1,8 @@
 //! Dates made.
-ghost use Rattle.std.specs.Prelude.{◌≡◌, ℕ, ◌-◌};
-ghost use Rattle.cal_time.specs.Date.{julian_day_at, IsDate, IsYear, IsDayOfMonth, IsOrdinal, HasCalendarDate, HasOrdinalDate, NoDate};
-ghost use Rattle.cal_time.specs.IsoWeekDate.{IsWeek, HasIsoWeekDate};
-ghost use Rattle.cal_c.specs.Results.{date_done, date_refused, IsDayWith};
-ghost use Rattle.cal_c.specs.Statuses.{bad_weekday, year_refused, month_refused, day_refused, ordinal_refused, week_refused, weekday_refused, julian_day_refused};
-ghost use Rattle.cal_c.specs.Values.{IsJulianDay, IsMonth, IsWeekday};
+ghost use Rattle.cal_c.specs.Columns.{IsDateOfJulianDay, IsDateOfCalendarDate, IsDateOfOrdinalDate, IsDateOfIsoWeekDate};
 
 use crate::results::DateResult;
-use crate::status::{BAD_WEEKDAY, DAY, DONE, JULIAN_DAY, MONTH, YEAR, date_status};
+use crate::status::{BAD_WEEKDAY, DAY, DONE, JULIAN_DAY, MONTH, YEAR};
 use crate::sums::{has_day, julian_day_at};
 use crate::values::{date_at, day_of_month_of, ordinal_of, week_of, weekday_of};
 use cal_time::Date;
@@ -17,13 +12,10 @@ use cal_time::Date;
 /// Refused as `julian_day` where no day of the range has it. The day of 2451545 is 2000-01-01.
 #[unsafe(no_mangle)]
 pub extern "C" fn fots_date_from_julian_day(julian_day: i64) -> DateResult
-    ensures julian_day { ¬ IsJulianDay julian_day → result ≡ date_refused julian_day_refused }
-    ensures date { IsJulianDay julian_day → result ≡ date_done julian_day }
+    ensures { IsDateOfJulianDay julian_day result }
 {
-    match date_at(julian_day) {
-        Some(date) => DateResult::of(date),
-        None => DateResult::refused(JULIAN_DAY),
-    }
+    let date = or_return!(date_at(julian_day), DateResult::refused(JULIAN_DAY));
+    DateResult::of(date)
 }
 
 /// The date of a year, from -999999 to 999999, a month, from 1 to 12, and a day of the month.
@@ -31,12 +23,7 @@ pub extern "C" fn fots_date_from_julian_day(julian_day: i64) -> DateResult
 /// Refused as `month` first, then as `year`, then as `day`. That of 2000, 2 and 29 is 2451604.
 #[unsafe(no_mangle)]
 pub extern "C" fn fots_date_from_calendar_date(year: i32, month: u32, day: u32) -> DateResult
-    ensures month { ¬ IsMonth month → result ≡ date_refused month_refused }
-    ensures year { IsMonth month → ¬ IsYear year → result ≡ date_refused year_refused }
-    ensures day { IsMonth month → IsYear year → ¬ IsDayOfMonth year month day
-        → result ≡ date_refused day_refused }
-    ensures date { IsMonth month → IsYear year → IsDayOfMonth year month day
-        → IsDayWith (HasCalendarDate year month day) result }
+    ensures { IsDateOfCalendarDate year month day result }
 {
     if month == 0 || month > 12 {
         return DateResult::refused(MONTH);
@@ -59,16 +46,12 @@ pub extern "C" fn fots_date_from_calendar_date(year: i32, month: u32, day: u32) 
 /// Refused as `year`, then as `ordinal`. That of 2000 and 60 is 2451604.
 #[unsafe(no_mangle)]
 pub extern "C" fn fots_date_from_ordinal_date(year: i32, ordinal: u32) -> DateResult
-    ensures year { ¬ IsYear year → result ≡ date_refused year_refused }
-    ensures ordinal { IsYear year → ¬ IsOrdinal year ordinal
-        → result ≡ date_refused ordinal_refused }
-    ensures date { IsYear year → IsOrdinal year ordinal
-        → IsDayWith (HasOrdinalDate year ordinal) result }
+    ensures { IsDateOfOrdinalDate year ordinal result }
 {
-    match Date::from_ordinal_date(year, ordinal_of(ordinal)) {
-        Ok(date) => DateResult::of(date),
-        Err(error) => DateResult::refused(date_status(error)),
-    }
+    made_or_refused!(
+        DateResult,
+        Date::from_ordinal_date(year, ordinal_of(ordinal))
+    )
 }
 
 /// The date of an ISO year, from -999999 to 999999, a week, and a weekday from Monday, 1, to Sunday, 7.
@@ -77,22 +60,11 @@ pub extern "C" fn fots_date_from_ordinal_date(year: i32, ordinal: u32) -> DateRe
 /// That of 2000, 9 and 2 is 2451604.
 #[unsafe(no_mangle)]
 pub extern "C" fn fots_date_from_iso_week_date(year: i32, week: u32, weekday: u32) -> DateResult
-    ensures bad_weekday { ¬ IsWeekday weekday → result ≡ date_refused bad_weekday }
-    ensures year { IsWeekday weekday → ¬ IsYear year → result ≡ date_refused year_refused }
-    ensures week { IsWeekday weekday → IsYear year → ¬ IsWeek year week
-        → result ≡ date_refused week_refused }
-    ensures weekday { IsWeekday weekday → IsYear year → IsWeek year week
-        → NoDate (HasIsoWeekDate year week (weekday - 1))
-        → result ≡ date_refused weekday_refused }
-    ensures date { IsWeekday weekday → (n : ℕ) → IsDate n → HasIsoWeekDate year week (weekday - 1) n
-        → IsWeek year week
-        → result ≡ date_done (julian_day_at n) }
+    ensures { IsDateOfIsoWeekDate year week weekday result }
 {
-    let Some(weekday) = weekday_of(weekday) else {
-        return DateResult::refused(BAD_WEEKDAY);
-    };
-    match Date::from_iso_week_date(year, week_of(year, week), weekday) {
-        Ok(date) => DateResult::of(date),
-        Err(error) => DateResult::refused(date_status(error)),
-    }
+    let weekday = or_return!(weekday_of(weekday), DateResult::refused(BAD_WEEKDAY));
+    made_or_refused!(
+        DateResult,
+        Date::from_iso_week_date(year, week_of(year, week), weekday)
+    )
 }

@@ -1,8 +1,9 @@
 //! Dates moved on and back, and the durations between dates.
 ghost use Rattle.std.specs.Prelude.{◌≡◌, pos, ◌+ℤ◌, ◌-ℤ◌, ◌*ℤ◌};
 ghost use Rattle.cal_time.specs.SignedDuration.{day, whole_days};
-ghost use Rattle.cal_c.specs.Results.{date_done, date_refused, duration_done, duration_refused};
-ghost use Rattle.cal_c.specs.Statuses.{past_range, bad_date, bad_duration};
+ghost use Rattle.cal_c.specs.Columns.{IsDateMoved};
+ghost use Rattle.cal_c.specs.Results.{IsDateIfAny, date_done, date_refused, duration_done, duration_refused};
+ghost use Rattle.cal_c.specs.Statuses.{bad_date, bad_duration};
 ghost use Rattle.cal_c.specs.Values.{IsJulianDay, julian_nearest, IsDurationPair, nanoseconds_in};
 
 use crate::number::{
@@ -16,10 +17,7 @@ use crate::values::duration_of;
 #[unsafe(no_mangle)]
 pub extern "C" fn fots_date_next_day(date: i32) -> DateResult
     ensures bad_date { ¬ IsJulianDay date → result ≡ date_refused bad_date }
-    ensures past_range { IsJulianDay date → ¬ IsJulianDay (date +ℤ pos 1)
-        → result ≡ date_refused past_range }
-    ensures day { IsJulianDay date → IsJulianDay (date +ℤ pos 1)
-        → result ≡ date_done (date +ℤ pos 1) }
+    ensures day { IsJulianDay date → IsDateIfAny (date +ℤ pos 1) result }
 {
     if !is_julian_day(date) {
         return DateResult::refused(BAD_DATE);
@@ -31,10 +29,7 @@ pub extern "C" fn fots_date_next_day(date: i32) -> DateResult
 #[unsafe(no_mangle)]
 pub extern "C" fn fots_date_previous_day(date: i32) -> DateResult
     ensures bad_date { ¬ IsJulianDay date → result ≡ date_refused bad_date }
-    ensures past_range { IsJulianDay date → ¬ IsJulianDay (date -ℤ pos 1)
-        → result ≡ date_refused past_range }
-    ensures day { IsJulianDay date → IsJulianDay (date -ℤ pos 1)
-        → result ≡ date_done (date -ℤ pos 1) }
+    ensures day { IsJulianDay date → IsDateIfAny (date -ℤ pos 1) result }
 {
     if !is_julian_day(date) {
         return DateResult::refused(BAD_DATE);
@@ -48,20 +43,14 @@ pub extern "C" fn fots_date_checked_add(date: i32, duration: Duration) -> DateRe
     ensures bad_date { ¬ IsJulianDay date → result ≡ date_refused bad_date }
     ensures bad_duration { IsJulianDay date → ¬ IsDurationPair duration
         → result ≡ date_refused bad_duration }
-    ensures past_range { IsJulianDay date → IsDurationPair duration
-        → ¬ IsJulianDay (date +ℤ whole_days (nanoseconds_in duration))
-        → result ≡ date_refused past_range }
     ensures day { IsJulianDay date → IsDurationPair duration
-        → IsJulianDay (date +ℤ whole_days (nanoseconds_in duration))
-        → result ≡ date_done (date +ℤ whole_days (nanoseconds_in duration)) }
+        → IsDateIfAny (date +ℤ whole_days (nanoseconds_in duration)) result }
 {
     if !is_julian_day(date) {
         return DateResult::refused(BAD_DATE);
     }
-    match duration_of(duration) {
-        Some(duration) => days_later(date, duration.whole_days()),
-        None => DateResult::refused(BAD_DURATION),
-    }
+    let duration = or_return!(duration_of(duration), DateResult::refused(BAD_DURATION));
+    days_later(date, duration.whole_days())
 }
 
 /// The day that many whole days later, cut toward zero, or the end of the range that is nearest to it.
@@ -76,10 +65,8 @@ pub extern "C" fn fots_date_saturating_add(date: i32, duration: Duration) -> Dat
     if !is_julian_day(date) {
         return DateResult::refused(BAD_DATE);
     }
-    match duration_of(duration) {
-        Some(duration) => days_later_held(date, duration.whole_days()),
-        None => DateResult::refused(BAD_DURATION),
-    }
+    let duration = or_return!(duration_of(duration), DateResult::refused(BAD_DURATION));
+    days_later_held(date, duration.whole_days())
 }
 
 /// The day that many whole days earlier, cut toward zero, or none where that is past an end of the range. 2020-12-31 less 47 hours is 2020-12-30.
@@ -88,20 +75,14 @@ pub extern "C" fn fots_date_checked_sub(date: i32, duration: Duration) -> DateRe
     ensures bad_date { ¬ IsJulianDay date → result ≡ date_refused bad_date }
     ensures bad_duration { IsJulianDay date → ¬ IsDurationPair duration
         → result ≡ date_refused bad_duration }
-    ensures past_range { IsJulianDay date → IsDurationPair duration
-        → ¬ IsJulianDay (date -ℤ whole_days (nanoseconds_in duration))
-        → result ≡ date_refused past_range }
     ensures day { IsJulianDay date → IsDurationPair duration
-        → IsJulianDay (date -ℤ whole_days (nanoseconds_in duration))
-        → result ≡ date_done (date -ℤ whole_days (nanoseconds_in duration)) }
+        → IsDateIfAny (date -ℤ whole_days (nanoseconds_in duration)) result }
 {
     if !is_julian_day(date) {
         return DateResult::refused(BAD_DATE);
     }
-    match duration_of(duration) {
-        Some(duration) => days_earlier(date, duration.whole_days()),
-        None => DateResult::refused(BAD_DURATION),
-    }
+    let duration = or_return!(duration_of(duration), DateResult::refused(BAD_DURATION));
+    days_earlier(date, duration.whole_days())
 }
 
 /// The day that many whole days earlier, cut toward zero, or the end of the range that is nearest to it.
@@ -116,21 +97,15 @@ pub extern "C" fn fots_date_saturating_sub(date: i32, duration: Duration) -> Dat
     if !is_julian_day(date) {
         return DateResult::refused(BAD_DATE);
     }
-    match duration_of(duration) {
-        Some(duration) => days_earlier_held(date, duration.whole_days()),
-        None => DateResult::refused(BAD_DURATION),
-    }
+    let duration = or_return!(duration_of(duration), DateResult::refused(BAD_DURATION));
+    days_earlier_held(date, duration.whole_days())
 }
 
 /// The day so many days later, or earlier where they are below zero, or none where that is past an end of the range. That 366 days
 /// after 2451604 is 2451970.
 #[unsafe(no_mangle)]
 pub extern "C" fn fots_date_add_days(date: i32, days: i64) -> DateResult
-    ensures bad_date { ¬ IsJulianDay date → result ≡ date_refused bad_date }
-    ensures past_range { IsJulianDay date → ¬ IsJulianDay (date +ℤ days)
-        → result ≡ date_refused past_range }
-    ensures day { IsJulianDay date → IsJulianDay (date +ℤ days)
-        → result ≡ date_done (date +ℤ days) }
+    ensures { IsDateMoved date days result }
 {
     if !is_julian_day(date) {
         return DateResult::refused(BAD_DATE);

@@ -22,9 +22,7 @@ pub extern "C" fn fots_date_nth_next_occurrence(date: i32, weekday: u32, count: 
     ensures day { IsJulianDay date → IsWeekday weekday → count ≤ 255
         → result ≡ date_if_any (kth count (next_occurrences (weekday - 1) (day_of date))) }
 {
-    let Some(number) = number_of(date) else {
-        return DateResult::refused(BAD_DATE);
-    };
+    let number = or_return!(number_of(date), DateResult::refused(BAD_DATE));
     if weekday == 0 || weekday > 7 {
         return DateResult::refused(BAD_WEEKDAY);
     }
@@ -46,9 +44,7 @@ pub extern "C" fn fots_date_nth_prev_occurrence(date: i32, weekday: u32, count: 
     ensures day { IsJulianDay date → IsWeekday weekday → count ≤ 255
         → result ≡ date_if_any (kth count (prev_occurrences (weekday - 1) (day_of date))) }
 {
-    let Some(number) = number_of(date) else {
-        return DateResult::refused(BAD_DATE);
-    };
+    let number = or_return!(number_of(date), DateResult::refused(BAD_DATE));
     if weekday == 0 || weekday > 7 {
         return DateResult::refused(BAD_WEEKDAY);
     }
@@ -67,9 +63,7 @@ pub extern "C" fn fots_date_next_occurrence(date: i32, weekday: u32) -> DateResu
     ensures day { IsJulianDay date → IsWeekday weekday
         → result ≡ date_if_any (kth 1 (next_occurrences (weekday - 1) (day_of date))) }
 {
-    let Some(number) = number_of(date) else {
-        return DateResult::refused(BAD_DATE);
-    };
+    let number = or_return!(number_of(date), DateResult::refused(BAD_DATE));
     if weekday == 0 || weekday > 7 {
         return DateResult::refused(BAD_WEEKDAY);
     }
@@ -85,9 +79,7 @@ pub extern "C" fn fots_date_prev_occurrence(date: i32, weekday: u32) -> DateResu
     ensures day { IsJulianDay date → IsWeekday weekday
         → result ≡ date_if_any (kth 1 (prev_occurrences (weekday - 1) (day_of date))) }
 {
-    let Some(number) = number_of(date) else {
-        return DateResult::refused(BAD_DATE);
-    };
+    let number = or_return!(number_of(date), DateResult::refused(BAD_DATE));
     if weekday == 0 || weekday > 7 {
         return DateResult::refused(BAD_WEEKDAY);
     }
@@ -120,10 +112,11 @@ fn occurrence_before(number: u32, weekday: u32, count: u32) -> DateResult
         return DateResult::refused(PAST_RANGE);
     }
     let first = days_until(weekday, days_since_monday(number) + 1);
-    match number.checked_sub(first + 7 * (count - 1)) {
-        Some(number) => day_if_any(number),
-        None => DateResult::refused(PAST_RANGE),
-    }
+    let number = or_return!(
+        number.checked_sub(first + 7 * (count - 1)),
+        DateResult::refused(PAST_RANGE)
+    );
+    day_if_any(number)
 }
 
 /// The days from a day that has the one weekday to the next one that has the other, from 1 to 7.

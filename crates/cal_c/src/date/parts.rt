@@ -2,7 +2,8 @@
 ghost use Rattle.std.specs.Prelude.{◌≡◌, ◌+◌, pos};
 ghost use Rattle.cal_time.specs.Date.{year_at, month_at, day_of_month_at, ordinal_at, weekday_at};
 ghost use Rattle.cal_time.specs.IsoWeekDate.{iso_week_at, weekdays_upto};
-ghost use Rattle.cal_c.specs.Results.{number_done, number_refused, calendar_date_done, calendar_date_refused, ordinal_date_done, ordinal_date_refused, iso_week_date_done, iso_week_date_refused};
+ghost use Rattle.cal_c.specs.Columns.{IsCalendarDateOf, IsOrdinalDateOf, IsIsoWeekDateOf};
+ghost use Rattle.cal_c.specs.Results.{number_done, number_refused};
 ghost use Rattle.cal_c.specs.Statuses.{bad_date};
 ghost use Rattle.cal_c.specs.Values.{IsJulianDay, day_of};
 
@@ -15,12 +16,9 @@ use crate::values::date_of;
 /// The year, the month and the day of the month of a date. Those of 2451604 are 2000, 2 and 29.
 #[unsafe(no_mangle)]
 pub extern "C" fn fots_date_to_calendar_date(date: i32) -> CalendarDateResult
-    ensures bad_date { ¬ IsJulianDay date → result ≡ calendar_date_refused bad_date }
-    ensures value { IsJulianDay date → result ≡ calendar_date_done (day_of date) }
+    ensures { IsCalendarDateOf date result }
 {
-    let Some(number) = number_of(date) else {
-        return CalendarDateResult::refused(BAD_DATE);
-    };
+    let number = or_return!(number_of(date), CalendarDateResult::refused(BAD_DATE));
     let (year, month, day) = calendar_date_at(number);
     CalendarDateResult {
         status: DONE,
@@ -33,12 +31,9 @@ pub extern "C" fn fots_date_to_calendar_date(date: i32) -> CalendarDateResult
 /// The year and the ordinal of a date. Those of 2451604 are 2000 and 60.
 #[unsafe(no_mangle)]
 pub extern "C" fn fots_date_to_ordinal_date(date: i32) -> OrdinalDateResult
-    ensures bad_date { ¬ IsJulianDay date → result ≡ ordinal_date_refused bad_date }
-    ensures value { IsJulianDay date → result ≡ ordinal_date_done (day_of date) }
+    ensures { IsOrdinalDateOf date result }
 {
-    let Some(date) = date_of(date) else {
-        return OrdinalDateResult::refused(BAD_DATE);
-    };
+    let date = or_return!(date_of(date), OrdinalDateResult::refused(BAD_DATE));
     let (year, ordinal) = date.to_ordinal_date();
     OrdinalDateResult {
         status: DONE,
@@ -50,8 +45,7 @@ pub extern "C" fn fots_date_to_ordinal_date(date: i32) -> OrdinalDateResult
 /// The ISO year, the week and the weekday of a date. Those of 2451604 are 2000, 9 and 2.
 #[unsafe(no_mangle)]
 pub extern "C" fn fots_date_to_iso_week_date(date: i32) -> IsoWeekDateResult
-    ensures bad_date { ¬ IsJulianDay date → result ≡ iso_week_date_refused bad_date }
-    ensures value { IsJulianDay date → result ≡ iso_week_date_done (day_of date) }
+    ensures { IsIsoWeekDateOf date result }
 {
     if !is_julian_day(date) {
         return IsoWeekDateResult::refused(BAD_DATE);
@@ -71,10 +65,8 @@ pub extern "C" fn fots_date_year(date: i32) -> NumberResult
     ensures bad_date { ¬ IsJulianDay date → result ≡ number_refused bad_date }
     ensures value { IsJulianDay date → result ≡ number_done (year_at (day_of date)) }
 {
-    match date_of(date) {
-        Some(date) => NumberResult::of(date.year()),
-        None => NumberResult::refused(BAD_DATE),
-    }
+    let date = or_return!(date_of(date), NumberResult::refused(BAD_DATE));
+    NumberResult::of(date.year())
 }
 
 /// The month of a date, from 1 to 12. That of 2451604 is 2.
@@ -83,10 +75,8 @@ pub extern "C" fn fots_date_month(date: i32) -> NumberResult
     ensures bad_date { ¬ IsJulianDay date → result ≡ number_refused bad_date }
     ensures value { IsJulianDay date → result ≡ number_done (pos (month_at (day_of date))) }
 {
-    match date_of(date) {
-        Some(date) => NumberResult::of(i32::from(date.month() as u8)),
-        None => NumberResult::refused(BAD_DATE),
-    }
+    let date = or_return!(date_of(date), NumberResult::refused(BAD_DATE));
+    NumberResult::of(i32::from(date.month() as u8))
 }
 
 /// The day of the month of a date, from 1 to 31. That of 2451604 is 29.
@@ -95,10 +85,8 @@ pub extern "C" fn fots_date_day(date: i32) -> NumberResult
     ensures bad_date { ¬ IsJulianDay date → result ≡ number_refused bad_date }
     ensures value { IsJulianDay date → result ≡ number_done (pos (day_of_month_at (day_of date))) }
 {
-    match date_of(date) {
-        Some(date) => NumberResult::of(i32::from(date.day())),
-        None => NumberResult::refused(BAD_DATE),
-    }
+    let date = or_return!(date_of(date), NumberResult::refused(BAD_DATE));
+    NumberResult::of(i32::from(date.day()))
 }
 
 /// The ordinal of a date, from 1 to 366. That of 2451604 is 60.
@@ -107,10 +95,8 @@ pub extern "C" fn fots_date_ordinal(date: i32) -> NumberResult
     ensures bad_date { ¬ IsJulianDay date → result ≡ number_refused bad_date }
     ensures value { IsJulianDay date → result ≡ number_done (pos (ordinal_at (day_of date))) }
 {
-    match date_of(date) {
-        Some(date) => NumberResult::of(i32::from(date.ordinal())),
-        None => NumberResult::refused(BAD_DATE),
-    }
+    let date = or_return!(date_of(date), NumberResult::refused(BAD_DATE));
+    NumberResult::of(i32::from(date.ordinal()))
 }
 
 /// The ISO week of a date, from 1 to 53. That of 2451604 is 9.
@@ -119,10 +105,8 @@ pub extern "C" fn fots_date_iso_week(date: i32) -> NumberResult
     ensures bad_date { ¬ IsJulianDay date → result ≡ number_refused bad_date }
     ensures value { IsJulianDay date → result ≡ number_done (pos (iso_week_at (day_of date))) }
 {
-    match date_of(date) {
-        Some(date) => NumberResult::of(i32::from(date.iso_week())),
-        None => NumberResult::refused(BAD_DATE),
-    }
+    let date = or_return!(date_of(date), NumberResult::refused(BAD_DATE));
+    NumberResult::of(i32::from(date.iso_week()))
 }
 
 /// The Sundays of the year up to a date, from 0 to 53. Those of 2451604 are 9.
@@ -131,10 +115,8 @@ pub extern "C" fn fots_date_sunday_based_week(date: i32) -> NumberResult
     ensures bad_date { ¬ IsJulianDay date → result ≡ number_refused bad_date }
     ensures value { IsJulianDay date → result ≡ number_done (pos (weekdays_upto 6 (day_of date))) }
 {
-    match date_of(date) {
-        Some(date) => NumberResult::of(i32::from(date.sunday_based_week())),
-        None => NumberResult::refused(BAD_DATE),
-    }
+    let date = or_return!(date_of(date), NumberResult::refused(BAD_DATE));
+    NumberResult::of(i32::from(date.sunday_based_week()))
 }
 
 /// The Mondays of the year up to a date, from 0 to 53. Those of 2451604 are 9.
@@ -143,10 +125,8 @@ pub extern "C" fn fots_date_monday_based_week(date: i32) -> NumberResult
     ensures bad_date { ¬ IsJulianDay date → result ≡ number_refused bad_date }
     ensures value { IsJulianDay date → result ≡ number_done (pos (weekdays_upto 0 (day_of date))) }
 {
-    match date_of(date) {
-        Some(date) => NumberResult::of(i32::from(date.monday_based_week())),
-        None => NumberResult::refused(BAD_DATE),
-    }
+    let date = or_return!(date_of(date), NumberResult::refused(BAD_DATE));
+    NumberResult::of(i32::from(date.monday_based_week()))
 }
 
 /// The weekday of a date, from Monday, 1, to Sunday, 7. That of 2451604 is 2.
@@ -155,8 +135,6 @@ pub extern "C" fn fots_date_weekday(date: i32) -> NumberResult
     ensures bad_date { ¬ IsJulianDay date → result ≡ number_refused bad_date }
     ensures value { IsJulianDay date → result ≡ number_done (pos (weekday_at (day_of date) + 1)) }
 {
-    match number_of(date) {
-        Some(number) => NumberResult::of(i32::from(weekday_of_number(number))),
-        None => NumberResult::refused(BAD_DATE),
-    }
+    let number = or_return!(number_of(date), NumberResult::refused(BAD_DATE));
+    NumberResult::of(i32::from(weekday_of_number(number)))
 }

@@ -6,7 +6,7 @@ ghost use Rattle.cal_c.specs.Statuses.{bad_date, year_refused, month_refused, da
 ghost use Rattle.cal_c.specs.Values.{IsJulianDay, IsMonth, day_of};
 
 use crate::results::DateResult;
-use crate::status::{BAD_DATE, MONTH, date_status};
+use crate::status::{BAD_DATE, MONTH};
 use crate::values::{date_of, day_of_month_of, month_of, ordinal_of};
 
 /// The day of that year that has the same month and day of the month. Refused as `year`, then as `day`, on 29 February for a common
@@ -22,13 +22,8 @@ pub extern "C" fn fots_date_replace_year(date: i32, year: i32) -> DateResult
         → IsDayOfMonth year (month_at n) (day_of_month_at n)
         → IsDayWith (HasCalendarDate year (month_at n) (day_of_month_at n)) result }
 {
-    let Some(date) = date_of(date) else {
-        return DateResult::refused(BAD_DATE);
-    };
-    match date.replace_year(year) {
-        Ok(date) => DateResult::of(date),
-        Err(error) => DateResult::refused(date_status(error)),
-    }
+    let date = or_return!(date_of(date), DateResult::refused(BAD_DATE));
+    made_or_refused!(DateResult, date.replace_year(year))
 }
 
 /// The day of that month of the same year that has the same day of the month. Refused as `month`, then as `day`. 2451604 and 3 lead
@@ -44,16 +39,9 @@ pub extern "C" fn fots_date_replace_month(date: i32, month: u32) -> DateResult
         → IsDayOfMonth (year_at n) month (day_of_month_at n)
         → IsDayWith (HasCalendarDate (year_at n) month (day_of_month_at n)) result }
 {
-    let Some(date) = date_of(date) else {
-        return DateResult::refused(BAD_DATE);
-    };
-    let Some(month) = month_of(month) else {
-        return DateResult::refused(MONTH);
-    };
-    match date.replace_month(month) {
-        Ok(date) => DateResult::of(date),
-        Err(error) => DateResult::refused(date_status(error)),
-    }
+    let date = or_return!(date_of(date), DateResult::refused(BAD_DATE));
+    let month = or_return!(month_of(month), DateResult::refused(MONTH));
+    made_or_refused!(DateResult, date.replace_month(month))
 }
 
 /// The day of the same month of the same year that has this day of the month. Refused as `day`. 2451604 and 1 lead to 2451576.
@@ -67,13 +55,8 @@ pub extern "C" fn fots_date_replace_day(date: i32, day: u32) -> DateResult
         → IsDayOfMonth (year_at n) (month_at n) day
         → IsDayWith (HasCalendarDate (year_at n) (month_at n) day) result }
 {
-    let Some(date) = date_of(date) else {
-        return DateResult::refused(BAD_DATE);
-    };
-    match date.replace_day(day_of_month_of(day)) {
-        Ok(date) => DateResult::of(date),
-        Err(error) => DateResult::refused(date_status(error)),
-    }
+    let date = or_return!(date_of(date), DateResult::refused(BAD_DATE));
+    made_or_refused!(DateResult, date.replace_day(day_of_month_of(day)))
 }
 
 /// The day of the same year that has this ordinal. Refused as `ordinal`. 2451604 and 1 lead to 2451545.
@@ -85,11 +68,6 @@ pub extern "C" fn fots_date_replace_ordinal(date: i32, ordinal: u32) -> DateResu
     ensures date { let n = day_of date in IsJulianDay date → IsOrdinal (year_at n) ordinal
         → IsDayWith (HasOrdinalDate (year_at n) ordinal) result }
 {
-    let Some(date) = date_of(date) else {
-        return DateResult::refused(BAD_DATE);
-    };
-    match date.replace_ordinal(ordinal_of(ordinal)) {
-        Ok(date) => DateResult::of(date),
-        Err(error) => DateResult::refused(date_status(error)),
-    }
+    let date = or_return!(date_of(date), DateResult::refused(BAD_DATE));
+    made_or_refused!(DateResult, date.replace_ordinal(ordinal_of(ordinal)))
 }

@@ -2,9 +2,8 @@
 ghost use Rattle.std.specs.Prelude.{◌≡◌};
 ghost use Rattle.cal_time.specs.Time.{IsTime};
 ghost use Rattle.cal_time.specs.UtcOffset.{IsOffset};
-ghost use Rattle.cal_datetime.specs.DateTime.{IsDateTime};
 ghost use Rattle.cal_datetime.specs.OffsetDateTime.{instant, local_at};
-ghost use Rattle.cal_c.specs.Moments.{IsMoment, local_in, moment_done, moment_refused, shown_in};
+ghost use Rattle.cal_c.specs.Moments.{IsMoment, IsMomentOr, local_in, moment_done, moment_refused, shown_in};
 ghost use Rattle.cal_c.specs.Statuses.{bad_date, bad_moment, bad_offset, bad_time, past_range};
 ghost use Rattle.cal_c.specs.Values.{IsJulianDay, moment_of};
 
@@ -25,16 +24,10 @@ pub extern "C" fn fots_moment_new(date: i32, time: u64, offset: i32) -> MomentRe
     ensures moment { IsJulianDay date → IsTime time → IsOffset offset
         → result ≡ moment_done (moment_of date time offset) }
 {
-    let Some(date) = date_of(date) else {
-        return MomentResult::refused(BAD_DATE);
-    };
-    let Some(time) = time_of(time) else {
-        return MomentResult::refused(BAD_TIME);
-    };
-    match offset_of(offset) {
-        Some(offset) => MomentResult::of(OffsetDateTime::new_in_offset(date, time, offset)),
-        None => MomentResult::refused(BAD_OFFSET),
-    }
+    let date = or_return!(date_of(date), MomentResult::refused(BAD_DATE));
+    let time = or_return!(time_of(time), MomentResult::refused(BAD_TIME));
+    let offset = or_return!(offset_of(offset), MomentResult::refused(BAD_OFFSET));
+    MomentResult::of(OffsetDateTime::new_in_offset(date, time, offset))
 }
 
 /// The same instant, as a clock at that offset shows it, or none where that is past the range.
@@ -42,33 +35,23 @@ pub extern "C" fn fots_moment_new(date: i32, time: u64, offset: i32) -> MomentRe
 pub extern "C" fn fots_moment_to_offset(moment: Moment, offset: i32) -> MomentResult
     ensures bad_moment { ¬ IsMoment moment → result ≡ moment_refused bad_moment }
     ensures bad_offset { IsMoment moment → ¬ IsOffset offset → result ≡ moment_refused bad_offset }
-    ensures past_range { let local = local_at (instant (shown_in moment)) offset
-        in IsMoment moment → IsOffset offset → ¬ IsDateTime local
-        → result ≡ moment_refused past_range }
-    ensures moment { let local = local_at (instant (shown_in moment)) offset
-        in IsMoment moment → IsOffset offset → IsDateTime local
-        → result ≡ moment_done (record { local = local; offset = offset }) }
+    ensures moment { IsMoment moment → IsOffset offset
+        → IsMomentOr past_range (local_at (instant (shown_in moment)) offset) offset result }
 {
-    let Some(moment) = moment_of(moment) else {
-        return MomentResult::refused(BAD_MOMENT);
-    };
-    match offset_of(offset) {
-        Some(offset) => shown_at(moment, offset),
-        None => MomentResult::refused(BAD_OFFSET),
-    }
+    let moment = or_return!(moment_of(moment), MomentResult::refused(BAD_MOMENT));
+    let offset = or_return!(offset_of(offset), MomentResult::refused(BAD_OFFSET));
+    shown_at(moment, offset)
 }
 
 /// The same instant at another offset.
 fn shown_at(moment: OffsetDateTime, offset: UtcOffset) -> MomentResult
-    ensures past_range { let local = local_at (instant moment) offset
-        in ¬ IsDateTime local → result ≡ moment_refused past_range }
-    ensures moment { let local = local_at (instant moment) offset
-        in IsDateTime local → result ≡ moment_done (record { local = local; offset = offset }) }
+    ensures { IsMomentOr past_range (local_at (instant moment) offset) offset result }
 {
-    match moment.checked_to_offset(offset) {
-        Some(shown) => MomentResult::of(shown),
-        None => MomentResult::refused(PAST_RANGE),
-    }
+    let shown = or_return!(
+        moment.checked_to_offset(offset),
+        MomentResult::refused(PAST_RANGE)
+    );
+    MomentResult::of(shown)
 }
 
 /// The moment at which a clock at that offset shows the same date and time.
@@ -79,11 +62,7 @@ pub extern "C" fn fots_moment_replace_offset(moment: Moment, offset: i32) -> Mom
     ensures moment { IsMoment moment → IsOffset offset
         → result ≡ moment_done (record { local = local_in moment; offset = offset }) }
 {
-    let Some(moment) = moment_of(moment) else {
-        return MomentResult::refused(BAD_MOMENT);
-    };
-    match offset_of(offset) {
-        Some(offset) => MomentResult::of(moment.replace_offset(offset)),
-        None => MomentResult::refused(BAD_OFFSET),
-    }
+    let moment = or_return!(moment_of(moment), MomentResult::refused(BAD_MOMENT));
+    let offset = or_return!(offset_of(offset), MomentResult::refused(BAD_OFFSET));
+    MomentResult::of(moment.replace_offset(offset))
 }

@@ -1,8 +1,8 @@
 //! Moments moved on and back, compared, and the durations between them.
 ghost use Rattle.std.specs.Prelude.{◌≡◌, pos, neg_ℤ, ◌+ℤ◌, ◌-ℤ◌, ◌<ℤ◌};
-ghost use Rattle.cal_datetime.specs.DateTime.{IsDateTime, nearest};
+ghost use Rattle.cal_datetime.specs.DateTime.{nearest};
 ghost use Rattle.cal_datetime.specs.OffsetDateTime.{instant};
-ghost use Rattle.cal_c.specs.Moments.{IsMoment, local_in, moment_done, moment_refused, shown_in};
+ghost use Rattle.cal_c.specs.Moments.{IsMoment, IsMomentOr, local_in, moment_done, moment_refused, shown_in};
 ghost use Rattle.cal_c.specs.Results.{duration_done, duration_refused, number_done, number_refused};
 ghost use Rattle.cal_c.specs.Statuses.{bad_duration, bad_moment, past_range};
 ghost use Rattle.cal_c.specs.Values.{IsDurationPair, nanoseconds_in};
@@ -20,34 +20,23 @@ pub extern "C" fn fots_moment_checked_add(moment: Moment, duration: Duration) ->
     ensures bad_moment { ¬ IsMoment moment → result ≡ moment_refused bad_moment }
     ensures bad_duration { IsMoment moment → ¬ IsDurationPair duration
         → result ≡ moment_refused bad_duration }
-    ensures past_range { let local = local_in moment +ℤ nanoseconds_in duration
-        in IsMoment moment → IsDurationPair duration → ¬ IsDateTime local
-        → result ≡ moment_refused past_range }
-    ensures moment { let local = local_in moment +ℤ nanoseconds_in duration
-        in IsMoment moment → IsDurationPair duration → IsDateTime local
-        → result ≡ moment_done (record { local = local; offset = moment.offset }) }
+    ensures moment { IsMoment moment → IsDurationPair duration
+        → IsMomentOr past_range (local_in moment +ℤ nanoseconds_in duration) moment.offset result }
 {
-    let Some(moment) = moment_of(moment) else {
-        return MomentResult::refused(BAD_MOMENT);
-    };
-    match duration_of(duration) {
-        Some(duration) => later(moment, duration),
-        None => MomentResult::refused(BAD_DURATION),
-    }
+    let moment = or_return!(moment_of(moment), MomentResult::refused(BAD_MOMENT));
+    let duration = or_return!(duration_of(duration), MomentResult::refused(BAD_DURATION));
+    later(moment, duration)
 }
 
 /// The moment that much later.
 fn later(moment: OffsetDateTime, duration: SignedDuration) -> MomentResult
-    ensures past_range { ¬ IsDateTime (moment.local +ℤ duration)
-        → result ≡ moment_refused past_range }
-    ensures moment { let local = moment.local +ℤ duration
-        in IsDateTime local → result ≡ moment_done
-        (record { local = local; offset = moment.offset }) }
+    ensures { IsMomentOr past_range (moment.local +ℤ duration) moment.offset result }
 {
-    match moment.checked_add(duration) {
-        Some(moved) => MomentResult::of(moved),
-        None => MomentResult::refused(PAST_RANGE),
-    }
+    let moved = or_return!(
+        moment.checked_add(duration),
+        MomentResult::refused(PAST_RANGE)
+    );
+    MomentResult::of(moved)
 }
 
 /// The moment that much earlier, to the nanosecond and at the same offset, or none where that is past the range.
@@ -56,34 +45,23 @@ pub extern "C" fn fots_moment_checked_sub(moment: Moment, duration: Duration) ->
     ensures bad_moment { ¬ IsMoment moment → result ≡ moment_refused bad_moment }
     ensures bad_duration { IsMoment moment → ¬ IsDurationPair duration
         → result ≡ moment_refused bad_duration }
-    ensures past_range { let local = local_in moment -ℤ nanoseconds_in duration
-        in IsMoment moment → IsDurationPair duration → ¬ IsDateTime local
-        → result ≡ moment_refused past_range }
-    ensures moment { let local = local_in moment -ℤ nanoseconds_in duration
-        in IsMoment moment → IsDurationPair duration → IsDateTime local
-        → result ≡ moment_done (record { local = local; offset = moment.offset }) }
+    ensures moment { IsMoment moment → IsDurationPair duration
+        → IsMomentOr past_range (local_in moment -ℤ nanoseconds_in duration) moment.offset result }
 {
-    let Some(moment) = moment_of(moment) else {
-        return MomentResult::refused(BAD_MOMENT);
-    };
-    match duration_of(duration) {
-        Some(duration) => earlier(moment, duration),
-        None => MomentResult::refused(BAD_DURATION),
-    }
+    let moment = or_return!(moment_of(moment), MomentResult::refused(BAD_MOMENT));
+    let duration = or_return!(duration_of(duration), MomentResult::refused(BAD_DURATION));
+    earlier(moment, duration)
 }
 
 /// The moment that much earlier.
 fn earlier(moment: OffsetDateTime, duration: SignedDuration) -> MomentResult
-    ensures past_range { ¬ IsDateTime (moment.local -ℤ duration)
-        → result ≡ moment_refused past_range }
-    ensures moment { let local = moment.local -ℤ duration
-        in IsDateTime local → result ≡ moment_done
-        (record { local = local; offset = moment.offset }) }
+    ensures { IsMomentOr past_range (moment.local -ℤ duration) moment.offset result }
 {
-    match moment.checked_sub(duration) {
-        Some(moved) => MomentResult::of(moved),
-        None => MomentResult::refused(PAST_RANGE),
-    }
+    let moved = or_return!(
+        moment.checked_sub(duration),
+        MomentResult::refused(PAST_RANGE)
+    );
+    MomentResult::of(moved)
 }
 
 /// The moment that much later, or the end of the range that is nearest to it on the clock at its offset.
@@ -98,13 +76,9 @@ pub extern "C" fn fots_moment_saturating_add(moment: Moment, duration: Duration)
           offset = moment.offset;
         }) }
 {
-    let Some(moment) = moment_of(moment) else {
-        return MomentResult::refused(BAD_MOMENT);
-    };
-    match duration_of(duration) {
-        Some(duration) => MomentResult::of(moment.saturating_add(duration)),
-        None => MomentResult::refused(BAD_DURATION),
-    }
+    let moment = or_return!(moment_of(moment), MomentResult::refused(BAD_MOMENT));
+    let duration = or_return!(duration_of(duration), MomentResult::refused(BAD_DURATION));
+    MomentResult::of(moment.saturating_add(duration))
 }
 
 /// The moment that much earlier, or the end of the range that is nearest to it on the clock at its offset.
@@ -119,13 +93,9 @@ pub extern "C" fn fots_moment_saturating_sub(moment: Moment, duration: Duration)
           offset = moment.offset;
         }) }
 {
-    let Some(moment) = moment_of(moment) else {
-        return MomentResult::refused(BAD_MOMENT);
-    };
-    match duration_of(duration) {
-        Some(duration) => MomentResult::of(moment.saturating_sub(duration)),
-        None => MomentResult::refused(BAD_DURATION),
-    }
+    let moment = or_return!(moment_of(moment), MomentResult::refused(BAD_MOMENT));
+    let duration = or_return!(duration_of(duration), MomentResult::refused(BAD_DURATION));
+    MomentResult::of(moment.saturating_sub(duration))
 }
 
 /// The duration from the other instant to that of the moment, below zero where the other one is later.
@@ -136,13 +106,9 @@ pub extern "C" fn fots_moment_duration_since(moment: Moment, other: Moment) -> D
     ensures value { IsMoment moment → IsMoment other
         → result ≡ duration_done (instant (shown_in moment) -ℤ instant (shown_in other)) }
 {
-    let Some(moment) = moment_of(moment) else {
-        return DurationResult::refused(BAD_MOMENT);
-    };
-    match moment_of(other) {
-        Some(other) => DurationResult::of(moment - other),
-        None => DurationResult::refused(BAD_MOMENT),
-    }
+    let moment = or_return!(moment_of(moment), DurationResult::refused(BAD_MOMENT));
+    let other = or_return!(moment_of(other), DurationResult::refused(BAD_MOMENT));
+    DurationResult::of(moment - other)
 }
 
 /// -1, 0 or 1, as the instant of the one moment is before that of the other, the same, or after it.
@@ -159,12 +125,8 @@ pub extern "C" fn fots_moment_compare(moment: Moment, other: Moment) -> NumberRe
         → instant (shown_in other) <ℤ instant (shown_in moment)
         → result ≡ number_done (pos 1) }
 {
-    let Some(moment) = moment_of(moment) else {
-        return NumberResult::refused(BAD_MOMENT);
-    };
-    let Some(other) = moment_of(other) else {
-        return NumberResult::refused(BAD_MOMENT);
-    };
+    let moment = or_return!(moment_of(moment), NumberResult::refused(BAD_MOMENT));
+    let other = or_return!(moment_of(other), NumberResult::refused(BAD_MOMENT));
     if moment < other {
         NumberResult::of(-1)
     } else if other < moment {

@@ -1,9 +1,8 @@
 //! Moments and their Unix times.
 ghost use Rattle.std.specs.Prelude.{◌≡◌, pos, ◌+ℤ◌, ◌*ℤ◌};
 ghost use Rattle.cal_time.specs.SignedDuration.{second};
-ghost use Rattle.cal_datetime.specs.DateTime.{IsDateTime};
 ghost use Rattle.cal_datetime.specs.OffsetDateTime.{instant, unix_epoch, unix_nanoseconds, unix_seconds};
-ghost use Rattle.cal_c.specs.Moments.{IsMoment, moment_done, moment_refused, shown_in};
+ghost use Rattle.cal_c.specs.Moments.{IsMoment, IsMomentOr, moment_refused, shown_in};
 ghost use Rattle.cal_c.specs.Results.{duration_done, duration_refused, long_done, long_refused};
 ghost use Rattle.cal_c.specs.Statuses.{bad_duration, bad_moment, timestamp_refused};
 ghost use Rattle.cal_c.specs.Values.{IsDurationPair, nanoseconds_in};
@@ -18,45 +17,31 @@ use cal_time::SignedDuration;
 /// The moment at UTC so many seconds after 1970-01-01 0:00, or before where they are below zero. Refused as `timestamp`.
 #[unsafe(no_mangle)]
 pub extern "C" fn fots_moment_from_unix_timestamp(seconds: i64) -> MomentResult
-    ensures timestamp { ¬ IsDateTime (unix_epoch +ℤ seconds *ℤ pos second)
-        → result ≡ moment_refused timestamp_refused }
-    ensures moment { let local = unix_epoch +ℤ seconds *ℤ pos second
-        in IsDateTime local → result ≡ moment_done (record { local = local; offset = pos 0 }) }
+    ensures { IsMomentOr timestamp_refused (unix_epoch +ℤ seconds *ℤ pos second) (pos 0) result }
 {
-    match OffsetDateTime::from_unix_timestamp(seconds) {
-        Ok(moment) => MomentResult::of(moment),
-        Err(_) => MomentResult::refused(TIMESTAMP),
-    }
+    let moment =
+        or_return!(OffsetDateTime::from_unix_timestamp(seconds), _ => MomentResult::refused(TIMESTAMP));
+    MomentResult::of(moment)
 }
 
 /// The moment at UTC of a Unix time. Refused as `timestamp`.
 #[unsafe(no_mangle)]
 pub extern "C" fn fots_moment_from_unix_time(duration: Duration) -> MomentResult
     ensures bad_duration { ¬ IsDurationPair duration → result ≡ moment_refused bad_duration }
-    ensures timestamp { IsDurationPair duration
-        → ¬ IsDateTime (unix_epoch +ℤ nanoseconds_in duration)
-        → result ≡ moment_refused timestamp_refused }
-    ensures moment { let local = unix_epoch +ℤ nanoseconds_in duration
-        in IsDurationPair duration → IsDateTime local
-        → result ≡ moment_done (record { local = local; offset = pos 0 }) }
+    ensures moment { IsDurationPair duration
+        → IsMomentOr timestamp_refused (unix_epoch +ℤ nanoseconds_in duration) (pos 0) result }
 {
-    match duration_of(duration) {
-        Some(duration) => at_unix_time(duration),
-        None => MomentResult::refused(BAD_DURATION),
-    }
+    let duration = or_return!(duration_of(duration), MomentResult::refused(BAD_DURATION));
+    at_unix_time(duration)
 }
 
 /// The moment at UTC of a Unix time.
 fn at_unix_time(duration: SignedDuration) -> MomentResult
-    ensures timestamp { ¬ IsDateTime (unix_epoch +ℤ duration)
-        → result ≡ moment_refused timestamp_refused }
-    ensures moment { let local = unix_epoch +ℤ duration
-        in IsDateTime local → result ≡ moment_done (record { local = local; offset = pos 0 }) }
+    ensures { IsMomentOr timestamp_refused (unix_epoch +ℤ duration) (pos 0) result }
 {
-    match OffsetDateTime::from_unix_timestamp_nanos(duration.whole_nanoseconds()) {
-        Ok(moment) => MomentResult::of(moment),
-        Err(_) => MomentResult::refused(TIMESTAMP),
-    }
+    let moment =
+        or_return!(OffsetDateTime::from_unix_timestamp_nanos(duration.whole_nanoseconds()), _ => MomentResult::refused(TIMESTAMP));
+    MomentResult::of(moment)
 }
 
 /// The whole seconds of the Unix time, rounded toward the past: half a second before 1970-01-01 0:00 UTC it is -1.
@@ -66,10 +51,8 @@ pub extern "C" fn fots_moment_unix_timestamp(moment: Moment) -> LongResult
     ensures value { IsMoment moment → result
         ≡ long_done (unix_seconds (instant (shown_in moment))) }
 {
-    match moment_of(moment) {
-        Some(moment) => LongResult::of(moment.unix_timestamp()),
-        None => LongResult::refused(BAD_MOMENT),
-    }
+    let moment = or_return!(moment_of(moment), LongResult::refused(BAD_MOMENT));
+    LongResult::of(moment.unix_timestamp())
 }
 
 /// The Unix time, to the nanosecond.
@@ -79,8 +62,6 @@ pub extern "C" fn fots_moment_unix_time(moment: Moment) -> DurationResult
     ensures value { IsMoment moment → result
         ≡ duration_done (unix_nanoseconds (instant (shown_in moment))) }
 {
-    match moment_of(moment) {
-        Some(moment) => DurationResult::of(moment - OffsetDateTime::unix_epoch()),
-        None => DurationResult::refused(BAD_MOMENT),
-    }
+    let moment = or_return!(moment_of(moment), DurationResult::refused(BAD_MOMENT));
+    DurationResult::of(moment - OffsetDateTime::unix_epoch())
 }

@@ -23,10 +23,8 @@ pub extern "C" fn fots_date_first_of_month(date: i32) -> DateResult
     ensures day { IsJulianDay date → IsDayWith
         (HasCalendarDate (year_at (day_of date)) (month_at (day_of date)) 1) result }
 {
-    match date_of(date) {
-        Some(date) => DateResult::of(first_of_month(date)),
-        None => DateResult::refused(BAD_DATE),
-    }
+    let date = or_return!(date_of(date), DateResult::refused(BAD_DATE));
+    DateResult::of(first_of_month(date))
 }
 
 /// The last day of the month. That of 2451576, 2000-02-01, is 2451604.
@@ -37,10 +35,8 @@ pub extern "C" fn fots_date_last_of_month(date: i32) -> DateResult
         → IsDayWith (HasCalendarDate (year_at (day_of date)) (month_at (day_of date))
         (days_in_month (year_at (day_of date)) (month_at (day_of date)))) result }
 {
-    match date_of(date) {
-        Some(date) => DateResult::of(last_of_month(date)),
-        None => DateResult::refused(BAD_DATE),
-    }
+    let date = or_return!(date_of(date), DateResult::refused(BAD_DATE));
+    DateResult::of(last_of_month(date))
 }
 
 /// The quarter of the year, from 1 to 4. That of 2451604, 2000-02-29, is 1.
@@ -49,10 +45,8 @@ pub extern "C" fn fots_date_quarter(date: i32) -> NumberResult
     ensures bad_date { ¬ IsJulianDay date → result ≡ number_refused bad_date }
     ensures value { IsJulianDay date → result ≡ number_done (pos (quarter_at (day_of date))) }
 {
-    match date_of(date) {
-        Some(date) => NumberResult::of(i32::from(quarter(date))),
-        None => NumberResult::refused(BAD_DATE),
-    }
+    let date = or_return!(date_of(date), NumberResult::refused(BAD_DATE));
+    NumberResult::of(i32::from(quarter(date)))
 }
 
 /// The first day of the quarter. That of 2451604, 2000-02-29, is 2451545, 2000-01-01.
@@ -62,10 +56,8 @@ pub extern "C" fn fots_date_first_of_quarter(date: i32) -> DateResult
     ensures day { IsJulianDay date → IsDayWith
         (HasCalendarDate (year_at (day_of date)) (3 * quarter_at (day_of date) - 2) 1) result }
 {
-    match date_of(date) {
-        Some(date) => DateResult::of(first_of_quarter(date)),
-        None => DateResult::refused(BAD_DATE),
-    }
+    let date = or_return!(date_of(date), DateResult::refused(BAD_DATE));
+    DateResult::of(first_of_quarter(date))
 }
 
 /// The last day of the quarter. That of 2451604, 2000-02-29, is 2451635, 2000-03-31.
@@ -76,10 +68,8 @@ pub extern "C" fn fots_date_last_of_quarter(date: i32) -> DateResult
         → IsDayWith (HasCalendarDate (year_at (day_of date)) (3 * quarter_at (day_of date))
         (days_in_month (year_at (day_of date)) (3 * quarter_at (day_of date)))) result }
 {
-    match date_of(date) {
-        Some(date) => DateResult::of(last_of_quarter(date)),
-        None => DateResult::refused(BAD_DATE),
-    }
+    let date = or_return!(date_of(date), DateResult::refused(BAD_DATE));
+    DateResult::of(last_of_quarter(date))
 }
 
 /// The first day of the year. That of 2451604, 2000-02-29, is 2451545, 2000-01-01.
@@ -89,10 +79,8 @@ pub extern "C" fn fots_date_first_of_year(date: i32) -> DateResult
     ensures day { IsJulianDay date → IsDayWith
         (HasCalendarDate (year_at (day_of date)) 1 1) result }
 {
-    match date_of(date) {
-        Some(date) => DateResult::of(first_of_year(date)),
-        None => DateResult::refused(BAD_DATE),
-    }
+    let date = or_return!(date_of(date), DateResult::refused(BAD_DATE));
+    DateResult::of(first_of_year(date))
 }
 
 /// The last day of the year. That of 2451604, 2000-02-29, is 2451910, 2000-12-31.
@@ -102,10 +90,8 @@ pub extern "C" fn fots_date_last_of_year(date: i32) -> DateResult
     ensures day { IsJulianDay date → IsDayWith
         (HasCalendarDate (year_at (day_of date)) 12 31) result }
 {
-    match date_of(date) {
-        Some(date) => DateResult::of(last_of_year(date)),
-        None => DateResult::refused(BAD_DATE),
-    }
+    let date = or_return!(date_of(date), DateResult::refused(BAD_DATE));
+    DateResult::of(last_of_year(date))
 }
 
 /// The Monday of the ISO week. That of 2451604, 2000-02-29, is 2451603.
@@ -115,10 +101,8 @@ pub extern "C" fn fots_date_first_of_iso_week(date: i32) -> DateResult
     ensures day { IsJulianDay date → IsDayWith
         (HasIsoWeekDate (iso_year_at (day_of date)) (iso_week_at (day_of date)) 0) result }
 {
-    match date_of(date) {
-        Some(date) => DateResult::of(first_of_iso_week(date)),
-        None => DateResult::refused(BAD_DATE),
-    }
+    let date = or_return!(date_of(date), DateResult::refused(BAD_DATE));
+    DateResult::of(first_of_iso_week(date))
 }
 
 /// The Sunday of the ISO week, or none where the range ends before it, which is so of its last five days alone. That of 2451604,
@@ -131,8 +115,6 @@ pub extern "C" fn fots_date_last_of_iso_week(date: i32) -> DateResult
     ensures day { IsJulianDay date → day_of date + 6 ≤ last_day + weekday_at (day_of date)
         → result ≡ date_done (julian_day_at (day_of date + 6 - weekday_at (day_of date))) }
 {
-    match date_of(date) {
-        Some(date) => DateResult::of_option(last_of_iso_week(date)),
-        None => DateResult::refused(BAD_DATE),
-    }
+    let date = or_return!(date_of(date), DateResult::refused(BAD_DATE));
+    DateResult::of_option(last_of_iso_week(date))
 }

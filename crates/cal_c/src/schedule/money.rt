@@ -40,14 +40,11 @@ pub extern "C" fn fots_date_day_count(date: i32, other: i32, convention: u32) ->
         → result ≡ year_fraction_done (counted_days c (day_of date) (day_of other))
         (year_counts c) }
 {
-    let Some(date) = date_of(date) else {
-        return YearFractionResult::refused(BAD_DATE);
-    };
-    let Some(other) = date_of(other) else {
-        return YearFractionResult::refused(BAD_DATE);
-    };
-    match day_count_of(convention) {
-        Some(convention) => YearFractionResult::of(day_count(date, other, convention)),
-        None => YearFractionResult::refused(BAD_CONVENTION),
-    }
+    let date = or_return!(date_of(date), YearFractionResult::refused(BAD_DATE));
+    let other = or_return!(date_of(other), YearFractionResult::refused(BAD_DATE));
+    let convention = or_return!(
+        day_count_of(convention),
+        YearFractionResult::refused(BAD_CONVENTION)
+    );
+    YearFractionResult::of(day_count(date, other, convention))
 }

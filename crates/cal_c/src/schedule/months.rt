@@ -2,6 +2,7 @@
 ghost use Rattle.std.specs.Prelude.{◌≡◌, pos, ◌+ℤ◌, ◌*ℤ◌, ◌<ℤ◌, ◌≤ℤ◌};
 ghost use Rattle.cal_time.specs.Date.{first_julian_day, first_year, last_day, last_year, julian_day_at, year_at, IsYear};
 ghost use Rattle.cal_schedule.specs.Months.{month_number_at, IsMonthNumber, IsMonthsLater};
+ghost use Rattle.cal_c.specs.Columns.{IsDateMonthsLater};
 ghost use Rattle.cal_c.specs.Results.{date_done, date_refused, IsDayWith};
 ghost use Rattle.cal_c.specs.Statuses.{bad_date, past_range};
 ghost use Rattle.cal_c.specs.Values.{IsJulianDay, day_of};
@@ -16,17 +17,10 @@ use cal_schedule::{checked_add_months, checked_add_years, saturating_add_months}
 /// 2451604, 2000-02-29.
 #[unsafe(no_mangle)]
 pub extern "C" fn fots_date_add_months(date: i32, months: i32) -> DateResult
-    ensures bad_date { ¬ IsJulianDay date → result ≡ date_refused bad_date }
-    ensures past_range { IsJulianDay date
-        → ¬ IsMonthNumber (month_number_at (day_of date) +ℤ months)
-        → result ≡ date_refused past_range }
-    ensures day { IsJulianDay date → IsMonthNumber (month_number_at (day_of date) +ℤ months)
-        → IsDayWith (IsMonthsLater (day_of date) months) result }
+    ensures { IsDateMonthsLater date months result }
 {
-    match date_of(date) {
-        Some(date) => DateResult::of_option(checked_add_months(date, months)),
-        None => DateResult::refused(BAD_DATE),
-    }
+    let date = or_return!(date_of(date), DateResult::refused(BAD_DATE));
+    DateResult::of_option(checked_add_months(date, months))
 }
 
 /// The same, but the end of the range that is nearest where that month is past it. A month after 366963559, the last day, is 366963559.
@@ -41,10 +35,8 @@ pub extern "C" fn fots_date_saturating_add_months(date: i32, months: i32) -> Dat
     ensures past { IsJulianDay date → ((last_year +ℤ pos 1) *ℤ pos 12)
         ≤ℤ (month_number_at (day_of date) +ℤ months) → result ≡ date_done (julian_day_at last_day) }
 {
-    match date_of(date) {
-        Some(date) => DateResult::of(saturating_add_months(date, months)),
-        None => DateResult::refused(BAD_DATE),
-    }
+    let date = or_return!(date_of(date), DateResult::refused(BAD_DATE));
+    DateResult::of(saturating_add_months(date, months))
 }
 
 /// The day so many years later, or earlier where they are below zero: the same month and day of the month, but 28 February for the
@@ -58,8 +50,6 @@ pub extern "C" fn fots_date_add_years(date: i32, years: i32) -> DateResult
     ensures day { IsJulianDay date → IsYear (year_at (day_of date) +ℤ years)
         → IsDayWith (IsMonthsLater (day_of date) (pos 12 *ℤ years)) result }
 {
-    match date_of(date) {
-        Some(date) => DateResult::of_option(checked_add_years(date, years)),
-        None => DateResult::refused(BAD_DATE),
-    }
+    let date = or_return!(date_of(date), DateResult::refused(BAD_DATE));
+    DateResult::of_option(checked_add_years(date, years))
 }

@@ -40,10 +40,8 @@ pub extern "C" fn fots_rule_first(rule: &RuleParts<'_>) -> DateResult
     ensures day { IsRule rule.now → ((its : Rule) × IsRuleOf rule.now its
         × (result ≡ date_if_any (slice_get (days_of its) 0))) }
 {
-    match Recurrence::of(rule) {
-        Ok(found) => DateResult::of_option(found.rule().days().next()),
-        Err(status) => DateResult::refused(status),
-    }
+    let found = or_return!(Recurrence::of(rule), status => DateResult::refused(status));
+    DateResult::of_option(found.rule().days().next())
 }
 
 /// The first day of the rule after the date, or none where the range has none. That of each month's last Friday after 2460336,
@@ -57,14 +55,9 @@ pub extern "C" fn fots_rule_next_after(rule: &RuleParts<'_>, date: i32) -> DateR
         → ((its : Rule) × IsRuleOf rule.now its
         × (result ≡ date_if_any (slice_get (days_after its (day_of date)) 0))) }
 {
-    let found = match Recurrence::of(rule) {
-        Ok(found) => found,
-        Err(status) => return DateResult::refused(status),
-    };
-    match date_of(date) {
-        Some(date) => DateResult::of_option(found.rule().next_after(date)),
-        None => DateResult::refused(BAD_DATE),
-    }
+    let found = or_return!(Recurrence::of(rule), status => DateResult::refused(status));
+    let date = or_return!(date_of(date), DateResult::refused(BAD_DATE));
+    DateResult::of_option(found.rule().next_after(date))
 }
 
 /// Whether the date is one of the rule's days: 1 where it is, else 0.
@@ -77,14 +70,9 @@ pub extern "C" fn fots_rule_contains(rule: &RuleParts<'_>, date: i32) -> NumberR
         → ((its : Rule) × IsRuleOf rule.now its
         × (result ≡ number_done (if is_on its (day_of date) then pos 1 else pos 0))) }
 {
-    let found = match Recurrence::of(rule) {
-        Ok(found) => found,
-        Err(status) => return NumberResult::refused(status),
-    };
-    match date_of(date) {
-        Some(date) => NumberResult::of(i32::from(found.rule().contains(date))),
-        None => NumberResult::refused(BAD_DATE),
-    }
+    let found = or_return!(Recurrence::of(rule), status => NumberResult::refused(status));
+    let date = or_return!(date_of(date), NumberResult::refused(BAD_DATE));
+    NumberResult::of(i32::from(found.rule().contains(date)))
 }
 
 /// The days of the rule after the date, in order, as many as the array has room for; and how many they are. What is past them in the
@@ -104,14 +92,9 @@ pub extern "C" fn fots_rule_days_after(
         → ((its : Rule) × IsRuleOf rule.now its × (result ≡ days_done result.length)
         × AreWritten (days_after its (day_of date)) days.old days.new result.length) }
 {
-    let found = match Recurrence::of(rule) {
-        Ok(found) => found,
-        Err(status) => return DaysResult::refused(status),
-    };
-    match date_of(date) {
-        Some(date) => DaysResult::of(write_days(&found.rule(), date, days)),
-        None => DaysResult::refused(BAD_DATE),
-    }
+    let found = or_return!(Recurrence::of(rule), status => DaysResult::refused(status));
+    let date = or_return!(date_of(date), DaysResult::refused(BAD_DATE));
+    DaysResult::of(write_days(&found.rule(), date, days))
 }
 
 /// Writes the days of the rule after the date, in order and as many as there is room for: so many.

@@ -22,13 +22,9 @@ pub extern "C" fn fots_date_months_until(date: i32, other: i32) -> NumberResult
     ensures back { IsJulianDay date → IsJulianDay other → other <ℤ date
         → IsNumberWith (IsLeast (LeadsBackTo (day_of date) (day_of other))) result }
 {
-    let Some(date) = date_of(date) else {
-        return NumberResult::refused(BAD_DATE);
-    };
-    match date_of(other) {
-        Some(other) => NumberResult::of(months_until(date, other)),
-        None => NumberResult::refused(BAD_DATE),
-    }
+    let date = or_return!(date_of(date), NumberResult::refused(BAD_DATE));
+    let other = or_return!(date_of(other), NumberResult::refused(BAD_DATE));
+    NumberResult::of(months_until(date, other))
 }
 
 /// The whole years from the date to the other, as an age is counted: the greatest number of years that does not lead past it, or
@@ -43,13 +39,9 @@ pub extern "C" fn fots_date_years_until(date: i32, other: i32) -> NumberResult
         → IsNumberWith (IsLeast (λ years.
         LeadsBackTo (day_of date) (day_of other) (pos 12 *ℤ years))) result }
 {
-    let Some(date) = date_of(date) else {
-        return NumberResult::refused(BAD_DATE);
-    };
-    match date_of(other) {
-        Some(other) => NumberResult::of(years_until(date, other)),
-        None => NumberResult::refused(BAD_DATE),
-    }
+    let date = or_return!(date_of(date), NumberResult::refused(BAD_DATE));
+    let other = or_return!(date_of(other), NumberResult::refused(BAD_DATE));
+    NumberResult::of(years_until(date, other))
 }
 
 /// The years, months and days that lead from the date to the other: as many months as `fots_date_months_until` says, twelve of them
@@ -73,11 +65,7 @@ pub extern "C" fn fots_date_period_until(date: i32, other: i32) -> PeriodResult
         → (result.years ≤ℤ pos 0) × (neg_ℤ (pos 11) ≤ℤ result.months) × (result.months ≤ℤ pos 0)
         × (result.days ≤ℤ pos 0) }
 {
-    let Some(date) = date_of(date) else {
-        return PeriodResult::refused(BAD_DATE);
-    };
-    match date_of(other) {
-        Some(other) => PeriodResult::of(period_until(date, other)),
-        None => PeriodResult::refused(BAD_DATE),
-    }
+    let date = or_return!(date_of(date), PeriodResult::refused(BAD_DATE));
+    let other = or_return!(date_of(other), PeriodResult::refused(BAD_DATE));
+    PeriodResult::of(period_until(date, other))
 }

@@ -7,7 +7,7 @@ ghost use Rattle.cal_c.specs.Statuses.{bad_count, bad_date, bad_weekday, month_r
 ghost use Rattle.cal_c.specs.Values.{IsJulianDay, IsMonth, IsWeekday, day_of};
 
 use crate::results::DateResult;
-use crate::status::{BAD_COUNT, BAD_DATE, BAD_WEEKDAY, MONTH, date_status};
+use crate::status::{BAD_COUNT, BAD_DATE, BAD_WEEKDAY, MONTH};
 use crate::values::{date_of, month_of, weekday_of};
 use cal_schedule::{last_weekday_of_month, nth_weekday_of_month, on_or_after, on_or_before};
 
@@ -33,19 +33,15 @@ pub extern "C" fn fots_date_nth_weekday_of_month(
         → IsNthWeekday year month (weekday - 1) n k
         → result ≡ date_done (julian_day_at k) }
 {
-    let Some(month) = month_of(month) else {
-        return DateResult::refused(MONTH);
-    };
-    let Some(weekday) = weekday_of(weekday) else {
-        return DateResult::refused(BAD_WEEKDAY);
-    };
+    let month = or_return!(month_of(month), DateResult::refused(MONTH));
+    let weekday = or_return!(weekday_of(weekday), DateResult::refused(BAD_WEEKDAY));
     if n > 255 {
         return DateResult::refused(BAD_COUNT);
     }
-    match nth_weekday_of_month(year, month, weekday, n as u8) {
-        Ok(date) => DateResult::of(date),
-        Err(error) => DateResult::refused(date_status(error)),
-    }
+    made_or_refused!(
+        DateResult,
+        nth_weekday_of_month(year, month, weekday, n as u8)
+    )
 }
 
 /// The last day of a month that has the weekday. The last Friday of 2000, 2 is 2451600, 2000-02-25.
@@ -59,16 +55,9 @@ pub extern "C" fn fots_date_last_weekday_of_month(year: i32, month: u32, weekday
         → IsLastWeekday year month (weekday - 1) k
         → result ≡ date_done (julian_day_at k) }
 {
-    let Some(month) = month_of(month) else {
-        return DateResult::refused(MONTH);
-    };
-    let Some(weekday) = weekday_of(weekday) else {
-        return DateResult::refused(BAD_WEEKDAY);
-    };
-    match last_weekday_of_month(year, month, weekday) {
-        Ok(date) => DateResult::of(date),
-        Err(error) => DateResult::refused(date_status(error)),
-    }
+    let month = or_return!(month_of(month), DateResult::refused(MONTH));
+    let weekday = or_return!(weekday_of(weekday), DateResult::refused(BAD_WEEKDAY));
+    made_or_refused!(DateResult, last_weekday_of_month(year, month, weekday))
 }
 
 /// The first day from the date on that has the weekday, or none where it is past the range. The Friday on or after 2451604,
@@ -81,13 +70,9 @@ pub extern "C" fn fots_date_on_or_after(date: i32, weekday: u32) -> DateResult
     ensures day { IsJulianDay date → IsWeekday weekday
         → result ≡ date_if_any (slice_get (occurrences_from (weekday - 1) (day_of date)) 0) }
 {
-    let Some(date) = date_of(date) else {
-        return DateResult::refused(BAD_DATE);
-    };
-    match weekday_of(weekday) {
-        Some(weekday) => DateResult::of_option(on_or_after(date, weekday)),
-        None => DateResult::refused(BAD_WEEKDAY),
-    }
+    let date = or_return!(date_of(date), DateResult::refused(BAD_DATE));
+    let weekday = or_return!(weekday_of(weekday), DateResult::refused(BAD_WEEKDAY));
+    DateResult::of_option(on_or_after(date, weekday))
 }
 
 /// The last day up to the date that has the weekday, or none where it is before the range. The Friday on or before 2451604,
@@ -100,11 +85,7 @@ pub extern "C" fn fots_date_on_or_before(date: i32, weekday: u32) -> DateResult
     ensures day { IsJulianDay date → IsWeekday weekday
         → result ≡ date_if_any (slice_get (occurrences_upto (weekday - 1) (day_of date)) 0) }
 {
-    let Some(date) = date_of(date) else {
-        return DateResult::refused(BAD_DATE);
-    };
-    match weekday_of(weekday) {
-        Some(weekday) => DateResult::of_option(on_or_before(date, weekday)),
-        None => DateResult::refused(BAD_WEEKDAY),
-    }
+    let date = or_return!(date_of(date), DateResult::refused(BAD_DATE));
+    let weekday = or_return!(weekday_of(weekday), DateResult::refused(BAD_WEEKDAY));
+    DateResult::of_option(on_or_before(date, weekday))
 }

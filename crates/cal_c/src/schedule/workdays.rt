@@ -6,6 +6,7 @@ ghost use Rattle.std.specs.Prelude.{◌≡◌, ◌+◌, ◌<◌, ◌≤◌, leng
 ghost use Rattle.cal_schedule.specs.declared.workdays.convention.Convention.{Convention};
 ghost use Rattle.cal_schedule.specs.Workdays.{is_workday, nth_workday, workdays_back, workdays_from};
 ghost use Rattle.cal_schedule.specs.WorkdaysConvention.{adjusted};
+ghost use Rattle.cal_c.specs.Columns.{IsDateWorkdaysLater, IsWorkdaysBetween};
 ghost use Rattle.cal_c.specs.Results.{date_if_any, date_refused, number_done, number_refused};
 ghost use Rattle.cal_c.specs.Statuses.{bad_convention, bad_date, bad_holidays, bad_week, many_holidays};
 ghost use Rattle.cal_c.specs.Values.{IsJulianDay, day_of};
@@ -35,13 +36,10 @@ pub extern "C" fn fots_date_is_workday(date: i32, week: u32, holidays: &[i32]) -
         → result ≡ number_done (if is_workday (work_week week holidays.now)
         (day_of date) then pos 1 else pos 0) }
 {
-    let Some(date) = date_of(date) else {
-        return NumberResult::refused(BAD_DATE);
-    };
-    match Calendar::of(week, holidays) {
-        Ok(calendar) => NumberResult::of(i32::from(calendar.workdays().is_workday(date))),
-        Err(status) => NumberResult::refused(status),
-    }
+    let date = or_return!(date_of(date), NumberResult::refused(BAD_DATE));
+    let calendar =
+        or_return!(Calendar::of(week, holidays), status => NumberResult::refused(status));
+    NumberResult::of(i32::from(calendar.workdays().is_workday(date)))
 }
 
 /// The first working day after the date, or none where the range has none. That after 2451607, a Friday, is 2451610 where the marks
@@ -59,13 +57,9 @@ pub extern "C" fn fots_date_next_workday(date: i32, week: u32, holidays: &[i32])
         → result ≡ date_if_any (slice_get
         (workdays_from (work_week week holidays.now) (day_of date + 1)) 0) }
 {
-    let Some(date) = date_of(date) else {
-        return DateResult::refused(BAD_DATE);
-    };
-    match Calendar::of(week, holidays) {
-        Ok(calendar) => DateResult::of_option(calendar.workdays().next_workday(date)),
-        Err(status) => DateResult::refused(status),
-    }
+    let date = or_return!(date_of(date), DateResult::refused(BAD_DATE));
+    let calendar = or_return!(Calendar::of(week, holidays), status => DateResult::refused(status));
+    DateResult::of_option(calendar.workdays().next_workday(date))
 }
 
 /// The last working day before the date, or none where the range has none. That before 2451610, a Monday, is 2451607 where the marks
@@ -83,13 +77,9 @@ pub extern "C" fn fots_date_previous_workday(date: i32, week: u32, holidays: &[i
         → result ≡ date_if_any (slice_get
         (workdays_back (work_week week holidays.now) (day_of date)) 0) }
 {
-    let Some(date) = date_of(date) else {
-        return DateResult::refused(BAD_DATE);
-    };
-    match Calendar::of(week, holidays) {
-        Ok(calendar) => DateResult::of_option(calendar.workdays().previous_workday(date)),
-        Err(status) => DateResult::refused(status),
-    }
+    let date = or_return!(date_of(date), DateResult::refused(BAD_DATE));
+    let calendar = or_return!(Calendar::of(week, holidays), status => DateResult::refused(status));
+    DateResult::of_option(calendar.workdays().previous_workday(date))
 }
 
 /// The working day so many working days after the date, or before it where they are below zero; for 0 the date itself, or where it is
@@ -102,15 +92,7 @@ pub extern "C" fn fots_date_add_workdays(
     week: u32,
     holidays: &[i32],
 ) -> DateResult
-    ensures bad_date { ¬ IsJulianDay date → result ≡ date_refused bad_date }
-    ensures bad_week { IsJulianDay date → ¬ IsMarks week → result ≡ date_refused bad_week }
-    ensures many_holidays { IsJulianDay date → IsMarks week → most_holidays < length holidays.now
-        → result ≡ date_refused many_holidays }
-    ensures bad_holidays { IsJulianDay date → IsMarks week → length holidays.now ≤ most_holidays
-        → ¬ AreHolidays holidays.now → result ≡ date_refused bad_holidays }
-    ensures day { IsJulianDay date → IsMarks week → length holidays.now ≤ most_holidays
-        → AreHolidays holidays.now
-        → result ≡ date_if_any (nth_workday (work_week week holidays.now) days (day_of date)) }
+    ensures { IsDateWorkdaysLater date days week holidays.now result }
 {
     workdays_later(date, days, &Calendar::of(week, holidays))
 }
@@ -123,9 +105,7 @@ fn workdays_later(date: i32, days: i32, calendar: &Result<Calendar, i32>) -> Dat
     ensures day { IsJulianDay date → IfOk calendar.now
         (λ w. result ≡ date_if_any (nth_workday w days (day_of date))) }
 {
-    let Some(date) = date_of(date) else {
-        return DateResult::refused(BAD_DATE);
-    };
+    let date = or_return!(date_of(date), DateResult::refused(BAD_DATE));
     match calendar {
         Ok(calendar) => {
             DateResult::of_option(calendar.workdays().checked_add_workdays(date, days))
@@ -143,18 +123,7 @@ pub extern "C" fn fots_date_workdays_between(
     week: u32,
     holidays: &[i32],
 ) -> NumberResult
-    ensures bad_date { ¬ (IsJulianDay date × IsJulianDay other) → result ≡ number_refused bad_date }
-    ensures bad_week { IsJulianDay date → IsJulianDay other → ¬ IsMarks week
-        → result ≡ number_refused bad_week }
-    ensures many_holidays { IsJulianDay date → IsJulianDay other → IsMarks week
-        → most_holidays < length holidays.now → result ≡ number_refused many_holidays }
-    ensures bad_holidays { IsJulianDay date → IsJulianDay other → IsMarks week
-        → length holidays.now ≤ most_holidays → ¬ AreHolidays holidays.now
-        → result ≡ number_refused bad_holidays }
-    ensures value { IsJulianDay date → IsJulianDay other → IsMarks week
-        → length holidays.now ≤ most_holidays → AreHolidays holidays.now
-        → result ≡ number_done (workdays_number (work_week week holidays.now) (day_of date)
-        (day_of other)) }
+    ensures { IsWorkdaysBetween date other week holidays.now result }
 {
     workdays_to(date, other, &Calendar::of(week, holidays))
 }
@@ -168,16 +137,10 @@ fn workdays_to(date: i32, other: i32, calendar: &Result<Calendar, i32>) -> Numbe
         → IfOk calendar.now (λ w. result
         ≡ number_done (workdays_number w (day_of date) (day_of other))) }
 {
-    let Some(date) = date_of(date) else {
-        return NumberResult::refused(BAD_DATE);
-    };
-    let Some(other) = date_of(other) else {
-        return NumberResult::refused(BAD_DATE);
-    };
-    match calendar {
-        Ok(calendar) => NumberResult::of(calendar.workdays().workdays_between(date, other)),
-        Err(status) => NumberResult::refused(*status),
-    }
+    let date = or_return!(date_of(date), NumberResult::refused(BAD_DATE));
+    let other = or_return!(date_of(other), NumberResult::refused(BAD_DATE));
+    let calendar = or_return!(calendar, status => NumberResult::refused(*status));
+    NumberResult::of(calendar.workdays().workdays_between(date, other))
 }
 
 /// The convention that has the number, from `Unadjusted`, 0.
@@ -220,14 +183,11 @@ pub extern "C" fn fots_date_adjusted(
         → (c : Convention) → convention_number c ≡ convention
         → result ≡ date_if_any (adjusted (work_week week holidays.now) c (day_of date)) }
 {
-    let Some(date) = date_of(date) else {
-        return DateResult::refused(BAD_DATE);
-    };
-    let Some(convention) = convention_of(convention) else {
-        return DateResult::refused(BAD_CONVENTION);
-    };
-    match Calendar::of(week, holidays) {
-        Ok(calendar) => DateResult::of_option(calendar.workdays().adjusted(date, convention)),
-        Err(status) => DateResult::refused(status),
-    }
+    let date = or_return!(date_of(date), DateResult::refused(BAD_DATE));
+    let convention = or_return!(
+        convention_of(convention),
+        DateResult::refused(BAD_CONVENTION)
+    );
+    let calendar = or_return!(Calendar::of(week, holidays), status => DateResult::refused(status));
+    DateResult::of_option(calendar.workdays().adjusted(date, convention))
 }

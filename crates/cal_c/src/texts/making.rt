@@ -26,10 +26,8 @@ pub extern "C" fn fots_date_calendar_text(date: i32) -> TextResult
     ensures bad_date { ¬ IsJulianDay date → result ≡ text_refused bad_date }
     ensures value { IsJulianDay date → result ≡ text_done (text (day_of date)) }
 {
-    match date_of(date) {
-        Some(date) => TextResult::of(CalendarText(date).text().as_bytes()),
-        None => TextResult::refused(BAD_DATE),
-    }
+    let date = or_return!(date_of(date), TextResult::refused(BAD_DATE));
+    TextResult::of(CalendarText(date).text().as_bytes())
 }
 
 /// The ordinal date of a day, as `2024-060`.
@@ -38,10 +36,8 @@ pub extern "C" fn fots_date_ordinal_text(date: i32) -> TextResult
     ensures bad_date { ¬ IsJulianDay date → result ≡ text_refused bad_date }
     ensures value { IsJulianDay date → result ≡ text_done (ordinal_text (day_of date)) }
 {
-    match date_of(date) {
-        Some(date) => TextResult::of(OrdinalText(date).text().as_bytes()),
-        None => TextResult::refused(BAD_DATE),
-    }
+    let date = or_return!(date_of(date), TextResult::refused(BAD_DATE));
+    TextResult::of(OrdinalText(date).text().as_bytes())
 }
 
 /// The week date of a day, as `2024-W09-4`.
@@ -50,10 +46,8 @@ pub extern "C" fn fots_date_week_text(date: i32) -> TextResult
     ensures bad_date { ¬ IsJulianDay date → result ≡ text_refused bad_date }
     ensures value { IsJulianDay date → result ≡ text_done (week_text (day_of date)) }
 {
-    match date_of(date) {
-        Some(date) => TextResult::of(WeekText(date).text().as_bytes()),
-        None => TextResult::refused(BAD_DATE),
-    }
+    let date = or_return!(date_of(date), TextResult::refused(BAD_DATE));
+    TextResult::of(WeekText(date).text().as_bytes())
 }
 
 /// The Julian day of a day after a letter J, as `J2460370`.
@@ -62,10 +56,8 @@ pub extern "C" fn fots_date_julian_text(date: i32) -> TextResult
     ensures bad_date { ¬ IsJulianDay date → result ≡ text_refused bad_date }
     ensures value { IsJulianDay date → result ≡ text_done (julian_text (day_of date)) }
 {
-    match date_of(date) {
-        Some(date) => TextResult::of(JulianText(date).text().as_bytes()),
-        None => TextResult::refused(BAD_DATE),
-    }
+    let date = or_return!(date_of(date), TextResult::refused(BAD_DATE));
+    TextResult::of(JulianText(date).text().as_bytes())
 }
 
 /// The text of RFC 3339 of a date, a time and an offset, as `2024-02-29T23:59:59.25+01:00`.
@@ -84,16 +76,10 @@ pub extern "C" fn fots_moment_text(date: i32, time: u64, offset: i32) -> TextRes
         → HasMomentText (moment_of date time offset)
         → result ≡ text_done (moment_text (moment_of date time offset)) }
 {
-    let Some(date) = date_of(date) else {
-        return TextResult::refused(BAD_DATE);
-    };
-    let Some(time) = time_of(time) else {
-        return TextResult::refused(BAD_TIME);
-    };
-    match offset_of(offset) {
-        Some(offset) => text_of(OffsetDateTime::new_in_offset(date, time, offset)),
-        None => TextResult::refused(BAD_OFFSET),
-    }
+    let date = or_return!(date_of(date), TextResult::refused(BAD_DATE));
+    let time = or_return!(time_of(time), TextResult::refused(BAD_TIME));
+    let offset = or_return!(offset_of(offset), TextResult::refused(BAD_OFFSET));
+    text_of(OffsetDateTime::new_in_offset(date, time, offset))
 }
 
 /// The text of RFC 3339 of a moment, or past the range where it has none.
@@ -101,10 +87,8 @@ fn text_of(moment: OffsetDateTime) -> TextResult
     ensures past_range { ¬ HasMomentText moment → result ≡ text_refused past_range }
     ensures value { HasMomentText moment → result ≡ text_done (moment_text moment) }
 {
-    match rfc3339::Text::new(moment) {
-        Some(text) => TextResult::of(text.text().as_bytes()),
-        None => TextResult::refused(PAST_RANGE),
-    }
+    let text = or_return!(rfc3339::Text::new(moment), TextResult::refused(PAST_RANGE));
+    TextResult::of(text.text().as_bytes())
 }
 
 /// The Unix time of a date and a time at an offset, as `@1709164800.5`.
@@ -117,16 +101,10 @@ pub extern "C" fn fots_unix_text(date: i32, time: u64, offset: i32) -> TextResul
     ensures value { IsJulianDay date → IsTime time → IsOffset offset
         → result ≡ text_done (unix_text (unix_nanoseconds (instant (moment_of date time offset)))) }
 {
-    let Some(date) = date_of(date) else {
-        return TextResult::refused(BAD_DATE);
-    };
-    let Some(time) = time_of(time) else {
-        return TextResult::refused(BAD_TIME);
-    };
-    match offset_of(offset) {
-        Some(offset) => unix_text_of(OffsetDateTime::new_in_offset(date, time, offset)),
-        None => TextResult::refused(BAD_OFFSET),
-    }
+    let date = or_return!(date_of(date), TextResult::refused(BAD_DATE));
+    let time = or_return!(time_of(time), TextResult::refused(BAD_TIME));
+    let offset = or_return!(offset_of(offset), TextResult::refused(BAD_OFFSET));
+    unix_text_of(OffsetDateTime::new_in_offset(date, time, offset))
 }
 
 /// The Unix time of a moment.
@@ -143,10 +121,8 @@ pub extern "C" fn fots_month_name(month: u32) -> TextResult
     ensures month { ¬ IsMonth month → result ≡ text_refused month_refused }
     ensures value { IsMonth month → result ≡ text_done (month_name month) }
 {
-    match month_of(month) {
-        Some(month) => TextResult::of(month.name().as_bytes()),
-        None => TextResult::refused(MONTH),
-    }
+    let month = or_return!(month_of(month), TextResult::refused(MONTH));
+    TextResult::of(month.name().as_bytes())
 }
 
 /// The English name of a weekday. That of 4 is Thursday.
@@ -156,8 +132,6 @@ pub extern "C" fn fots_weekday_name(weekday: u32) -> TextResult
     ensures bad_weekday { ¬ IsWeekday weekday → result ≡ text_refused bad_weekday }
     ensures value { IsWeekday weekday → result ≡ text_done (weekday_name weekday) }
 {
-    match weekday_of(weekday) {
-        Some(weekday) => TextResult::of(weekday.name().as_bytes()),
-        None => TextResult::refused(BAD_WEEKDAY),
-    }
+    let weekday = or_return!(weekday_of(weekday), TextResult::refused(BAD_WEEKDAY));
+    TextResult::of(weekday.name().as_bytes())
 }

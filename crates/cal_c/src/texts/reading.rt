@@ -33,10 +33,8 @@ pub extern "C" fn fots_date_read(text: &[u8]) -> ReadDateResult
     ensures component { (why : ComponentRange) → HasDateFault text.now why
         → result ≡ read_date_refused (component_status why.component) }
 {
-    match date::read(text) {
-        Ok(date) => ReadDateResult::of(date),
-        Err(error) => ReadDateResult::refused(error),
-    }
+    let date = or_return!(date::read(text), error => ReadDateResult::refused(error));
+    ReadDateResult::of(date)
 }
 
 /// The day whose Julian day the text is, after a letter J, as `J2460370`.
@@ -48,10 +46,8 @@ pub extern "C" fn fots_julian_day_read(text: &[u8]) -> ReadDateResult
     ensures component { (why : ComponentRange) → HasFault IsJulianForm IsJulianFault text.now why
         → result ≡ read_date_refused (component_status why.component) }
 {
-    match julian_day::read(text) {
-        Ok(date) => ReadDateResult::of(date),
-        Err(error) => ReadDateResult::refused(error),
-    }
+    let date = or_return!(julian_day::read(text), error => ReadDateResult::refused(error));
+    ReadDateResult::of(date)
 }
 
 /// The date, the time and the offset of a text of RFC 3339, as `2024-02-29T23:59:59.25+01:00`.
@@ -62,10 +58,8 @@ pub extern "C" fn fots_moment_read(text: &[u8]) -> ReadMomentResult
     ensures component { (why : ComponentRange) → HasMomentFault text.now why
         → result ≡ read_moment_refused (component_status why.component) }
 {
-    match rfc3339::read(text) {
-        Ok(moment) => ReadMomentResult::of(moment),
-        Err(error) => ReadMomentResult::refused(error),
-    }
+    let moment = or_return!(rfc3339::read(text), error => ReadMomentResult::refused(error));
+    ReadMomentResult::of(moment)
 }
 
 /// The date and the time, at UTC, whose Unix time the text is, as `@1709164800.5`.
@@ -77,10 +71,8 @@ pub extern "C" fn fots_unix_read(text: &[u8]) -> ReadMomentResult
     ensures component { (why : ComponentRange) → HasFault HasUnixForm IsUnixFault text.now why
         → result ≡ read_moment_refused (component_status why.component) }
 {
-    match unix::read(text) {
-        Ok(moment) => ReadMomentResult::of(moment),
-        Err(error) => ReadMomentResult::refused(error),
-    }
+    let moment = or_return!(unix::read(text), error => ReadMomentResult::refused(error));
+    ReadMomentResult::of(moment)
 }
 
 /// The Unix time of a date and a time, which a clock shows at that offset.
@@ -93,19 +85,11 @@ pub extern "C" fn fots_unix_time(date: i32, time: u64, offset: i32) -> DurationR
     ensures value { IsJulianDay date → IsTime time → IsOffset offset
         → result ≡ duration_done (unix_nanoseconds (instant (moment_of date time offset))) }
 {
-    let Some(date) = date_of(date) else {
-        return DurationResult::refused(BAD_DATE);
-    };
-    let Some(time) = time_of(time) else {
-        return DurationResult::refused(BAD_TIME);
-    };
-    match offset_of(offset) {
-        Some(offset) => {
-            let moment = OffsetDateTime::new_in_offset(date, time, offset);
-            DurationResult::of(moment - OffsetDateTime::unix_epoch())
-        }
-        None => DurationResult::refused(BAD_OFFSET),
-    }
+    let date = or_return!(date_of(date), DurationResult::refused(BAD_DATE));
+    let time = or_return!(time_of(time), DurationResult::refused(BAD_TIME));
+    let offset = or_return!(offset_of(offset), DurationResult::refused(BAD_OFFSET));
+    let moment = OffsetDateTime::new_in_offset(date, time, offset);
+    DurationResult::of(moment - OffsetDateTime::unix_epoch())
 }
 
 /// The date and the time of a Unix time, as a clock shows them at that offset, or none where that date is past the range.
@@ -121,16 +105,13 @@ pub extern "C" fn fots_unix_pair(duration: Duration, offset: i32) -> PairResult
         → IsDateTime (local_at unix_epoch offset +ℤ nanoseconds_in duration)
         → result ≡ local_done (local_at unix_epoch offset +ℤ nanoseconds_in duration) }
 {
-    let Some(duration) = duration_of(duration) else {
-        return PairResult::refused(BAD_DURATION);
-    };
-    let Some(offset) = offset_of(offset) else {
-        return PairResult::refused(BAD_OFFSET);
-    };
-    match epoch_at(offset).checked_add(duration) {
-        Some(moment) => PairResult::of_option(Some((moment.date(), moment.time()))),
-        None => PairResult::refused(PAST_RANGE),
-    }
+    let duration = or_return!(duration_of(duration), PairResult::refused(BAD_DURATION));
+    let offset = or_return!(offset_of(offset), PairResult::refused(BAD_OFFSET));
+    let moment = or_return!(
+        epoch_at(offset).checked_add(duration),
+        PairResult::refused(PAST_RANGE)
+    );
+    PairResult::of_option(Some((moment.date(), moment.time())))
 }
 
 /// 1970-01-01 0:00 UTC, as a clock at that offset shows it.

@@ -5,7 +5,6 @@ ghost use Rattle.cal_c.specs.Results.{time_done, time_refused};
 ghost use Rattle.cal_c.specs.Statuses.{hour_refused, minute_refused, second_refused, millisecond_refused, microsecond_refused, nanosecond_refused};
 
 use crate::results::TimeResult;
-use crate::status::time_status;
 use crate::values::{byte_of, short_of};
 use cal_time::Time;
 
@@ -20,10 +19,10 @@ pub extern "C" fn fots_time_from_hms(hour: u32, minute: u32, second: u32) -> Tim
     ensures time { hour ≤ 23 → minute ≤ 59 → second ≤ 59
         → result ≡ time_done (time_of hour minute second 0) }
 {
-    match Time::from_hms(byte_of(hour), byte_of(minute), byte_of(second)) {
-        Ok(time) => TimeResult::of(time),
-        Err(error) => TimeResult::refused(time_status(error)),
-    }
+    made_or_refused!(
+        TimeResult,
+        Time::from_hms(byte_of(hour), byte_of(minute), byte_of(second))
+    )
 }
 
 /// The time of an hour, a minute, a second and the milliseconds past it.
@@ -44,15 +43,15 @@ pub extern "C" fn fots_time_from_hms_milli(
     ensures time { hour ≤ 23 → minute ≤ 59 → second ≤ 59 → millisecond ≤ 999
         → result ≡ time_done (time_of hour minute second (millisecond * 1_000_000)) }
 {
-    match Time::from_hms_milli(
-        byte_of(hour),
-        byte_of(minute),
-        byte_of(second),
-        short_of(millisecond),
-    ) {
-        Ok(time) => TimeResult::of(time),
-        Err(error) => TimeResult::refused(time_status(error)),
-    }
+    made_or_refused!(
+        TimeResult,
+        Time::from_hms_milli(
+            byte_of(hour),
+            byte_of(minute),
+            byte_of(second),
+            short_of(millisecond),
+        )
+    )
 }
 
 /// The time of an hour, a minute, a second and the microseconds past it.
@@ -73,10 +72,10 @@ pub extern "C" fn fots_time_from_hms_micro(
     ensures time { hour ≤ 23 → minute ≤ 59 → second ≤ 59 → microsecond ≤ 999_999
         → result ≡ time_done (time_of hour minute second (microsecond * 1_000)) }
 {
-    match Time::from_hms_micro(byte_of(hour), byte_of(minute), byte_of(second), microsecond) {
-        Ok(time) => TimeResult::of(time),
-        Err(error) => TimeResult::refused(time_status(error)),
-    }
+    made_or_refused!(
+        TimeResult,
+        Time::from_hms_micro(byte_of(hour), byte_of(minute), byte_of(second), microsecond)
+    )
 }
 
 /// The time of an hour, a minute, a second and the nanoseconds past it.
@@ -97,8 +96,8 @@ pub extern "C" fn fots_time_from_hms_nano(
     ensures time { hour ≤ 23 → minute ≤ 59 → second ≤ 59 → nanosecond ≤ 999_999_999
         → result ≡ time_done (time_of hour minute second nanosecond) }
 {
-    match Time::from_hms_nano(byte_of(hour), byte_of(minute), byte_of(second), nanosecond) {
-        Ok(time) => TimeResult::of(time),
-        Err(error) => TimeResult::refused(time_status(error)),
-    }
+    made_or_refused!(
+        TimeResult,
+        Time::from_hms_nano(byte_of(hour), byte_of(minute), byte_of(second), nanosecond)
+    )
 }

@@ -18,13 +18,9 @@ pub extern "C" fn fots_time_add(time: u64, duration: Duration) -> TimeResult
     ensures time { IsTime time → IsDurationPair duration
         → result ≡ time_done (modulo_day (pos time +ℤ nanoseconds_in duration)) }
 {
-    let Some(time) = time_of(time) else {
-        return TimeResult::refused(BAD_TIME);
-    };
-    match duration_of(duration) {
-        Some(duration) => TimeResult::of(time + duration),
-        None => TimeResult::refused(BAD_DURATION),
-    }
+    let time = or_return!(time_of(time), TimeResult::refused(BAD_TIME));
+    let duration = or_return!(duration_of(duration), TimeResult::refused(BAD_DURATION));
+    TimeResult::of(time + duration)
 }
 
 /// The time that much later, and the carry in days beyond the whole days of the duration.
@@ -36,12 +32,11 @@ pub extern "C" fn fots_time_adjusting_add(time: u64, duration: Duration) -> Adju
     ensures time { IsTime time → IsDurationPair duration
         → IsAddAdjusted time (nanoseconds_in duration) result }
 {
-    let Some(time) = time_of(time) else {
-        return AdjustedTimeResult::refused(BAD_TIME);
-    };
-    let Some(duration) = duration_of(duration) else {
-        return AdjustedTimeResult::refused(BAD_DURATION);
-    };
+    let time = or_return!(time_of(time), AdjustedTimeResult::refused(BAD_TIME));
+    let duration = or_return!(
+        duration_of(duration),
+        AdjustedTimeResult::refused(BAD_DURATION)
+    );
     let (adjustment, time) = time.adjusting_add(duration);
     AdjustedTimeResult::of(adjustment, time)
 }
@@ -55,13 +50,9 @@ pub extern "C" fn fots_time_sub(time: u64, duration: Duration) -> TimeResult
     ensures time { IsTime time → IsDurationPair duration
         → result ≡ time_done (modulo_day (pos time -ℤ nanoseconds_in duration)) }
 {
-    let Some(time) = time_of(time) else {
-        return TimeResult::refused(BAD_TIME);
-    };
-    match duration_of(duration) {
-        Some(duration) => TimeResult::of(time - duration),
-        None => TimeResult::refused(BAD_DURATION),
-    }
+    let time = or_return!(time_of(time), TimeResult::refused(BAD_TIME));
+    let duration = or_return!(duration_of(duration), TimeResult::refused(BAD_DURATION));
+    TimeResult::of(time - duration)
 }
 
 /// The time that much earlier, and the carry in days beyond the whole days of the duration.
@@ -73,12 +64,11 @@ pub extern "C" fn fots_time_adjusting_sub(time: u64, duration: Duration) -> Adju
     ensures time { IsTime time → IsDurationPair duration
         → IsSubAdjusted time (nanoseconds_in duration) result }
 {
-    let Some(time) = time_of(time) else {
-        return AdjustedTimeResult::refused(BAD_TIME);
-    };
-    let Some(duration) = duration_of(duration) else {
-        return AdjustedTimeResult::refused(BAD_DURATION);
-    };
+    let time = or_return!(time_of(time), AdjustedTimeResult::refused(BAD_TIME));
+    let duration = or_return!(
+        duration_of(duration),
+        AdjustedTimeResult::refused(BAD_DURATION)
+    );
     let (adjustment, time) = time.adjusting_sub(duration);
     AdjustedTimeResult::of(adjustment, time)
 }
@@ -90,13 +80,9 @@ pub extern "C" fn fots_time_duration_until(time: u64, other: u64) -> DurationRes
     ensures value { IsTime time → IsTime other
         → result ≡ duration_done (pos (modulo_day (pos other -ℤ pos time))) }
 {
-    let Some(time) = time_of(time) else {
-        return DurationResult::refused(BAD_TIME);
-    };
-    match time_of(other) {
-        Some(other) => DurationResult::of(time.duration_until(other)),
-        None => DurationResult::refused(BAD_TIME),
-    }
+    let time = or_return!(time_of(time), DurationResult::refused(BAD_TIME));
+    let other = or_return!(time_of(other), DurationResult::refused(BAD_TIME));
+    DurationResult::of(time.duration_until(other))
 }
 
 /// The way forward from the other time, from zero to below a day.
@@ -106,13 +92,9 @@ pub extern "C" fn fots_time_duration_since(time: u64, other: u64) -> DurationRes
     ensures value { IsTime time → IsTime other
         → result ≡ duration_done (pos (modulo_day (pos time -ℤ pos other))) }
 {
-    let Some(time) = time_of(time) else {
-        return DurationResult::refused(BAD_TIME);
-    };
-    match time_of(other) {
-        Some(other) => DurationResult::of(time.duration_since(other)),
-        None => DurationResult::refused(BAD_TIME),
-    }
+    let time = or_return!(time_of(time), DurationResult::refused(BAD_TIME));
+    let other = or_return!(time_of(other), DurationResult::refused(BAD_TIME));
+    DurationResult::of(time.duration_since(other))
 }
 
 /// The time between the other time and this one on the same day, below zero where the other comes later.
@@ -121,11 +103,7 @@ pub extern "C" fn fots_time_difference(time: u64, other: u64) -> DurationResult
     ensures bad_time { ¬ (IsTime time × IsTime other) → result ≡ duration_refused bad_time }
     ensures value { IsTime time → IsTime other → result ≡ duration_done (pos time -ℤ pos other) }
 {
-    let Some(time) = time_of(time) else {
-        return DurationResult::refused(BAD_TIME);
-    };
-    match time_of(other) {
-        Some(other) => DurationResult::of(time - other),
-        None => DurationResult::refused(BAD_TIME),
-    }
+    let time = or_return!(time_of(time), DurationResult::refused(BAD_TIME));
+    let other = or_return!(time_of(other), DurationResult::refused(BAD_TIME));
+    DurationResult::of(time - other)
 }

@@ -14,9 +14,7 @@ pub extern "C" fn fots_time_as_hms_nano(time: u64) -> ClockResult
     ensures bad_time { ¬ IsTime time → result ≡ clock_refused bad_time }
     ensures value { IsTime time → result ≡ clock_done time }
 {
-    let Some(time) = time_of(time) else {
-        return ClockResult::refused(BAD_TIME);
-    };
+    let time = or_return!(time_of(time), ClockResult::refused(BAD_TIME));
     let (hour, minute, second, nanosecond) = time.as_hms_nano();
     ClockResult {
         status: DONE,
@@ -33,10 +31,8 @@ pub extern "C" fn fots_time_hour(time: u64) -> NumberResult
     ensures bad_time { ¬ IsTime time → result ≡ number_refused bad_time }
     ensures value { IsTime time → result ≡ number_done (pos (hour_of time)) }
 {
-    match time_of(time) {
-        Some(time) => NumberResult::of(i32::from(time.hour())),
-        None => NumberResult::refused(BAD_TIME),
-    }
+    let time = or_return!(time_of(time), NumberResult::refused(BAD_TIME));
+    NumberResult::of(i32::from(time.hour()))
 }
 
 /// The minute of a time, from 0 to 59. That of 3723004005006 is 2.
@@ -45,10 +41,8 @@ pub extern "C" fn fots_time_minute(time: u64) -> NumberResult
     ensures bad_time { ¬ IsTime time → result ≡ number_refused bad_time }
     ensures value { IsTime time → result ≡ number_done (pos (minute_of time)) }
 {
-    match time_of(time) {
-        Some(time) => NumberResult::of(i32::from(time.minute())),
-        None => NumberResult::refused(BAD_TIME),
-    }
+    let time = or_return!(time_of(time), NumberResult::refused(BAD_TIME));
+    NumberResult::of(i32::from(time.minute()))
 }
 
 /// The second of a time, from 0 to 59. That of 3723004005006 is 3.
@@ -57,10 +51,8 @@ pub extern "C" fn fots_time_second(time: u64) -> NumberResult
     ensures bad_time { ¬ IsTime time → result ≡ number_refused bad_time }
     ensures value { IsTime time → result ≡ number_done (pos (second_of time)) }
 {
-    match time_of(time) {
-        Some(time) => NumberResult::of(i32::from(time.second())),
-        None => NumberResult::refused(BAD_TIME),
-    }
+    let time = or_return!(time_of(time), NumberResult::refused(BAD_TIME));
+    NumberResult::of(i32::from(time.second()))
 }
 
 /// The whole milliseconds of the second, from 0 to 999. Those of 3723004005006 are 4.
@@ -69,10 +61,8 @@ pub extern "C" fn fots_time_millisecond(time: u64) -> NumberResult
     ensures bad_time { ¬ IsTime time → result ≡ number_refused bad_time }
     ensures value { IsTime time → result ≡ number_done (pos (millisecond_of time)) }
 {
-    match time_of(time) {
-        Some(time) => NumberResult::of(i32::from(time.millisecond())),
-        None => NumberResult::refused(BAD_TIME),
-    }
+    let time = or_return!(time_of(time), NumberResult::refused(BAD_TIME));
+    NumberResult::of(i32::from(time.millisecond()))
 }
 
 /// The whole microseconds of the second, from 0 to 999999. Those of 3723004005006 are 4005.
@@ -81,10 +71,8 @@ pub extern "C" fn fots_time_microsecond(time: u64) -> NumberResult
     ensures bad_time { ¬ IsTime time → result ≡ number_refused bad_time }
     ensures value { IsTime time → result ≡ number_done (pos (microsecond_of time)) }
 {
-    match time_of(time) {
-        Some(time) => NumberResult::of(time.microsecond() as i32),
-        None => NumberResult::refused(BAD_TIME),
-    }
+    let time = or_return!(time_of(time), NumberResult::refused(BAD_TIME));
+    NumberResult::of(time.microsecond() as i32)
 }
 
 /// The nanoseconds of the second, from 0 to 999999999. Those of 3723004005006 are 4005006.
@@ -93,8 +81,6 @@ pub extern "C" fn fots_time_nanosecond(time: u64) -> NumberResult
     ensures bad_time { ¬ IsTime time → result ≡ number_refused bad_time }
     ensures value { IsTime time → result ≡ number_done (pos (nanosecond_of time)) }
 {
-    match time_of(time) {
-        Some(time) => NumberResult::of(time.nanosecond() as i32),
-        None => NumberResult::refused(BAD_TIME),
-    }
+    let time = or_return!(time_of(time), NumberResult::refused(BAD_TIME));
+    NumberResult::of(time.nanosecond() as i32)
 }

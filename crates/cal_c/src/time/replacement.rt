@@ -5,7 +5,7 @@ ghost use Rattle.cal_c.specs.Results.{time_done, time_refused};
 ghost use Rattle.cal_c.specs.Statuses.{bad_time, hour_refused, minute_refused, second_refused, millisecond_refused, microsecond_refused, nanosecond_refused};
 
 use crate::results::TimeResult;
-use crate::status::{BAD_TIME, time_status};
+use crate::status::BAD_TIME;
 use crate::values::{byte_of, short_of, time_of};
 
 /// The time with another hour, from 0 to 23, and everything else the same. Refused as `hour`.
@@ -16,13 +16,8 @@ pub extern "C" fn fots_time_replace_hour(time: u64, hour: u32) -> TimeResult
     ensures time { IsTime time → hour ≤ 23
         → result ≡ time_done (time_of hour (minute_of time) (second_of time) (nanosecond_of time)) }
 {
-    let Some(time) = time_of(time) else {
-        return TimeResult::refused(BAD_TIME);
-    };
-    match time.replace_hour(byte_of(hour)) {
-        Ok(time) => TimeResult::of(time),
-        Err(error) => TimeResult::refused(time_status(error)),
-    }
+    let time = or_return!(time_of(time), TimeResult::refused(BAD_TIME));
+    made_or_refused!(TimeResult, time.replace_hour(byte_of(hour)))
 }
 
 /// The time with another minute, from 0 to 59, and everything else the same. Refused as `minute`.
@@ -33,13 +28,8 @@ pub extern "C" fn fots_time_replace_minute(time: u64, minute: u32) -> TimeResult
     ensures time { IsTime time → minute ≤ 59
         → result ≡ time_done (time_of (hour_of time) minute (second_of time) (nanosecond_of time)) }
 {
-    let Some(time) = time_of(time) else {
-        return TimeResult::refused(BAD_TIME);
-    };
-    match time.replace_minute(byte_of(minute)) {
-        Ok(time) => TimeResult::of(time),
-        Err(error) => TimeResult::refused(time_status(error)),
-    }
+    let time = or_return!(time_of(time), TimeResult::refused(BAD_TIME));
+    made_or_refused!(TimeResult, time.replace_minute(byte_of(minute)))
 }
 
 /// The time with another second, from 0 to 59, and everything else the same. Refused as `second`.
@@ -50,13 +40,8 @@ pub extern "C" fn fots_time_replace_second(time: u64, second: u32) -> TimeResult
     ensures time { IsTime time → second ≤ 59
         → result ≡ time_done (time_of (hour_of time) (minute_of time) second (nanosecond_of time)) }
 {
-    let Some(time) = time_of(time) else {
-        return TimeResult::refused(BAD_TIME);
-    };
-    match time.replace_second(byte_of(second)) {
-        Ok(time) => TimeResult::of(time),
-        Err(error) => TimeResult::refused(time_status(error)),
-    }
+    let time = or_return!(time_of(time), TimeResult::refused(BAD_TIME));
+    made_or_refused!(TimeResult, time.replace_second(byte_of(second)))
 }
 
 /// The time with so many milliseconds, from 0 to 999, in place of all below its second. Refused as `millisecond`.
@@ -69,13 +54,8 @@ pub extern "C" fn fots_time_replace_millisecond(time: u64, millisecond: u32) -> 
         → result ≡ time_done (time_of (hour_of time) (minute_of time) (second_of time)
         (millisecond * 1_000_000)) }
 {
-    let Some(time) = time_of(time) else {
-        return TimeResult::refused(BAD_TIME);
-    };
-    match time.replace_millisecond(short_of(millisecond)) {
-        Ok(time) => TimeResult::of(time),
-        Err(error) => TimeResult::refused(time_status(error)),
-    }
+    let time = or_return!(time_of(time), TimeResult::refused(BAD_TIME));
+    made_or_refused!(TimeResult, time.replace_millisecond(short_of(millisecond)))
 }
 
 /// The time with so many microseconds, from 0 to 999999, in place of all below its second. Refused as `microsecond`.
@@ -88,13 +68,8 @@ pub extern "C" fn fots_time_replace_microsecond(time: u64, microsecond: u32) -> 
         → result ≡ time_done (time_of (hour_of time) (minute_of time) (second_of time)
         (microsecond * 1_000)) }
 {
-    let Some(time) = time_of(time) else {
-        return TimeResult::refused(BAD_TIME);
-    };
-    match time.replace_microsecond(microsecond) {
-        Ok(time) => TimeResult::of(time),
-        Err(error) => TimeResult::refused(time_status(error)),
-    }
+    let time = or_return!(time_of(time), TimeResult::refused(BAD_TIME));
+    made_or_refused!(TimeResult, time.replace_microsecond(microsecond))
 }
 
 /// The time with so many nanoseconds, from 0 to 999999999, in place of all below its second. Refused as `nanosecond`.
@@ -106,11 +81,6 @@ pub extern "C" fn fots_time_replace_nanosecond(time: u64, nanosecond: u32) -> Ti
     ensures time { IsTime time → nanosecond ≤ 999_999_999
         → result ≡ time_done (time_of (hour_of time) (minute_of time) (second_of time) nanosecond) }
 {
-    let Some(time) = time_of(time) else {
-        return TimeResult::refused(BAD_TIME);
-    };
-    match time.replace_nanosecond(nanosecond) {
-        Ok(time) => TimeResult::of(time),
-        Err(error) => TimeResult::refused(time_status(error)),
-    }
+    let time = or_return!(time_of(time), TimeResult::refused(BAD_TIME));
+    made_or_refused!(TimeResult, time.replace_nanosecond(nanosecond))
 }

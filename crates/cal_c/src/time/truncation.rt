@@ -14,10 +14,8 @@ pub extern "C" fn fots_time_truncate_to_hour(time: u64) -> TimeResult
     ensures bad_time { ¬ IsTime time → result ≡ time_refused bad_time }
     ensures value { IsTime time → result ≡ time_done (time_of (hour_of time) 0 0 0) }
 {
-    match time_of(time) {
-        Some(time) => TimeResult::of(time.truncate_to_hour()),
-        None => TimeResult::refused(BAD_TIME),
-    }
+    let time = or_return!(time_of(time), TimeResult::refused(BAD_TIME));
+    TimeResult::of(time.truncate_to_hour())
 }
 
 /// The time at the start of its minute.
@@ -26,10 +24,8 @@ pub extern "C" fn fots_time_truncate_to_minute(time: u64) -> TimeResult
     ensures bad_time { ¬ IsTime time → result ≡ time_refused bad_time }
     ensures value { IsTime time → result ≡ time_done (time_of (hour_of time) (minute_of time) 0 0) }
 {
-    match time_of(time) {
-        Some(time) => TimeResult::of(time.truncate_to_minute()),
-        None => TimeResult::refused(BAD_TIME),
-    }
+    let time = or_return!(time_of(time), TimeResult::refused(BAD_TIME));
+    TimeResult::of(time.truncate_to_minute())
 }
 
 /// The time at the start of its second.
@@ -39,10 +35,8 @@ pub extern "C" fn fots_time_truncate_to_second(time: u64) -> TimeResult
     ensures value { IsTime time → result
         ≡ time_done (time_of (hour_of time) (minute_of time) (second_of time) 0) }
 {
-    match time_of(time) {
-        Some(time) => TimeResult::of(time.truncate_to_second()),
-        None => TimeResult::refused(BAD_TIME),
-    }
+    let time = or_return!(time_of(time), TimeResult::refused(BAD_TIME));
+    TimeResult::of(time.truncate_to_second())
 }
 
 /// The time with nothing below its millisecond.
@@ -53,10 +47,8 @@ pub extern "C" fn fots_time_truncate_to_millisecond(time: u64) -> TimeResult
         ≡ time_done (time_of (hour_of time) (minute_of time) (second_of time)
         (millisecond_of time * 1_000_000)) }
 {
-    match time_of(time) {
-        Some(time) => TimeResult::of(time.truncate_to_millisecond()),
-        None => TimeResult::refused(BAD_TIME),
-    }
+    let time = or_return!(time_of(time), TimeResult::refused(BAD_TIME));
+    TimeResult::of(time.truncate_to_millisecond())
 }
 
 /// The time with nothing below its microsecond.
@@ -67,8 +59,6 @@ pub extern "C" fn fots_time_truncate_to_microsecond(time: u64) -> TimeResult
         ≡ time_done (time_of (hour_of time) (minute_of time) (second_of time)
         (microsecond_of time * 1_000)) }
 {
-    match time_of(time) {
-        Some(time) => TimeResult::of(time.truncate_to_microsecond()),
-        None => TimeResult::refused(BAD_TIME),
-    }
+    let time = or_return!(time_of(time), TimeResult::refused(BAD_TIME));
+    TimeResult::of(time.truncate_to_microsecond())
 }

@@ -1,12 +1,12 @@
-use Rattle.std.proofs.Common.{◌≡◌, ℤ, pos, ◌+ℤ◌, ◌*ℤ◌, SomeIff, ◌∙◌, subst, arith}
-use Rattle.std.proofs.lemmas.Int.{to_z-of_z}
-use Rattle.std.proofs.lemmas.Int.{ints}
+use Rattle.std.proofs.Common.{◌≡◌, ℤ, pos, ◌+ℤ◌, ◌*ℤ◌, SomeIff, sym, subst, arith}
+use Rattle.std.proofs.lemmas.Int.{ints, to_z-of_z}
 use Rattle.cal_time.specs.SignedDuration.{second, IsDuration}
-use Rattle.cal_c.proofs.Durations.{duration-none, duration-some}
+use Rattle.cal_c.specs.Results.{IsDurationIfAny}
+use Rattle.cal_c.proofs.Durations.{duration-if-any}
 use Rattle.cal_c.proofs.duration.fots_duration_new.Goals as goal
 
-pub returns-clause-past_range : goal.returns-clause-past_range
-returns-clause-past_range c = λ h.
+pub returns : goal.returns
+returns c =
     let f = c.ranges.seconds in
     let g = c.ranges.nanoseconds in
     let a : c.seconds.result ≡ c.args.seconds *ℤ pos second = simp to_z-of_z at c.seconds.ensures in
@@ -14,15 +14,4 @@ returns-clause-past_range c = λ h.
     let P : ℤ → ℤ → Type 0 = λ v w. SomeIff c.checked_add.result (IsDuration (v +ℤ w)) (v +ℤ w) in
     let at : P (c.args.seconds *ℤ pos second) c.nanoseconds-past.result = subst (λ v. P v c.nanoseconds-past.result) a c.checked_add.ensures in
     let sum : P (c.args.seconds *ℤ pos second) c.args.nanoseconds = subst (P (c.args.seconds *ℤ pos second)) b at in
-    c.of_option.ensures ∙ duration-none _ _ _ sum h
-
-pub returns-clause-duration : goal.returns-clause-duration
-returns-clause-duration c = λ h.
-    let f = c.ranges.seconds in
-    let g = c.ranges.nanoseconds in
-    let a : c.seconds.result ≡ c.args.seconds *ℤ pos second = simp to_z-of_z at c.seconds.ensures in
-    let b : c.nanoseconds-past.result ≡ c.args.nanoseconds = omega (arith, ints) in
-    let P : ℤ → ℤ → Type 0 = λ v w. SomeIff c.checked_add.result (IsDuration (v +ℤ w)) (v +ℤ w) in
-    let at : P (c.args.seconds *ℤ pos second) c.nanoseconds-past.result = subst (λ v. P v c.nanoseconds-past.result) a c.checked_add.ensures in
-    let sum : P (c.args.seconds *ℤ pos second) c.args.nanoseconds = subst (P (c.args.seconds *ℤ pos second)) b at in
-    c.of_option.ensures ∙ duration-some _ _ _ sum h
+    subst (IsDurationIfAny (c.args.seconds *ℤ pos second +ℤ c.args.nanoseconds)) (sym c.of_option.ensures) (duration-if-any _ _ sum)

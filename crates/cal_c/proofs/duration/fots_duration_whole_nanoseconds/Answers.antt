@@ -1,19 +1,11 @@
-use Rattle.std.proofs.Common.{ap, ◌∙◌, sym, subst, rules, FitsSigned, w64}
+use Rattle.std.proofs.Common.{◌∙◌, subst, rules, FitsSigned}
 use Rattle.std.proofs.lemmas.Int.{to_z-of_z}
 use Rattle.std.specs.Int.{w128}
-use Rattle.cal_c.specs.Results.{long_done}
+use Rattle.cal_c.specs.Results.{IsLongIfAny}
 use Rattle.cal_c.proofs.duration.fots_duration_whole_nanoseconds.Goals as goal
 
-pub returns-in-Some-clause-past_range : goal.returns-in-Some-clause-past_range
-returns-in-Some-clause-past_range c = λ d out.
+pub returns-clause-value : goal.returns-clause-value
+returns-clause-value c = λ d.
     let f : FitsSigned w128 c.whole_nanoseconds.result = search rules in
-    let none = simp to_z-of_z at c.of_wide.ensures.none in
     let e = c.whole_nanoseconds.ensures.value ∙ c.in-Some.ensures.1 in
-    none (λ fits. out (subst (FitsSigned w64) e fits))
-
-pub returns-in-Some-clause-value : goal.returns-in-Some-clause-value
-returns-in-Some-clause-value c = λ d fits.
-    let f : FitsSigned w128 c.whole_nanoseconds.result = search rules in
-    let done = simp to_z-of_z at c.of_wide.ensures.done in
-    let e = c.whole_nanoseconds.ensures.value ∙ c.in-Some.ensures.1 in
-    done (subst (FitsSigned w64) (sym e) fits) ∙ ap long_done e
+    subst (λ z. IsLongIfAny z c.of_wide.result) e (simp to_z-of_z at c.of_wide.ensures)

@@ -1,7 +1,9 @@
 use Rattle.std.proofs.Common.{◌≤◌, ap, ◌∙◌, sym, subst, rules, arith, lit<, FitsSigned, w8, w32}
 use Rattle.std.specs.Prelude.{unsigned_abs}
 use Rattle.std.proofs.lemmas.Int.{to_z-of_z}
+use Rattle.cal_time.specs.declared.error.ComponentRange.{ComponentRange}
 use Rattle.cal_c.specs.Results.{offset_refused}
+use Rattle.cal_c.specs.Statuses.{component_status}
 use Rattle.cal_c.proofs.offset.fots_offset_from_hms.Goals as goal
 
 pub returns-in-Ok-clause-hour : goal.returns-in-Ok-clause-hour
@@ -58,9 +60,9 @@ returns-in-Err-clause-hour c = λ x.
     let fm : FitsSigned w8 c.signed_byte_of-2.result = search rules in
     let fs : FitsSigned w8 c.signed_byte_of-3.result = search rules in
     let hour = simp to_z-of_z at c.in-Err.ensures.hour in
-    let fr : FitsSigned w32 c.offset_status.result = search rules in
+    let fr : FitsSigned w32 c.status_of.result = search rules in
     let refused = simp to_z-of_z at c.refused.ensures in
-    refused ∙ ap offset_refused (c.offset_status.ensures.hour (hour.1 (h.above 25 (lit< tt) x)))
+    refused ∙ ap offset_refused (c.status_of.ensures ∙ ap (λ (e : ComponentRange). component_status e.component) (hour.1 (h.above 25 (lit< tt) x)))
 
 pub returns-in-Err-clause-minute : goal.returns-in-Err-clause-minute
 returns-in-Err-clause-minute c = λ y x.
@@ -74,9 +76,9 @@ returns-in-Err-clause-minute c = λ y x.
     let fm : FitsSigned w8 c.signed_byte_of-2.result = search rules in
     let fs : FitsSigned w8 c.signed_byte_of-3.result = search rules in
     let minute = simp to_z-of_z at c.in-Err.ensures.minute in
-    let fr : FitsSigned w32 c.offset_status.result = search rules in
+    let fr : FitsSigned w32 c.status_of.result = search rules in
     let refused = simp to_z-of_z at c.refused.ensures in
-    refused ∙ ap offset_refused (c.offset_status.ensures.minute (minute.1 (subst (λ z. unsigned_abs z ≤ 25) (sym (h.same (omega arith))) y, m.above 59 (lit< tt) x)))
+    refused ∙ ap offset_refused (c.status_of.ensures ∙ ap (λ (e : ComponentRange). component_status e.component) (minute.1 (subst (λ z. unsigned_abs z ≤ 25) (sym (h.same (omega arith))) y, m.above 59 (lit< tt) x)))
 
 pub returns-in-Err-clause-second : goal.returns-in-Err-clause-second
 returns-in-Err-clause-second c = λ z y x.
@@ -90,6 +92,6 @@ returns-in-Err-clause-second c = λ z y x.
     let fm : FitsSigned w8 c.signed_byte_of-2.result = search rules in
     let fs : FitsSigned w8 c.signed_byte_of-3.result = search rules in
     let second = simp to_z-of_z at c.in-Err.ensures.second in
-    let fr : FitsSigned w32 c.offset_status.result = search rules in
+    let fr : FitsSigned w32 c.status_of.result = search rules in
     let refused = simp to_z-of_z at c.refused.ensures in
-    refused ∙ ap offset_refused (c.offset_status.ensures.second (second.1 (subst (λ w. unsigned_abs w ≤ 25) (sym (h.same (omega arith))) z, subst (λ w. unsigned_abs w ≤ 59) (sym (m.same (omega arith))) y, s.above 59 (lit< tt) x)))
+    refused ∙ ap offset_refused (c.status_of.ensures ∙ ap (λ (e : ComponentRange). component_status e.component) (second.1 (subst (λ w. unsigned_abs w ≤ 25) (sym (h.same (omega arith))) z, subst (λ w. unsigned_abs w ≤ 59) (sym (m.same (omega arith))) y, s.above 59 (lit< tt) x)))

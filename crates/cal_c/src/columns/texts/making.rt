@@ -1,13 +1,10 @@
 //! Columns of values that are printed into one array.
-ghost use Rattle.std.specs.Prelude.{◌≡◌, ℕ, ◌+◌, ◌≤◌, ◌<◌, ◌↔◌, IsTrue, length, take, drop, [], get_or, count_by, pos, unsigned_abs};
+ghost use Rattle.std.specs.Prelude.{◌≡◌, ◌+◌, ◌≤◌, ◌<◌, ◌↔◌, IsTrue, length, take, drop, [], pos};
 ghost use Rattle.std.specs.List.{between};
-ghost use Rattle.cal_time.specs.Time.{IsTime};
-ghost use Rattle.cal_time.specs.UtcOffset.{IsOffset};
 ghost use Rattle.cal_text.specs.Rfc3339.{HasMomentText, moment_text};
-ghost use Rattle.cal_c.specs.Columns.{is_refused};
-ghost use Rattle.cal_c.specs.Statuses.{done, past_range, bad_date, bad_time, bad_offset};
-ghost use Rattle.cal_c.specs.Values.{IsJulianDay, moment_of};
-ghost use Rattle.cal_c.specs.TextColumns.{ArePartOf, Bounded2, Bounded4, HasRoomFor, IsTextOfDate, IsTextOfMoment, text_at};
+ghost use Rattle.cal_c.specs.Columns.{int_at, nat_at};
+ghost use Rattle.cal_c.specs.Statuses.{done, past_range};
+ghost use Rattle.cal_c.specs.TextColumns.{ArePrinted, Bounded2, Bounded4, HasRoomFor, IsTextOfDate, IsTextOfMoment};
 
 use super::reading::are_bounds;
 use crate::columns::statuses::{BAD_DATE, BAD_OFFSET, BAD_TIME, DONE, PAST_RANGE};
@@ -31,26 +28,14 @@ pub extern "C" fn fots_dates_calendar_texts(
     bounds: &mut [i32],
     statuses: &mut [u8],
 ) -> usize
-    ensures unlike { ¬ (Bounded2 (length dates.now) (length bounds.old) (length statuses.old)
+    ensures unlike { ¬ (Bounded2 dates.now bounds.old statuses.old
         × HasRoomFor 13 (length dates.now) (length bytes.old))
         → (result ≡ usize.MAX) × (bytes.new ≡ bytes.old) × (bounds.new ≡ bounds.old)
         × (statuses.new ≡ statuses.old) }
-    ensures rows { Bounded2 (length dates.now) (length bounds.old) (length statuses.old)
+    ensures rows { Bounded2 dates.now bounds.old statuses.old
         × HasRoomFor 13 (length dates.now) (length bytes.old)
-        → (k : ℕ) → k < length dates.now
-        → ArePartOf bytes.new (get_or bounds.new k (pos 0)) (get_or bounds.new (k + 1) (pos 0))
-        × IsTextOfDate (get_or dates.now k (pos 0)) (text_at bytes.new bounds.new k)
-        (get_or statuses.new k 0) }
-    ensures first { Bounded2 (length dates.now) (length bounds.old) (length statuses.old)
-        × HasRoomFor 13 (length dates.now) (length bytes.old)
-        → get_or bounds.new 0 (pos 0) ≡ pos 0 }
-    ensures rest { Bounded2 (length dates.now) (length bounds.old) (length statuses.old)
-        × HasRoomFor 13 (length dates.now) (length bytes.old)
-        → drop (unsigned_abs (get_or bounds.new (length dates.now) (pos 0))) bytes.new
-        ≡ drop (unsigned_abs (get_or bounds.new (length dates.now) (pos 0))) bytes.old }
-    ensures count { Bounded2 (length dates.now) (length bounds.old) (length statuses.old)
-        × HasRoomFor 13 (length dates.now) (length bytes.old)
-        → result ≡ count_by is_refused statuses.new }
+        → ArePrinted bytes.old bytes.new bounds.new statuses.new result
+        (λ k. IsTextOfDate (int_at dates.now k)) }
 {
     let rows = dates.len();
     if !are_bounds(bounds, rows) || statuses.len() != rows || !has_room(rows, LONGEST_DATE, bytes) {
@@ -112,32 +97,14 @@ pub extern "C" fn fots_moments_texts(
     bounds: &mut [i32],
     statuses: &mut [u8],
 ) -> usize
-    ensures unlike { ¬ (Bounded4 (length dates.now) (length bounds.old) (length times.now)
-        (length offsets.now) (length statuses.old)
+    ensures unlike { ¬ (Bounded4 dates.now bounds.old times.now offsets.now statuses.old
         × HasRoomFor 38 (length dates.now) (length bytes.old))
         → (result ≡ usize.MAX) × (bytes.new ≡ bytes.old) × (bounds.new ≡ bounds.old)
         × (statuses.new ≡ statuses.old) }
-    ensures rows { Bounded4 (length dates.now) (length bounds.old) (length times.now)
-        (length offsets.now) (length statuses.old)
+    ensures rows { Bounded4 dates.now bounds.old times.now offsets.now statuses.old
         × HasRoomFor 38 (length dates.now) (length bytes.old)
-        → (k : ℕ) → k < length dates.now
-        → ArePartOf bytes.new (get_or bounds.new k (pos 0)) (get_or bounds.new (k + 1) (pos 0))
-        × IsTextOfMoment (get_or dates.now k (pos 0)) (get_or times.now k 0)
-        (get_or offsets.now k (pos 0)) (text_at bytes.new bounds.new k)
-        (get_or statuses.new k 0) }
-    ensures first { Bounded4 (length dates.now) (length bounds.old) (length times.now)
-        (length offsets.now) (length statuses.old)
-        × HasRoomFor 38 (length dates.now) (length bytes.old)
-        → get_or bounds.new 0 (pos 0) ≡ pos 0 }
-    ensures rest { Bounded4 (length dates.now) (length bounds.old) (length times.now)
-        (length offsets.now) (length statuses.old)
-        × HasRoomFor 38 (length dates.now) (length bytes.old)
-        → drop (unsigned_abs (get_or bounds.new (length dates.now) (pos 0))) bytes.new
-        ≡ drop (unsigned_abs (get_or bounds.new (length dates.now) (pos 0))) bytes.old }
-    ensures count { Bounded4 (length dates.now) (length bounds.old) (length times.now)
-        (length offsets.now) (length statuses.old)
-        × HasRoomFor 38 (length dates.now) (length bytes.old)
-        → result ≡ count_by is_refused statuses.new }
+        → ArePrinted bytes.old bytes.new bounds.new statuses.new result
+        (λ k. IsTextOfMoment (int_at dates.now k) (nat_at times.now k) (int_at offsets.now k)) }
 {
     let rows = dates.len();
     if !are_bounds(bounds, rows)
@@ -161,28 +128,12 @@ pub extern "C" fn fots_moments_texts(
 
 /// The text of RFC 3339, which has no bytes where there is none, and the status.
 fn text_of_moment(date: i32, time: u64, offset: i32) -> (ShortText, u8)
-    ensures bad_date { ¬ IsJulianDay date → (result.0 ≡ []) × (pos result.1 ≡ bad_date) }
-    ensures bad_time { IsJulianDay date → ¬ IsTime time
-        → (result.0 ≡ []) × (pos result.1 ≡ bad_time) }
-    ensures bad_offset { IsJulianDay date → IsTime time → ¬ IsOffset offset
-        → (result.0 ≡ []) × (pos result.1 ≡ bad_offset) }
-    ensures past_range { IsJulianDay date → IsTime time → IsOffset offset
-        → ¬ HasMomentText (moment_of date time offset)
-        → (result.0 ≡ []) × (pos result.1 ≡ past_range) }
-    ensures value { IsJulianDay date → IsTime time → IsOffset offset
-        → HasMomentText (moment_of date time offset)
-        → (result.0 ≡ moment_text (moment_of date time offset)) × (pos result.1 ≡ done) }
+    ensures text { IsTextOfMoment date time offset result.0 result.1 }
     ensures short { length result.0 ≤ 38 }
 {
-    let Some(date) = date_of(date) else {
-        return (ShortText::new(), BAD_DATE);
-    };
-    let Some(time) = time_of(time) else {
-        return (ShortText::new(), BAD_TIME);
-    };
-    let Some(offset) = offset_of(offset) else {
-        return (ShortText::new(), BAD_OFFSET);
-    };
+    let date = or_return!(date_of(date), (ShortText::new(), BAD_DATE));
+    let time = or_return!(time_of(time), (ShortText::new(), BAD_TIME));
+    let offset = or_return!(offset_of(offset), (ShortText::new(), BAD_OFFSET));
     text_of(OffsetDateTime::new_in_offset(date, time, offset))
 }
 

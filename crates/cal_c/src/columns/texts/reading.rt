@@ -1,9 +1,6 @@
 //! Columns of texts that are read.
-ghost use Rattle.std.specs.Prelude.{◌≡◌, ◌↔◌, ℕ, ◌+◌, ◌<◌, length, get_or, count_by, pos, IsTrue, MatchOption};
-ghost use Rattle.cal_c.specs.Columns.{date_row, is_refused};
-ghost use Rattle.cal_c.specs.Moments.{moment_refused};
-ghost use Rattle.cal_c.specs.Results.{date_refused};
-ghost use Rattle.cal_c.specs.Statuses.{bounds_refused};
+ghost use Rattle.std.specs.Prelude.{◌≡◌, ◌↔◌, ◌+◌, length, IsTrue, MatchOption};
+ghost use Rattle.cal_c.specs.Columns.{date_row, int_at, nat_at, AreAnswered};
 ghost use Rattle.cal_c.specs.TextColumns.{ArePartOf, Bounded2, Bounded4, IsDateOfPart, IsDateOfText, IsMomentOfPart, IsMomentOfText, moment_row, part};
 
 use crate::columns::statuses::{BOUNDS, byte_of};
@@ -19,14 +16,11 @@ pub extern "C" fn fots_dates_read(
     dates: &mut [i32],
     statuses: &mut [u8],
 ) -> usize
-    ensures unlike { ¬ Bounded2 (length dates.old) (length bounds.now) (length statuses.old)
+    ensures unlike { ¬ Bounded2 dates.old bounds.now statuses.old
         → (result ≡ usize.MAX) × (dates.new ≡ dates.old) × (statuses.new ≡ statuses.old) }
-    ensures rows { Bounded2 (length dates.old) (length bounds.now) (length statuses.old)
-        → (k : ℕ) → k < length dates.old
-        → IsDateOfPart bytes.now (get_or bounds.now k (pos 0)) (get_or bounds.now (k + 1) (pos 0))
-        (date_row (get_or dates.new k (pos 0)) (get_or statuses.new k 0)) }
-    ensures count { Bounded2 (length dates.old) (length bounds.now) (length statuses.old)
-        → result ≡ count_by is_refused statuses.new }
+    ensures rows { Bounded2 dates.old bounds.now statuses.old
+        → AreAnswered statuses.new result (λ k. IsDateOfPart bytes.now (int_at bounds.now k)
+        (int_at bounds.now (k + 1)) (date_row (int_at dates.new k) (nat_at statuses.new k))) }
 {
     let rows = dates.len();
     if !are_bounds(bounds, rows) || statuses.len() != rows {
@@ -50,19 +44,13 @@ pub extern "C" fn fots_moments_read(
     offsets: &mut [i32],
     statuses: &mut [u8],
 ) -> usize
-    ensures unlike { ¬ Bounded4 (length dates.old) (length bounds.now) (length times.old)
-        (length offsets.old) (length statuses.old)
+    ensures unlike { ¬ Bounded4 dates.old bounds.now times.old offsets.old statuses.old
         → (result ≡ usize.MAX) × (dates.new ≡ dates.old) × (times.new ≡ times.old)
         × (offsets.new ≡ offsets.old) × (statuses.new ≡ statuses.old) }
-    ensures rows { Bounded4 (length dates.old) (length bounds.now) (length times.old)
-        (length offsets.old) (length statuses.old)
-        → (k : ℕ) → k < length dates.old
-        → IsMomentOfPart bytes.now (get_or bounds.now k (pos 0)) (get_or bounds.now (k + 1) (pos 0))
-        (moment_row (get_or dates.new k (pos 0)) (get_or times.new k 0)
-        (get_or offsets.new k (pos 0)) (get_or statuses.new k 0)) }
-    ensures count { Bounded4 (length dates.old) (length bounds.now) (length times.old)
-        (length offsets.old) (length statuses.old)
-        → result ≡ count_by is_refused statuses.new }
+    ensures rows { Bounded4 dates.old bounds.now times.old offsets.old statuses.old
+        → AreAnswered statuses.new result (λ k. IsMomentOfPart bytes.now (int_at bounds.now k)
+        (int_at bounds.now (k + 1)) (moment_row (int_at dates.new k) (nat_at times.new k)
+        (int_at offsets.new k) (nat_at statuses.new k))) }
 {
     let rows = dates.len();
     if !are_bounds(bounds, rows)
@@ -94,12 +82,8 @@ fn part(bytes: &[u8], from: i32, to: i32) -> Option<&[u8]>
     ensures { MatchOption result (¬ ArePartOf bytes.now from to)
         (λ text. ArePartOf bytes.now from to × (text.now ≡ part bytes.now from to)) }
 {
-    let Ok(from) = usize::try_from(from) else {
-        return None;
-    };
-    let Ok(to) = usize::try_from(to) else {
-        return None;
-    };
+    let from = usize::try_from(from).ok()?;
+    let to = usize::try_from(to).ok()?;
     if from <= to && to <= bytes.len() {
         Some(&bytes[from..to])
     } else {

@@ -38,18 +38,10 @@ fn plain_rule_of<'a>(parts: &RuleParts<'a>) -> Result<Rule<'a>, i32>
         (¬ IsRule parts.now) × IsRuleStatus parts.now status) }
     ensures rule { IfOk result (λ rule. ArePlain parts.now × IsPlainRuleOf parts.now rule) }
 {
-    let Some(start) = date_of(parts.start) else {
-        return Err(BAD_DATE);
-    };
-    let Some(until) = date_of(parts.until) else {
-        return Err(BAD_DATE);
-    };
-    let Some(frequency) = frequency_of(parts.frequency) else {
-        return Err(BAD_FREQUENCY);
-    };
-    let Some(week_start) = weekday_of(parts.week_start) else {
-        return Err(BAD_WEEKDAY);
-    };
+    let start = or_return!(date_of(parts.start), Err(BAD_DATE));
+    let until = or_return!(date_of(parts.until), Err(BAD_DATE));
+    let frequency = or_return!(frequency_of(parts.frequency), Err(BAD_FREQUENCY));
+    let week_start = or_return!(weekday_of(parts.week_start), Err(BAD_WEEKDAY));
     Ok(Rule {
         start,
         frequency,
@@ -72,19 +64,12 @@ impl<'a> Recurrence<'a> {
             × (found.months ≡ months_in parts.now.months.now)
             × (found.weekdays ≡ weekdays_in parts.now.weekdays.now)) }
     {
-        let plain = match plain_rule_of(parts) {
-            Ok(plain) => plain,
-            Err(status) => return Err(status),
-        };
+        let plain = or_return!(plain_rule_of(parts), status => Err(status));
         if parts.months.len() > months::MOST || parts.weekdays.len() > weekdays::MOST {
             return Err(MANY_PARTS);
         }
-        let Some(months) = Months::of(parts.months) else {
-            return Err(MONTH);
-        };
-        let Some(weekdays) = Weekdays::of(parts.weekdays) else {
-            return Err(BAD_WEEKDAY);
-        };
+        let months = or_return!(Months::of(parts.months), Err(MONTH));
+        let weekdays = or_return!(Weekdays::of(parts.weekdays), Err(BAD_WEEKDAY));
         Ok(Recurrence {
             plain,
             months,

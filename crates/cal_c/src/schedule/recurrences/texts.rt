@@ -40,10 +40,7 @@ pub extern "C" fn fots_recurrence_days(
         × (result ≡ recurrence_done result.length)
         × AreWritten (filter (nat_le (day_of from)) all) days.old days.new result.length) }
 {
-    let recurrence = match parse(text) {
-        Ok(recurrence) => recurrence,
-        Err(fault) => return RecurrenceResult::unread(fault),
-    };
+    let recurrence = or_return!(parse(text), fault => RecurrenceResult::unread(fault));
     let (Some(start), Some(from)) = (date_of(start), date_of(from)) else {
         return RecurrenceResult::refused(BAD_DATE);
     };

@@ -57,9 +57,7 @@ impl Calendar {
         ensures value { IsMarks week → length holidays.now ≤ most_holidays
             → AreHolidays holidays.now → result ≡ Ok (work_week week holidays.now) }
     {
-        let Some(marks) = marks_of(week) else {
-            return Err(BAD_WEEK);
-        };
+        let marks = or_return!(marks_of(week), Err(BAD_WEEK));
         let holidays = Holidays::of(holidays)?;
         if !is_rising(holidays.as_slice()) {
             return Err(BAD_HOLIDAYS);

@@ -1,6 +1,5 @@
 //! Holidays in place.
 ghost use Rattle.std.specs.Prelude.{◌≡◌, ◌<◌, ◌≤◌, ◌++◌, [], ◌∷◌, All, Ok, Err, length};
-ghost use Rattle.cal_time.specs.Date.{IsDate};
 ghost use Rattle.cal_c.specs.Statuses.{bad_holidays, many_holidays};
 ghost use Rattle.cal_c.specs.Values.{IsJulianDay};
 ghost use Rattle.cal_c.specs.Workweeks.{holidays_in, most_holidays};
@@ -72,9 +71,7 @@ impl Holidays {
         }
         let mut holidays = Self::new();
         for index in 0..julian_days.len() {
-            let Some(date) = date_of(julian_days[index]) else {
-                return Err(BAD_HOLIDAYS);
-            };
+            let date = or_return!(date_of(julian_days[index]), Err(BAD_HOLIDAYS));
             holidays.push(date);
         }
         Ok(holidays)

@@ -1,4 +1,4 @@
-use Rattle.std.proofs.Common.{◌≡◌, ◌-◌, ap, ◌∙◌, sym, arith}
+use Rattle.std.proofs.Common.{◌≡◌, ◌-◌, ap, ◌∙◌, sym, arith, rules}
 use Rattle.std.proofs.lemmas.Int.{to_z-of_z}
 use Rattle.cal_time.specs.Weekday.{index}
 use Rattle.cal_time.specs.Date.{julian_day_at}
@@ -6,19 +6,20 @@ use Rattle.cal_c.specs.Results.{date_done}
 use Rattle.cal_c.proofs.Days.{same_ok}
 use Rattle.cal_c.proofs.columns.making.date_of_iso_week_date.Goals as goal
 
-pub returns-in-Ok-clause-no_year : goal.returns-in-Ok-clause-no_year
-returns-in-Ok-clause-no_year c = λ w out. let f = c.ranges.year in let year = simp to_z-of_z at c.in-Ok.ensures.year in absurd (year.1 out)
-
-pub returns-in-Ok-clause-no_week : goal.returns-in-Ok-clause-no_week
-returns-in-Ok-clause-no_week c = λ w y out.
+pub returns-in-Ok : goal.returns-in-Ok
+returns-in-Ok c =
     let f = c.ranges.year in
+    let p : index c.in-Some.value ≡ c.args.weekday - 1 = omega (arith, c.in-Some.ensures.1, c.from.ensures) in
+    let year = simp to_z-of_z at c.in-Ok.ensures.year in
     let week = simp to_z-of_z at c.in-Ok.ensures.week in
-    absurd (week.1 (y, out))
-
-pub returns-in-Ok-clause-date : goal.returns-in-Ok-clause-date
-returns-in-Ok-clause-date c = λ w n h has k.
-    let f = c.ranges.year in
-    let p : index c.in-Some.weekday ≡ c.args.weekday - 1 = omega (arith, c.in-Some.ensures.1) in
     let every = simp to_z-of_z at c.in-Ok.ensures.every in
-    let found = every n h (has.0, has.1, has.2 ∙ sym p) in
-    c.made.ensures ∙ ap (λ m. date_done (julian_day_at m)) (same_ok c.from_iso_week_date.result c.in-Ok.date n c.in-Ok.is (c.in-Ok.is ∙ found))
+    let has = simp to_z-of_z at c.in-Ok.ensures.has in
+    record {
+      bad_weekday = search rules;
+      no_year = λ w out. absurd (year.1 out);
+      no_week = λ w y out. absurd (week.1 (y, out));
+      no_weekday = λ w y k none. absurd (none c.in-Ok.date has.0 (has.1.0, has.1.1, has.1.2 ∙ p));
+      date = λ w n h has k.
+          let found = every n h (has.0, has.1, has.2 ∙ sym p) in
+          c.made.ensures ∙ ap (λ m. date_done (julian_day_at m)) (same_ok c.from_iso_week_date.result c.in-Ok.date n c.in-Ok.is (c.in-Ok.is ∙ found));
+    }

@@ -8,8 +8,5 @@ pub loop-row-preserved : goal.loop-row-preserved
 loop-row-preserved c =
     let f-years : FitsSigned w32 (get_or c.args.years.now c.loop-row.row (pos 0)) = search rules in
     let fits : FitsSigned w32 c.date_of_calendar_date-date.result.0 = search rules in
-    let its-no_year = simp to_z-of_z at c.date_of_calendar_date-date.ensures.no_year in
-    let its-no_day = simp to_z-of_z at c.date_of_calendar_date-date.ensures.no_day in
-    let its-date = simp to_z-of_z at c.date_of_calendar_date-date.ensures.date in
-    let here : IsDateOfCalendarDate (get_or c.args.years.now c.loop-row.row (pos 0)) (get_or c.args.months.now c.loop-row.row 0) (get_or c.args.days.now c.loop-row.row 0) (date_row c.date_of_calendar_date-date.result.0 c.date_of_calendar_date-date.result.1) = record { no_month = c.date_of_calendar_date-date.ensures.no_month; no_year = its-no_year; no_day = its-no_day; date = its-date } in
+    let here : IsDateOfCalendarDate (get_or c.args.years.now c.loop-row.row (pos 0)) (get_or c.args.months.now c.loop-row.row 0) (get_or c.args.days.now c.loop-row.row 0) (date_row c.date_of_calendar_date-date.result.0 c.date_of_calendar_date-date.result.1) = simp to_z-of_z at c.date_of_calendar_date-date.ensures in
     rows_two (λ k date status. IsDateOfCalendarDate (get_or c.args.years.now k (pos 0)) (get_or c.args.months.now k 0) (get_or c.args.days.now k 0) (date_row date status)) c.loop-row.dates c.loop-row.statuses c.loop-row.row (to_z w32 (of_z w32 c.date_of_calendar_date-date.result.0)) (pos 0) c.date_of_calendar_date-date.result.1 0 (omega arith) (omega arith) c.loop-row.invariant (simp to_z-of_z here)

@@ -8,9 +8,5 @@ pub loop-row-preserved : goal.loop-row-preserved
 loop-row-preserved c =
     let f-years : FitsSigned w32 (get_or c.args.years.now c.loop-row.row (pos 0)) = search rules in
     let fits : FitsSigned w32 c.date_of_iso_week_date-date.result.0 = search rules in
-    let its-no_year = simp to_z-of_z at c.date_of_iso_week_date-date.ensures.no_year in
-    let its-no_week = simp to_z-of_z at c.date_of_iso_week_date-date.ensures.no_week in
-    let its-no_weekday = simp to_z-of_z at c.date_of_iso_week_date-date.ensures.no_weekday in
-    let its-date = simp to_z-of_z at c.date_of_iso_week_date-date.ensures.date in
-    let here : IsDateOfIsoWeekDate (get_or c.args.years.now c.loop-row.row (pos 0)) (get_or c.args.weeks.now c.loop-row.row 0) (get_or c.args.weekdays.now c.loop-row.row 0) (date_row c.date_of_iso_week_date-date.result.0 c.date_of_iso_week_date-date.result.1) = record { bad_weekday = c.date_of_iso_week_date-date.ensures.bad_weekday; no_year = its-no_year; no_week = its-no_week; no_weekday = its-no_weekday; date = its-date } in
+    let here : IsDateOfIsoWeekDate (get_or c.args.years.now c.loop-row.row (pos 0)) (get_or c.args.weeks.now c.loop-row.row 0) (get_or c.args.weekdays.now c.loop-row.row 0) (date_row c.date_of_iso_week_date-date.result.0 c.date_of_iso_week_date-date.result.1) = simp to_z-of_z at c.date_of_iso_week_date-date.ensures in
     rows_two (λ k date status. IsDateOfIsoWeekDate (get_or c.args.years.now k (pos 0)) (get_or c.args.weeks.now k 0) (get_or c.args.weekdays.now k 0) (date_row date status)) c.loop-row.dates c.loop-row.statuses c.loop-row.row (to_z w32 (of_z w32 c.date_of_iso_week_date-date.result.0)) (pos 0) c.date_of_iso_week_date-date.result.1 0 (omega arith) (omega arith) c.loop-row.invariant (simp to_z-of_z here)

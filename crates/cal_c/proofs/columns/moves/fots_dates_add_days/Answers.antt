@@ -10,11 +10,8 @@ loop-row-preserved c =
     let f-dates : FitsSigned w32 (get_or c.args.dates.now c.loop-row.row (pos 0)) = search rules in
     let f-moved : FitsSigned w32 (get_or c.loop-row.moved c.loop-row.row (pos 0)) = search rules in
     let fits : FitsSigned w32 c.moved_date-date.result.0 = search rules in
-    let its-bad_date = simp to_z-of_z at c.moved_date-date.ensures.bad_date in
-    let its-past_range = simp to_z-of_z at c.moved_date-date.ensures.past_range in
-    let its-day = simp to_z-of_z at c.moved_date-date.ensures.day in
     let same : get_or c.loop-row.moved c.loop-row.row (pos 0) ≡ held (get_or c.args.days.now c.loop-row.row (pos 0)) = c.loop-row.invariant.rest c.loop-row.row (omega arith) (omega arith) in
-    let by-held : IsDateMoved (get_or c.args.dates.now c.loop-row.row (pos 0)) (get_or c.loop-row.moved c.loop-row.row (pos 0)) (date_row c.moved_date-date.result.0 c.moved_date-date.result.1) = record { bad_date = its-bad_date; past_range = its-past_range; day = its-day } in
+    let by-held : IsDateMoved (get_or c.args.dates.now c.loop-row.row (pos 0)) (get_or c.loop-row.moved c.loop-row.row (pos 0)) (date_row c.moved_date-date.result.0 c.moved_date-date.result.1) = simp to_z-of_z at c.moved_date-date.ensures in
     let here : IsDateMoved (get_or c.args.dates.now c.loop-row.row (pos 0)) (get_or c.args.days.now c.loop-row.row (pos 0)) (date_row c.moved_date-date.result.0 c.moved_date-date.result.1) = IsDateMoved-held _ _ _ (rw (sym same) by-held) in
     record {
       done = rows_two (λ k date status. IsDateMoved (get_or c.args.dates.now k (pos 0)) (get_or c.args.days.now k (pos 0)) (date_row date status)) c.loop-row.moved c.loop-row.statuses c.loop-row.row (to_z w32 (of_z w32 c.moved_date-date.result.0)) (pos 0) c.moved_date-date.result.1 0 (omega arith) (omega arith) c.loop-row.invariant.done (simp to_z-of_z here);

@@ -8,8 +8,5 @@ pub loop-row-preserved : goal.loop-row-preserved
 loop-row-preserved c =
     let f-years : FitsSigned w32 (get_or c.args.years.now c.loop-row.row (pos 0)) = search rules in
     let fits : FitsSigned w32 c.iso_week_date_of_calendar_date-iso_year.result.0 = search rules in
-    let its-no_year = simp to_z-of_z at c.iso_week_date_of_calendar_date-iso_year.ensures.no_year in
-    let its-no_day = simp to_z-of_z at c.iso_week_date_of_calendar_date-iso_year.ensures.no_day in
-    let its-value = simp to_z-of_z at c.iso_week_date_of_calendar_date-iso_year.ensures.value in
-    let here : IsIsoWeekDateOfCalendarDate (get_or c.args.years.now c.loop-row.row (pos 0)) (get_or c.args.months.now c.loop-row.row 0) (get_or c.args.days.now c.loop-row.row 0) (iso_week_date_row c.iso_week_date_of_calendar_date-iso_year.result.0 c.iso_week_date_of_calendar_date-iso_year.result.1 c.iso_week_date_of_calendar_date-iso_year.result.2 c.iso_week_date_of_calendar_date-iso_year.result.3) = record { no_month = c.iso_week_date_of_calendar_date-iso_year.ensures.no_month; no_year = its-no_year; no_day = its-no_day; value = its-value } in
+    let here : IsIsoWeekDateOfCalendarDate (get_or c.args.years.now c.loop-row.row (pos 0)) (get_or c.args.months.now c.loop-row.row 0) (get_or c.args.days.now c.loop-row.row 0) (iso_week_date_row c.iso_week_date_of_calendar_date-iso_year.result.0 c.iso_week_date_of_calendar_date-iso_year.result.1 c.iso_week_date_of_calendar_date-iso_year.result.2 c.iso_week_date_of_calendar_date-iso_year.result.3) = simp to_z-of_z at c.iso_week_date_of_calendar_date-iso_year.ensures in
     rows_four (λ k iso_year week weekday status. IsIsoWeekDateOfCalendarDate (get_or c.args.years.now k (pos 0)) (get_or c.args.months.now k 0) (get_or c.args.days.now k 0) (iso_week_date_row iso_year week weekday status)) c.loop-row.iso_years c.loop-row.weeks c.loop-row.weekdays c.loop-row.statuses c.loop-row.row (to_z w32 (of_z w32 c.iso_week_date_of_calendar_date-iso_year.result.0)) (pos 0) c.iso_week_date_of_calendar_date-iso_year.result.1 0 c.iso_week_date_of_calendar_date-iso_year.result.2 0 c.iso_week_date_of_calendar_date-iso_year.result.3 0 (omega arith) (omega arith) (omega arith) (omega arith) c.loop-row.invariant (simp to_z-of_z here)

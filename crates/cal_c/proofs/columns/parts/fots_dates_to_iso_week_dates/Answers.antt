@@ -8,7 +8,5 @@ pub loop-row-preserved : goal.loop-row-preserved
 loop-row-preserved c =
     let f-dates : FitsSigned w32 (get_or c.args.dates.now c.loop-row.row (pos 0)) = search rules in
     let fits : FitsSigned w32 c.iso_week_date_of-year.result.0 = search rules in
-    let its-bad_date = simp to_z-of_z at c.iso_week_date_of-year.ensures.bad_date in
-    let its-value = simp to_z-of_z at c.iso_week_date_of-year.ensures.value in
-    let here : IsIsoWeekDateOf (get_or c.args.dates.now c.loop-row.row (pos 0)) (iso_week_date_row c.iso_week_date_of-year.result.0 c.iso_week_date_of-year.result.1 c.iso_week_date_of-year.result.2 c.iso_week_date_of-year.result.3) = record { bad_date = its-bad_date; value = its-value } in
+    let here : IsIsoWeekDateOf (get_or c.args.dates.now c.loop-row.row (pos 0)) (iso_week_date_row c.iso_week_date_of-year.result.0 c.iso_week_date_of-year.result.1 c.iso_week_date_of-year.result.2 c.iso_week_date_of-year.result.3) = simp to_z-of_z at c.iso_week_date_of-year.ensures in
     rows_four (λ k year week weekday status. IsIsoWeekDateOf (get_or c.args.dates.now k (pos 0)) (iso_week_date_row year week weekday status)) c.loop-row.years c.loop-row.weeks c.loop-row.weekdays c.loop-row.statuses c.loop-row.row (to_z w32 (of_z w32 c.iso_week_date_of-year.result.0)) (pos 0) c.iso_week_date_of-year.result.1 0 c.iso_week_date_of-year.result.2 0 c.iso_week_date_of-year.result.3 0 (omega arith) (omega arith) (omega arith) (omega arith) c.loop-row.invariant (simp to_z-of_z here)

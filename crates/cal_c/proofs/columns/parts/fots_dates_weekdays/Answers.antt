@@ -7,7 +7,5 @@ use Rattle.cal_c.proofs.columns.parts.fots_dates_weekdays.Goals as goal
 pub loop-row-preserved : goal.loop-row-preserved
 loop-row-preserved c =
     let f-dates : FitsSigned w32 (get_or c.args.dates.now c.loop-row.row (pos 0)) = search rules in
-    let its-bad_date = simp to_z-of_z at c.weekday_of-weekday.ensures.bad_date in
-    let its-value = simp to_z-of_z at c.weekday_of-weekday.ensures.value in
-    let here : IsWeekdayOf (get_or c.args.dates.now c.loop-row.row (pos 0)) c.weekday_of-weekday.result.0 c.weekday_of-weekday.result.1 = record { bad_date = its-bad_date; value = its-value } in
+    let here : IsWeekdayOf (get_or c.args.dates.now c.loop-row.row (pos 0)) c.weekday_of-weekday.result.0 c.weekday_of-weekday.result.1 = simp to_z-of_z at c.weekday_of-weekday.ensures in
     rows_two (λ k weekday status. IsWeekdayOf (get_or c.args.dates.now k (pos 0)) weekday status) c.loop-row.weekdays c.loop-row.statuses c.loop-row.row c.weekday_of-weekday.result.0 0 c.weekday_of-weekday.result.1 0 (omega arith) (omega arith) c.loop-row.invariant here

@@ -4,15 +4,28 @@ use Rattle.cal_c.specs.Values.{day_of}
 use Rattle.cal_c.proofs.Days.{IsDate-day_of}
 use Rattle.cal_c.proofs.columns.parts.iso_week_date_of_calendar_date.Goals as goal
 
-pub returns-then-status-eq-DONE-clause-value : goal.returns-then-status-eq-DONE-clause-value
-returns-then-status-eq-DONE-clause-value c = λ m y d.
+pub returns-then-status-eq-DONE : goal.returns-then-status-eq-DONE
+returns-then-status-eq-DONE c =
     let f = c.ranges.year in
     let fits : FitsSigned w32 c.julian_day_at.result = search rules in
     let out : FitsSigned w32 c.iso_week_date_at-iso_year.result.0 = search rules in
     let has = simp to_z-of_z at c.julian_day_at.ensures.has in
     let is = simp to_z-of_z at c.julian_day_at.ensures.in_range in
-    let h = is y m d in
     let year = simp to_z-of_z at c.iso_week_date_at-iso_year.ensures.year in
     let week = simp to_z-of_z at c.iso_week_date_at-iso_year.ensures.week in
     let weekday = simp to_z-of_z at c.iso_week_date_at-iso_year.ensures.weekday in
-    (day_of c.julian_day_at.result, IsDate-day_of c.julian_day_at.result h, has y m d, simp to_z-of_z (cc (year h, week h, weekday h)))
+    record {
+      no_month = search rules;
+      no_year = search rules;
+      no_day = search rules;
+      value = λ m y d. let h = is y m d in
+          (day_of c.julian_day_at.result, IsDate-day_of c.julian_day_at.result h, has y m d, simp to_z-of_z (cc (year h, week h, weekday h)));
+    }
+
+pub returns-else-status-eq-DONE : goal.returns-else-status-eq-DONE
+returns-else-status-eq-DONE c = record {
+  no_month = search rules;
+  no_year = search rules;
+  no_day = search rules;
+  value = search rules;
+}

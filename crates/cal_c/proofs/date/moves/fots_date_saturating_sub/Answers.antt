@@ -5,11 +5,11 @@ use Rattle.cal_c.specs.Results.{date_done}
 use Rattle.cal_c.specs.Values.{julian_nearest}
 use Rattle.cal_c.proofs.date.moves.fots_date_saturating_sub.Goals as goal
 
-pub returns-in-Some-clause-bad_date : goal.returns-in-Some-clause-bad_date
-returns-in-Some-clause-bad_date c = λ out. let f = c.ranges.date in absurd (out (simp to_z-of_z at c.is_julian_day.ensures.0 c.if-not-is_julian_day.false))
+pub returns-clause-bad_date : goal.returns-clause-bad_date
+returns-clause-bad_date c = λ out. let f = c.ranges.date in absurd (out (simp to_z-of_z at c.is_julian_day.ensures.0 c.if-not-is_julian_day.false))
 
-pub returns-in-Some-clause-day : goal.returns-in-Some-clause-day
-returns-in-Some-clause-day c = λ h d.
+pub returns-clause-day : goal.returns-clause-day
+returns-clause-day c = λ h d.
     let f = c.ranges.date in
     let g : FitsSigned w64 c.whole_days.result = search rules in
     let held = simp to_z-of_z at c.days_earlier_held.ensures in

@@ -4,8 +4,8 @@ use Rattle.cal_c.specs.Results.{date_if_any}
 use Rattle.cal_c.proofs.Occurrences.{day_if_any, prev-some, prev-none}
 use Rattle.cal_c.proofs.date.occurrences.occurrence_before.Goals as goal
 
-pub returns-in-Some : goal.returns-in-Some
-returns-in-Some c =
+pub returns : goal.returns
+returns c =
     let count : suc (c.args.count - 1) ≡ c.args.count = omega arith in
     let first : c.days_until-first.result ≡ (c.args.number % 7 + 7 - c.args.weekday) % 7 + 1 = omega (arith, c.days_since_monday.ensures, c.days_until-first.ensures) in
     let found = prev-some c.args.weekday c.args.number (c.args.count - 1) (omega arith) (omega arith) c.requires.in_range (subst (λ f. f + 7 * (c.args.count - 1) ≤ c.args.number) first c.in-Some.ensures.0) in

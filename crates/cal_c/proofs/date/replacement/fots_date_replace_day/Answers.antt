@@ -17,6 +17,6 @@ pub returns-in-Ok-clause-date : goal.returns-in-Ok-clause-date
 returns-in-Ok-clause-date c = λ h d.
     let f = c.ranges.date in let at = simp to_z-of_z at c.in-Some.ensures in
     let Has = HasCalendarDate (year_at (day_of c.args.date)) (month_at (day_of c.args.date)) c.args.day in
-    let at_day = subst (λ n. HasCalendarDate (year_at n) (month_at n) c.day_of_month_of.result c.in-Ok.date) at.1 c.in-Ok.ensures.has.1 in
+    let at_day = subst (λ n. HasCalendarDate (year_at n) (month_at n) c.day_of_month_of.result c.in-Ok.made) at.1 c.in-Ok.ensures.has.1 in
     let same = at_day ∙ ap (calendar_day (year_at (day_of c.args.date)) (month_at (day_of c.args.date))) (c.day_of_month_of.ensures.has _ _ d) in
-    subst (IsDayWith Has) (sym c.of.ensures) (IsDayWith-at Has c.in-Ok.date c.in-Ok.ensures.has.0 same)
+    subst (IsDayWith Has) (sym c.of.ensures) (IsDayWith-at Has c.in-Ok.made c.in-Ok.ensures.has.0 same)

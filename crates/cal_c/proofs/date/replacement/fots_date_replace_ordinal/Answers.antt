@@ -13,7 +13,7 @@ pub returns-in-Ok-clause-ordinal : goal.returns-in-Ok-clause-ordinal
 returns-in-Ok-clause-ordinal c = λ h out.
     let f = c.ranges.date in let at = simp to_z-of_z at c.in-Some.ensures in
     let at_day = subst (λ n. IsOrdinal (year_at n) c.args.ordinal → ⊥) (sym at.1) out in
-    absurd (c.in-Ok.ensures.ordinal.1 (c.ordinal_of.ensures.none (year_at c.in-Some.date) at_day))
+    absurd (c.in-Ok.ensures.ordinal.1 (c.ordinal_of.ensures.none (year_at c.in-Some.value) at_day))
 
 pub returns-in-Ok-clause-date : goal.returns-in-Ok-clause-date
 returns-in-Ok-clause-date c = λ h o.
@@ -21,4 +21,4 @@ returns-in-Ok-clause-date c = λ h o.
     let Has = HasOrdinalDate (year_at (day_of c.args.date)) c.args.ordinal in
     let has = c.in-Ok.ensures.has in
     subst (IsDayWith Has) (sym c.of.ensures)
-    (IsDayWith-at Has c.in-Ok.date has.0 (has.1.0 ∙ ap year_at at.1, has.1.1 ∙ c.ordinal_of.ensures.has (year_at (day_of c.args.date)) o))
+    (IsDayWith-at Has c.in-Ok.made has.0 (has.1.0 ∙ ap year_at at.1, has.1.1 ∙ c.ordinal_of.ensures.has (year_at (day_of c.args.date)) o))

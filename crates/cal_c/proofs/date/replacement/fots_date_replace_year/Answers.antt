@@ -23,8 +23,8 @@ returns-in-Ok-clause-date c = λ h y d.
     let f = c.ranges.date in let g = c.ranges.year in let at = simp to_z-of_z at c.in-Some.ensures in
     let found = simp to_z-of_z at c.in-Ok.ensures.has in
     let Has = HasCalendarDate c.args.year (month_at (day_of c.args.date)) (day_of_month_at (day_of c.args.date)) in
-    let has = subst (λ n. HasCalendarDate c.args.year (month_at n) (day_of_month_at n) c.in-Ok.date) at.1 found.1 in
-    subst (IsDayWith Has) (sym c.of.ensures) (IsDayWith-at Has c.in-Ok.date found.0 has)
+    let has = subst (λ n. HasCalendarDate c.args.year (month_at n) (day_of_month_at n) c.in-Ok.made) at.1 found.1 in
+    subst (IsDayWith Has) (sym c.of.ensures) (IsDayWith-at Has c.in-Ok.made found.0 has)
 
 pub returns-in-Err-clause-date : goal.returns-in-Err-clause-date
 returns-in-Err-clause-date c = λ h y d.

@@ -1,12 +1,11 @@
-use Rattle.std.proofs.Common.{◌-ℤ◌, ap, subst, ◌∙◌}
-use Rattle.cal_datetime.specs.DateTime.{IsDateTime}
+use Rattle.std.proofs.Common.{◌-ℤ◌, subst}
 use Rattle.cal_datetime.specs.OffsetDateTime.{Shown}
-use Rattle.cal_c.specs.Moments.{local_in}
+use Rattle.cal_c.specs.Moments.{local_in, IsMomentOr}
+use Rattle.cal_c.specs.Statuses.{past_range}
 use Rattle.cal_c.proofs.moment.moves.fots_moment_checked_sub.Goals as goal
 
-pub returns-in-Some-duration_of-clause-past_range : goal.returns-in-Some-duration_of-clause-past_range
-returns-in-Some-duration_of-clause-past_range c = λ m d out.
-    let duration = c.in-Some-duration_of.duration in
-    let same = ap (λ (m : Shown). m.local -ℤ duration) c.in-Some.ensures.1
-    ∙ ap (λ v. local_in c.args.moment -ℤ v) c.in-Some-duration_of.ensures.1 in
-    c.earlier.ensures.past_range (λ is. out (subst IsDateTime same is))
+pub returns-clause-moment : goal.returns-clause-moment
+returns-clause-moment c = λ m d.
+    let r = c.earlier.result in
+    let at_moment = subst (λ (m : Shown). IsMomentOr past_range (m.local -ℤ c.in-Some-duration_of.value) m.offset r) c.in-Some.ensures.1 c.earlier.ensures in
+    subst (λ v. IsMomentOr past_range (local_in c.args.moment -ℤ v) c.args.moment.offset r) c.in-Some-duration_of.ensures.1 at_moment

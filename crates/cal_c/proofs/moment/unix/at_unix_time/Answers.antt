@@ -5,8 +5,11 @@ use Rattle.cal_datetime.specs.DateTime.{IsDateTime}
 use Rattle.cal_datetime.specs.OffsetDateTime.{unix_epoch}
 use Rattle.cal_c.proofs.moment.unix.at_unix_time.Goals as goal
 
-pub returns-in-Ok-clause-timestamp : goal.returns-in-Ok-clause-timestamp
-returns-in-Ok-clause-timestamp c = λ out.
+pub returns : goal.returns
+returns c =
     let f : FitsSigned w128 c.whole_nanoseconds.result = search rules in
     let refused = simp to_z-of_z at c.in-Ok.ensures.refused in
-    absurd (refused.1 (λ is. out (subst (λ v. IsDateTime (unix_epoch +ℤ v)) c.whole_nanoseconds.ensures.value is)))
+    record {
+      none = λ out. absurd (refused.1 (λ is. out (subst (λ v. IsDateTime (unix_epoch +ℤ v)) c.whole_nanoseconds.ensures.value is)));
+      moment = search rules;
+    }

@@ -5,11 +5,11 @@ use Rattle.cal_c.specs.Results.{IsDayWith}
 use Rattle.cal_c.proofs.Days.{IsDayWith-at}
 use Rattle.cal_c.proofs.schedule.bounds.fots_date_first_of_iso_week.Goals as goal
 
-pub returns-in-Some-clause-day : goal.returns-in-Some-clause-day
-returns-in-Some-clause-day c = λ h.
+pub returns-clause-day : goal.returns-clause-day
+returns-clause-day c = λ h.
     let f = c.ranges.date in
     let at = simp to_z-of_z at c.in-Some.ensures in
     let monday = c.first_of_iso_week.ensures in
-    let Has = HasIsoWeekDate (iso_year_at c.in-Some.date) (iso_week_at c.in-Some.date) 0 in
+    let Has = HasIsoWeekDate (iso_year_at c.in-Some.value) (iso_week_at c.in-Some.value) 0 in
     let day = subst (IsDayWith Has) (sym c.of.ensures) (IsDayWith-at Has c.first_of_iso_week.result monday.in_range.1 monday.date) in
     subst (λ n. IsDayWith (HasIsoWeekDate (iso_year_at n) (iso_week_at n) 0) c.of.result) at.1 day

@@ -5,20 +5,18 @@ use Rattle.cal_c.specs.Results.{IsDayWith}
 use Rattle.cal_c.proofs.Schedules.{day-if-any, past-if-any}
 use Rattle.cal_c.proofs.schedule.months.fots_date_add_months.Goals as goal
 
-pub returns-in-Some-clause-past_range : goal.returns-in-Some-clause-past_range
-returns-in-Some-clause-past_range c = λ h out.
+pub returns : goal.returns
+returns c =
     let f = c.ranges.date in
     let g = c.ranges.months in
     let at = simp to_z-of_z at c.in-Some.ensures in
     let some = simp to_z-of_z at c.checked_add_months.ensures.some in
-    c.of_option.ensures ∙ past-if-any _ _ some (subst (λ n. IsMonthNumber (month_number_at n +ℤ c.args.months) → ⊥) (sym at.1) out)
-
-pub returns-in-Some-clause-day : goal.returns-in-Some-clause-day
-returns-in-Some-clause-day c = λ h k.
-    let f = c.ranges.date in
-    let g = c.ranges.months in
-    let at = simp to_z-of_z at c.in-Some.ensures in
     let has = simp to_z-of_z at c.checked_add_months.ensures.has in
     let none = simp to_z-of_z at c.checked_add_months.ensures.none in
-    let day = day-if-any _ _ _ has none (subst (λ n. IsMonthNumber (month_number_at n +ℤ c.args.months)) (sym at.1) k) in
-    subst (λ n. IsDayWith (IsMonthsLater n c.args.months) c.of_option.result) at.1 (subst (IsDayWith _) (sym c.of_option.ensures) day)
+    record {
+      bad_date = λ out. absurd (out at.0);
+      past_range = λ h out. c.of_option.ensures ∙ past-if-any _ _ some (subst (λ n. IsMonthNumber (month_number_at n +ℤ c.args.months) → ⊥) (sym at.1) out);
+      day = λ h k.
+          let day = day-if-any _ _ _ has none (subst (λ n. IsMonthNumber (month_number_at n +ℤ c.args.months)) (sym at.1) k) in
+          subst (λ n. IsDayWith (IsMonthsLater n c.args.months) c.of_option.result) at.1 (subst (IsDayWith _) (sym c.of_option.ensures) day);
+    }

@@ -6,16 +6,16 @@ use Rattle.cal_c.specs.Results.{IsDayWith}
 use Rattle.cal_c.proofs.Schedules.{day-if-any, past-if-any}
 use Rattle.cal_c.proofs.schedule.months.fots_date_add_years.Goals as goal
 
-pub returns-in-Some-clause-past_range : goal.returns-in-Some-clause-past_range
-returns-in-Some-clause-past_range c = λ h out.
+pub returns-clause-past_range : goal.returns-clause-past_range
+returns-clause-past_range c = λ h out.
     let f = c.ranges.date in
     let g = c.ranges.years in
     let at = simp to_z-of_z at c.in-Some.ensures in
     let some = simp to_z-of_z at c.checked_add_years.ensures.some in
     c.of_option.ensures ∙ past-if-any _ _ some (subst (λ n. IsYear (year_at n +ℤ c.args.years) → ⊥) (sym at.1) out)
 
-pub returns-in-Some-clause-day : goal.returns-in-Some-clause-day
-returns-in-Some-clause-day c = λ h k.
+pub returns-clause-day : goal.returns-clause-day
+returns-clause-day c = λ h k.
     let f = c.ranges.date in
     let g = c.ranges.years in
     let at = simp to_z-of_z at c.in-Some.ensures in

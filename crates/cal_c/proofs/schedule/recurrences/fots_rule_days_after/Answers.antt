@@ -4,18 +4,18 @@ use Rattle.cal_schedule.specs.Rule.{days_after}
 use Rattle.cal_c.specs.Recurrences.{days_done, AreWritten}
 use Rattle.cal_c.proofs.schedule.recurrences.fots_rule_days_after.Goals as goal
 
-pub returns-in-Some-clause-days : goal.returns-in-Some-clause-days
-returns-in-Some-clause-days c = λ h k.
+pub returns-clause-days : goal.returns-clause-days
+returns-clause-days c = λ h k.
     let f = c.ranges.date in
     let at = simp to_z-of_z at c.in-Some.ensures in
     let read = c.in-Ok.ensures.rule in
     let its = c.rule.result in
-    let count = ap (λ r. r.length) c.of-in-Some.ensures in
+    let count = ap (λ r. r.length) c.of-2.ensures in
     let old = c.args.days.now in
     let new = c.write_days.new.days in (
       its,
       c.rule.ensures c.args.rule.now read.1 read.2 read.3,
-      c.of-in-Some.ensures ∙ ap days_done (sym count),
-      subst (λ n. AreWritten (days_after its n) old new c.of-in-Some.result.length) at.1
-          (subst (AreWritten (days_after its c.in-Some.date) old new) (sym count) c.write_days.ensures),
+      c.of-2.ensures ∙ ap days_done (sym count),
+      subst (λ n. AreWritten (days_after its n) old new c.of-2.result.length) at.1
+          (subst (AreWritten (days_after its c.in-Some.value) old new) (sym count) c.write_days.ensures),
     )

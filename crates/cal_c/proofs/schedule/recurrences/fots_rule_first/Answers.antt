@@ -3,8 +3,8 @@ use Rattle.cal_c.specs.Results.{date_if_any}
 use Rattle.cal_c.proofs.Recurring.{first_given}
 use Rattle.cal_c.proofs.schedule.recurrences.fots_rule_first.Goals as goal
 
-pub returns-in-Ok-clause-day : goal.returns-in-Ok-clause-day
-returns-in-Ok-clause-day c = λ h.
+pub returns-clause-day : goal.returns-clause-day
+returns-clause-day c = λ h.
     let read = c.in-Ok.ensures.rule in (
       c.rule.result,
       c.rule.ensures c.args.rule.now read.1 read.2 read.3,

@@ -4,8 +4,8 @@ use Rattle.cal_schedule.specs.Rule.{days_after}
 use Rattle.cal_c.specs.Results.{date_if_any}
 use Rattle.cal_c.proofs.schedule.recurrences.fots_rule_next_after.Goals as goal
 
-pub returns-in-Some-clause-day : goal.returns-in-Some-clause-day
-returns-in-Some-clause-day c = λ h k.
+pub returns-clause-day : goal.returns-clause-day
+returns-clause-day c = λ h k.
     let f = c.ranges.date in
     let at = simp to_z-of_z at c.in-Some.ensures in
     let read = c.in-Ok.ensures.rule in (

@@ -7,13 +7,13 @@ use Rattle.cal_c.proofs.Equals.{same_value}
 use Rattle.cal_c.proofs.Schedules.{same_convention}
 use Rattle.cal_c.proofs.schedule.workdays.fots_date_adjusted.Goals as goal
 
-pub returns-in-Ok-clause-day : goal.returns-in-Ok-clause-day
-returns-in-Ok-clause-day c = λ h m l a by number.
+pub returns-clause-day : goal.returns-clause-day
+returns-clause-day c = λ h m l a by number.
     let f = c.ranges.date in
     let at = simp to_z-of_z at c.in-Some.ensures in
     let week = work_week c.args.week c.args.holidays.now in
-    let its = c.in-Some-convention_of.convention in
+    let its = c.in-Some-convention_of.value in
     let same = same_convention its by (c.in-Some-convention_of.ensures.1 ∙ sym number) in
-    let work = c.workdays.ensures ∙ same_value c.in-Ok.calendar week (c.in-Ok.ensures.value m l a) in
-    let day = ap (λ x. adjusted x its c.in-Some.date) work ∙ ap (λ q. adjusted week q c.in-Some.date) same ∙ ap (adjusted week by) at.1 in
+    let work = c.workdays.ensures ∙ same_value c.in-Ok.value week (c.in-Ok.ensures.value m l a) in
+    let day = ap (λ x. adjusted x its c.in-Some.value) work ∙ ap (λ q. adjusted week q c.in-Some.value) same ∙ ap (adjusted week by) at.1 in
     c.of_option.ensures ∙ ap date_if_any (c.adjusted.ensures.day ∙ day)

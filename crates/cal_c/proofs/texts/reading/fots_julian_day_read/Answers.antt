@@ -7,8 +7,8 @@ returns-in-Err-clause-form c none =
     let is = c.in-Err.ensures in
     unreadable_date _ c.args.text.now c.in-Err.error _ (is.form.1 (λ j has. none (j, has))) is.position c.refused.ensures
 
-pub returns-in-Ok-clause-component : goal.returns-in-Ok-clause-component
-returns-in-Ok-clause-component c why h = absurd ((c.in-Ok.ensures.component why).1 h)
+pub returns-clause-component : goal.returns-clause-component
+returns-clause-component c why h = absurd ((c.in-Ok.ensures.component why).1 h)
 
 pub returns-in-Err-clause-component : goal.returns-in-Err-clause-component
 returns-in-Err-clause-component c why h = c.refused.ensures ∙ refused_date _ why ((c.in-Err.ensures.component why).1 h)

@@ -7,8 +7,8 @@ use Rattle.cal_c.proofs.time.moves.fots_time_adjusting_add.Goals as goal
 pub returns-clause-time : goal.returns-clause-time
 returns-clause-time c = λ h d.
     let e = c.adjusting_add-adjustment.ensures in
-    let t = c.in-Some.time in
-    let v = c.in-Some-duration_of.duration in
+    let t = c.in-Some.value in
+    let v = c.in-Some-duration_of.value in
     let r = adjusted_time_done (carry c.adjusting_add-adjustment.result.0) c.adjusting_add-adjustment.result.1 in
     let found : IsAddAdjusted t v r = record { status_is = refl; is_time = record { below_day = e.below_day }; equation = e.equation; forward = e.forward; backward = e.backward } in
     let at_time : IsAddAdjusted c.args.time v r = subst (λ s. IsAddAdjusted s v r) c.in-Some.ensures.1 found in

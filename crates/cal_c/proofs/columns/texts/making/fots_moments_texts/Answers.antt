@@ -17,15 +17,9 @@ loop-row-preserved c =
     } in
     let f-dates : FitsSigned w32 (get_or c.args.dates.now c.loop-row.row (pos 0)) = search rules in
     let f-offsets : FitsSigned w32 (get_or c.args.offsets.now c.loop-row.row (pos 0)) = search rules in
-    let its = c.text_of_moment-text.ensures in
-    let its-bad_date = simp to_z-of_z at its.bad_date in
-    let its-bad_time = simp to_z-of_z at its.bad_time in
-    let its-bad_offset = simp to_z-of_z at its.bad_offset in
-    let its-past_range = simp to_z-of_z at its.past_range in
-    let its-value = simp to_z-of_z at its.value in
     let same : text ≡ c.text_of_moment-text.result.0 = c.as_bytes.ensures.bytes in
     let as_long : length text ≡ length c.text_of_moment-text.result.0 = ap length same in
-    let here : IsTextOfMoment (get_or c.args.dates.now c.loop-row.row (pos 0)) (get_or c.args.times.now c.loop-row.row 0) (get_or c.args.offsets.now c.loop-row.row (pos 0)) c.text_of_moment-text.result.0 c.text_of_moment-text.result.1 = record { bad_date = its-bad_date; bad_time = its-bad_time; bad_offset = its-bad_offset; past_range = its-past_range; value = its-value } in
+    let here : IsTextOfMoment (get_or c.args.dates.now c.loop-row.row (pos 0)) (get_or c.args.times.now c.loop-row.row 0) (get_or c.args.offsets.now c.loop-row.row (pos 0)) c.text_of_moment-text.result.0 c.text_of_moment-text.result.1 = simp to_z-of_z at c.text_of_moment-text.ensures.text in
     let few : next ≤ (c.loop-row.row + 1) * 38 = omega (arith, c.put-end.ensures.end, c.loop-row.invariant.few, c.text_of_moment-text.ensures.short, as_long) in
     let bound : to_z w32 next ≡ pos next = search rules in
     let hb : c.loop-row.row + 1 < length c.loop-row.bounds = omega (arith, simp length-set at c.loop-row.auto.bounds) in

@@ -11,6 +11,6 @@ loop-index-preserved c =
     let at = simp to_z-of_z at c.in-Some.ensures in
     record {
       count = grind (arith, common_steps);
-      days = c.push.ensures ∙ days_more c.args.julian_days.now c.loop-index.index c.loop-index.holidays c.in-Some.date (omega arith) kept.days at.1;
+      days = c.push.ensures ∙ days_more c.args.julian_days.now c.loop-index.index c.loop-index.holidays c.in-Some.value (omega arith) kept.days at.1;
       dates = dates_more c.args.julian_days.now c.loop-index.index (omega arith) kept.dates at.0;
     }
