@@ -43,20 +43,6 @@ ok_one a b e = ap (held a) e
     held other (Ok found) = found
     held other (Err error) = other
 
-pub untold_none : (filter : Filter) (bounds : Bounds) (text : List ℕ) (found : DateOrMoment) → filter.request ≡ Keep bounds
-    → ((other : DateOrMoment) → IsTextIn filter.reading text other → known found ≡ known other) → lies_in bounds found ≡ None
-    → (words : List ℕ) → ¬ HasAnswer filter text words
-untold_none filter bounds text found e every none words h =
-    let same = ok_one found h.1.0 (every h.1.0 h.1.1) in
-    none_told filter.request bounds h.1.0 e (subst (λ f. lies_in bounds f ≡ None) same none) words h.1.2
-
-err_ok : (error : Unreadable) (found : DateOrMoment) → Err error ≡ Ok found → ⊥
-err_ok error found e = cc
-
-pub unread_none : (filter : Filter) (text : List ℕ) (error : Unreadable)
-    → ((found : DateOrMoment) → IsTextIn filter.reading text found → Err error ≡ Ok found) → (words : List ℕ) → ¬ HasAnswer filter text words
-unread_none filter text error every words h = err_ok error h.1.0 (every h.1.0 h.1.1)
-
 -- ---- a strict run writes nothing for it
 pub strict_long : (filter : Filter) (before : ℕ) (text words : List ℕ) → filter.is_strict ≡ true → 4096 < length text → ¬ IsAllowed filter before text words
 strict_long filter before text words strict long (inl h) = false≢true (sym h.0 ∙ strict)

@@ -26,8 +26,7 @@ returns-in-Err-clause-every c =
 
 pub returns-in-Err-clause-form : goal.returns-in-Err-clause-form
 returns-in-Err-clause-form c =
-    let first = (c.if-begins_with.ensures.0 refl).1 in
-    (
+    let first = (c.if-begins_with.ensures.0 refl).1 in (
       λ none any.
           let form = julian-any c.args.text.now first any in
           c.in-Err.ensures.form.0 none form.0 form.1,
@@ -60,8 +59,7 @@ returns-in-Err-read-clause-every c =
 
 pub returns-in-Err-read-clause-form : goal.returns-in-Err-read-clause-form
 returns-in-Err-read-clause-form c =
-    let first = (c.if-begins_with-2.ensures.0 refl).1 in
-    (
+    let first = (c.if-begins_with-2.ensures.0 refl).1 in (
       λ none any.
           let form = unix-any c.args.text.now first any in
           c.in-Err-read.ensures.form.0 none form.0 form.1,
@@ -98,8 +96,7 @@ returns-in-Err-read-2-clause-every c =
 pub returns-in-Err-read-2-clause-form : goal.returns-in-Err-read-2-clause-form
 returns-in-Err-read-2-clause-form c =
     let first : (get_or c.args.text.now 0 0 ≢ 74) × (get_or c.args.text.now 0 0 ≢ 64) = search rules in
-    let separator = c.if-is_separator.ensures.0 refl in
-    (
+    let separator = c.if-is_separator.ensures.0 refl in (
       λ none any.
           let form = moment-any c.args.text.now first separator any in
           c.in-Err-read-2.ensures.form.0 (sym c.further.ensures.component ∙ none) form.0 form.1,

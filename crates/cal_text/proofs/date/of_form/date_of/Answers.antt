@@ -45,14 +45,14 @@ returns-in-Week-clause-every c =
     let f = c.in-Week in
     let P = λ (y : ℤ) (p : ℕ). (n : ℕ) → IsDate n → HasIsoWeekDate y f.week p n → c.from_iso_week_date.result ≡ Ok n in
     subst (λ g. (n : ℕ) → IsDate n → IsOnDay g n → c.from_iso_week_date.result ≡ Ok n) (sym f.is)
-      (subst (λ y. P y (f.weekday - 1)) (year_is c) (subst (P (to_z w32 (of_z w32 f.year))) (weekday_is c) c.from_iso_week_date.ensures.every))
+    (subst (λ y. P y (f.weekday - 1)) (year_is c) (subst (P (to_z w32 (of_z w32 f.year))) (weekday_is c) c.from_iso_week_date.ensures.every))
 
 pub returns-in-Week-clause-has : goal.returns-in-Week-clause-has
 returns-in-Week-clause-has c =
     let f = c.in-Week in
     let P = λ (y : ℤ) (p : ℕ). IfOk c.from_iso_week_date.result (λ n. IsDate n × HasIsoWeekDate y f.week p n) in
     subst (λ g. IfOk c.from_iso_week_date.result (λ n. IsDate n × IsOnDay g n)) (sym f.is)
-      (subst (λ y. P y (f.weekday - 1)) (year_is c) (subst (P (to_z w32 (of_z w32 f.year))) (weekday_is c) c.from_iso_week_date.ensures.has))
+    (subst (λ y. P y (f.weekday - 1)) (year_is c) (subst (P (to_z w32 (of_z w32 f.year))) (weekday_is c) c.from_iso_week_date.ensures.has))
 
 pub returns-in-Week-clause-component : goal.returns-in-Week-clause-component
 returns-in-Week-clause-component c =
