@@ -20,7 +20,7 @@ nine_digits n =
     ∷ digit (n / 100_000 % 10) ∷ digit (n / 10_000 % 10) ∷ digit (n / 1_000 % 10)
     ∷ digit (n / 100 % 10) ∷ digit (n / 10 % 10) ∷ digit (n % 10) ∷ []
 
--- a digit before others, where it is no zero before none
+-- a digit before those that stay after it; a zero stays only where one after it does
 abbrev pub digit_before : ℕ → List ℕ → List ℕ
 digit_before d [] = if d == digit 0 then [] else d ∷ []
 digit_before d (e ∷ es) = d ∷ e ∷ es
