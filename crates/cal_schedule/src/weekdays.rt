@@ -16,7 +16,7 @@ use cal_time::{Cycle, Date, Month, Weekday};
 fn days_on(from: Weekday, to: Weekday) -> u8
     ensures { result ≡ (index to + 7 - index from) % 7 }
 {
-    (to.index() + 7 - from.index()) % 7
+    (to.place() + 7 - from.place()) % 7
 }
 
 /// The n-th day with the weekday in a month of the range, if it has one.

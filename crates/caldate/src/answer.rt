@@ -270,6 +270,7 @@ fn push_between(
 }
 
 /// Gathers the days between two dates, else the duration between two moments.
+#[tactic(auto, using(cal_time::proofs::TextLengths::text_lengths))]
 fn push_until(buffer: &mut Buffer, from: &DateOrMoment, to: &DateOrMoment)
     requires { HasRoom longest_answer buffer.old }
     ensures text { buffer.new ≡ buffer.old ++ until_text from.now to.now }

@@ -11,6 +11,7 @@ use cal_schedule::quarter;
 use cal_time::{Cycle, Date, ShortText};
 
 /// The month of the day, as `2024-02`.
+#[tactic(auto, using(cal_time::proofs::TextLengths::text_lengths))]
 pub fn month_text(date: Date) -> ShortText
     ensures text { result ≡ month_text date }
     ensures short { length result ≤ 10 }
@@ -19,11 +20,12 @@ pub fn month_text(date: Date) -> ShortText
     let mut text = ShortText::new();
     text.push_year(year);
     text.push("-");
-    text.push_two_digits(u32::from(month.index()) + 1);
+    text.push_two_digits(u32::from(month.place()) + 1);
     text
 }
 
 /// The quarter of the day, as `2024-Q1`.
+#[tactic(auto, using(cal_time::proofs::TextLengths::text_lengths))]
 pub fn quarter_text(date: Date) -> ShortText
     ensures text { result ≡ quarter_text date }
     ensures short { length result ≤ 10 }
@@ -36,6 +38,7 @@ pub fn quarter_text(date: Date) -> ShortText
 }
 
 /// The date in the basic format, as `20240229`, or `None` where its year has not four digits.
+#[tactic(auto, using(cal_time::proofs::TextLengths::text_lengths))]
 pub fn basic_text(date: Date) -> Option<ShortText>
     ensures { MatchOption result (¬ HasBasicText date)
         (λ text. HasBasicText date × (text ≡ basic_text date) × (length text ≤ 11)) }
@@ -46,7 +49,7 @@ pub fn basic_text(date: Date) -> Option<ShortText>
     }
     let mut text = ShortText::new();
     text.push_year(year);
-    text.push_two_digits(u32::from(month.index()) + 1);
+    text.push_two_digits(u32::from(month.place()) + 1);
     text.push_two_digits(u32::from(day));
     Some(text)
 }

@@ -5,6 +5,7 @@ ghost use Rattle.std.specs.Fmt.{signed_decimal};
 use cal_time::ShortText;
 
 /// The digits of a number, after a minus sign below 0.
+#[tactic(auto, using(cal_time::proofs::TextLengths::text_lengths))]
 pub fn signed_text(number: i128) -> ShortText
     ensures text { result ≡ signed_decimal number }
     ensures short { length result ≤ 40 }

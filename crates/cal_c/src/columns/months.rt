@@ -73,7 +73,7 @@ fn index_and_day(date: i32) -> (u32, u8)
     match date_of(date) {
         Some(date) => {
             let (year, month, day) = date.to_calendar_date();
-            ((year + 999_999) as u32 * 12 + u32::from(month.index()), day)
+            ((year + 999_999) as u32 * 12 + u32::from(month.place()), day)
         }
         None => (0, 1),
     }

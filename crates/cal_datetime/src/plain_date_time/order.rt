@@ -78,8 +78,6 @@ impl Counted for PlainDateTime {
 
     ghost alike = { λ x y. Prim.search rules };
 
-    ghost apart = { λ x y e. e };
-
     ghost hashed = { λ x y e. ap fed.i128 e };
 
     /// The nanoseconds since the first date-time of the range: those of 1970-01-01 0:00 are 31619087596800000000000.

@@ -28,14 +28,14 @@ fn is_nth(n: i8, ahead: u16, back: u16) -> bool
 fn month_of(date: Date) -> u8
     ensures { result ≡ month_at date }
 {
-    date.month().index() + 1
+    date.month().place() + 1
 }
 
 /// Whether the months have that number among them.
 fn any_month(months: &[Month], number: u8) -> bool
     ensures { result ≡ list_any (λ m. month_number m == number) months.now }
 {
-    months.iter().any(|month| month.index() + 1 == number)
+    months.iter().any(|month| month.place() + 1 == number)
 }
 
 /// Whether the day is that one of its month.
@@ -99,7 +99,7 @@ pub(super) fn turn_of(frequency: Frequency, first: Weekday, date: Date) -> u32
 {
     match frequency {
         Frequency::Daily => number(date),
-        Frequency::Weekly => (number(date) + 7 - u32::from(first.index())) / 7,
+        Frequency::Weekly => (number(date) + 7 - u32::from(first.place())) / 7,
         Frequency::Monthly => index_and_day(date).0,
         Frequency::Yearly => (date.year() + 999_999) as u32,
     }
