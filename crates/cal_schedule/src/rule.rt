@@ -1,4 +1,4 @@
-//! Rules of days that come back, after RFC 5545.
+//! Rules of days that come back, in a subset of RFC 5545, by days.
 mod kinds;
 mod passes;
 mod search;
