@@ -5,7 +5,7 @@
 #![tactic(auto)]
 
 mod bounds;
-mod laws;
+pub mod laws;
 mod money;
 mod months;
 mod numbers;

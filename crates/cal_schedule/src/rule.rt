@@ -5,4 +5,5 @@ mod search;
 mod walk;
 
 pub use kinds::{ByDay, Frequency, Rule};
+pub(crate) use passes::{is_nth_of, turn_of};
 pub use walk::RuleDays;

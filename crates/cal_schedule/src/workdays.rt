@@ -6,7 +6,6 @@ ghost use Rattle.cal_schedule.specs.Workdays.{is_workday, workdays_from, workday
 mod adjusted;
 mod calendar;
 mod convention;
-mod laws;
 mod search;
 mod week;
 

@@ -1,10 +1,12 @@
 //! Rules by their fields. What RFC 5545 gives with its examples is read from their texts, in the crate of recurrences.
 use cal_schedule::ByDay::Nth;
-use cal_schedule::Frequency::{Daily, Monthly};
+use cal_schedule::Frequency::{Daily, Monthly, Weekly};
+use cal_schedule::laws::rules::{is_nth_weekday, period_index};
 use cal_schedule::{Frequency, Rule};
-use cal_time::Weekday::Friday;
+use cal_time::Weekday::{Friday, Monday, Sunday};
 use cal_time::{Date, Month};
 use std::process::Abort;
+use std::test::Fail;
 
 /// The day with the number of eight digits, as `1997_09_02`.
 fn date(rt: &impl Abort, number: i64) -> Date {
@@ -70,4 +72,31 @@ fn times(rt: HostRuntime) {
     let after = rule.next_after(date(rt, 2024_05_31));
     gives(rt, "after May", after, Some(date(rt, 2024_06_28)));
     assert!(rt; rule.contains(date(rt, 2024_05_31)) && !rule.contains(date(rt, 2024_05_24)));
+}
+
+/// By the calendar of 2024; 19 May 1997 is the 20th Monday of its year in an example of RFC 5545.
+#[test]
+fn counts(rt: HostRuntime) {
+    let rt = &rt;
+    let friday = date(rt, 2024_05_31);
+    assert!(rt; is_nth_weekday(false, friday, 5) && is_nth_weekday(false, friday, -1));
+    assert!(rt; !is_nth_weekday(false, friday, 4) && !is_nth_weekday(false, friday, -2));
+    assert!(rt; is_nth_weekday(true, date(rt, 1997_05_19), 20));
+    let (first, second) = (date(rt, 2024_01_07), date(rt, 2024_01_08));
+    for (start, more) in [(Sunday, 0), (Monday, 1)] {
+        let index = period_index(Weekly, start, first);
+        assert!(rt; period_index(Weekly, start, second).abs_diff(index) == more);
+    }
+}
+
+/// The text for debugging is that of Rust's `derive`: the type and its fields.
+#[test]
+fn debug(rt: HostRuntime) -> Result<(), Fail> {
+    let walk = rule(&rt, Daily, 2024_01_01).first_days(2);
+    let text = format!(in rt.alloc(); "{walk:?}")?;
+    let rule = "Rule { start: 2024-01-01, frequency: Daily, interval: 1, week_start: Monday, \
+        months: [], month_days: [], weekdays: [], until: None }";
+    let wanted = format!(in rt.alloc(); "RuleDays {{ rule: {rule}, front: Some(2024-01-01), left: 2 }}")?;
+    assert!(rt; text.as_str() == wanted.as_str(), "{text}");
+    Ok(())
 }

@@ -9,6 +9,7 @@ use cal_schedule::{Convention, Workdays};
 use cal_time::{Date, Month};
 use std::fmt::Debug;
 use std::process::Abort;
+use std::test::Fail;
 
 /// Monday to Friday.
 const OFFICE: [bool; 7] = [true, true, true, true, true, false, false];
@@ -243,6 +244,19 @@ fn ends(rt: HostRuntime) {
         late.adjusted(Date::MIN, Convention::ModifiedPreceding),
         tuesday,
     );
+}
+
+/// The text for debugging is that of Rust's `derive`: the type and its fields.
+#[test]
+fn debug(rt: HostRuntime) -> Result<(), Fail> {
+    let holidays = [date(&rt, (2024, 1, 1))];
+    let text = format!(in rt.alloc(); "{:?}", workdays(&rt, OFFICE, &holidays))?;
+    same(
+        &rt,
+        text.as_str(),
+        "Workdays { marks: [true, true, true, true, true, false, false], holidays: [2024-01-01] }",
+    );
+    Ok(())
 }
 
 /// Two answers of `new`.

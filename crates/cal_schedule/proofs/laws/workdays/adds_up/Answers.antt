@@ -1,7 +1,7 @@
 use Rattle.std.proofs.Common.{arith}
 use Rattle.std.proofs.lemmas.Int.{ints}
 use Rattle.cal_schedule.specs.WorkdaysLaws.{between-is}
-use Rattle.cal_schedule.proofs.workdays.laws.adds_up.Goals as goal
+use Rattle.cal_schedule.proofs.laws.workdays.adds_up.Goals as goal
 
 pub returns : goal.returns
 returns c =
