@@ -59,8 +59,9 @@ fn any_month_day(days: &[i8], date: Date) -> bool
 
 /// Whether the day is the so-many-th of its weekday in its year, or in its month.
 #[tactic(auto, unfolding(crate::specs::Rule::is_nth_of))]
-fn is_nth_of(of_year: bool, date: Date, n: i8) -> bool
-    ensures { result ≡ is_nth_of of_year date n }
+pub(crate) fn is_nth_of(of_year: bool, date: Date, n: i8) -> bool
+    ensures value { result ≡ is_nth_of of_year date n }
+    ensures in_range { IsDate date }
 {
     let (index, length) = if of_year {
         (date.ordinal(), days_in_year(date.year()))
@@ -92,7 +93,7 @@ fn any_weekday(weekdays: &[ByDay], of_year: bool, date: Date) -> bool
 
 /// The day, the week, the month or the year of the day, counted from the first one of the range.
 #[tactic(auto, unfolding(crate::specs::Rule::turn_at))]
-pub(super) fn turn_of(frequency: Frequency, first: Weekday, date: Date) -> u32
+pub(crate) fn turn_of(frequency: Frequency, first: Weekday, date: Date) -> u32
     ensures turn { result ≡ turn_at frequency first date }
     ensures most { result ≤ last_day }
     ensures in_range { IsDate date }
