@@ -1,5 +1,5 @@
 //! Recurrences written, and read again.
-use crate::{Recurrence, RuleEnd, Values, parse};
+use cal_recurrence::{Recurrence, RuleEnd, Values, parse};
 use cal_schedule::{ByDay, Frequency};
 use cal_time::{Date, Month, Weekday};
 use std::process::Abort;
