@@ -142,6 +142,13 @@ fn printed_and_compared(rt: HostRuntime) {
         shown.as_str() == "  FREQ=DAILY;BYMONTHDAY=1,-1|FREQ=DAILY;BYMONTHDAY=1,-1|[1, -1]",
         "{shown}"
     );
+    let Ok(shown) = format!(in rt.alloc(); "{:?}", recurrence.text()) else {
+        panic!(rt; "no memory");
+    };
+    assert!(rt;
+        shown.as_str() == "\"FREQ=DAILY;BYMONTHDAY=1,-1\"",
+        "{shown}"
+    );
     let Ok(clone) = recurrence.clone() else {
         panic!(rt; "no clone");
     };
