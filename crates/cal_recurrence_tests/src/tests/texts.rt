@@ -1,5 +1,5 @@
 //! Texts that are refused, by the position and the reason; texts that are read in each case and order; recurrences by their fields.
-use crate::{Recurrence, RuleEnd, RuleFault, RulePart, RuleReason, Values, parse};
+use cal_recurrence::{Recurrence, RuleEnd, RuleFault, RulePart, RuleReason, Values, parse};
 use cal_schedule::{ByDay, Frequency};
 use cal_time::{Date, Month, Weekday};
 use std::alloc::Global;

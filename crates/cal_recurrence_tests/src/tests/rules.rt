@@ -2,7 +2,7 @@
 //!
 //! Times of day are not read. So where an example has a day with a time of day in `UNTIL`, as `19971224T000000Z`, a date stands here:
 //! that day, or the day before it where the rule has that day at a later time.
-use crate::{Recurrence, parse};
+use cal_recurrence::{Recurrence, parse};
 use cal_time::{Date, Month};
 use std::process::Abort;
 

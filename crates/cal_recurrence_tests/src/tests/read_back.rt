@@ -3,7 +3,7 @@ ghost use Rattle.std.specs.Prelude.{◌≡◌, Ok};
 ghost use Rattle.cal_recurrence.specs.Spelled.{IsSpelled};
 ghost use Rattle.cal_recurrence.specs.Text.{recurrence_of};
 
-use crate::{Recurrence, RuleFault, parse};
+use cal_recurrence::{Recurrence, RuleFault, parse};
 
 /// A recurrence that a text says, written and read.
 fn read_back(recurrence: &Recurrence) -> Result<Recurrence, RuleFault>

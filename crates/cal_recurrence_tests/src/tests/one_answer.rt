@@ -3,7 +3,7 @@
 //! A proof knows nothing of a call but its clauses. So where they let a second answer through, the line of that call stays open.
 ghost use Rattle.std.specs.Prelude.{◌≡◌};
 
-use crate::{Recurrence, RecurrenceText, RuleFault};
+use cal_recurrence::{Recurrence, RecurrenceText, RuleFault};
 use cal_schedule::{Rule, RuleDays};
 use cal_time::Date;
 
@@ -19,7 +19,7 @@ macro_rules! twice {
 fn parse(text: &[u8]) -> Twice<Result<Recurrence, RuleFault>>
     ensures { result.0 ≡ result.1 }
 {
-    twice!(crate::parse(text))
+    twice!(cal_recurrence::parse(text))
 }
 
 fn text(recurrence: &Recurrence) -> Twice<RecurrenceText>

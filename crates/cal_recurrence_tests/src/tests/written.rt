@@ -1,5 +1,5 @@
 //! Recurrences written, and read again.
-use crate::{Recurrence, RuleEnd, Values, parse};
+use cal_recurrence::{Recurrence, RuleEnd, Values, parse};
 use cal_schedule::{ByDay, Frequency};
 use cal_time::{Date, Month, Weekday};
 use std::process::Abort;
@@ -140,6 +140,13 @@ fn printed_and_compared(rt: HostRuntime) {
     };
     assert!(rt;
         shown.as_str() == "  FREQ=DAILY;BYMONTHDAY=1,-1|FREQ=DAILY;BYMONTHDAY=1,-1|[1, -1]",
+        "{shown}"
+    );
+    let Ok(shown) = format!(in rt.alloc(); "{:?}", recurrence.text()) else {
+        panic!(rt; "no memory");
+    };
+    assert!(rt;
+        shown.as_str() == "\"FREQ=DAILY;BYMONTHDAY=1,-1\"",
         "{shown}"
     );
     let Ok(clone) = recurrence.clone() else {
