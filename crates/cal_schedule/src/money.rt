@@ -6,6 +6,7 @@ ghost use Rattle.cal_schedule.specs.Money.{actual_days, bond_end, counted_days, 
 
 use crate::until::months_apart;
 use cal_time::Date;
+use cal_time::limits::MIN_YEAR;
 use cal_time::util::is_leap_year;
 
 /// A convention by which the days of interest are counted, under the names of the 2006 ISDA Definitions.
@@ -64,7 +65,7 @@ fn years_before(date: Date) -> u32
     ensures most { result < 2_000_000 }
     ensures in_range { IsDate date }
 {
-    (date.year() + 999_999) as u32
+    (date.year() - MIN_YEAR) as u32
 }
 
 /// The days of leap years that come before a day, from the first of the range on.

@@ -4,9 +4,9 @@ use Rattle.std.proofs.lemmas.Bool.{cases_lt}
 use Rattle.std.proofs.lemmas.Int.{ints}
 use Rattle.std.proofs.lemmas.List.{length-append}
 use Rattle.std.proofs.Math.Nat.{mod-add-mod, add-mod_right, add-mul-mod_self_left, mod-eq_of_lt}
-use Rattle.std.specs.Prelude.{IfOk, IfErr, MatchOption, IsSomeAnd, ◌↔◌, ◌≤ℤ◌, not}
+use Rattle.std.specs.Prelude.{IfOk, IfErr, MatchOption, IsSomeAnd, ◌↔◌, ◌<ℤ◌, ◌≤ℤ◌, not}
 use Rattle.std.specs.List.{All}
-use Rattle.cal_units.specs.Counted.{IsExtent, IsItemBetween}
+use Rattle.cal_units.specs.Counted.{IsExtent, IsFirstMaximum, IsFirstMinimum, IsItemBetween}
 use Rattle.cal_units.specs.declared.cycle.Cycle.{Ghosts}
 use Rattle.cal_units.specs.Refusal.{IsRefused}
 use Rattle.cal_units.specs.declared.error.ComponentRange.{ComponentRange}
@@ -202,13 +202,22 @@ one-place P Q P' Q' x y not_later not_earlier (a ∷ before) after (b ∷ before
     let tail : before ++ x ∷ after ≡ before' ++ y ∷ after' = cc in
     one-place P Q P' Q' x y not_later not_earlier before after before' after' tail (λ k d lt. p (suc k) d (omega (arith, lt))) q (λ k d lt. p' (suc k) d (omega (arith, lt))) q'
 
+minimum-one : {T : Type 0} (number : T → ℤ) (items : List T) (x y : T) → IsFirstMinimum number items x → IsFirstMinimum number items y → x ≡ y
+minimum-one number items x y h k =
+    one-place (λ z. number x <ℤ number z) (λ z. number x ≤ℤ number z) (λ z. number y <ℤ number z) (λ z. number y ≤ℤ number z) x y
+        (λ a b. omega (arith, ints, a, b)) (λ a b. omega (arith, ints, a, b)) h.before h.after k.before k.after (sym h.place ∙ k.place) h.earlier h.later k.earlier k.later
+
+maximum-one : {T : Type 0} (number : T → ℤ) (items : List T) (x y : T) → IsFirstMaximum number items x → IsFirstMaximum number items y → x ≡ y
+maximum-one number items x y h k =
+    one-place (λ z. number z <ℤ number x) (λ z. number z ≤ℤ number x) (λ z. number z <ℤ number y) (λ z. number z ≤ℤ number y) x y
+        (λ a b. omega (arith, ints, a, b)) (λ a b. omega (arith, ints, a, b)) h.before h.after k.before k.after (sym h.place ∙ k.place) h.earlier h.later k.earlier k.later
+
 pub extent-one : {T : Type 0} (number : T → ℤ) (items : List T) (r s : Option (T × T))
     → MatchOption r (items ≡ []) (IsExtent number items) → MatchOption s (items ≡ []) (IsExtent number items) → r ≡ s
 extent-one number items None None h k = refl
 extent-one number items None (Some q) h k = absurd (none-of_empty items q.0 h k.minimum)
 extent-one number items (Some p) None h k = absurd (none-of_empty items p.0 k h.minimum)
 extent-one number items (Some p) (Some q) h k =
-    let (low, low', high, high') = (h.minimum, k.minimum, h.maximum, k.maximum) in
-    let minimum : p.0 ≡ q.0 = one-place _ _ _ _ p.0 q.0 (λ a b. omega (arith, ints, a, b)) (λ a b. omega (arith, ints, a, b)) low.before low.after low'.before low'.after (sym low.place ∙ low'.place) low.earlier low.later low'.earlier low'.later in
-    let maximum : p.1 ≡ q.1 = one-place _ _ _ _ p.1 q.1 (λ a b. omega (arith, ints, a, b)) (λ a b. omega (arith, ints, a, b)) high.before high.after high'.before high'.after (sym high.place ∙ high'.place) high.earlier high.later high'.earlier high'.later in
+    let minimum = minimum-one number items p.0 q.0 h.minimum k.minimum in
+    let maximum = maximum-one number items p.1 q.1 h.maximum k.maximum in
     ap Some (λ i. (minimum i, maximum i))

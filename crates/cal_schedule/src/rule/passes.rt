@@ -9,6 +9,7 @@ ghost use Rattle.cal_schedule.specs.Rule.{allows, is_as_start, is_by, is_empty, 
 use crate::months::index_and_day;
 use crate::numbers::number;
 use crate::rule::kinds::{ByDay, Frequency, Rule};
+use cal_time::limits::MIN_YEAR;
 use cal_time::util::{days_in_month, days_in_year};
 use cal_time::{Cycle, Date, Month, Weekday};
 
@@ -102,7 +103,7 @@ pub(crate) fn turn_of(frequency: Frequency, first: Weekday, date: Date) -> u32
         Frequency::Daily => number(date),
         Frequency::Weekly => (number(date) + 7 - u32::from(first.place())) / 7,
         Frequency::Monthly => index_and_day(date).0,
-        Frequency::Yearly => (date.year() + 999_999) as u32,
+        Frequency::Yearly => (date.year() - MIN_YEAR) as u32,
     }
 }
 
