@@ -142,7 +142,7 @@ fn rows_of_numpy(rt: HostRuntime) {
         office.workdays_between(year, date(&rt, (2011, 2, 1))),
         21,
     );
-    // Back, by hand: the Friday before a Monday, which itself isn't counted, and none for a Saturday.
+    // Back, by hand: from a Monday to the Friday before it, and to the Saturday.
     let monday = date(&rt, (2024, 1, 8));
     for (to, count) in [((2024, 1, 5), -1), ((2024, 1, 6), 0)] {
         same(&rt, office.workdays_between(monday, date(&rt, to)), count);
