@@ -1,9 +1,9 @@
 //! Moments of RFC 3339, read and printed.
-use crate::Unreadable;
-use crate::Unreadable::{UnexpectedByte, UnexpectedEnd};
-use crate::rfc3339::{self, Text};
 use crate::tests::{out_of_range, parts_of, reads, same};
 use cal_datetime::OffsetDateTime;
+use cal_text::Unreadable;
+use cal_text::Unreadable::{UnexpectedByte, UnexpectedEnd};
+use cal_text::rfc3339::{self, Text};
 use cal_time::{Date, Month, Time, UtcOffset};
 use std::process::Abort;
 use std::test::Fail;

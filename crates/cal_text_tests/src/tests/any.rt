@@ -1,8 +1,8 @@
 //! Texts read in whichever form they come.
-use crate::Unreadable::{UnexpectedByte, UnexpectedEnd};
 use crate::tests::{out_of_range, reads};
-use crate::{DateForm, DateOrMoment, MomentForm, read_any};
 use cal_datetime::OffsetDateTime;
+use cal_text::Unreadable::{UnexpectedByte, UnexpectedEnd};
+use cal_text::{DateForm, DateOrMoment, MomentForm, read_any};
 use cal_time::{Date, Month, Time, UtcOffset};
 use std::test::Fail;
 

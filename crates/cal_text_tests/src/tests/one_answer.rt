@@ -1,8 +1,8 @@
 //! Each reader leaves one answer: two calls with the same text are proved to give the same.
 ghost use Rattle.std.specs.Prelude.{◌≡◌};
 
-use crate::{DateOrMoment, Unreadable, date, julian_day, read_any, rfc3339, unix};
 use cal_datetime::OffsetDateTime;
+use cal_text::{DateOrMoment, Unreadable, date, julian_day, read_any, rfc3339, unix};
 use cal_time::Date;
 
 /// What two calls give.

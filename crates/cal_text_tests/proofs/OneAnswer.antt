@@ -8,7 +8,6 @@ use Rattle.cal_text.specs.declared.error.Unreadable.TheVariants.{UnexpectedByte,
 use Rattle.cal_text.specs.Position.{IsAtStop}
 use Rattle.cal_text.proofs.Positions.{one_position}
 use Rattle.cal_text.specs.Reading.{component_of, IsRefusedFor, IsRefusedForForm}
-use Rattle.cal_text.proofs.Results.{not_ok}
 
 -- two answers that say the same, but for the position of a wrong byte
 abbrev AreAlikeButForPosition : {V : Type 0} → Result V Unreadable → Result V Unreadable → Type 0
@@ -27,7 +26,7 @@ alike : {V NoForm : Type 0} (Has : V → Type 0) {IsFault : ComponentRange → T
     → IsRefusedForForm r ↔ NoForm → IsRefusedForForm s ↔ NoForm → ((why : ComponentRange) → IsRefusedFor why r ↔ IsFault why)
     → ((why : ComponentRange) → IsRefusedFor why s ↔ IsFault why) → AreAlikeButForPosition r s
 alike Has (Ok v) s has other here there form forms component fault = rw (there v has) refl
-alike Has (Err e) (Ok w) has other here there form forms component fault = absurd (not_ok e w (here w other))
+alike Has (Err e) (Ok w) has other here there form forms component fault = cc (here w other)
 alike Has (Err e) (Err f) has other here there form forms component fault =
     same_component (component_of e) (component_of f) (component_of e) form forms component fault refl
 

@@ -3,8 +3,8 @@ use Rattle.cal_time.specs.Date.{IsDate}
 use Rattle.cal_text.specs.JulianForm.{julian_text, IsJulianForm, IsJulianFault}
 use Rattle.cal_text.specs.Position.{HasSome}
 use Rattle.cal_text.specs.Reading.{HasFault}
-use Rattle.cal_text.proofs.OneAnswer.{one_answer}
-use Rattle.cal_text.proofs.tests.one_answer.of_julian_day.Goals as goal
+use Rattle.cal_text_tests.proofs.OneAnswer.{one_answer}
+use Rattle.cal_text_tests.proofs.tests.one_answer.of_julian_day.Goals as goal
 
 pub returns : goal.returns
 returns c =

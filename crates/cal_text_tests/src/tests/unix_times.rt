@@ -1,8 +1,8 @@
 //! Unix times, read and printed.
-use crate::Unreadable::{UnexpectedByte, UnexpectedEnd};
 use crate::tests::{out_of_range, parts_of, reads, same};
-use crate::unix;
 use cal_datetime::OffsetDateTime;
+use cal_text::Unreadable::{UnexpectedByte, UnexpectedEnd};
+use cal_text::unix;
 use cal_time::{Date, Month, Time, UtcOffset};
 use std::test::Fail;
 

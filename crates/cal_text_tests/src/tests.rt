@@ -1,9 +1,9 @@
 //! Texts and their dates, from outside.
-use crate::Unreadable::{UnexpectedByte, UnexpectedEnd};
-use crate::date::{CalendarText, OrdinalText, WeekText, read};
-use crate::julian_day::JulianText;
-use crate::{Unreadable, julian_day};
 use cal_datetime::OffsetDateTime;
+use cal_text::Unreadable::{UnexpectedByte, UnexpectedEnd};
+use cal_text::date::{CalendarText, OrdinalText, WeekText, read};
+use cal_text::julian_day::JulianText;
+use cal_text::{Unreadable, julian_day};
 use cal_time::{Date, Month, SignedDuration, Time, UtcOffset};
 use std::alloc::Global;
 use std::fmt::{Debug, Display};

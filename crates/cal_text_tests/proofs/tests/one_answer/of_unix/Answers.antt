@@ -1,8 +1,8 @@
 use Rattle.cal_text.specs.UnixText.{IsUnixText, HasUnixForm, IsUnixFault}
 use Rattle.cal_text.specs.Position.{HasSome}
 use Rattle.cal_text.specs.Reading.{HasFault}
-use Rattle.cal_text.proofs.OneAnswer.{one_answer}
-use Rattle.cal_text.proofs.tests.one_answer.of_unix.Goals as goal
+use Rattle.cal_text_tests.proofs.OneAnswer.{one_answer}
+use Rattle.cal_text_tests.proofs.tests.one_answer.of_unix.Goals as goal
 
 pub returns : goal.returns
 returns c =

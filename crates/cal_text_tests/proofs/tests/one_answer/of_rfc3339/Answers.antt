@@ -1,8 +1,8 @@
 use Rattle.cal_text.specs.Rfc3339Form.{IsMomentText, HasMomentForm, IsMomentFault}
 use Rattle.cal_text.specs.Position.{HasSome}
 use Rattle.cal_text.specs.Reading.{HasFault}
-use Rattle.cal_text.proofs.OneAnswer.{one_answer}
-use Rattle.cal_text.proofs.tests.one_answer.of_rfc3339.Goals as goal
+use Rattle.cal_text_tests.proofs.OneAnswer.{one_answer}
+use Rattle.cal_text_tests.proofs.tests.one_answer.of_rfc3339.Goals as goal
 
 pub returns : goal.returns
 returns c =

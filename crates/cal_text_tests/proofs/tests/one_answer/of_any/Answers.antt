@@ -1,6 +1,6 @@
 use Rattle.cal_text.specs.AnyForm.{IsTextOf, HasAnyForm, IsFault}
-use Rattle.cal_text.proofs.OneAnswer.{one_answer}
-use Rattle.cal_text.proofs.tests.one_answer.of_any.Goals as goal
+use Rattle.cal_text_tests.proofs.OneAnswer.{one_answer}
+use Rattle.cal_text_tests.proofs.tests.one_answer.of_any.Goals as goal
 
 pub returns : goal.returns
 returns c =
