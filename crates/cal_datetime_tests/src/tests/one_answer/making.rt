@@ -1,8 +1,8 @@
 //! Date-times of a date and the components of a time.
 ghost use Rattle.std.specs.Prelude.{◌≡◌};
 
-use crate::PlainDateTime;
 use crate::tests::one_answer::Twice;
+use cal_datetime::PlainDateTime;
 use cal_time::Date;
 use cal_time::error::ComponentRange;
 
@@ -14,7 +14,7 @@ fn with_hms(
 ) -> Twice<Result<PlainDateTime, ComponentRange>>
     ensures { result.0 ≡ result.1 }
 {
-    twice!(crate::with_hms(date, hour, minute, second))
+    twice!(cal_datetime::with_hms(date, hour, minute, second))
 }
 
 fn with_hms_milli(
@@ -26,7 +26,7 @@ fn with_hms_milli(
 ) -> Twice<Result<PlainDateTime, ComponentRange>>
     ensures { result.0 ≡ result.1 }
 {
-    twice!(crate::with_hms_milli(date, hour, minute, second, millisecond))
+    twice!(cal_datetime::with_hms_milli(date, hour, minute, second, millisecond))
 }
 
 fn with_hms_micro(
@@ -38,7 +38,7 @@ fn with_hms_micro(
 ) -> Twice<Result<PlainDateTime, ComponentRange>>
     ensures { result.0 ≡ result.1 }
 {
-    twice!(crate::with_hms_micro(date, hour, minute, second, microsecond))
+    twice!(cal_datetime::with_hms_micro(date, hour, minute, second, microsecond))
 }
 
 fn with_hms_nano(
@@ -50,5 +50,5 @@ fn with_hms_nano(
 ) -> Twice<Result<PlainDateTime, ComponentRange>>
     ensures { result.0 ≡ result.1 }
 {
-    twice!(crate::with_hms_nano(date, hour, minute, second, nanosecond))
+    twice!(cal_datetime::with_hms_nano(date, hour, minute, second, nanosecond))
 }

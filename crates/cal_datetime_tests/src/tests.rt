@@ -1,6 +1,6 @@
 //! Worked values, each computed apart from the code.
 
-use crate::{OffsetDateTime, PlainDateTime, with_hms_nano};
+use cal_datetime::{OffsetDateTime, PlainDateTime, with_hms_nano};
 use cal_time::{Date, Month, UtcOffset};
 use std::fmt::Debug;
 use std::process::Abort;

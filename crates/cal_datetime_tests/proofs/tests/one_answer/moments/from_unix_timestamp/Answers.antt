@@ -1,5 +1,5 @@
-use Rattle.cal_datetime.proofs.OneAnswer.{in_range-one}
-use Rattle.cal_datetime.proofs.tests.one_answer.moments.from_unix_timestamp.Goals as goal
+use Rattle.cal_datetime_tests.proofs.OneAnswer.{in_range-one}
+use Rattle.cal_datetime_tests.proofs.tests.one_answer.moments.from_unix_timestamp.Goals as goal
 
 pub returns : goal.returns
 returns c =

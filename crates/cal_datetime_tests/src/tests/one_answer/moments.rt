@@ -1,8 +1,8 @@
 //! Date-times at an offset.
 ghost use Rattle.std.specs.Prelude.{◌≡◌};
 
-use crate::OffsetDateTime;
 use crate::tests::one_answer::Twice;
+use cal_datetime::OffsetDateTime;
 use cal_time::error::ComponentRange;
 use cal_time::{Month, SignedDuration, UtcOffset, Weekday};
 

@@ -1,7 +1,7 @@
 //! Date-times without an offset.
-use crate::laws::{clones, first, hash_of, is_before, is_same, last, order};
 use crate::tests::{date_time, same};
-use crate::{PlainDateTime, midnight, with_hms, with_hms_micro, with_hms_milli, with_time};
+use cal_datetime::laws::{clones, first, hash_of, is_before, is_same, last, order};
+use cal_datetime::{PlainDateTime, midnight, with_hms, with_hms_micro, with_hms_milli, with_time};
 use cal_time::{Counted, Date, Month, SignedDuration, Time, Weekday};
 use std::cmp::Ordering;
 use std::process::Abort;

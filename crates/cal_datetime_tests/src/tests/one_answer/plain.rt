@@ -1,8 +1,8 @@
 //! Date-times.
 ghost use Rattle.std.specs.Prelude.{◌≡◌};
 
-use crate::PlainDateTime;
 use crate::tests::one_answer::Twice;
+use cal_datetime::PlainDateTime;
 use cal_time::error::ComponentRange;
 use cal_time::{Month, SignedDuration, Weekday};
 

@@ -1,13 +1,13 @@
 //! Date-times at an offset.
-use crate::OffsetDateTime;
-use crate::laws::replacement::{
+use crate::tests::{date_time, hours, leap_night, same};
+use cal_datetime::OffsetDateTime;
+use cal_datetime::laws::replacement::{
     own_clock, own_date, own_day, own_hour, own_microsecond, own_millisecond, own_minute,
     own_month, own_nanosecond, own_ordinal, own_second, own_time, own_year,
 };
-use crate::laws::{
+use cal_datetime::laws::{
     first, hash_of_instant, is_earlier, is_same_instant, last, order_of_instants, there_and_back,
 };
-use crate::tests::{date_time, hours, leap_night, same};
 use cal_time::{Date, Month, SignedDuration, Time, UtcOffset};
 use std::cmp::Ordering;
 use std::process::Abort;
