@@ -159,6 +159,7 @@ impl JulianKernel {
     fn is_leap_year(self) -> bool
         ensures { result ≡ is_leap_by_kernel self }
     {
+        // Almost every year is a Julian year. In the other order one day in four takes a branch.
         self.is_julian_year() && self.years % 4 == 0
     }
 

@@ -15,6 +15,8 @@ use cal_units::util::is_leap_year;
 use cal_units::{Cycle, Month};
 
 /// The days that come before each month, and at the end those of the year: in a common year, and in a leap year.
+///
+/// The two kinds of year are side by side: choosing between two rows would be a branch.
 const DAYS_BEFORE_MONTH: [[u16; 2]; 13] = [
     [0, 0],
     [31, 31],
