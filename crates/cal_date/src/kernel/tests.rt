@@ -4,7 +4,7 @@ ghost use Rattle.cal_date.specs.ClosedForms.{HasKernel};
 ghost use Rattle.cal_date.specs.Date.{first_julian_day, IsDate};
 ghost use Rattle.cal_date.specs.Move.{IsDateNumber};
 
-use crate::kernel::{JulianKernel, date_of_kernel, julian_kernel};
+use crate::kernel::{JulianKernel, date_of_kernel, julian_kernel, shifted_day};
 use crate::tests::same;
 
 fn ordinal_date(kernel: JulianKernel) -> (i32, u16)
@@ -34,6 +34,30 @@ fn kernel(
         years,
         year_part,
     }
+}
+
+// The days from 1 January -2379600 on, which the kernel multiplies. 146097 divides the third and the sixth.
+#[test]
+fn shifted_days(rt: HostRuntime) {
+    let found = [
+        shifted_day(-363_521_074),
+        shifted_day(-1_930_999),
+        shifted_day(2_451_545),
+        shifted_day(2_451_546),
+        shifted_day(5_373_484),
+        shifted_day(5_373_485),
+        shifted_day(366_963_559),
+    ];
+    let wanted = [
+        503_888_919,
+        865_478_994,
+        869_861_538,
+        869_861_539,
+        872_783_477,
+        872_783_478,
+        1_234_373_552,
+    ];
+    same(&rt, found, wanted);
 }
 
 #[test]
