@@ -4,8 +4,8 @@ ghost use Rattle.cal_date.specs.ClosedForms.{HasKernel};
 ghost use Rattle.cal_date.specs.Date.{first_julian_day, IsDate};
 ghost use Rattle.cal_date.specs.Move.{IsDateNumber};
 
-use crate::kernel::{JulianKernel, date_of_kernel, julian_kernel};
 use crate::tests::same;
+use cal_date::{JulianKernel, date_of_kernel, julian_kernel};
 
 fn ordinal_date(kernel: JulianKernel) -> (i32, u16)
     requires { (n : ℕ) × IsDate n × HasKernel kernel n }
