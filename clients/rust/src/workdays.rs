@@ -72,7 +72,7 @@ impl<'a> Workdays<'a> {
         or_none(ffi::fots_date_add_workdays(date.to_c(), days, self.week, self.holidays)).map(Date::of_c)
     }
 
-    /// Counts the working days from the earlier day on, without the later day; negative if `to` comes first.
+    /// Counts the working days from the earlier day, without the later; negative if `to` is first.
     pub fn workdays_between(&self, from: Date, to: Date) -> i32 {
         certain(ffi::fots_date_workdays_between(from.to_c(), to.to_c(), self.week, self.holidays))
     }

@@ -1,5 +1,5 @@
--- The days that have a weekday: those of a month or a year, and those from a day on or up to it. A weekday is its index from Monday, 0, to
--- Sunday, 6.
+-- The days that have a weekday: those of a month or a year, and those from a day on or up to it. A
+-- weekday is its index from Monday, 0, to Sunday, 6.
 use Rattle.std.specs.Prelude.{◌≡◌, ℕ, ◌+◌, ◌-◌, ◌<◌, ◌==◌, ◌&&◌, Bool, List, filter, length, ℤ}
 use Rattle.std.specs.Ordering.{int_eq}
 use Rattle.cal_time.specs.Date.{last_day, year_at, month_at, weekday_at}

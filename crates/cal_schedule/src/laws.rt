@@ -1,5 +1,5 @@
-//! What callers can rely on and no clause of one call says: laws of months here, and those of rules and
-//! of working days in modules of their own.
+//! Laws that no clause of a single call states: those of months here, and of rules and working days
+//! in modules of their own.
 ghost use Rattle.std.specs.Prelude.{◌≡◌, ◌<◌, ◌≤◌, pos, ◌+ℤ◌, Some, IfSome, IsSomeAnd};
 ghost use Rattle.cal_time.specs.Date.{day_of_month_at};
 ghost use Rattle.cal_schedule.specs.Months.{month_number_at};

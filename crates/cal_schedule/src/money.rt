@@ -108,10 +108,11 @@ fn by_years(from: Date, to: Date) -> i64
 }
 
 /// Returns the fraction of a year from one day to another by a convention: the days that it counts,
-/// over those of its year.
+/// over the days of its year.
 ///
 /// If `to` comes before `from`, the numerator is negative, or 0 by two conventions: 30/360 and
-/// 30E/360 give 0 from 31 to 30 January 2024, and 30/360 gives 0 from 1 February to 31 January 2024.
+/// 30E/360 give 0 from 31 to 30 January 2024, and 30/360 gives 0 from 1 February to 31 January
+/// 2024.
 ///
 /// For actual/actual the denominator is 366 times 365, so that both kinds of year fit. From 1 November 2003 to 1 May 2004 it gives 61
 /// days of 365 and 121 of 366, that is 66491/133590.

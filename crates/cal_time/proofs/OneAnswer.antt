@@ -205,12 +205,12 @@ one-place P Q P' Q' x y not_later not_earlier (a ∷ before) after (b ∷ before
 minimum-one : {T : Type 0} (number : T → ℤ) (items : List T) (x y : T) → IsFirstMinimum number items x → IsFirstMinimum number items y → x ≡ y
 minimum-one number items x y h k =
     one-place (λ z. number x <ℤ number z) (λ z. number x ≤ℤ number z) (λ z. number y <ℤ number z) (λ z. number y ≤ℤ number z) x y
-        (λ a b. omega (arith, ints, a, b)) (λ a b. omega (arith, ints, a, b)) h.before h.after k.before k.after (sym h.place ∙ k.place) h.earlier h.later k.earlier k.later
+    (λ a b. omega (arith, ints, a, b)) (λ a b. omega (arith, ints, a, b)) h.before h.after k.before k.after (sym h.place ∙ k.place) h.earlier h.later k.earlier k.later
 
 maximum-one : {T : Type 0} (number : T → ℤ) (items : List T) (x y : T) → IsFirstMaximum number items x → IsFirstMaximum number items y → x ≡ y
 maximum-one number items x y h k =
     one-place (λ z. number z <ℤ number x) (λ z. number z ≤ℤ number x) (λ z. number z <ℤ number y) (λ z. number z ≤ℤ number y) x y
-        (λ a b. omega (arith, ints, a, b)) (λ a b. omega (arith, ints, a, b)) h.before h.after k.before k.after (sym h.place ∙ k.place) h.earlier h.later k.earlier k.later
+    (λ a b. omega (arith, ints, a, b)) (λ a b. omega (arith, ints, a, b)) h.before h.after k.before k.after (sym h.place ∙ k.place) h.earlier h.later k.earlier k.later
 
 pub extent-one : {T : Type 0} (number : T → ℤ) (items : List T) (r s : Option (T × T))
     → MatchOption r (items ≡ []) (IsExtent number items) → MatchOption s (items ≡ []) (IsExtent number items) → r ≡ s

@@ -9,6 +9,7 @@ use std::fmt::Debug;
 use std::hash::{DefaultHasher, Hash, Hasher};
 use std::process::Abort;
 
+mod closed_forms;
 mod conditions;
 mod counted;
 mod cycles;

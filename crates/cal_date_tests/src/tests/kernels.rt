@@ -36,6 +36,40 @@ fn kernel(
     }
 }
 
+/// The day of the kernel, counted from 1 January -2379600 on: `julian` without the days that it
+/// counts for each century.
+fn shifted_day(julian_day: i32) -> u32
+    requires { IsDateNumber (julian_day -ℤ first_julian_day) }
+{
+    let kernel = julian_kernel(julian_day);
+    let days = kernel.julian.wrapping_sub(kernel.century);
+    days.wrapping_add(kernel.century / 4)
+}
+
+// 146097 divides the third and the sixth day.
+#[test]
+fn shifted_days(rt: HostRuntime) {
+    let found = [
+        shifted_day(-363_521_074),
+        shifted_day(-1_930_999),
+        shifted_day(2_451_545),
+        shifted_day(2_451_546),
+        shifted_day(5_373_484),
+        shifted_day(5_373_485),
+        shifted_day(366_963_559),
+    ];
+    let wanted = [
+        503_888_919,
+        865_478_994,
+        869_861_538,
+        869_861_539,
+        872_783_477,
+        872_783_478,
+        1_234_373_552,
+    ];
+    same(&rt, found, wanted);
+}
+
 #[test]
 fn at_both_ends(rt: HostRuntime) {
     let first = kernel(13_796, 43_036_593, 503_899_266, 1_379_601, 9_670_707);

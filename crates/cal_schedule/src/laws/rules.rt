@@ -1,4 +1,4 @@
-//! What the interval of a rule and the numbers of its weekdays mean, by a count of the days.
+//! Laws of rules: periods and the numbers of weekdays agree with a count of the days.
 ghost use Rattle.std.specs.Prelude.{◌≡◌};
 ghost use Rattle.cal_schedule.specs.Rule.{is_nth_of, turn_at};
 ghost use Rattle.cal_schedule.specs.RuleLaws.{NumbersByCount, RisesAtBeginning};
@@ -11,8 +11,9 @@ use cal_time::{Date, Weekday};
 /// interval.
 ///
 /// From a date to the next, the index rises by one if the next date begins a period: any day, the
-/// weekday that weeks begin with, the first of a month, or 1 January. Otherwise it stays. So from Sunday
-/// 2024-01-07 to the next day it rises if weeks begin on Monday, and stays if they begin on Sunday.
+/// weekday that weeks begin with, the first of a month, or 1 January. Otherwise it stays. For
+/// example, from Sunday 2024-01-07 to Monday it rises if weeks begin on Monday, and stays if they
+/// begin on Sunday.
 pub fn period_index(frequency: Frequency, first: Weekday, date: Date) -> u32
     ensures index { result ≡ turn_at frequency first date }
     ensures rises { RisesAtBeginning frequency first date }
@@ -20,10 +21,11 @@ pub fn period_index(frequency: Frequency, first: Weekday, date: Date) -> u32
     turn_of(frequency, first, date)
 }
 
-/// Returns whether a date is the n-th of its weekday in its month, or in its year, as a rule counts it.
+/// Returns whether a date is the n-th of its weekday in its month, or in its year, by the number of
+/// a rule.
 ///
-/// A positive n is the number of such days up to the date, and a negative one is that from the date on.
-/// So 31 May 2024 is the fifth Friday of its month, and by -1 the last.
+/// A positive n counts such days up to the date, and a negative n counts them from the date on. For
+/// example, 31 May 2024 is the fifth Friday of its month, and by -1 the last.
 pub fn is_nth_weekday(of_year: bool, date: Date, n: i8) -> bool
     ensures value { result ≡ is_nth_of of_year date n }
     ensures counts { NumbersByCount date }

@@ -1,4 +1,4 @@
-//! What callers of the working days can rely on, across several calls.
+//! Laws of several calls of working days together.
 ghost use Rattle.std.specs.Prelude.{◌≡◌, ◌+ℤ◌, Some, true};
 ghost use Rattle.cal_schedule.specs.Workdays.{is_workday};
 
@@ -14,7 +14,7 @@ pub fn stays(workdays: &Workdays<'_>, date: Date, convention: Convention) -> Opt
 }
 
 /// Counts the working days from the first day to the second, from there to the third, and from the
-/// first to the third: the last number is the sum of the other two, in whatever order the days come.
+/// first to the third: the last number is the sum of the other two, in any order of the days.
 pub fn adds_up(workdays: &Workdays<'_>, first: Date, second: Date, third: Date) -> (i32, i32, i32)
     ensures { result.0 +ℤ result.1 ≡ result.2 }
 {

@@ -96,7 +96,9 @@ fn debug(rt: HostRuntime) -> Result<(), Fail> {
     let text = format!(in rt.alloc(); "{walk:?}")?;
     let rule = "Rule { start: 2024-01-01, frequency: Daily, interval: 1, week_start: Monday, \
         months: [], month_days: [], weekdays: [], until: None }";
-    let wanted = format!(in rt.alloc(); "RuleDays {{ rule: {rule}, front: Some(2024-01-01), left: 2 }}")?;
+    let wanted = format!(in rt.alloc();
+        "RuleDays {{ rule: {rule}, front: Some(2024-01-01), left: 2 }}"
+    )?;
     assert!(rt; text.as_str() == wanted.as_str(), "{text}");
     Ok(())
 }

@@ -142,6 +142,11 @@ fn rows_of_numpy(rt: HostRuntime) {
         office.workdays_between(year, date(&rt, (2011, 2, 1))),
         21,
     );
+    // Back, by hand: from a Monday to the Friday before it, and to the Saturday.
+    let monday = date(&rt, (2024, 1, 8));
+    for (to, count) in [((2024, 1, 5), -1), ((2024, 1, 6), 0)] {
+        same(&rt, office.workdays_between(monday, date(&rt, to)), count);
+    }
     let saturdays = workdays(&rt, [false, false, false, false, false, true, false], &[]);
     same(&rt, saturdays.workdays_between(year, next), 53);
     let rows = [

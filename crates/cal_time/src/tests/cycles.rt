@@ -175,33 +175,37 @@ fn walks_over_the_months_have_bounds(rt: HostRuntime) {
     same(&rt, [walk.is_sorted(), back.is_sorted()], [false, false]);
 }
 
-/// Whether all and whether any value has an index below the limit, or not below it, each with the number of values asked: by a walk
-/// from there and by the same turned round. Then what both walks give next.
-fn asked<C: Cycle>(start: C, limit: u8, is_below: bool) -> ([(bool, u8); 4], [Option<C>; 2]) {
+/// Asks whether all and whether any value has an index between these two, or outside them, and counts the values asked: by a walk
+/// from there and by the same turned round. Then gives the next value of both walks.
+fn asked<C: Cycle>(
+    start: C,
+    (low, high): (u8, u8),
+    is_between: bool,
+) -> ([(bool, u8); 4], [Option<C>; 2]) {
     let mut walk = CycleIter::new(start);
     let mut back = walk.clone().rev();
     let mut count = 0u8;
     let all = walk.all_once(|value: C| {
         count = count.wrapping_add(1);
-        (value.place() < limit) == is_below
+        (low <= value.place() && value.place() <= high) == is_between
     });
     let all = (all, count);
     let mut count = 0u8;
     let any = walk.any_once(|value: C| {
         count = count.wrapping_add(1);
-        (value.place() < limit) == is_below
+        (low <= value.place() && value.place() <= high) == is_between
     });
     let any = (any, count);
     let mut count = 0u8;
     let back_all = back.all_once(|value: C| {
         count = count.wrapping_add(1);
-        (value.place() < limit) == is_below
+        (low <= value.place() && value.place() <= high) == is_between
     });
     let back_all = (back_all, count);
     let mut count = 0u8;
     let back_any = back.any_once(|value: C| {
         count = count.wrapping_add(1);
-        (value.place() < limit) == is_below
+        (low <= value.place() && value.place() <= high) == is_between
     });
     (
         [all, any, back_all, (back_any, count)],
@@ -212,20 +216,20 @@ fn asked<C: Cycle>(start: C, limit: u8, is_below: bool) -> ([(bool, u8); 4], [Op
 // The questions are counted, as no contract says that none is asked after the deciding answer.
 #[test]
 fn values_are_asked_up_to_the_deciding_answer(rt: HostRuntime) {
-    for (start, limit, is_below, all, any) in [
-        (Month::June, 4, true, (false, 5), (true, 1)),
-        (Month::June, 4, false, (false, 1), (true, 5)),
-        (Month::June, 12, true, (true, 12), (true, 1)),
-        (Month::December, 0, true, (false, 1), (false, 12)),
+    for (start, ends, is_between, all, any) in [
+        (Month::June, (0, 3), true, (false, 5), (true, 1)),
+        (Month::June, (0, 3), false, (false, 1), (true, 5)),
+        (Month::June, (0, 11), true, (true, 12), (true, 1)),
+        (Month::December, (0, 11), false, (false, 1), (false, 12)),
     ] {
         let wanted = ([all, any, all, any], [Some(start), Some(start)]);
-        same_at(&rt, start, asked(start, limit, is_below), wanted);
+        same_at(&rt, start, asked(start, ends, is_between), wanted);
     }
-    for (start, limit, is_below, all, any) in [
-        (Weekday::Friday, 1, true, (false, 2), (true, 1)),
-        (Weekday::Friday, 1, false, (false, 1), (true, 2)),
+    for (start, ends, is_between, all, any) in [
+        (Weekday::Friday, (1, 1), true, (false, 1), (true, 2)),
+        (Weekday::Friday, (1, 1), false, (false, 2), (true, 1)),
     ] {
         let wanted = ([all, any, all, any], [Some(start), Some(start)]);
-        same_at(&rt, start, asked(start, limit, is_below), wanted);
+        same_at(&rt, start, asked(start, ends, is_between), wanted);
     }
 }

@@ -33,7 +33,15 @@ fn making(rt: HostRuntime) {
     for (duration, parts) in [
         (SignedDuration::new(-1, 1), (0, -999_999_999)),
         (SignedDuration::new(1, 2_000_000_000), (3, 0)),
+        (
+            SignedDuration::milliseconds(i64::MIN),
+            (-9_223_372_036_854_775, -808_000_000),
+        ),
         (SignedDuration::microseconds(-1_500_000), (-1, -500_000_000)),
+        (
+            SignedDuration::nanoseconds(i64::MIN),
+            (-9_223_372_036, -854_775_808),
+        ),
         (SignedDuration::nanoseconds_i128(-1_000_000_001), (-1, -1)),
     ] {
         same(&rt, fields(duration), parts);

@@ -1,6 +1,7 @@
 //! Offsets from UTC.
-use crate::UtcOffset;
 use crate::tests::{offset, same, same_at, told};
+use crate::{UtcOffset, extent};
+use std::cmp::Ordering;
 
 // The columns: the parts given, the seconds, the parts told, and the whole minutes.
 #[test]
@@ -43,4 +44,19 @@ fn offsets_out_of_range(rt: HostRuntime) {
         let told = told(&UtcOffset::from_hms(hours, minutes, seconds));
         same_at(&rt, (hours, minutes, seconds), told, Err((name, false)));
     }
+}
+
+// By their three parts with signs, the bytes of -5:30 and -4:30 can compare as equal.
+#[test]
+fn offsets_in_order(rt: HostRuntime) {
+    let (west, less_west) = (offset(&rt, -5, -30, 0), offset(&rt, -4, -30, 0));
+    for (one, other, order) in [
+        (west, less_west, Ordering::Less),
+        (less_west, UtcOffset::UTC, Ordering::Less),
+        (UtcOffset::UTC, west, Ordering::Greater),
+    ] {
+        same_at(&rt, (one, other), one.cmp(&other), order);
+    }
+    let found = extent(&[west, less_west, UtcOffset::UTC]);
+    same(&rt, found, Some((west, UtcOffset::UTC)));
 }

@@ -173,6 +173,9 @@ fn check_padded_debug<R: Abort + AllocGlobal, T: Copy + Debug>(rt: &R, value: T,
 fn padded_texts(rt: HostRuntime) {
     let (day, west) = (date(&rt, 2019, 1, 2), offset(&rt, -5, -30, 0));
     let five_digits = date(&rt, 10_000, 1, 1);
+    let two_more = format!(in rt.alloc(); "{day:>12}|{five_digits:>14}|");
+    let two_more = two_more.expect(&rt, NO_MEMORY);
+    same(&rt, two_more.as_str(), "  2019-01-02|  +10000-01-01|");
     check_padded(&rt, day, "   2019-01-02|2019-01-02___|2019-01-02|");
     check_padded(
         &rt,

@@ -1,12 +1,30 @@
 //! Walks over days, from both ends.
+ghost use Rattle.std.specs.Iterator.{IsFinite};
+
 use crate::iter::DateIter;
 use crate::tests::{date, same};
+
+/// Counts the items of any iterator that ends.
+fn count_items<I: Iterator + Drop>(items: I) -> usize
+where
+    I::Item: Drop,
+    requires goes { I.can_next items }
+    requires ends { IsFinite (I.remaining items) }
+{
+    let mut count = 0usize;
+    for _ in items {
+        count = count.saturating_add(1);
+    }
+    count
+}
 
 #[test]
 fn a_walk_over_a_new_year(rt: HostRuntime) {
     let (first, last) = (date(&rt, 2019, 12, 30), date(&rt, 2020, 1, 2));
     let mut walk = DateIter::new(first, last);
     assert!(rt; walk == first.iter_to(last));
+    let found = (walk.len(), count_items(DateIter::new(first, last)));
+    same(&rt, found, (4, 4));
     same(&rt, walk.nth_back(2), Some(date(&rt, 2019, 12, 31)));
     same(&rt, (walk.len(), walk.size_hint()), (1, (1, Some(1))));
     same(&rt, walk.clone().next(), Some(first));

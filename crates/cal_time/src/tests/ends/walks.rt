@@ -74,6 +74,9 @@ fn what_empty_walks_keep(rt: HostRuntime) {
     same(&rt, walk.nth(LAST_PLACE - 1), Date::MAX.previous_day());
     same(&rt, walk.nth(usize::MAX), None);
     assert!(rt; walk == empty && is_empty(&walk));
+    let mut walk = DateIter::new(Date::MIN, Date::MIN);
+    same(&rt, walk.next(), Some(Date::MIN));
+    assert!(rt; walk != empty && is_empty(&walk));
     let mut walk = DateIter::new(Date::MIN, Date::MAX);
     same(&rt, walk.nth(LAST_PLACE), Some(Date::MAX));
     assert!(rt; walk != empty && is_empty(&walk));
