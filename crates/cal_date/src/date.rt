@@ -22,8 +22,6 @@ mod number;
 mod occurrences;
 mod order;
 mod replacement;
-#[cfg(test)]
-mod tests;
 
 /// The days of a common year: no year ends before it has as many.
 const FEWEST_DAYS: u32 = 365;

@@ -12,9 +12,6 @@ ghost use Rattle.cal_date.specs.ClosedForms.{shifted_day, kernel_by, kernel_of, 
 use crate::date::Date;
 use crate::limits::{LAST_DAY, MAX_YEAR, MIN_JULIAN_DAY};
 
-#[cfg(test)]
-mod tests;
-
 /// What is added to a Julian day: with it, day 0 is 1 January -2379600, a year that 400 divides.
 const DAY_SHIFT: i32 = 867_409_993;
 
