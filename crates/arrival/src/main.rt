@@ -1,10 +1,10 @@
-//! When a flight arrives: a whole program over the calendar.
+//! Prints when a flight arrives: a whole program that uses the calendar.
 #![tactic(auto)]
 
 use cal_time::{Date, Month, SignedDuration, Time, add_to_pair};
 use std::io;
 
-/// When a flight of two hours that leaves at 23:00 on that day of December 2020 arrives.
+/// Returns the arrival of a two-hour flight that leaves at 23:00 on a day of December 2020.
 fn arrival(day: u8) -> Option<(Date, Time)> {
     let flight = SignedDuration::hours(2);
     let time = Time::from_hms(23, 0, 0).ok()?;

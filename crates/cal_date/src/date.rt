@@ -22,8 +22,6 @@ mod number;
 mod occurrences;
 mod order;
 mod replacement;
-#[cfg(test)]
-mod tests;
 
 /// The number of days of a common year. Every year has this many days or one more.
 const FEWEST_DAYS: u32 = 365;

@@ -14,9 +14,6 @@ ghost use Rattle.cal_date.specs.ClosedForms.{shifted_day, kernel_by, kernel_of, 
 use crate::date::Date;
 use crate::limits::{LAST_DAY, MAX_YEAR, MIN_JULIAN_DAY};
 
-#[cfg(test)]
-mod tests;
-
 /// The shift of Julian days. With it, day 0 is 1 January -2379600, and 400 divides this year.
 const DAY_SHIFT: i32 = 867_409_993;
 
@@ -157,6 +154,7 @@ impl JulianKernel {
     fn is_leap_year(self) -> bool
         ensures { result ≡ is_leap_by_kernel self }
     {
+        // Almost every year is a Julian year. In the other order one day in four takes a branch.
         self.is_julian_year() && self.years % 4 == 0
     }
 

@@ -14,6 +14,3 @@ pub mod limits;
 pub use date::Date;
 pub use iter::DateIter;
 pub use kernel::{JulianKernel, date_of_kernel, julian_kernel};
-
-#[cfg(test)]
-mod tests;

@@ -17,7 +17,7 @@ use cal_time::error::ComponentRange;
 use cal_time::{Date, Month, Weekday, is_rising};
 use std::io;
 
-/// The end of the month after that of the day, where the range has that month.
+/// Returns the last day of the next month, or `None` if that month is out of range.
 fn end_of_next_month(date: Date) -> Option<Date>
     ensures day { IfSome result (λ end. (later : ℕ) × IsMonthsLater date (pos 1) later
         × HasCalendarDate (year_at later) (month_at later)
@@ -29,7 +29,7 @@ fn end_of_next_month(date: Date) -> Option<Date>
     Some(last_of_month(later))
 }
 
-/// The day that a bill is due: the end of the month after, or where that is no working day, the last working day before it.
+/// Returns the day on which a bill is due: the last working day up to the end of the next month.
 fn due(workdays: &Workdays<'_>, billed: Date) -> Option<Date>
     ensures within { IsMonthNumber (month_number_at billed +ℤ pos 1)
         → (later : ℕ) × IsMonthsLater billed (pos 1) later
@@ -68,7 +68,7 @@ fn office(holidays: &[Date]) -> Workdays<'_>
     }
 }
 
-/// The age on a day of someone who was born on another, that day or an earlier one.
+/// Returns the age in years of someone who was born today or earlier.
 fn age(born: Date, today: Date) -> i32
     requires { born ≤ today }
     ensures years { IsGreatest (λ years. LeadsUpTo born today (pos 12 *ℤ years)) result }
@@ -77,7 +77,7 @@ fn age(born: Date, today: Date) -> i32
     years_until(born, today)
 }
 
-/// Thanksgiving in the United States, in each year of the range.
+/// Returns Thanksgiving in the United States, the fourth Thursday of November.
 fn thanksgiving(year: i32) -> Result<Date, ComponentRange>
     ensures every { (k : ℕ) → IsDate k → IsNthWeekday year 11 3 4 k → result ≡ Ok k }
     ensures has { IfOk result (IsNthWeekday year 11 3 4) }

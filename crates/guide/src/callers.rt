@@ -117,7 +117,7 @@ fn iso_week_date_through(year: i32, week: u8, weekday: Weekday) -> Option<(i32, 
     }
 }
 
-/// The days that are left in the year after this one.
+/// Counts the days left in the year after this one.
 fn days_left(date: Date) -> u16
     ensures { result + ordinal_at date ≡ days_in_year (year_at date) }
 {
@@ -148,7 +148,7 @@ fn weeks_gone(date: Date) -> u8 {
     date.iso_week() - 1
 }
 
-/// The last Friday of the month: the one of its last seven days. `None` where the range does not have the year.
+/// Returns the last Friday of the month, or `None` if the year is out of range.
 fn last_friday(year: i32, month: Month) -> Option<Date>
     ensures day { IfSome result (λ day. (weekday_at day ≡ 4) × (end : ℕ)
         × HasCalendarDate year (number month) (days_in_month year (number month)) end

@@ -10,7 +10,7 @@ use cal_time::util::days_in_month;
 use cal_time::{Date, Month, SignedDuration};
 use std::io;
 
-/// The last day of that month.
+/// Returns the last day of the month.
 fn last_of_month(year: i32, month: Month) -> Result<Date, ComponentRange>
     ensures { IfOk result (HasCalendarDate year (number month)
         (days_in_month year (number month))) }
@@ -26,14 +26,14 @@ fn month_start(date: Date) -> Date
     Date::at_month_index(date.year(), index, 1)
 }
 
-/// The day itself, by way of the one after it.
+/// Returns the same day, by way of the next one.
 fn there_and_back(date: Date) -> Option<Date>
     ensures { IfSome result (λ same. same ≡ date) }
 {
     date.next_day()?.previous_day()
 }
 
-/// The day a week later, for a caller who knows that there is one.
+/// Returns the day a week later, which must be in the range.
 fn a_week_on(date: Date) -> Date
     requires { IsDateNumber (pos date +ℤ pos 7) }
     ensures { pos result ≡ pos date +ℤ pos 7 }
@@ -41,7 +41,7 @@ fn a_week_on(date: Date) -> Date
     date + SignedDuration::days(7)
 }
 
-/// The last day of the range, by the law of its constant.
+/// Returns the last day of the range.
 fn last_day() -> Date
     ensures { result ≡ last_day }
 {

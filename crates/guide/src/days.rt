@@ -31,7 +31,7 @@ fn later_year(date: Date, days: u32) -> i32
         .year()
 }
 
-/// The days from one day to another of the same year, which does not come before it.
+/// Counts the days from one day to another of the same year, which must not be earlier.
 #[tactic(auto, using(cal_time::specs::Parts::days_apart))]
 fn days_between_in_year(from: Date, to: Date) -> u16
     requires order { from ≤ to }

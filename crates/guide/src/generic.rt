@@ -2,7 +2,7 @@
 use cal_time::{Counted, Cycle, Month, SignedDuration, Weekday, extent};
 use std::io;
 
-/// How many steps forwards lead from one value to the other.
+/// Counts the steps forward from one value to another.
 fn steps<C: Cycle>(from: C, to: C) -> u8 {
     let (from, to) = (from.place(), to.place());
     if from <= to {
@@ -12,7 +12,7 @@ fn steps<C: Cycle>(from: C, to: C) -> u8 {
     }
 }
 
-/// How far the least and the greatest value are apart, or `None` for no values.
+/// Returns the maximum less the minimum, or `None` for an empty slice.
 fn spread<T: Counted>(values: &[T]) -> Option<i128> {
     let (least, greatest) = extent(values)?;
     greatest.number().checked_sub(least.number())

@@ -2,7 +2,7 @@
 use cal_time::{Date, Month, Weekday};
 use std::io;
 
-/// 29 February 2000 by its month, by its ordinal, by its ISO week and by its Julian day.
+/// Creates 29 February 2000 from its month, its ordinal, its ISO week and its Julian day.
 fn leap_day() -> Option<[Date; 4]> {
     let by_month = Date::from_calendar_date(2000, Month::February, 29).ok()?;
     let by_ordinal = Date::from_ordinal_date(2000, 60).ok()?;

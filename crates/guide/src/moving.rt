@@ -2,17 +2,17 @@
 use cal_time::{Date, Month, SignedDuration, Time, Weekday};
 use std::io;
 
-/// The day 100 days after, or the last day of the range where there is none.
+/// Returns the day 100 days later, or the last day of the range if that comes first.
 fn due(date: Date) -> Date {
     date.saturating_add(SignedDuration::days(100))
 }
 
-/// The third Thursday after the day, where the range has one.
+/// Returns the third Thursday after the day, or `None` past the end of the range.
 fn third_thursday(date: Date) -> Option<Date> {
     date.checked_nth_next_occurrence(Weekday::Thursday, 3)
 }
 
-/// The same day of March, where the month has it.
+/// Returns the same day of the month in March.
 fn in_march(date: Date) -> Option<Date> {
     match date.replace_month(Month::March) {
         Ok(date) => Some(date),

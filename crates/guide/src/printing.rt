@@ -8,7 +8,7 @@ ghost use Rattle.cal_time.specs.Weekday.{name};
 use cal_time::{Date, ShortText, SignedDuration, Time, UtcOffset, Weekday};
 use std::io;
 
-/// A date and a time, in place.
+/// Returns the text of a date and a time.
 fn date_and_time(date: Date, time: Time) -> ShortText
     ensures { result ≡ text date ++ codes " " ++ time_text time }
 {

@@ -21,7 +21,7 @@ fn next_two(rule: &Rule<'_>, date: Date) -> Option<(Date, Date)>
     Some((first, second))
 }
 
-/// The text of a recurrence in the order and the spelling in which each is written, or the fault of the text.
+/// Parses the text of a recurrence and writes it again, or passes the error on.
 fn respelled(text: &[u8]) -> Result<RecurrenceText, RuleFault>
     ensures written { IfOk result (λ written.
         (r : Recurrence) × (recurrence_of text.now ≡ Ok r) × (written ≡ text_of r)) }
@@ -31,7 +31,7 @@ fn respelled(text: &[u8]) -> Result<RecurrenceText, RuleFault>
     Ok(recurrence.text())
 }
 
-/// Writes the days that the text says from a start on, or where it is at fault and why.
+/// Prints the days of a recurrence from a start on, or the position and the reason of the error.
 fn show_days(rt: &impl Print, text: &str, start: Date) -> io::Result<()> {
     match parse(text.as_bytes()) {
         Ok(recurrence) => {

@@ -9,7 +9,7 @@ use cal_time::error::ComponentRange;
 use cal_time::{Date, Month, Time, Weekday};
 use std::io;
 
-/// The first day of that month and its weekday, or the refusal, handed on.
+/// Returns the first day of the month and its weekday, or passes the error on.
 fn first_of_month(year: i32, month: Month) -> Result<(Date, Weekday), ComponentRange>
     ensures { IfOk result (λ first. HasCalendarDate year (number month) 1 first.0
         × (index first.1 ≡ weekday_at first.0)) }
@@ -54,7 +54,7 @@ impl From<ComponentRange> for NotBooked {
     }
 }
 
-/// When a table is booked for. The refusal of the day becomes one of ours by `From`, that of the time by `map_err`.
+/// Returns when a table is booked. `From` converts the error of the date, and `map_err` the other.
 fn booking(year: i32, month: Month, day: u8, hour: u8) -> Result<(Date, Time), NotBooked>
     ensures { IfOk result (λ booked. HasCalendarDate year (number month) day booked.0) }
 {

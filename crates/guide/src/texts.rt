@@ -12,7 +12,7 @@ use cal_text::{DateForm, DateOrMoment, MomentForm, Unreadable, date, read_any, u
 use cal_time::Date;
 use std::io;
 
-/// Reads a date in any of the three forms of ISO 8601, and prints its calendar date or why there is none.
+/// Parses a date in any of the three forms of ISO 8601, and prints it or the error.
 fn show_date(rt: &impl Print, text: &str) -> io::Result<()> {
     match date::read(text.as_bytes()) {
         Ok(date) => println!(rt; "{date}"),
@@ -35,7 +35,7 @@ fn show_moment(rt: &impl Print, text: &str) -> io::Result<()> {
     Ok(())
 }
 
-/// The day of a calendar date, an ordinal date or a week date. The refusal is that of the reader, handed on.
+/// Parses a calendar date, an ordinal date or a week date, and passes an error on.
 fn date_in(text: &[u8]) -> Result<Date, Unreadable>
     ensures month { IsRefusedFor month_out_of_range result
         ↔ HasFault HasForm IsFaultOf text.now month_out_of_range }
@@ -43,7 +43,7 @@ fn date_in(text: &[u8]) -> Result<Date, Unreadable>
     date::read(text)
 }
 
-/// How many bytes a text has that some more make a date, where its error says so. Of `None` nothing is promised.
+/// Returns the length of a text that more bytes could complete to a date. `None` promises nothing.
 fn bytes_so_far(text: &[u8]) -> Option<usize>
     ensures { IfSome result (λ n. IsPosition (HasSome HasForm) text.now n × (n ≡ length text.now)) }
 {

@@ -3,7 +3,7 @@ use cal_time::iter::MonthIter;
 use cal_time::{Date, Month, Weekday};
 use std::io;
 
-/// How many days from one to another, both included, are a Friday the 13th.
+/// Counts the Fridays the 13th from one day to another, both included.
 fn fridays_13th(from: Date, to: Date) -> u32 {
     let mut count = 0u32;
     for date in from.iter_to(to) {

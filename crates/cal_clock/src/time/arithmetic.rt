@@ -103,6 +103,8 @@ fn carried(nanoseconds: i64) -> (DateAdjustment, Time)
     ensures below_day { result.1 < day }
 {
     let days = days_past(nanoseconds);
+
+    // Midnight comes from the number of days: from a `match` it would be a branch on a random sign.
     let nanoseconds = (nanoseconds - days * NANOSECONDS_PER_DAY as i64) as u64;
     (adjustment_of(days), Time { nanoseconds })
 }

@@ -15,7 +15,7 @@ use cal_units::util::is_leap_year;
 use cal_units::{Cycle, Month};
 
 /// The days before each month, and at the end the days of the year: in a common year and in a leap
-/// year.
+/// year. The two kinds of year are side by side, because a choice of two rows would be a branch.
 const DAYS_BEFORE_MONTH: [[u16; 2]; 13] = [
     [0, 0],
     [31, 31],
