@@ -50,7 +50,7 @@ offset_of hours minutes seconds =
     with_sign_of (leading hours minutes seconds)
     (3_600 * unsigned_abs hours + 60 * unsigned_abs minutes + unsigned_abs seconds)
 
--- ---- parts: quotients rounded toward zero, and remainders
+-- ---- parts: quotients truncated toward zero, and remainders
 abbrev pub whole_hours : ℤ → ℤ
 whole_hours o = cut o (pos 3_600)
 

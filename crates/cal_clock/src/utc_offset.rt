@@ -116,14 +116,14 @@ impl UtcOffset {
         )
     }
 
-    /// Returns the whole hours, rounded toward zero, from -25 to 25. For -01:30:00 they are -1.
+    /// Returns the whole hours, truncated toward zero, from -25 to 25. For -01:30:00 they are -1.
     pub fn whole_hours(self) -> i8
         ensures { result ≡ whole_hours self }
     {
         (self.seconds / SECONDS_PER_HOUR as i32) as i8
     }
 
-    /// Returns the whole minutes, rounded toward zero, from -1559 to 1559. For -01:30:00 they are
+    /// Returns the whole minutes, truncated toward zero, from -1559 to 1559. For -01:30:00 they are
     /// -90.
     pub fn whole_minutes(self) -> i16
         ensures { result ≡ whole_minutes self }

@@ -1,5 +1,5 @@
--- An iterator over days has a front day, and a back day or none. Its days are the days from the
--- front day to the back day. Without a back day it is empty.
+-- A walk, the value of an iterator over days, has a front day, and a back day or none. Its days are
+-- the days from the front day to the back day. Without a back day it is empty.
 use Rattle.std.specs.Prelude.{◌≡◌, ℕ, ◌+◌, ◌-◌, ◌≤◌, Bool, ◌&&◌, ◌==◌, List, [], length, reverse, slice_get, nat_lt, nat_le, Option, Some, None, IfSome, option_map, if◌then◌else◌}
 use Rattle.std.specs.Option.{option_eq}
 use Rattle.cal_date.specs.Date.{year_at, IsDate}
@@ -16,7 +16,7 @@ walk front back = record { front = front; back = back }
 abbrev pub IsWalk : Walk → Type 0
 IsWalk w = IfSome w.back (λ back. (w.front ≤ back) × IsDate back)
 
--- The iterator from `start` to `end`, both included. It has no back day if `start` is after `end`.
+-- The walk from `start` to `end`, both included. It has no back day if `start` is after `end`.
 abbrev pub walk_between : ℕ → ℕ → Walk
 walk_between start end = walk start (if nat_le start end then Some end else None)
 
@@ -25,17 +25,17 @@ abbrev pub days_between : ℕ → Option ℕ → List ℕ
 days_between front None = []
 days_between front (Some back) = days_from front (back + 1 - front)
 
--- The days of an iterator in order.
+-- The days of a walk in order.
 abbrev pub days_of : Walk → List ℕ
 days_of w = days_between w.front w.back
 
--- The iterator without its first k days: the front day moves past them. If no day is left, the
--- front day stays, without a back day.
+-- The walk without its first k days: the front day moves past them. If no day is left, the front
+-- day stays, without a back day.
 abbrev pub without_first : ℕ → Walk → Walk
 without_first k w = if nat_lt k (length (days_of w)) then walk (w.front + k) w.back else walk w.front None
 
--- The iterator without its last k days: the back day moves before them. If no day is left, the
--- front day stays, without a back day.
+-- The walk without its last k days: the back day moves before them. If no day is left, the front
+-- day stays, without a back day.
 abbrev pub without_last : ℕ → Walk → Walk
 without_last k w =
     if nat_lt k (length (days_of w)) then walk w.front (option_map (λ back. back - k) w.back) else walk w.front None
@@ -50,7 +50,7 @@ pub record TakesLast (old : Walk) (day : Option ℕ) (new : Walk) : Type 0 where
   pub item : day ≡ slice_get (reverse (days_of old)) 0
   pub left : new ≡ without_last 1 old
 
--- Two iterators are equal if their front days are equal and their back days are equal.
+-- Two walks are equal if their front days are equal and their back days are equal.
 abbrev pub walk_eq : Walk → Walk → Bool
 walk_eq v w = (v.front == w.front) && option_eq ◌==◌ v.back w.back
 

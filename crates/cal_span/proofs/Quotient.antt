@@ -24,7 +24,7 @@ rest-below n k h =
     let below : s % k * second + n % second < second * k = omega arith in
     div_below (s % k * second + n % second) k second h below
 
--- The quotient is rounded toward zero. b says whether v is negative.
+-- The quotient is truncated toward zero. b says whether v is negative.
 pub cut-signs : (v k : ℤ) (b : Bool) → IsTrue b ↔ (v <ℤ pos 0) → k ≢ pos 0 → with_sign (not (beq b (lt_z k (pos 0)))) (unsigned_abs v / unsigned_abs k) ≡ cut v k
 cut-signs (pos n) (pos k) b is_below apart =
     let left : b ≡ false = grind (arith, ints, is_below) in

@@ -58,11 +58,11 @@ abbrev pub with_sign : Bool → ℕ → ℤ
 with_sign true n = neg_ℤ (pos n)
 with_sign false n = pos n
 
--- The quotient of a and b is rounded toward zero, like Rust's `/`.
+-- The quotient of a and b is truncated toward zero, like Rust's `/`.
 abbrev pub cut : ℤ → ℤ → ℤ
 cut a b = int_div a b
 
--- The whole days of a duration, rounded toward zero.
+-- The whole days of a duration, truncated toward zero.
 abbrev pub whole_days : ℤ → ℤ
 whole_days v = cut v (pos day)
 
@@ -97,7 +97,7 @@ text (pos (suc n)) = parts_text (suc n)
 text (negsuc n) = codes "-" ++ parts_text (suc n)
 
 -- ---- arithmetic
--- v has a quotient by k if k is not 0 and the quotient, rounded toward zero, is a duration.
+-- v has a quotient by k if k is not 0 and the quotient, truncated toward zero, is a duration.
 pub record HasQuotient (v k : ℤ) : Type 0 where
   pub divisor : k ≢ pos 0
   pub quotient : IsDuration (cut v k)

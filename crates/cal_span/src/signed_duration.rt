@@ -35,7 +35,7 @@ const SECONDS_PER_WEEK: i64 = 604_800;
 /// days. The fields are whole seconds and the nanoseconds past them, which never have opposite
 /// signs.
 ///
-/// The operators `+`, `-`, `*` and `/` return the exact result; `/` rounds toward zero. For
+/// The operators `+`, `-`, `*` and `/` return the exact result; `/` truncates toward zero. For
 /// example, `SECOND * 200u8` is 200 s, and `nanoseconds(-7) / 2i8` is -3 ns. The result must be in
 /// the range, and the divisor must not be zero.
 #[derive(Clone, Copy, Debug)]
@@ -132,7 +132,7 @@ impl SignedDuration {
     /// nanoseconds may be more than a second.
     ///
     /// `new(-1, 1)` is -999999999 ns, and `new(1, 2_000_000_000)` is 3 s. The sum of `seconds` and
-    /// the whole seconds of `nanoseconds`, rounded toward zero, must fit in an `i64`.
+    /// the whole seconds of `nanoseconds`, truncated toward zero, must fit in an `i64`.
     pub fn new(seconds: i64, nanoseconds: i32) -> Self
         requires { FitsSigned w64 (seconds +ℤ cut nanoseconds (pos second)) }
         ensures { result ≡ seconds *ℤ pos second +ℤ nanoseconds }
@@ -274,42 +274,42 @@ impl SignedDuration {
         (self.seconds.unsigned_abs(), self.nanoseconds.unsigned_abs())
     }
 
-    /// Returns the number of whole weeks, rounded toward zero. For -6 days it is 0.
+    /// Returns the number of whole weeks, truncated toward zero. For -6 days it is 0.
     pub fn whole_weeks(self) -> i64
         ensures { result ≡ cut self (pos week) }
     {
         self.seconds / SECONDS_PER_WEEK
     }
 
-    /// Returns the number of whole days, rounded toward zero. For -47 hours it is -1.
+    /// Returns the number of whole days, truncated toward zero. For -47 hours it is -1.
     pub fn whole_days(self) -> i64
         ensures { result ≡ cut self (pos day) }
     {
         self.seconds / SECONDS_PER_DAY
     }
 
-    /// Returns the number of whole hours, rounded toward zero. For -90 minutes it is -1.
+    /// Returns the number of whole hours, truncated toward zero. For -90 minutes it is -1.
     pub fn whole_hours(self) -> i64
         ensures { result ≡ cut self (pos hour) }
     {
         self.seconds / SECONDS_PER_HOUR
     }
 
-    /// Returns the number of whole minutes, rounded toward zero. For 90 s it is 1.
+    /// Returns the number of whole minutes, truncated toward zero. For 90 s it is 1.
     pub fn whole_minutes(self) -> i64
         ensures { result ≡ cut self (pos minute) }
     {
         self.seconds / SECONDS_PER_MINUTE
     }
 
-    /// Returns the number of whole seconds, rounded toward zero. For -1.5 s it is -1.
+    /// Returns the number of whole seconds, truncated toward zero. For -1.5 s it is -1.
     pub fn whole_seconds(self) -> i64
         ensures { result ≡ cut self (pos second) }
     {
         self.seconds
     }
 
-    /// Returns the number of whole milliseconds, rounded toward zero. For -1.5 s it is -1500.
+    /// Returns the number of whole milliseconds, truncated toward zero. For -1.5 s it is -1500.
     pub fn whole_milliseconds(self) -> i128
         ensures { result ≡ cut self (pos millisecond) }
     {
@@ -317,7 +317,7 @@ impl SignedDuration {
         i128::from(self.seconds) * MILLISECONDS_PER_SECOND as i128 + i128::from(past)
     }
 
-    /// Returns the number of whole microseconds, rounded toward zero. For 2500 ns it is 2.
+    /// Returns the number of whole microseconds, truncated toward zero. For 2500 ns it is 2.
     pub fn whole_microseconds(self) -> i128
         ensures { result ≡ cut self (pos microsecond) }
     {
@@ -333,15 +333,15 @@ impl SignedDuration {
         i128::from(self.seconds) * NANOSECONDS_PER_SECOND as i128 + i128::from(self.nanoseconds)
     }
 
-    /// Returns the milliseconds past the whole seconds, rounded toward zero, from -999 to 999. For
-    /// -1.5 s they are -500.
+    /// Returns the milliseconds past the whole seconds, truncated toward zero, from -999 to 999.
+    /// For -1.5 s they are -500.
     pub fn subsec_milliseconds(self) -> i16
         ensures { result ≡ cut (past_second self) (pos millisecond) }
     {
         (self.nanoseconds / NANOSECONDS_PER_MILLISECOND) as i16
     }
 
-    /// Returns the microseconds past the whole seconds, rounded toward zero, from -999999 to
+    /// Returns the microseconds past the whole seconds, truncated toward zero, from -999999 to
     /// 999999. For 1 s and 2500 ns they are 2.
     pub fn subsec_microseconds(self) -> i32
         ensures { result ≡ cut (past_second self) (pos microsecond) }

@@ -35,8 +35,8 @@ impl Time {
     /// Adds the duration. Returns the adjustment past the duration's whole days and the time.
     ///
     /// 23:00 plus 26 hours is 1:00, two days later: one whole day in the duration, and the
-    /// adjustment `Next`. The whole days are rounded toward zero. The adjustment is not `Previous`
-    /// for a positive duration, and not `Next` for a negative one.
+    /// adjustment `Next`. The whole days are truncated toward zero. The adjustment is not
+    /// `Previous` for a positive duration, and not `Next` for a negative one.
     pub fn adjusting_add(self, duration: SignedDuration) -> (DateAdjustment, Self)
         ensures equation { pos self +ℤ duration
             ≡ (whole_days duration +ℤ carry result.0) *ℤ pos day +ℤ pos result.1 }
@@ -50,8 +50,8 @@ impl Time {
     /// Subtracts the duration. Returns the adjustment past the duration's whole days and the time.
     ///
     /// 1:00 minus 26 hours is 23:00, two days earlier: one whole day in the duration, and the
-    /// adjustment `Previous`. The whole days are rounded toward zero. The adjustment is not `Next`
-    /// for a positive duration, and not `Previous` for a negative one.
+    /// adjustment `Previous`. The whole days are truncated toward zero. The adjustment is not
+    /// `Next` for a positive duration, and not `Previous` for a negative one.
     pub fn adjusting_sub(self, duration: SignedDuration) -> (DateAdjustment, Self)
         ensures equation { pos self -ℤ duration
             ≡ (carry result.0 -ℤ whole_days duration) *ℤ pos day +ℤ pos result.1 }

@@ -9,8 +9,8 @@ use cal_span::SignedDuration;
 use std::ops::{Add, AddAssign, Sub, SubAssign};
 
 impl Date {
-    /// Adds the whole days of the duration, rounded toward zero. Returns `None` if the date is out
-    /// of range.
+    /// Adds the whole days of the duration, truncated toward zero. Returns `None` if the date is
+    /// out of range.
     ///
     /// 2020-12-31 plus 47 hours is 2021-01-01. [`Self::MIN`] plus -23 hours is [`Self::MIN`].
     pub fn checked_add(self, duration: SignedDuration) -> Option<Self>
@@ -26,8 +26,8 @@ impl Date {
         self.moved(duration.whole_days())
     }
 
-    /// Subtracts the whole days of the duration, rounded toward zero. Returns `None` if the date is
-    /// out of range. 2020-12-31 minus 47 hours is 2020-12-30.
+    /// Subtracts the whole days of the duration, truncated toward zero. Returns `None` if the date
+    /// is out of range. 2020-12-31 minus 47 hours is 2020-12-30.
     pub fn checked_sub(self, duration: SignedDuration) -> Option<Self>
         ensures day { SomeIff result (IsDateNumber (pos self -ℤ whole_days duration))
             (date_nearest (pos self -ℤ whole_days duration)) }
@@ -43,8 +43,8 @@ impl Date {
         self.moved(days)
     }
 
-    /// Adds the whole days of the duration, rounded toward zero, and clamps the date to the range.
-    /// [`Self::MAX`] plus one day is [`Self::MAX`].
+    /// Adds the whole days of the duration, truncated toward zero, and clamps the date to the
+    /// range. [`Self::MAX`] plus one day is [`Self::MAX`].
     pub fn saturating_add(self, duration: SignedDuration) -> Self
         ensures day { result ≡ date_nearest (pos self +ℤ whole_days duration) }
         ensures in_range { IsDate self }
@@ -56,7 +56,7 @@ impl Date {
         }
     }
 
-    /// Subtracts the whole days of the duration, rounded toward zero, and clamps the date to the
+    /// Subtracts the whole days of the duration, truncated toward zero, and clamps the date to the
     /// range. [`Self::MIN`] minus one day is [`Self::MIN`].
     pub fn saturating_sub(self, duration: SignedDuration) -> Self
         ensures day { result ≡ date_nearest (pos self -ℤ whole_days duration) }
@@ -94,7 +94,7 @@ impl Add<SignedDuration> for Date {
 
     ghost add_gives = { λ n v moved. (pos moved ≡ pos n +ℤ whole_days v) × IsDate n };
 
-    /// Adds the whole days of the duration, rounded toward zero. The date must be in the range.
+    /// Adds the whole days of the duration, truncated toward zero. The date must be in the range.
     fn add(self, duration: SignedDuration) -> Self {
         self.checked_add(duration).unwrap()
     }
@@ -117,7 +117,7 @@ impl Sub<SignedDuration> for Date {
 
     ghost sub_gives = { λ n v moved. (pos moved ≡ pos n -ℤ whole_days v) × IsDate n };
 
-    /// Subtracts the whole days of the duration, rounded toward zero. The date must be in the
+    /// Subtracts the whole days of the duration, truncated toward zero. The date must be in the
     /// range.
     fn sub(self, duration: SignedDuration) -> Self {
         self.checked_sub(duration).unwrap()

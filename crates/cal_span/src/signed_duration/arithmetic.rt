@@ -84,15 +84,15 @@ impl SignedDuration {
         Self::nanoseconds(i64::from(self.subsec_nanoseconds()) * factor)
     }
 
-    /// Computes `self / rhs`, rounded toward zero. Returns `None` if `rhs` is zero or the quotient
-    /// is out of range. -7.5 s divided by 2 is -3.75 s, and -1 ns divided by 2 is zero.
+    /// Computes `self / rhs`, truncated toward zero. Returns `None` if `rhs` is zero or the
+    /// quotient is out of range. -7.5 s divided by 2 is -3.75 s, and -1 ns divided by 2 is zero.
     pub fn checked_div(self, rhs: i32) -> Option<Self>
         ensures { SomeIff result (HasQuotient self rhs) (cut self rhs) }
     {
         self.checked_quotient(i64::from(rhs))
     }
 
-    /// Computes `self / divisor`, rounded toward zero. Returns `None` if `divisor` is zero or the
+    /// Computes `self / divisor`, truncated toward zero. Returns `None` if `divisor` is zero or the
     /// quotient is out of range. The magnitude of the divisor fits in a `u32`.
     pub(super) fn checked_quotient(self, divisor: i64) -> Option<Self>
         requires { IsWithin GREATEST_OPERAND divisor }

@@ -17,7 +17,7 @@ impl SignedDuration {
         self.checked_product(factor).unwrap()
     }
 
-    /// Computes `self / divisor`, rounded toward zero. The magnitude of the divisor fits in a
+    /// Computes `self / divisor`, truncated toward zero. The magnitude of the divisor fits in a
     /// `u32`.
     fn quotient(self, divisor: i64) -> Self
         requires small { IsWithin GREATEST_OPERAND divisor }
