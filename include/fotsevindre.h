@@ -522,7 +522,8 @@ fots_date_result fots_date_previous_workday(fots_date date, uint32_t week, const
  * working day, the first one after it; FOTS_PAST_RANGE where the range has no such day. Ten after 2451604 is 2451618. */
 fots_date_result fots_date_add_workdays(fots_date date, int32_t days, uint32_t week, const fots_date *holidays, size_t holidays_length);
 
-/* The working days from the date to the day before the other, below 0 where the other comes first. From 2451545 to 2451911 it is 260. */
+/* The working days from the earlier date on, without the later one; negative if the other comes
+ * first. From 2451545 to 2451911 it is 260, and back it is -260. */
 fots_number_result fots_date_workdays_between(fots_date date, fots_date other, uint32_t week, const fots_date *holidays,
     size_t holidays_length);
 

@@ -1,6 +1,6 @@
-/* Arguments that are no values, with all their bits: each call gives them a status and no answer,
-    and gives a value no such status. And
- * bytes that are no text, or nearly one. */
+/* Tries invalid arguments, drawn or with every bit pattern: each call returns the status of the
+ * first one at fault and no value, and valid arguments never give that status. Tries bytes that
+ * are not a text, or nearly one, too. */
 #include <string.h>
 
 #include "fotsevindre.h"

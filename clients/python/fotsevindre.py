@@ -1666,7 +1666,7 @@ class Date(_Value):
         return _date_or_none(_C.date_on_or_before(self._key, _weekday(weekday)))
 
     def day_count(self, other: Date, convention: DayCount) -> YearFraction:
-        """The fraction of a year to the other day by a convention, below 0 the other way round."""
+        """Return the fraction of a year to the other day; negative or 0 if that day comes first."""
         result = _done(_C.date_day_count(self._key, _is(other, Date)._key, _is(convention, DayCount).value))
         return YearFraction(result.numerator, result.denominator)
 
@@ -1861,7 +1861,7 @@ class Workdays:
         return _date_or_none(_C.date_add_workdays(_is(date, Date)._key, _nearest(days), self._week, self._holidays, len(self._holidays)))
 
     def workdays_between(self, start: Date, end: Date) -> int:
-        """How many working days there are from the one day to the day before the other, below 0 where the other comes first."""
+        """Count the working days from the earlier day, without the later; negative if `end` is first."""
         return _number(_C.date_workdays_between(_is(start, Date)._key, _is(end, Date)._key, self._week, self._holidays, len(self._holidays)))
 
     def adjusted(self, date: Date, convention: Convention) -> Optional[Date]:

@@ -13,18 +13,19 @@ use crate::Date;
 
 /// The status of a call that has an answer.
 const DONE: i32 = 0;
-/// The status of a call whose exact result is no value of its type.
+/// The status of a call whose exact result is outside the range of its type.
 const PAST_RANGE: i32 = 1;
-/// The status of a call that was given a number that is none of a date.
+/// The status of a call that was given a number that is not a date.
 const BAD_DATE: i32 = 2;
-/// The status of a call that was given a number that is none of a weekday.
+/// The status of a call that was given a number that is not a time of day.
 const BAD_TIME: i32 = 3;
-
+/// The status of a call that was given a number that is not an offset.
 const BAD_OFFSET: i32 = 4;
-
+/// The status of a call that was given a number that is not a weekday.
 const BAD_WEEKDAY: i32 = 6;
-/// The status of a call that was given bytes of none of its forms.
+/// The status of a call that was given bytes in none of its forms.
 const UNREADABLE: i32 = 8;
+/// The status of a call that was given bytes that end before the form does.
 const UNEXPECTED_END: i32 = 31;
 
 /// What a call over columns returns where these are not of one length.

@@ -137,7 +137,7 @@ impl Date {
         or_none(ffi::fots_date_on_or_before(self.to_c(), weekday.number())).map(Self::of_c)
     }
 
-    /// The fraction of a year to the other day by a convention, below 0 the other way round.
+    /// Returns the fraction of a year to the other day; negative or 0 if that day comes first.
     pub fn day_count(self, other: Self, convention: DayCount) -> YearFraction {
         let (denominator, numerator) = certain(ffi::fots_date_day_count(self.to_c(), other.to_c(), convention as u32));
         YearFraction { numerator, denominator }

@@ -72,7 +72,7 @@ impl<'a> Workdays<'a> {
         or_none(ffi::fots_date_add_workdays(date.to_c(), days, self.week, self.holidays)).map(Date::of_c)
     }
 
-    /// How many working days there are from the one day to the day before the other, below zero where the other comes first.
+    /// Counts the working days from the earlier day, without the later; negative if `to` is first.
     pub fn workdays_between(&self, from: Date, to: Date) -> i32 {
         certain(ffi::fots_date_workdays_between(from.to_c(), to.to_c(), self.week, self.holidays))
     }

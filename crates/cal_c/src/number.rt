@@ -8,17 +8,18 @@ ghost use Rattle.cal_c.specs.Values.{IsJulianDay, day_of, julian_nearest};
 use crate::results::DateResult;
 use crate::status::{DONE, PAST_RANGE};
 use cal_time::SignedDuration;
+use cal_time::limits::{LAST_DAY, MAX_JULIAN_DAY, MIN_JULIAN_DAY};
 
 /// The Julian days of the first date and of the last.
-pub const FIRST_JULIAN_DAY: i64 = -363_521_074;
+pub const FIRST_JULIAN_DAY: i64 = MIN_JULIAN_DAY as i64;
 
-pub const LAST_JULIAN_DAY: i64 = 366_963_559;
+pub const LAST_JULIAN_DAY: i64 = MAX_JULIAN_DAY as i64;
 
 /// The number of the day whose Julian day is 0.
-pub const DAY_ZERO: i32 = 363_521_074;
+pub const DAY_ZERO: i32 = -MIN_JULIAN_DAY;
 
 /// The number of the last day.
-pub const LAST_NUMBER: u32 = 730_484_633;
+pub const LAST_NUMBER: u32 = LAST_DAY as u32;
 
 /// 2^32 / 7, rounded up: a day times this is its weeks, in parts of 2^32.
 const WEEK_FACTOR: u32 = 613_566_757;

@@ -6,6 +6,7 @@ use Rattle.std.proofs.lemmas.Fmt.{IsAscii-decimal, length-decimal-le}
 use Rattle.std.proofs.lemmas.Str.{IsAscii-append}
 use Rattle.std.proofs.lemmas.Str.Ascii.{IsAscii-nil, IsAscii-cons}
 use Rattle.cal_units.specs.Digits.{two_digits, decimals}
+use Rattle.cal_units.proofs.Decimals.{decimals-few}
 use Rattle.cal_units.proofs.Digits.{two_digits-ascii}
 use Rattle.cal_span.specs.SignedDuration.{day}
 use Rattle.cal_clock.specs.Time.{hour_of, minute_of, second_of, nanosecond_of, text}
@@ -31,4 +32,4 @@ text-ascii t below last =
     let second = IsAscii-append (h ++ codes ":" ++ m ++ codes ":" ++ s) (codes ".") second point in
     IsAscii-append (h ++ codes ":" ++ m ++ codes ":" ++ s ++ codes ".") (decimals (nanosecond_of t)) second last
 
-pub ruleset hours = (length-hour, append_assoc)
+pub ruleset hours = (length-hour, decimals-few, append_assoc)

@@ -235,8 +235,6 @@ impl Counted for UtcOffset {
 
     ghost alike = { λ x y. Prim.search rules };
 
-    ghost apart = { λ x y e. e };
-
     ghost hashed = { λ x y e. ap fed.i32 e };
 
     /// The seconds: those of -01:30:00 are -5400.

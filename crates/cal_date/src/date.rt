@@ -10,6 +10,7 @@ ghost use Rattle.cal_date.specs.Refusals.{year_out_of_range, ordinal_out_of_rang
 
 use crate::error::{Component, ComponentRange};
 use crate::kernel::date_of_julian_day;
+use crate::limits::{MAX_YEAR, MIN_YEAR};
 use cal_units::util::is_leap_year;
 use std::marker::Model;
 
@@ -23,16 +24,6 @@ mod order;
 mod replacement;
 #[cfg(test)]
 mod tests;
-
-const MIN_YEAR: i32 = -999_999;
-
-pub(crate) const MAX_YEAR: i32 = 999_999;
-
-/// The Julian day of the first day of the range, which has number 0.
-pub(crate) const MIN_JULIAN_DAY: i32 = -363_521_074;
-
-/// The number of the last day.
-pub(crate) const LAST_DAY: i32 = 730_484_633;
 
 /// The days of a common year: no year ends before it has as many.
 const FEWEST_DAYS: u32 = 365;

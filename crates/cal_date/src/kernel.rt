@@ -9,7 +9,8 @@ ghost use Rattle.cal_date.specs.Date.{first_julian_day, IsDate, IsYear, HasJulia
 ghost use Rattle.cal_date.specs.Move.{IsDateNumber};
 ghost use Rattle.cal_date.specs.ClosedForms.{shifted_day, kernel_by, kernel_of, HasKernel, is_julian_year, year_of_kernel, ordinal_of_kernel, is_leap_by_kernel};
 
-use crate::date::{Date, LAST_DAY, MAX_YEAR, MIN_JULIAN_DAY};
+use crate::date::Date;
+use crate::limits::{LAST_DAY, MAX_YEAR, MIN_JULIAN_DAY};
 
 #[cfg(test)]
 mod tests;

@@ -9,6 +9,7 @@ pub mod error;
 pub mod iter;
 pub mod kernel;
 mod laws;
+pub mod limits;
 
 pub use date::Date;
 pub use iter::DateIter;

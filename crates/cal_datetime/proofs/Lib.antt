@@ -1,4 +1,3 @@
 pub mod DateTimes
 pub mod Instants
 pub mod Texts
-pub mod OneAnswer

@@ -12,6 +12,3 @@ mod plain_date_time;
 pub use making::{midnight, with_hms, with_hms_micro, with_hms_milli, with_hms_nano, with_time};
 pub use offset_date_time::OffsetDateTime;
 pub use plain_date_time::PlainDateTime;
-
-#[cfg(test)]
-mod tests;

@@ -19,6 +19,3 @@ pub use reading::parse;
 pub use recurrence::{Recurrence, RuleEnd};
 pub use text::RecurrenceText;
 pub use values::Values;
-
-#[cfg(test)]
-mod tests;

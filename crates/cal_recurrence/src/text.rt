@@ -1,8 +1,10 @@
 //! The text of a recurrence, in place.
 ghost use Rattle.std.specs.Prelude.{◌≡◌, ◌+◌, ◌≤◌, ◌++◌, [], length, decimal};
+ghost use Rattle.std.specs.Fmt.{debug_str};
 ghost use Rattle.cal_recurrence.specs.RecurrenceText.{capacity, HasRoom};
 
 use cal_time::ShortText;
+use std::fmt;
 use std::marker::Model;
 use std::str::from_utf8_unchecked;
 
@@ -84,5 +86,14 @@ impl RecurrenceText {
         let mut digits = ShortText::new();
         digits.push_number(u64::from(number));
         self.push(digits.as_str());
+    }
+}
+
+/// Prints the text in quotation marks.
+impl fmt::Debug for RecurrenceText {
+    ghost debug_output = { λ text. debug_str text };
+
+    fn fmt<W: fmt::Write>(&self, f: &mut fmt::Formatter<W>) -> fmt::Result {
+        fmt::Debug::fmt(self.as_str(), f)
     }
 }

@@ -40,7 +40,7 @@ impl Word for Month {
     #[tactic(auto, using(crate::proofs::Digits::three_digits))]
     fn word(self) -> ShortText {
         let mut text = ShortText::new();
-        text.push_number(u64::from(self.index()) + 1);
+        text.push_number(u64::from(self.place()) + 1);
         text
     }
 }
@@ -85,7 +85,7 @@ impl Word for ByDay {
 }
 
 /// The digits of the number, after a minus sign below 0.
-#[tactic(auto, using(crate::proofs::Digits::index_digits))]
+#[tactic(auto, using(crate::proofs::Digits::index_digits, cal_time::proofs::TextLengths::text_lengths))]
 fn index_text(index: i8) -> ShortText
     ensures text { result ≡ signed_decimal index }
     ensures short { length result ≤ 4 }
@@ -125,6 +125,7 @@ fn weekday_text(weekday: Weekday) -> &'static str
 }
 
 /// The day in digits, as `20241231`.
+#[tactic(auto, using(cal_time::proofs::TextLengths::text_lengths))]
 fn day_text(date: Date) -> ShortText
     ensures text { result ≡ day_text date }
     ensures short { length result ≤ 11 }
@@ -132,7 +133,7 @@ fn day_text(date: Date) -> ShortText
     let (year, month, day) = date.to_calendar_date();
     let mut text = ShortText::new();
     text.push_year(year);
-    text.push_two_digits(u32::from(month.index()) + 1);
+    text.push_two_digits(u32::from(month.place()) + 1);
     text.push_two_digits(u32::from(day));
     text
 }

@@ -1,8 +1,11 @@
 pub mod MonthMoves
 pub mod RulePeriods
 pub mod Rules
+pub mod RuleSteps
+pub mod RuleNumbers
 pub mod Untils
 pub mod Ends
+pub mod WeekdaySpans
 pub mod WeekdaysOfMonths
 pub mod MoneyDays
 pub mod OneAnswer

@@ -116,16 +116,16 @@ pub pos-years : (w : Weekday) (n : ℕ) → pos (turn_at Yearly w n) ≡ year_at
 unfolding turn_at
 pos-years w n = omega (arith, ints, year_low n)
 
-daily-is : (w : Weekday) (n : ℕ) → turn_at Daily w n ≡ n
+pub days-is : (w : Weekday) (n : ℕ) → turn_at Daily w n ≡ n
 unfolding turn_at
-daily-is w n = refl
+days-is w n = refl
 
 pub weeks-is : (w : Weekday) (n : ℕ) → turn_at Weekly w n ≡ (n + 7 - index w) / 7
 unfolding turn_at
 weeks-is w n = refl
 
 pub turn_at-rises : (f : Frequency) (w : Weekday) (m n : ℕ) → m ≤ n → turn_at f w m ≤ turn_at f w n
-turn_at-rises Daily w m n h = omega (arith, daily-is w m, daily-is w n)
+turn_at-rises Daily w m n h = omega (arith, days-is w m, days-is w n)
 turn_at-rises Weekly w m n h = omega (arith, weeks-is w m, weeks-is w n, index-below w)
 turn_at-rises Monthly w m n h = omega (arith, ints, pos-months w m, pos-months w n, month_numbers-rise m n h)
 turn_at-rises Yearly w m n h = omega (arith, ints, pos-years w m, pos-years w n, year_at-rises m n h)
@@ -137,7 +137,7 @@ turns_in Monthly = 4800
 turns_in Yearly = 400
 
 turn_at-periods : (f : Frequency) (w : Weekday) (n j : ℕ) → turn_at f w (n + 146097 * j) ≡ turn_at f w n + turns_in f * j
-turn_at-periods Daily w n j = omega (arith, daily-is w n, daily-is w (n + 146097 * j))
+turn_at-periods Daily w n j = omega (arith, days-is w n, days-is w (n + 146097 * j))
 turn_at-periods Weekly w n j = omega (arith, weeks-is w n, weeks-is w (n + 146097 * j), index-below w)
 turn_at-periods Monthly w n j = omega (arith, ints, pos-months w n, pos-months w (n + 146097 * j), (periods n j).year, (periods n j).alike.month)
 turn_at-periods Yearly w n j = omega (arith, ints, pos-years w n, pos-years w (n + 146097 * j), (periods n j).year)

@@ -1,75 +1,24 @@
 -- The days of a month that have a weekday, by their indexes in the month, and the days next to a day that have one.
-use Rattle.std.proofs.Common.{◌≡◌, ℕ, zero, suc, ◌+◌, ◌-◌, ◌*◌, ◌/◌, ◌%◌, ◌<◌, ◌≤◌, ◌==◌, refl, sym, ap, ◌∙◌, subst, add-zero, arith, ℤ, inl, inr, Bool, true, false, if◌then◌else◌, nat_le, filter, slice_get, Option, Some, None}
+use Rattle.std.proofs.Common.{◌≡◌, ℕ, suc, ◌+◌, ◌-◌, ◌*◌, ◌/◌, ◌%◌, ◌<◌, ◌≤◌, refl, sym, ap, ◌∙◌, subst, arith, ℤ, inl, inr, true, false, if◌then◌else◌, nat_le, filter, slice_get, Option, Some, None}
 use Rattle.std.specs.Prelude.{SomeIff}
-use Rattle.std.specs.Ordering.{int_eq}
-use Rattle.std.proofs.lemmas.Bool.{cases_lt, cases_Bool}
-use Rattle.std.proofs.lemmas.Bool.Decides.{nat_tests, Decides-int_eq}
+use Rattle.std.proofs.lemmas.Bool.{cases_lt}
+use Rattle.std.proofs.lemmas.Bool.Decides.{nat_tests}
 use Rattle.std.proofs.lemmas.Int.{ints}
 use Rattle.cal_time.specs.CalendarDay.{calendar_day}
 use Rattle.cal_time.specs.Date.{last_day, year_at, month_at, day_of_month_at, weekday_at, IsDate, IsYear, HasCalendarDate}
-use Rattle.cal_time.specs.Days.{day_of_month_at-range, year_at-range, days-follow}
+use Rattle.cal_time.specs.Days.{day_of_month_at-range, year_at-range}
 use Rattle.cal_time.specs.IsoWeekDate.{count_before}
 use Rattle.cal_time.specs.Laws.{weekday_at-is, kth-next_occurrences, kth-prev_occurrences}
 use Rattle.cal_time.specs.Lengths.{days_in_month}
 use Rattle.cal_time.specs.Occurrence.{days_from, days_before_back, is_on, next_occurrences, prev_occurrences, kth}
-use Rattle.cal_time.specs.Parts.{day_of_month_at-rises}
 use Rattle.cal_schedule.specs.Months.{month_number_at}
 use Rattle.cal_schedule.specs.Weekdays.{is_weekday_of_month, IsWeekdayOf, IsNthWeekday, IsLastWeekday, occurrences_from, occurrences_upto}
 use Rattle.cal_schedule.proofs.MonthMoves.{days_apart, first_before, number_from}
+use Rattle.cal_schedule.proofs.WeekdaySpans.{count_in_span, last_after, month_span}
 
 -- a day of the range has a year of the range
 pub year_of : (y : ℤ) (m w k : ℕ) → IsDate k → IsWeekdayOf y m w k → IsYear y
 year_of y m w k h is = subst IsYear is.year (year_at-range k h)
-
--- counts
-count_before-suc : (test : ℕ → Bool) (n : ℕ) → count_before test (suc n) ≡ count_before test n + (if test n then 1 else 0)
-unfolding count_before
-count_before-suc test n = refl
-
-count_before-none : (test : ℕ → Bool) (n : ℕ) → ((k : ℕ) → k < n → test k ≡ false) → count_before test n ≡ 0
-unfolding count_before
-count_before-none test zero none = refl
-count_before-none test (suc n) none =
-    let before : count_before test n ≡ 0 = count_before-none test n (λ k h. none k (omega arith)) in
-    rw (none n (omega arith)) (omega arith)
-
--- no day before the first of the month is one of its days
-before_month : (w : ℕ) (y : ℤ) (m f k : ℕ) → HasCalendarDate y m 1 f → k < f → is_weekday_of_month w y m k ≡ false
-before_month w y m f k e h =
-    elim (cases_Bool (int_eq (year_at k) y)) [
-      | inr not ↦ rw not refl
-      | inl same ↦ elim (cases_Bool (month_at k == m)) [
-        | inr not ↦ rw (same, not) refl
-        | inl alike ↦
-            let years : year_at k ≡ year_at f = (Decides-int_eq (year_at k) y).0 same ∙ sym (ap (λ c. c.year) e) in
-            let at : month_at k ≡ m = grind (arith, nat_tests) in
-            let months : month_at k ≡ month_at f = at ∙ sym (ap (λ c. c.month) e) in
-            absurd (omega (arith, day_of_month_at-rises k f h years months, (day_of_month_at-range k).0, ap (λ c. c.day) e))
-      ]
-    ]
-
-in_month : (w : ℕ) (y : ℤ) (m d n : ℕ) → HasCalendarDate y m d n → is_weekday_of_month w y m n ≡ (n % 7 == w)
-in_month w y m d n e =
-    let same : month_at n ≡ m = ap (λ c. c.month) e in
-    let alike : (month_at n == m) ≡ true = grind (arith, nat_tests) in
-    rw ((Decides-int_eq (year_at n) y).1 (ap (λ c. c.year) e), alike, weekday_at-is n) refl
-
-one_more : (c' c d j w : ℕ) → w < 7 → c' ≡ c + (if (d + j) % 7 == w then 1 else 0) → c + (d + 6 - w) / 7 ≡ (d + j + 6 - w) / 7 → c' + (d + 6 - w) / 7 ≡ (d + suc j + 6 - w) / 7
-one_more c' c d j w below e f = grind (arith, nat_tests)
-
--- how many of the first days of the month have the weekday
-count_in_month : (y : ℤ) (m f w j : ℕ) → HasCalendarDate y m 1 f → w < 7 → j ≤ days_in_month y m
-    → count_before (is_weekday_of_month w y m) (f + j) + (f + 6 - w) / 7 ≡ (f + j + 6 - w) / 7
-count_in_month y m f w zero e below within =
-    let none : count_before (is_weekday_of_month w y m) f ≡ 0 = count_before-none (is_weekday_of_month w y m) f (λ k h. before_month w y m f k e h) in
-    simp add-zero (omega arith)
-count_in_month y m f w (suc j) e below within =
-    let test = is_weekday_of_month w y m in
-    let before : count_before test (f + j) + (f + 6 - w) / 7 ≡ (f + j + 6 - w) / 7 = count_in_month y m f w j e below (omega arith) in
-    let step : count_before test (suc (f + j)) ≡ count_before test (f + j) + (if (f + j) % 7 == w then 1 else 0) =
-    count_before-suc test (f + j) ∙ rw (in_month w y m (j + 1) (f + j) (days-follow y m f j e (omega arith))) refl in
-    let sums : f + suc j ≡ suc (f + j) = omega arith in
-    ap (λ n. count_before test n + (f + 6 - w) / 7) sums ∙ one_more (count_before test (suc (f + j))) (count_before test (f + j)) f j w below step before
 
 -- a day of the month and the first one
 counted : (y : ℤ) (m f w d n : ℕ) → HasCalendarDate y m 1 f → HasCalendarDate y m d n → w < 7
@@ -82,7 +31,8 @@ counted y m f w d n e h below =
     let most : day_of_month_at n ≤ days_in_month (year_at n) (month_at n) = (day_of_month_at-range n).1 in
     let length : days_in_month (year_at n) (month_at n) ≡ days_in_month y m =
     ap (λ z. days_in_month z (month_at n)) (ap (λ c. c.year) h) ∙ ap (days_in_month y) (ap (λ c. c.month) h) in
-    let count = count_in_month y m f w d e below (omega arith) in
+    let span = month_span w y m f _ e (last_after y m f e) in
+    let count = count_in_span (is_weekday_of_month w y m) w f _ d span below (omega arith) in
     let numbers : f + d + 6 - w ≡ n + 7 - w = omega arith in
     (sums, ap (λ k. count_before (is_weekday_of_month w y m) k + (f + 6 - w) / 7) (sym sums) ∙ count ∙ ap (λ k. k / 7) numbers)
 

@@ -1,6 +1,7 @@
 pub mod Months
 pub mod Rule
 pub mod Ranks
+pub mod RuleLaws
 pub mod RuleSearch
 pub mod Until
 pub mod Weekdays

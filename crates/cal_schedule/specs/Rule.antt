@@ -1,4 +1,5 @@
--- The days of a rule of RFC 5545 (recurrence rule), as a filter of the days of the range.
+-- The days of a rule in a subset of RFC 5545 (recurrence rule), by days, as a filter of the days of
+-- the range.
 use Rattle.std.specs.Prelude.{ℕ, suc, max, ◌+◌, ◌-◌, ◌/◌, ◌%◌, Bool, true, false, not, ◌&&◌, ◌||◌, ◌==◌, nat_le, if◌then◌else◌, ℤ, pos, negsuc, ◌-ℤ◌, ◌*ℤ◌, unsigned_abs, List, [], ◌∷◌, Option, Some, None, filter}
 use Rattle.std.specs.List.{list_any}
 use Rattle.cal_time.specs.Date.{first_year, last_day, year_at, month_at, day_of_month_at, ordinal_at, weekday_at}

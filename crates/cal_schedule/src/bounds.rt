@@ -61,7 +61,7 @@ pub fn quarter(date: Date) -> u8
     ensures range { (1 ≤ result) × (result ≤ 4) }
     ensures in_range { IsDate date }
 {
-    date.month().index() / 3 + 1
+    date.month().place() / 3 + 1
 }
 
 /// The first day of the quarter: of 29 February 2024 it is 1 January 2024.
@@ -70,7 +70,7 @@ pub fn first_of_quarter(date: Date) -> Date
     ensures not_after { result ≤ date }
     ensures in_range { IsDate date × IsDate result }
 {
-    let index = date.month().index();
+    let index = date.month().place();
     first_in(date.year(), Month::at(index - index % 3))
 }
 
@@ -81,7 +81,7 @@ pub fn last_of_quarter(date: Date) -> Date
     ensures not_before { date ≤ result }
     ensures in_range { IsDate date × IsDate result }
 {
-    let index = date.month().index();
+    let index = date.month().place();
     last_in(date.year(), Month::at(index - index % 3 + 2))
 }
 
@@ -109,7 +109,7 @@ pub fn first_of_iso_week(date: Date) -> Date
     ensures days { result + weekday_at date ≡ date }
     ensures in_range { IsDate date × IsDate result }
 {
-    let back = i32::from(date.weekday().index());
+    let back = i32::from(date.weekday().place());
     match Date::from_julian_day(date.to_julian_day() - back) {
         Ok(monday) => monday,
         Err(_) => unreachable!(),
@@ -125,7 +125,7 @@ pub fn last_of_iso_week(date: Date) -> Option<Date>
     ensures date { IfSome result (HasIsoWeekDate (iso_year_at date) (iso_week_at date) 6) }
     ensures in_range { IsDate date }
 {
-    let on = 6 - i32::from(date.weekday().index());
+    let on = 6 - i32::from(date.weekday().place());
     match Date::from_julian_day(date.to_julian_day() + on) {
         Ok(sunday) => Some(sunday),
         Err(_) => None,

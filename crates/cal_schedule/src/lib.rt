@@ -5,7 +5,7 @@
 #![tactic(auto)]
 
 mod bounds;
-mod laws;
+pub mod laws;
 mod money;
 mod months;
 mod numbers;
@@ -26,6 +26,3 @@ pub use rule::{ByDay, Frequency, Rule, RuleDays};
 pub use until::{months_until, period_until, years_until};
 pub use weekdays::{last_weekday_of_month, nth_weekday_of_month, on_or_after, on_or_before};
 pub use workdays::{Convention, Workdays};
-
-#[cfg(test)]
-mod tests;

@@ -6,6 +6,7 @@ ghost use Rattle.cal_schedule.specs.Money.{actual_days, bond_end, counted_days, 
 
 use crate::until::months_apart;
 use cal_time::Date;
+use cal_time::limits::MIN_YEAR;
 use cal_time::util::is_leap_year;
 
 /// A convention by which the days of interest are counted, under the names of the 2006 ISDA Definitions.
@@ -35,7 +36,7 @@ pub struct YearFraction {
     pub denominator: u32,
 }
 
-/// The days from one day to the day before another, below zero the other way round.
+/// Returns the days from one day to the day before another; negative if `to` comes before `from`.
 fn actual_days(from: Date, to: Date) -> i64
     ensures days { result ≡ actual_days from to }
     ensures least { neg_ℤ (pos (2 ^ 40)) ≤ℤ result }
@@ -44,7 +45,7 @@ fn actual_days(from: Date, to: Date) -> i64
     i64::from(to.to_julian_day()) - i64::from(from.to_julian_day())
 }
 
-/// The same where each month has 30 days, by the days of the month that are given.
+/// Returns the days between at 30 days a month, by the days of the month that are given.
 fn thirty_days(from: Date, to: Date, first: u8, last: u8) -> i64
     ensures { result ≡ thirty_days from to first last }
 {
@@ -64,7 +65,7 @@ fn years_before(date: Date) -> u32
     ensures most { result < 2_000_000 }
     ensures in_range { IsDate date }
 {
-    (date.year() + 999_999) as u32
+    (date.year() - MIN_YEAR) as u32
 }
 
 /// The days of leap years that come before a day, from the first of the range on.
@@ -106,8 +107,12 @@ fn by_years(from: Date, to: Date) -> i64
     leap_days(from, to) * 365 + other_days(from, to) * 366
 }
 
-/// The fraction of a year from one day to another by a convention: the days that it counts, over those of its year. The other way
-/// round the numbers are below zero.
+/// Returns the fraction of a year from one day to another by a convention: the days that it counts,
+/// over the days of its year.
+///
+/// If `to` comes before `from`, the numerator is negative, or 0 by two conventions: 30/360 and
+/// 30E/360 give 0 from 31 to 30 January 2024, and 30/360 gives 0 from 1 February to 31 January
+/// 2024.
 ///
 /// For actual/actual the denominator is 366 times 365, so that both kinds of year fit. From 1 November 2003 to 1 May 2004 it gives 61
 /// days of 365 and 121 of 366, that is 66491/133590.

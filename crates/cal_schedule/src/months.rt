@@ -5,9 +5,10 @@ ghost use Rattle.cal_time.specs.Lengths.{days_in_month};
 ghost use Rattle.cal_schedule.specs.Months.{month_number_at, IsMonthNumber, IsMonthsLater};
 
 use cal_time::Date;
+use cal_time::limits::{MAX_YEAR, MIN_YEAR};
 
 /// The months of the range of years.
-const MONTHS: i64 = 23_999_988;
+const MONTHS: i64 = 12 * (MAX_YEAR - MIN_YEAR + 1) as i64;
 
 /// The months of the range that come before the month of the day, and its day of the month.
 pub(crate) fn index_and_day(date: Date) -> (u32, u8)
@@ -18,7 +19,7 @@ pub(crate) fn index_and_day(date: Date) -> (u32, u8)
     ensures in_range { IsDate date }
 {
     let (month, day) = date.month_index_and_day();
-    ((date.year() + 999_999) as u32 * 12 + u32::from(month), day)
+    ((date.year() - MIN_YEAR) as u32 * 12 + u32::from(month), day)
 }
 
 /// The year, and the index of the month in it, that have so many months of the range before them.
@@ -28,7 +29,7 @@ fn year_and_month(index: u32) -> (i32, u8)
     ensures month { result.1 < 12 }
     ensures year { IsYear result.0 }
 {
-    ((index / 12) as i32 - 999_999, (index % 12) as u8)
+    ((index / 12) as i32 + MIN_YEAR, (index % 12) as u8)
 }
 
 /// The day of that month that has this day of the month, or the last day of the month where it has no such day.

@@ -3,29 +3,24 @@ ghost use Rattle.std.specs.Prelude.{◌≡◌, SomeIff};
 ghost use Rattle.cal_time.specs.Date.{IsDate};
 
 use cal_time::Date;
-
-/// The number of the last day, 999999-12-31.
-const LAST_DAY: u64 = 730_484_633;
-
-/// The Julian day of the first day, which has number 0.
-const FIRST_JULIAN_DAY: i32 = -363_521_074;
+use cal_time::limits::{LAST_DAY, MIN_JULIAN_DAY};
 
 /// The number of the day.
 pub(crate) fn number(date: Date) -> u32
     ensures number { result ≡ date }
     ensures in_range { IsDate date }
 {
-    (date.to_julian_day() - FIRST_JULIAN_DAY) as u32
+    (date.to_julian_day() - MIN_JULIAN_DAY) as u32
 }
 
 /// The day of that number, or `None` past the last one.
 pub(crate) fn at_number(number: u64) -> Option<Date>
     ensures { SomeIff result (IsDate number) number }
 {
-    if number > LAST_DAY {
+    if number > LAST_DAY as u64 {
         return None;
     }
-    match Date::from_julian_day(FIRST_JULIAN_DAY + number as i32) {
+    match Date::from_julian_day(MIN_JULIAN_DAY + number as i32) {
         Ok(date) => Some(date),
         Err(_) => unreachable!(),
     }

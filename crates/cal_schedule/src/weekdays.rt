@@ -9,6 +9,7 @@ ghost use Rattle.cal_schedule.specs.Weekdays.{IsNthWeekday, IsLastWeekday, occur
 
 use crate::bounds::{first_in, last_in};
 use cal_time::error::{Component, ComponentRange};
+use cal_time::limits::{MAX_YEAR, MIN_YEAR};
 use cal_time::util::days_in_month;
 use cal_time::{Cycle, Date, Month, Weekday};
 
@@ -16,7 +17,7 @@ use cal_time::{Cycle, Date, Month, Weekday};
 fn days_on(from: Weekday, to: Weekday) -> u8
     ensures { result ≡ (index to + 7 - index from) % 7 }
 {
-    (to.index() + 7 - from.index()) % 7
+    (to.place() + 7 - from.place()) % 7
 }
 
 /// The n-th day with the weekday in a month of the range, if it has one.
@@ -56,7 +57,7 @@ fn last_of_month(year: i32, month: Month, weekday: Weekday) -> Date
 fn is_year(year: i32) -> bool
     ensures { IsTrue result ↔ IsYear year }
 {
-    year >= -999_999 && year <= 999_999
+    year >= MIN_YEAR && year <= MAX_YEAR
 }
 
 /// The n-th day of a month that has the weekday, counted from 1: the fourth Thursday of November 2024 is 28 November 2024.

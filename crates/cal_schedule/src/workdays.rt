@@ -6,7 +6,6 @@ ghost use Rattle.cal_schedule.specs.Workdays.{is_workday, workdays_from, workday
 mod adjusted;
 mod calendar;
 mod convention;
-mod laws;
 mod search;
 mod week;
 
@@ -69,9 +68,12 @@ impl Workdays<'_> {
         }
     }
 
-    /// How many working days there are from the one day to the day before the other, below zero where the other comes first.
+    /// Counts the working days from the earlier day on, without the later day. The number is
+    /// negative if `to` comes before `from`: then `to` is counted, and `from` is not.
     ///
-    /// Where Monday to Friday are marked, and with no holidays, from 2024-01-01 to 2025-01-01 there are 262, and -262 back.
+    /// If Monday to Friday are marked and there are no holidays, from Friday 2024-01-05 to Monday
+    /// 2024-01-08 it is 1, and back it is -1, both for the Friday. From 2024-01-01 to 2025-01-01 it
+    /// is 262.
     pub fn workdays_between(&self, from: Date, to: Date) -> i32
         ensures number { result ≡ pos (length (workdays_within self.now from to))
             -ℤ pos (length (workdays_within self.now to from)) }

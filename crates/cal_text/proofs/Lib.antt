@@ -23,7 +23,6 @@ pub mod Stops
 pub mod Positions
 pub mod Parts
 mod Faults
-mod OneAnswer
 mod AnyForms
 mod AnyPositions
 mod UnixPrinted

@@ -9,6 +9,7 @@ use crate::scanner::Scanner;
 use cal_time::ShortText;
 
 /// Appends a fraction of a second, by its nanoseconds.
+#[tactic(auto, using(cal_time::proofs::TextLengths::text_lengths))]
 pub(crate) fn push_fraction(text: &mut ShortText, nanosecond: u32)
     requires room { HasRoom 10 text.old }
     requires below { nanosecond < 1_000_000_000 }

@@ -20,6 +20,7 @@ pub struct JulianText(pub Date);
 
 impl JulianText {
     /// The text in place, of at most 12 bytes.
+    #[tactic(auto, using(cal_time::proofs::TextLengths::text_lengths))]
     pub fn text(self) -> ShortText
         ensures text { result ≡ julian_text self.0 }
         ensures short { length result ≤ 12 }

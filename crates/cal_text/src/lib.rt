@@ -18,6 +18,3 @@ mod year;
 
 pub use any::{DateForm, DateOrMoment, MomentForm, read_any};
 pub use error::Unreadable;
-
-#[cfg(test)]
-mod tests;

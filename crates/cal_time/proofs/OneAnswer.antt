@@ -1,12 +1,12 @@
 -- Where a contract leaves one answer, and search does not find why.
-use Rattle.std.proofs.Common.{◌≡◌, ℕ, ◌+◌, ◌-◌, ◌*◌, ◌/◌, ◌%◌, ◌<◌, ◌≤◌, ◌⊎◌, List, [], ◌∷◌, Option, Some, None, inl, inr, refl, sym, ap, subst, ◌∙◌, arith, ℤ, pos, ◌+ℤ◌, ◌*ℤ◌, Bool, true, false, Result, Ok, Err}
+use Rattle.std.proofs.Common.{◌≡◌, ℕ, suc, ◌+◌, ◌-◌, ◌*◌, ◌/◌, ◌%◌, ◌<◌, ◌≤◌, ◌⊎◌, List, [], ◌∷◌, ◌++◌, length, Option, Some, None, inl, inr, refl, sym, ap, subst, ◌∙◌, arith, ℤ, pos, ◌+ℤ◌, ◌*ℤ◌, Bool, true, false, Result, Ok, Err}
 use Rattle.std.proofs.lemmas.Bool.{cases_lt}
 use Rattle.std.proofs.lemmas.Int.{ints}
-use Rattle.std.proofs.lemmas.List.Elements.{All-contains}
+use Rattle.std.proofs.lemmas.List.{length-append}
 use Rattle.std.proofs.Math.Nat.{mod-add-mod, add-mod_right, add-mul-mod_self_left, mod-eq_of_lt}
-use Rattle.std.specs.Prelude.{IfOk, IfErr, MatchOption, IsSomeAnd, ◌↔◌, ◌≤ℤ◌, not}
-use Rattle.std.specs.List.{Contains}
-use Rattle.cal_units.specs.Counted.{IsExtent}
+use Rattle.std.specs.Prelude.{IfOk, IfErr, MatchOption, IsSomeAnd, ◌↔◌, ◌<ℤ◌, ◌≤ℤ◌, not}
+use Rattle.std.specs.List.{All}
+use Rattle.cal_units.specs.Counted.{IsExtent, IsFirstMaximum, IsFirstMinimum, IsItemBetween}
 use Rattle.cal_units.specs.declared.cycle.Cycle.{Ghosts}
 use Rattle.cal_units.specs.Refusal.{IsRefused}
 use Rattle.cal_units.specs.declared.error.ComponentRange.{ComponentRange}
@@ -178,22 +178,46 @@ pair_at-one z None (Some p) h k = absurd (h p.0 p.1 k)
 pair_at-one z (Some p) None h k = absurd (k p.0 p.1 h)
 pair_at-one z (Some p) (Some q) h k = ap Some (pair-one z p q h k)
 
--- the ends of a slice whose items have one value for each number
-none-least : {T : Type 0} (items : List T) (x : T) → items ≡ [] → Contains items x → ⊥
-none-least [] x e h = absurd (omega (arith, h.1))
-none-least (y ∷ ys) x e h = cc
+-- the first minimum and the first maximum of a slice
+none-of_empty : {T : Type 0} {P Q : T → Type 0} (items : List T) (x : T) → items ≡ [] → IsItemBetween P Q items x → ⊥
+none-of_empty items x e m = absurd (omega (arith, ap length (sym e ∙ m.place), length-append m.before (x ∷ m.after)))
 
-pub extent-one : {T : Type 0} (number : T → ℤ) → ((x y : T) → number x ≡ number y → x ≡ y)
-    → (items : List T) (r s : Option (T × T))
+at_middle : {T : Type 0} (P : T → Type 0) (before : List T) (y : T) (after : List T) → All P (before ++ y ∷ after) → P y
+at_middle P [] y after h = h 0 y (omega arith)
+at_middle P (b ∷ before) y after h = at_middle P before y after (λ k d lt. h (suc k) d (omega (arith, lt)))
+
+one-place : {T : Type 0} (P Q P' Q' : T → Type 0) (x y : T) → (P' x → Q y → ⊥) → (P y → Q' x → ⊥)
+    → (before after before' after' : List T) → before ++ x ∷ after ≡ before' ++ y ∷ after'
+    → All P before → All Q after → All P' before' → All Q' after' → x ≡ y
+one-place P Q P' Q' x y not_later not_earlier [] after [] after' e p q p' q' = cc
+one-place P Q P' Q' x y not_later not_earlier [] after (b ∷ before') after' e p q p' q' =
+    let head : b ≡ x = cc in
+    let tail : after ≡ before' ++ y ∷ after' = cc in
+    absurd (not_later (subst P' head (p' 0 b (omega arith))) (at_middle Q before' y after' (subst (All Q) tail q)))
+one-place P Q P' Q' x y not_later not_earlier (a ∷ before) after [] after' e p q p' q' =
+    let head : a ≡ y = cc in
+    let tail : after' ≡ before ++ x ∷ after = cc in
+    absurd (not_earlier (subst P head (p 0 a (omega arith))) (at_middle Q' before x after (subst (All Q') tail q')))
+one-place P Q P' Q' x y not_later not_earlier (a ∷ before) after (b ∷ before') after' e p q p' q' =
+    let tail : before ++ x ∷ after ≡ before' ++ y ∷ after' = cc in
+    one-place P Q P' Q' x y not_later not_earlier before after before' after' tail (λ k d lt. p (suc k) d (omega (arith, lt))) q (λ k d lt. p' (suc k) d (omega (arith, lt))) q'
+
+minimum-one : {T : Type 0} (number : T → ℤ) (items : List T) (x y : T) → IsFirstMinimum number items x → IsFirstMinimum number items y → x ≡ y
+minimum-one number items x y h k =
+    one-place (λ z. number x <ℤ number z) (λ z. number x ≤ℤ number z) (λ z. number y <ℤ number z) (λ z. number y ≤ℤ number z) x y
+    (λ a b. omega (arith, ints, a, b)) (λ a b. omega (arith, ints, a, b)) h.before h.after k.before k.after (sym h.place ∙ k.place) h.earlier h.later k.earlier k.later
+
+maximum-one : {T : Type 0} (number : T → ℤ) (items : List T) (x y : T) → IsFirstMaximum number items x → IsFirstMaximum number items y → x ≡ y
+maximum-one number items x y h k =
+    one-place (λ z. number z <ℤ number x) (λ z. number z ≤ℤ number x) (λ z. number z <ℤ number y) (λ z. number z ≤ℤ number y) x y
+    (λ a b. omega (arith, ints, a, b)) (λ a b. omega (arith, ints, a, b)) h.before h.after k.before k.after (sym h.place ∙ k.place) h.earlier h.later k.earlier k.later
+
+pub extent-one : {T : Type 0} (number : T → ℤ) (items : List T) (r s : Option (T × T))
     → MatchOption r (items ≡ []) (IsExtent number items) → MatchOption s (items ≡ []) (IsExtent number items) → r ≡ s
-extent-one number one items None None h k = refl
-extent-one number one items None (Some q) h k = absurd (none-least items q.0 h k.least_is_item)
-extent-one number one items (Some p) None h k = absurd (none-least items p.0 k h.least_is_item)
-extent-one number one items (Some p) (Some q) h k =
-    let low = All-contains (λ x. number p.0 ≤ℤ number x) items q.0 h.least k.least_is_item in
-    let less = All-contains (λ x. number q.0 ≤ℤ number x) items p.0 k.least h.least_is_item in
-    let high = All-contains (λ x. number x ≤ℤ number p.1) items q.1 h.greatest k.greatest_is_item in
-    let more = All-contains (λ x. number x ≤ℤ number q.1) items p.1 k.greatest h.greatest_is_item in
-    let least : p.0 ≡ q.0 = one p.0 q.0 (omega (arith, ints)) in
-    let greatest : p.1 ≡ q.1 = one p.1 q.1 (omega (arith, ints)) in
-    ap Some (λ i. (least i, greatest i))
+extent-one number items None None h k = refl
+extent-one number items None (Some q) h k = absurd (none-of_empty items q.0 h k.minimum)
+extent-one number items (Some p) None h k = absurd (none-of_empty items p.0 k h.minimum)
+extent-one number items (Some p) (Some q) h k =
+    let minimum = minimum-one number items p.0 q.0 h.minimum k.minimum in
+    let maximum = maximum-one number items p.1 q.1 h.maximum k.maximum in
+    ap Some (λ i. (minimum i, maximum i))

@@ -162,18 +162,19 @@ decimals-ascii n below =
     IsAscii-cons (digit (n / 100000000)) (without_last_zeros (after_one n)) (h 0) (ascii-left (after_one n) (λ i. h (suc i)))
 
 -- ---- their text, of which k are still to come
--- so many of which two are to come, so there is room
-pub two-more : (n k : ℕ) (old text : List ℕ) → k < 1000000000 → 0 < k % 100000000 → text ++ decimals_of k ≡ old ++ decimals_of n
-    → (length text + 2 ≤ length old + 9) × (length (decimals_of (k % 10000000 * 100)) < length (decimals_of k))
-two-more n k old text below more all =
-    let two = two-decimals k below more in (
-      omega (arith, ap length all, length-append text (decimals_of k), length-append old (decimals_of n), few-left (nine_digits n), ap length two),
-      omega (arith, ap length two),
-    )
-
 some-too : (n k : ℕ) → (n ≡ 0 → k ≡ 0) → 0 < k → 0 < n
 some-too zero k zero_too some = absurd (omega (arith, some, zero_too refl))
 some-too (suc n) k zero_too some = omega arith
+
+-- two of them are to come, so there is room for these
+pub two-more : (n k : ℕ) (old text : List ℕ) → k < 1000000000 → (n ≡ 0 → k ≡ 0) → 0 < k % 100000000 → text ++ decimals_of k ≡ old ++ decimals_of n
+    → (length text + 2 ≤ length old + length (decimals n)) × (length (decimals_of (k % 10000000 * 100)) < length (decimals_of k))
+two-more n k old text below zero_too more all =
+    let two = two-decimals k below more in
+    let some = some-too n k zero_too (omega (arith, more)) in (
+      omega (arith, ap length all, length-append text (decimals_of k), length-append old (decimals_of n), ap length (decimals-some n some), ap length two),
+      omega (arith, ap length two),
+    )
 
 last-more : (n k : ℕ) (old text : List ℕ) → k % 100000000 ≡ 0 → (n ≡ 0 → k ≡ 0) → text ++ decimals_of k ≡ old ++ decimals_of n → 0 < k
     → text ++ digit (k / 100000000) ∷ [] ≡ old ++ decimals n

@@ -76,6 +76,19 @@ days_in_year-period y =
     let (k, n, later) = later_year y in
     days_in_year-later (y +ℤ pos 400) k (n + 401) (omega (arith, ints)) ∙ sym (days_in_year-later y (k + 1) (n + 401) (omega (arith, ints)))
 
+-- the weekdays of January 1 come again after 400 years
+pub first_weekday-period : (y : ℤ) → first_weekday (y +ℤ pos 400) ≡ first_weekday y
+first_weekday-period y =
+    let (k, n, later) = later_year y in
+    let here = first_weekday-is y k n later in
+    let next = first_weekday-is (y +ℤ pos 400) k (n + 400) (omega (arith, ints)) in
+    omega arith
+
+-- and so do the weeks
+pub weeks_in_year-period : (y : ℤ) → weeks_in_year (y +ℤ pos 400) ≡ weeks_in_year y
+unfolding weeks_in_year
+weeks_in_year-period y = rw (first_weekday-period y, days_in_year-period y)
+
 thursdays-is : (first n : ℕ) → thursdays first n + (first + 10) / 7 ≡ (first + n + 10) / 7
 unfolding thursdays
 thursdays-is first zero = omega arith
@@ -100,6 +113,9 @@ weeks_in_year-is y =
 
 pub weeks_in_year-most : (y : ℤ) → weeks_in_year y ≤ 53
 weeks_in_year-most y = let is = weeks_in_year-is y in grind (arith, nat_tests)
+
+-- a year and the one 400 years later
+pub ruleset periods = (first_weekday-period, days_in_year-period, weeks_in_year-period)
 
 -- what shows the weeks of a year from the weekdays that it and the next one begin on
 pub ruleset weeks = (weeks_in_year-is, ints, nat_tests)

@@ -1,6 +1,8 @@
 -- The digits of a year, two at a time.
-use Rattle.std.proofs.Common.{◌≡◌, ℕ, ◌+◌, ◌/◌, ◌%◌, ◌<◌, ◌≤◌, List, [], ◌∷◌, ◌++◌, append_assoc, length, length-append, ap, ◌∙◌, arith, inl, inr}
+use Rattle.std.proofs.Common.{◌≡◌, ℕ, ℤ, ◌+◌, ◌/◌, ◌%◌, ◌<◌, ◌≤◌, List, [], ◌∷◌, ◌++◌, append_assoc, length, length-append, ap, ◌∙◌, arith, inl, inr}
+use Rattle.std.specs.Prelude.{unsigned_abs}
 use Rattle.cal_units.specs.Digits.{digit, two_digits, digits_at_least}
+use Rattle.cal_units.specs.YearText.{sign_text, year_text}
 use Rattle.cal_units.proofs.Digits.{pair_step, digits_at_least-none, digits_at_least-one, digits_at_least-two, decimal-two}
 
 -- those of the hundreds, and the last two
@@ -25,4 +27,19 @@ five_digits n low high = more_digits n (digit (n / 10_000) ∷ []) low (omega ar
 pub six_digits : (n : ℕ) → 100_000 ≤ n → n < 1_000_000 → digits_at_least 4 n ≡ (two_digits (n / 10_000) ++ two_digits (n / 100 % 100)) ++ two_digits (n % 100)
 six_digits n low high = more_digits n (two_digits (n / 10_000)) (omega arith) high (digits_at_least-none (n / 10_000) ∙ decimal-two (n / 10_000) (omega arith) (omega arith))
 
-pub ruleset years = (four_digits, five_digits, six_digits, append_assoc)
+-- how many they are
+pub length-four : (n : ℕ) → n < 10_000 → length (digits_at_least 4 n) ≡ 4
+length-four n high = ap length (four_digits n high)
+
+pub length-five : (n : ℕ) → 10_000 ≤ n → n < 100_000 → length (digits_at_least 4 n) ≡ 5
+length-five n low high = ap length (five_digits n low high)
+
+pub length-six : (n : ℕ) → 100_000 ≤ n → n < 1_000_000 → length (digits_at_least 4 n) ≡ 6
+length-six n low high = ap length (six_digits n low high)
+
+pub length-year_text : (y : ℤ) → length (year_text y) ≡ length (sign_text y) + length (digits_at_least 4 (unsigned_abs y))
+length-year_text y = length-append (sign_text y) (digits_at_least 4 (unsigned_abs y))
+
+pub ruleset years = (four_digits, five_digits, six_digits, length-four, length-five, length-six, append_assoc)
+
+pub ruleset year_lengths = (length-year_text, length-four, length-five, length-six)

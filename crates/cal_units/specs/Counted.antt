@@ -1,13 +1,27 @@
 -- What holds of a slice whose items have numbers.
-use Rattle.std.specs.Prelude.{ℤ, ◌≤ℤ◌, ◌<ℤ◌, List, length}
-use Rattle.std.specs.List.{All, Contains, AllAdjacentBelow}
+use Rattle.std.specs.Prelude.{◌≡◌, ℤ, ◌≤ℤ◌, ◌<ℤ◌, List, ◌∷◌, ◌++◌, length}
+use Rattle.std.specs.List.{All, AllAdjacentBelow}
 
--- two items of the list, of which the first has the least number and the second the greatest
+-- x is an item; each item before it has one property, and each item after it another one
+pub record IsItemBetween {T : Type 0} (P Q : T → Type 0) (items : List T) (x : T) : Type 0 where
+  pub before : List T
+  pub after : List T
+  pub place : items ≡ before ++ x ∷ after
+  pub earlier : All P before
+  pub later : All Q after
+
+-- x is the first item with the minimum number
+abbrev pub IsFirstMinimum : {T : Type 0} → (T → ℤ) → List T → T → Type 0
+IsFirstMinimum number items x = IsItemBetween (λ item. number x <ℤ number item) (λ item. number x ≤ℤ number item) items x
+
+-- x is the first item with the maximum number
+abbrev pub IsFirstMaximum : {T : Type 0} → (T → ℤ) → List T → T → Type 0
+IsFirstMaximum number items x = IsItemBetween (λ item. number item <ℤ number x) (λ item. number item ≤ℤ number x) items x
+
+-- the first item with the minimum number, and the first one with the maximum number
 pub record IsExtent {T : Type 0} (number : T → ℤ) (items : List T) (ends : T × T) : Type 0 where
-  pub least_is_item : Contains items ends.0
-  pub greatest_is_item : Contains items ends.1
-  pub least : All (λ item. number ends.0 ≤ℤ number item) items
-  pub greatest : All (λ item. number item ≤ℤ number ends.1) items
+  pub minimum : IsFirstMinimum number items ends.0
+  pub maximum : IsFirstMaximum number items ends.1
 
 -- each item's number is below the next one's
 abbrev pub IsRising : {T : Type 0} → (T → ℤ) → List T → Type 0

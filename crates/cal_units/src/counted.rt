@@ -23,30 +23,30 @@ pub trait Counted: Copy + Ord + Hash {
     /// Values are equal exactly if their numbers are.
     ghost alike: { (x y : Self) → IsTrue (Self.eq x y) ↔ (number_of x ≡ number_of y) };
 
-    /// Numbers tell values apart.
-    ghost apart: { (x y : Self) → number_of x ≡ number_of y → x ≡ y };
-
     /// Values of one number give a hasher the same input.
     ghost hashed: { (x y : Self) → number_of x ≡ number_of y
         → Self.hash_input x ≡ Self.hash_input y };
 }
 
-/// The least and the greatest item of the slice, or `None` if it has no items.
+/// Returns the minimum and the maximum of the slice, or `None` if it is empty.
 ///
-/// Those of the durations 2 s, -1 s and 5 s are -1 s and 5 s.
+/// Of several items with the minimum number it is the first one, and likewise for the maximum. For the durations 2 s, -1 s and 5 s
+/// these are -1 s and 5 s.
 pub fn extent<T: Counted>(items: &[T]) -> Option<(T, T)>
     ensures { MatchOption result (items.now ≡ []) (IsExtent T.number_of items.now) }
 {
-    if items.is_empty() {
-        return None;
+    let (first, rest) = items.split_first()?;
+    let mut minimum = *first;
+    let mut maximum = *first;
+    for item in rest {
+        if *item < minimum {
+            minimum = *item;
+        }
+        if *item > maximum {
+            maximum = *item;
+        }
     }
-    let mut least = items[0];
-    let mut greatest = items[0];
-    for item in items {
-        least = least.min(*item);
-        greatest = greatest.max(*item);
-    }
-    Some((least, greatest))
+    Some((minimum, maximum))
 }
 
 /// Whether each item of the slice is less than the one after it. A slice of one item or none rises.

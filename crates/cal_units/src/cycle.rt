@@ -3,7 +3,7 @@ ghost use Rattle.std.specs.Prelude.{◌≡◌, ◌<◌, ℕ};
 
 /// A type with finitely many values that follow one another in a circle, as the months of a year or the days of a week do.
 ///
-/// Each value has an index, from 0 to below `LENGTH`, and each of these indexes has one value.
+/// Each value has a place, from 0 to `LENGTH` - 1, and each of these places has one value.
 pub trait Cycle: Copy {
     /// The number of values: 12 for `Month`, 7 for `Weekday`.
     const LENGTH: u8;
@@ -14,14 +14,14 @@ pub trait Cycle: Copy {
 
     ghost value_at: { ℕ → Self };
 
-    /// The index of the value, counted from 0 at January or Monday: that of May is 4.
-    fn index(self) -> u8
+    /// Returns the place of the value, counted from 0 at January or Monday: 4 for May.
+    fn place(self) -> u8
         ensures { result ≡ index_of self };
 
-    /// The value at an index below `LENGTH`: `Month::at(4)` is May.
-    fn at(index: u8) -> Self
-        requires { index < LENGTH }
-        ensures { result ≡ value_at index };
+    /// Returns the value at a place below `LENGTH`: `Month::at(4)` is May.
+    fn at(place: u8) -> Self
+        requires { place < LENGTH }
+        ensures { result ≡ value_at place };
 
     // Each value has an index below `LENGTH`.
     ghost index_below: { (x : Self) → index_of x < LENGTH };

@@ -2,9 +2,11 @@
 //! closure no more than that it may always be called.
 //!
 //! Derives and discriminants have no clauses, so a function that clones or casts says what comes of it.
-ghost use Rattle.std.specs.Prelude.{◌≡◌, Ok};
+ghost use Rattle.std.specs.Prelude.{◌≡◌, ℤ, pos, ◌+ℤ◌, Ok};
+ghost use Rattle.cal_units.specs.Lengths.{days_in_year};
 ghost use Rattle.cal_units.specs.Month.{number};
 ghost use Rattle.cal_units.specs.Weekday.{index};
+ghost use Rattle.cal_units.specs.Weeks.{first_weekday, weeks_in_year};
 
 use crate::cycle::Cycle;
 use crate::error::{ComponentRange, ConversionRange, InvalidVariant};
@@ -35,6 +37,14 @@ pub(crate) fn clones_of_errors(
 {
     Ok((component.clone()?, conversion.clone()?, variant.clone()?))
 }
+
+/// A year and the year 400 years later begin on the same weekday and have as many days and as many weeks.
+#[tactic(auto, using(crate::proofs::Weeks::periods))]
+pub(crate) fn years_repeat()
+    ensures weekday { (y : ℤ) → first_weekday (y +ℤ pos 400) ≡ first_weekday y }
+    ensures days { (y : ℤ) → days_in_year (y +ℤ pos 400) ≡ days_in_year y }
+    ensures weeks { (y : ℤ) → weeks_in_year (y +ℤ pos 400) ≡ weeks_in_year y }
+{}
 
 /// A month as a number is its number in the year: January is 1.
 pub(crate) fn month_as_number(month: Month) -> u8

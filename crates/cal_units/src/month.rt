@@ -168,12 +168,12 @@ impl Cycle for Month {
 
     ghost index_of_value = { index-month_at };
 
-    fn index(self) -> u8 {
+    fn place(self) -> u8 {
         self as u8 - 1
     }
 
-    fn at(index: u8) -> Self {
-        match index {
+    fn at(place: u8) -> Self {
+        match place {
             0 => Month::January,
             1 => Month::February,
             2 => Month::March,

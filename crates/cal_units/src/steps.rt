@@ -11,8 +11,8 @@ pub fn nth_in<C: Cycle>(start: C, n: usize) -> C
     ensures { IsAhead C.Cycle n start result }
 {
     let length = C::LENGTH as usize;
-    let index = (start.index() as usize + n % length) % length;
-    C::at(index as u8)
+    let place = (start.place() as usize + n % length) % length;
+    C::at(place as u8)
 }
 
 /// The value `n` places back from `start`, round the cycle as often as it takes.
@@ -20,8 +20,8 @@ pub(crate) fn nth_back_in<C: Cycle>(start: C, n: usize) -> C
     ensures { IsBack C.Cycle n start result }
 {
     let length = C::LENGTH as usize;
-    let index = (start.index() as usize + (length - n % length)) % length;
-    C::at(index as u8)
+    let place = (start.place() as usize + (length - n % length)) % length;
+    C::at(place as u8)
 }
 
 /// Whether `f` answers true at each value, asked in the order of the indexes up to the first false.

@@ -1,11 +1,12 @@
 //! Short texts in place, and the digits of the numbers in them.
 ghost use Rattle.std.specs.Prelude.{◌≡◌, ◌+◌, ◌<◌, ◌≤◌, ◌++◌, [], ◌∷◌, length, decimal, unsigned_abs};
-ghost use Rattle.std.specs.Fmt.{signed_decimal};
+ghost use Rattle.std.specs.Fmt.{debug_str, signed_decimal};
 ghost use Rattle.std.specs.Str.{IsAscii};
 ghost use Rattle.cal_units.specs.Digits.{decimals, digit, digits_at_least, two_digits};
 ghost use Rattle.cal_units.specs.ShortText.{HasRoom, capacity};
 ghost use Rattle.cal_units.specs.YearText.{year_text};
 
+use std::fmt;
 use std::marker::Model;
 use std::str::from_utf8_unchecked;
 
@@ -146,11 +147,12 @@ impl ShortText {
         self.push_two_digits((number % 100) as u32);
     }
 
-    /// Appends the digits of a number, after a minus sign below 0: those of -7 are `-7`.
+    /// Appends the digits of a number, after a minus sign if it is negative: `-7`.
     #[tactic(auto, using(crate::proofs::Digits::short_numbers))]
     pub fn push_signed(&mut self, number: i32)
-        requires { HasRoom 11 self.old }
+        requires { HasRoom (length (signed_decimal number)) self.old }
         ensures appended { self.new ≡ self.old ++ signed_decimal number }
+        ensures longer { length self.new ≡ length self.old + length (signed_decimal number) }
         ensures short { length self.new ≤ length self.old + 11 }
     {
         if number < 0 {
@@ -159,11 +161,12 @@ impl ShortText {
         self.push_number(u64::from(number.unsigned_abs()));
     }
 
-    /// Appends the digits of a number of 128 bits, after a minus sign below 0.
+    /// Appends the digits of a number of 128 bits, after a minus sign if it is negative.
     #[tactic(auto, using(crate::proofs::Digits::wide_numbers))]
     pub fn push_signed_wide(&mut self, number: i128)
-        requires { HasRoom 40 self.old }
+        requires { HasRoom (length (signed_decimal number)) self.old }
         ensures appended { self.new ≡ self.old ++ signed_decimal number }
+        ensures longer { length self.new ≡ length self.old + length (signed_decimal number) }
         ensures short { length self.new ≤ length self.old + 40 }
     {
         if number < 0 {
@@ -188,10 +191,12 @@ impl ShortText {
     }
 
     /// Appends a year: at least four digits, after a minus sign below 0, and after a plus sign from the year 10000 on.
+    #[tactic(auto, using(crate::proofs::YearTexts::year_lengths))]
     pub fn push_year(&mut self, year: i32)
-        requires room { HasRoom 7 self.old }
+        requires room { HasRoom (length (year_text year)) self.old }
         requires below { unsigned_abs year < 1_000_000 }
         ensures appended { self.new ≡ self.old ++ year_text year }
+        ensures longer { length self.new ≡ length self.old + length (year_text year) }
         ensures short { length self.new ≤ length self.old + 7 }
     {
         if year < 0 {
@@ -205,10 +210,10 @@ impl ShortText {
     /// Appends the digits of a number below 1000000, of which there are at least four.
     #[tactic(auto, using(crate::proofs::YearTexts::years))]
     fn push_four_digits(&mut self, number: u32)
-        requires room { HasRoom 6 self.old }
+        requires room { HasRoom (length (digits_at_least 4 number)) self.old }
         requires below { number < 1_000_000 }
         ensures appended { self.new ≡ self.old ++ digits_at_least 4 number }
-        ensures short { length self.new ≤ length self.old + 6 }
+        ensures longer { length self.new ≡ length self.old + length (digits_at_least 4 number) }
     {
         let above = number / 10_000;
         if above > 9 {
@@ -223,9 +228,10 @@ impl ShortText {
     /// Appends the nine decimals of so many nanoseconds without the zeros that they end in, but at least one: those of half a second
     /// are `5`.
     pub fn push_decimals(&mut self, nanoseconds: u32)
-        requires room { HasRoom 9 self.old }
+        requires room { HasRoom (length (decimals nanoseconds)) self.old }
         requires below { nanoseconds < 1_000_000_000 }
         ensures appended { self.new ≡ self.old ++ decimals nanoseconds }
+        ensures longer { length self.new ≡ length self.old + length (decimals nanoseconds) }
         ensures ascii { IsAscii (decimals nanoseconds) }
         ensures short { length self.new ≤ length self.old + 9 }
     {
@@ -237,6 +243,14 @@ impl ShortText {
         if others > 0 || nanoseconds == 0 {
             self.push_digit(others / 100_000_000);
         }
+    }
+}
+
+impl fmt::Debug for ShortText {
+    ghost debug_output = { λ text. debug_str text };
+
+    fn fmt<W: fmt::Write>(&self, f: &mut fmt::Formatter<W>) -> fmt::Result {
+        fmt::Debug::fmt(self.as_str(), f)
     }
 }
 

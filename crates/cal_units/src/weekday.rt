@@ -82,7 +82,7 @@ impl Weekday {
     pub fn number_days_from_monday(self) -> u8
         ensures { result ≡ index self }
     {
-        self.index()
+        self.place()
     }
 
     /// The number of days since Sunday, from Sunday, 0, to Saturday, 6. On Friday it is 5.
@@ -151,12 +151,12 @@ impl Cycle for Weekday {
 
     ghost index_of_value = { index-weekday_at };
 
-    fn index(self) -> u8 {
+    fn place(self) -> u8 {
         self as u8
     }
 
-    fn at(index: u8) -> Self {
-        match index {
+    fn at(place: u8) -> Self {
+        match place {
             0 => Weekday::Monday,
             1 => Weekday::Tuesday,
             2 => Weekday::Wednesday,

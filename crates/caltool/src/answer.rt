@@ -196,6 +196,7 @@ fn write_week(buffer: &mut Buffer, date: Date)
     buffer.push(weekday.name().as_bytes());
 }
 
+#[tactic(auto, using(cal_time::proofs::TextLengths::text_lengths))]
 fn push_number(buffer: &mut Buffer, number: i32)
     requires { HasRoom 11 buffer.old }
     ensures text { buffer.new ≡ buffer.old ++ signed_decimal number }

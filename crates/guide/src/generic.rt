@@ -4,7 +4,7 @@ use std::io;
 
 /// How many steps forwards lead from one value to the other.
 fn steps<C: Cycle>(from: C, to: C) -> u8 {
-    let (from, to) = (from.index(), to.index());
+    let (from, to) = (from.place(), to.place());
     if from <= to {
         to - from
     } else {

@@ -33,7 +33,7 @@ fn months(rt: &impl Print, month: Month) -> io::Result<()> {
         nth_in(month, 25)
     )?;
     if let Ok(month) = Month::try_from(12u8) {
-        println!(rt; "{month} {}", month.index())?;
+        println!(rt; "{month} {}", month.place())?;
     }
     let mut walk: CycleIter<Month> = Month::iter_from(month);
     println!(rt;

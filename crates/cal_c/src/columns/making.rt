@@ -12,6 +12,7 @@ use crate::number::{FIRST_JULIAN_DAY, LAST_JULIAN_DAY};
 use crate::sums::{has_day, julian_day_at};
 use crate::values::weekday_of;
 use cal_time::Date;
+use cal_time::limits::{MAX_YEAR, MIN_YEAR};
 
 /// The dates of a column of Julian days, row by row as `fots_date_from_julian_day`, and how many rows have none.
 #[unsafe(no_mangle)]
@@ -187,7 +188,7 @@ pub(super) fn status_of_calendar_date(year: i32, month: u8, day: u8) -> u8
     let is_day = has_day(year, month, day);
     if month == 0 || month > 12 {
         MONTH
-    } else if year < -999_999 || year > 999_999 {
+    } else if year < MIN_YEAR || year > MAX_YEAR {
         YEAR
     } else if is_day {
         DONE

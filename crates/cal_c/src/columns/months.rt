@@ -13,6 +13,7 @@ use crate::number::is_julian_day;
 use crate::sums::{julian_day_at, length_of};
 use crate::values::date_of;
 use cal_time::Cycle;
+use cal_time::limits::MIN_YEAR;
 use cal_time::util::is_leap_year;
 
 /// The months of the range that come before its last one.
@@ -73,7 +74,10 @@ fn index_and_day(date: i32) -> (u32, u8)
     match date_of(date) {
         Some(date) => {
             let (year, month, day) = date.to_calendar_date();
-            ((year + 999_999) as u32 * 12 + u32::from(month.index()), day)
+            (
+                (year - MIN_YEAR) as u32 * 12 + u32::from(month.place()),
+                day,
+            )
         }
         None => (0, 1),
     }
@@ -89,7 +93,7 @@ fn day_in_month(index: u32, day: u8) -> i32
         ≡ min day (days_in_month (year_at (day_of result)) (month_at (day_of result))) }
     ensures in_range { IsJulianDay result }
 {
-    let year = (index / 12) as i32 - 999_999;
+    let year = (index / 12) as i32 + MIN_YEAR;
     let month = (index % 12) as u8 + 1;
     julian_day_at(year, month, day.min(length_of(month, is_leap_year(year))))
 }

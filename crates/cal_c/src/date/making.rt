@@ -6,6 +6,7 @@ use crate::status::{BAD_WEEKDAY, DAY, DONE, JULIAN_DAY, MONTH, YEAR};
 use crate::sums::{has_day, julian_day_at};
 use crate::values::{date_at, day_of_month_of, ordinal_of, week_of, weekday_of};
 use cal_time::Date;
+use cal_time::limits::{MAX_YEAR, MIN_YEAR};
 
 /// The date that has the Julian day, from -363521074 to 366963559, which it is itself.
 ///
@@ -28,7 +29,7 @@ pub extern "C" fn fots_date_from_calendar_date(year: i32, month: u32, day: u32) 
     if month == 0 || month > 12 {
         return DateResult::refused(MONTH);
     }
-    if year < -999_999 || year > 999_999 {
+    if year < MIN_YEAR || year > MAX_YEAR {
         return DateResult::refused(YEAR);
     }
     let (month, day) = (month as u8, day_of_month_of(day));

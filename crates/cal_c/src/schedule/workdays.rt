@@ -114,8 +114,11 @@ fn workdays_later(date: i32, days: i32, calendar: &Result<Calendar, i32>) -> Dat
     }
 }
 
-/// How many working days there are from the date to the day before the other, below zero where the other comes first. From 2451545,
-/// 2000-01-01, to 2451911, 2001-01-01, it is 260 where the marks are 31 and there are no holidays.
+/// Counts the working days from the earlier date on, without the later one; negative if the other
+/// comes first.
+///
+/// From 2451545, 2000-01-01, to 2451911, 2001-01-01, it is 260 if the marks are 31 and there are no
+/// holidays.
 #[unsafe(no_mangle)]
 pub extern "C" fn fots_date_workdays_between(
     date: i32,

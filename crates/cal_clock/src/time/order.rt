@@ -16,8 +16,6 @@ impl Counted for Time {
 
     ghost alike = { λ x y. Prim.grind (arith, ints) };
 
-    ghost apart = { same-pos };
-
     ghost hashed = { λ x y e. ap fed.u64 (same-pos x y e) };
 
     /// The nanoseconds since midnight: those of 1:00 are 3600000000000.

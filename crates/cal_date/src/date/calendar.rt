@@ -94,7 +94,7 @@ impl Date {
         if !has_day(month, leap, day) {
             return Err(ComponentRange::conditional(Component::Day));
         }
-        let ordinal = days_before_month(month.index(), leap) + u16::from(day);
+        let ordinal = days_before_month(month.place(), leap) + u16::from(day);
         Ok(Date::from_parts(year, leap, ordinal))
     }
 
@@ -226,7 +226,7 @@ fn has_day(month: Month, leap: bool, day: u8) -> bool
     ensures { (year : ℤ) → leap ≡ is_leap_year year
         → IsTrue result ↔ IsDayOfMonth year (number month) day }
 {
-    let index = month.index();
+    let index = month.place();
     let ordinal = days_before_month(index, leap) + u16::from(day);
     day > 0 && ordinal <= days_before_month(index + 1, leap)
 }

@@ -13,6 +13,7 @@ impl Date {
     ///
     /// It has at least four digits of the year, after a minus sign below the year 0 and a plus sign from the year 10000 on, and two
     /// each of the month and the day: the calendar date of ISO 8601. It has at most 13 bytes, all of them ASCII.
+    #[tactic(auto, using(cal_units::proofs::TextLengths::text_lengths))]
     pub fn text(self) -> ShortText
         ensures text { result ≡ text self }
         ensures short { length result ≤ 13 }

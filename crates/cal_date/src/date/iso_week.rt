@@ -9,8 +9,9 @@ ghost use Rattle.cal_date.specs.IsoWeekDate.{weekdays_upto, iso_year_at, iso_wee
 ghost use Rattle.cal_date.specs.Order.{IsBefore, iso_week_date_at};
 ghost use Rattle.cal_date.specs.Refusals.{year_out_of_range, week_out_of_range, weekday_out_of_range};
 
-use crate::date::{Date, MAX_YEAR, MIN_YEAR, is_year};
+use crate::date::{Date, is_year};
 use crate::error::{Component, ComponentRange};
+use crate::limits::{MAX_YEAR, MIN_YEAR};
 use cal_units::util::{days_in_year, weeks_in_year};
 use cal_units::{Cycle, Weekday};
 

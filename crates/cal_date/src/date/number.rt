@@ -2,8 +2,9 @@
 ghost use Rattle.std.specs.Prelude.{◌≡◌, ◌+◌, ◌-◌, ◌≤◌, SomeIff};
 ghost use Rattle.cal_date.specs.Date.{IsDate};
 
-use crate::date::{Date, LAST_DAY, MIN_JULIAN_DAY};
+use crate::date::Date;
 use crate::kernel::{date_of_kernel, julian_kernel};
+use crate::limits::{LAST_DAY, MIN_JULIAN_DAY};
 
 impl Date {
     /// States that the day is one of the range. It does nothing.

@@ -4,7 +4,8 @@ ghost use Rattle.cal_units.specs.Weekday.{index};
 ghost use Rattle.cal_date.specs.Date.{weekday_at, IsDate};
 ghost use Rattle.cal_date.specs.Occurrence.{next_occurrences, prev_occurrences, kth};
 
-use crate::date::{Date, LAST_DAY};
+use crate::date::Date;
+use crate::limits::LAST_DAY;
 use cal_units::Weekday;
 
 /// The days of so many whole weeks that they reach past the last day.

@@ -77,8 +77,6 @@ impl Counted for Date {
 
     ghost alike = { λ x y. Prim.grind (arith, ints, nat_tests) };
 
-    ghost apart = { λ x y e. Prim.grind (arith, ints) };
-
     ghost hashed = { λ x y e. Prim.grind (arith, ints) };
 
     /// The Julian day, from -363521074 to 366963559.

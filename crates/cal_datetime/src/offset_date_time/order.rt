@@ -6,6 +6,7 @@ ghost use Rattle.std.proofs.Common.{rules};
 ghost use Rattle.cal_datetime.specs.OffsetDateTime.{instant, hash_input_of};
 
 use crate::OffsetDateTime;
+use cal_time::Counted;
 use std::cmp::Ordering;
 use std::hash::{Hash, Hasher};
 
@@ -55,5 +56,24 @@ impl Hash for OffsetDateTime {
 
     fn hash<H: Hasher>(&self, state: &mut H) {
         self.instant().hash(state);
+    }
+}
+
+impl Counted for OffsetDateTime {
+    ghost use Rattle.std.specs.Prelude.{refl};
+    ghost use Rattle.std.proofs.Common.{ap};
+    ghost use Rattle.std.specs.Hash as fed;
+
+    ghost number_of = { instant };
+
+    ghost ordered = { λ x y. refl };
+
+    ghost alike = { λ x y. Prim.search rules };
+
+    ghost hashed = { λ x y e. ap fed.i128 e };
+
+    /// Returns the nanoseconds from the first date-time of the range, at UTC, to the instant.
+    fn number(self) -> i128 {
+        self.instant()
     }
 }

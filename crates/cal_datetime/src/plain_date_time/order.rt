@@ -6,11 +6,9 @@ ghost use Rattle.std.proofs.Common.{rules};
 
 use crate::PlainDateTime;
 use cal_time::Counted;
+use cal_time::limits::MIN_JULIAN_DAY;
 use std::cmp::Ordering;
 use std::hash::{Hash, Hasher};
-
-/// The Julian day of the first day of the range.
-const FIRST_DAY: i32 = -363_521_074;
 
 const NANOSECONDS_PER_DAY: i128 = 86_400_000_000_000;
 
@@ -78,13 +76,11 @@ impl Counted for PlainDateTime {
 
     ghost alike = { λ x y. Prim.search rules };
 
-    ghost apart = { λ x y e. e };
-
     ghost hashed = { λ x y e. ap fed.i128 e };
 
     /// The nanoseconds since the first date-time of the range: those of 1970-01-01 0:00 are 31619087596800000000000.
     fn number(self) -> i128 {
-        let days = i128::from(self.date.to_julian_day() - FIRST_DAY);
+        let days = i128::from(self.date.to_julian_day() - MIN_JULIAN_DAY);
         days * NANOSECONDS_PER_DAY + self.time.number()
     }
 }

@@ -21,7 +21,7 @@ pub enum ByDay {
     Nth(i8, Weekday),
 }
 
-/// Days that come back, as RFC 5545 writes them in a `RRULE`.
+/// Days that come back, in a subset of what RFC 5545 writes in a `RRULE`, by days.
 ///
 /// A part that is an empty slice leaves out no day. Of the parts that are given, a day of the rule passes each.
 #[derive(Clone, Copy, Debug)]

@@ -9,6 +9,7 @@ ghost use Rattle.cal_schedule.specs.Rule.{allows, is_as_start, is_by, is_empty, 
 use crate::months::index_and_day;
 use crate::numbers::number;
 use crate::rule::kinds::{ByDay, Frequency, Rule};
+use cal_time::limits::MIN_YEAR;
 use cal_time::util::{days_in_month, days_in_year};
 use cal_time::{Cycle, Date, Month, Weekday};
 
@@ -28,14 +29,14 @@ fn is_nth(n: i8, ahead: u16, back: u16) -> bool
 fn month_of(date: Date) -> u8
     ensures { result ≡ month_at date }
 {
-    date.month().index() + 1
+    date.month().place() + 1
 }
 
 /// Whether the months have that number among them.
 fn any_month(months: &[Month], number: u8) -> bool
     ensures { result ≡ list_any (λ m. month_number m == number) months.now }
 {
-    months.iter().any(|month| month.index() + 1 == number)
+    months.iter().any(|month| month.place() + 1 == number)
 }
 
 /// Whether the day is that one of its month.
@@ -59,8 +60,9 @@ fn any_month_day(days: &[i8], date: Date) -> bool
 
 /// Whether the day is the so-many-th of its weekday in its year, or in its month.
 #[tactic(auto, unfolding(crate::specs::Rule::is_nth_of))]
-fn is_nth_of(of_year: bool, date: Date, n: i8) -> bool
-    ensures { result ≡ is_nth_of of_year date n }
+pub(crate) fn is_nth_of(of_year: bool, date: Date, n: i8) -> bool
+    ensures value { result ≡ is_nth_of of_year date n }
+    ensures in_range { IsDate date }
 {
     let (index, length) = if of_year {
         (date.ordinal(), days_in_year(date.year()))
@@ -92,16 +94,16 @@ fn any_weekday(weekdays: &[ByDay], of_year: bool, date: Date) -> bool
 
 /// The day, the week, the month or the year of the day, counted from the first one of the range.
 #[tactic(auto, unfolding(crate::specs::Rule::turn_at))]
-pub(super) fn turn_of(frequency: Frequency, first: Weekday, date: Date) -> u32
+pub(crate) fn turn_of(frequency: Frequency, first: Weekday, date: Date) -> u32
     ensures turn { result ≡ turn_at frequency first date }
     ensures most { result ≤ last_day }
     ensures in_range { IsDate date }
 {
     match frequency {
         Frequency::Daily => number(date),
-        Frequency::Weekly => (number(date) + 7 - u32::from(first.index())) / 7,
+        Frequency::Weekly => (number(date) + 7 - u32::from(first.place())) / 7,
         Frequency::Monthly => index_and_day(date).0,
-        Frequency::Yearly => (date.year() + 999_999) as u32,
+        Frequency::Yearly => (date.year() - MIN_YEAR) as u32,
     }
 }
 

@@ -39,7 +39,7 @@ fn first_of(frequency: Frequency, first: Weekday, turn: u64) -> Option<Date>
 {
     match frequency {
         Frequency::Daily => at_number(turn),
-        Frequency::Weekly => at_number(7 * turn - 7 + u64::from(first.index())),
+        Frequency::Weekly => at_number(7 * turn - 7 + u64::from(first.place())),
         Frequency::Monthly => first_of_month(turn, first),
         Frequency::Yearly => first_of_month(12 * turn, first),
     }
@@ -58,7 +58,7 @@ fn weekday_of(by: ByDay) -> Weekday
 fn any_at_index(weekdays: &[ByDay], at: u8) -> bool
     ensures { result ≡ list_any (λ by. at == index (weekday_of by)) weekdays.now }
 {
-    weekdays.iter().any(|by| at == weekday_of(*by).index())
+    weekdays.iter().any(|by| at == weekday_of(*by).place())
 }
 
 impl Rule<'_> {
@@ -78,7 +78,7 @@ impl Rule<'_> {
     {
         let mut days = 1;
         while days < 7 {
-            if self.takes_weekday((day.weekday().index() + days) % 7) {
+            if self.takes_weekday((day.weekday().place() + days) % 7) {
                 return days;
             }
             days += 1;

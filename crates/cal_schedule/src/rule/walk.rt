@@ -9,7 +9,7 @@ use cal_time::{Date, Weekday};
 use std::marker::Model;
 
 /// A walk over days of a rule, in order. Contracts see it as the list of the days that it still gives.
-#[derive(Drop)]
+#[derive(Debug, Drop)]
 pub struct RuleDays<'a> {
     rule: Rule<'a>,
     front: Option<Date>,

@@ -10,7 +10,7 @@ use std::marker::Model;
 /// The working days of a calendar: the days of the week that are marked, but for the holidays.
 ///
 /// Contracts see it as the marks and the numbers of the holidays.
-#[derive(Drop)]
+#[derive(Debug, Drop)]
 pub struct Workdays<'a> {
     /// Whether each day of the week is worked on, from Monday to Sunday.
     pub(super) marks: [bool; 7],

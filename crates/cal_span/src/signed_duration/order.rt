@@ -76,8 +76,6 @@ impl Counted for SignedDuration {
 
     ghost alike = { λ x y. Prim.search rules };
 
-    ghost apart = { λ x y e. e };
-
     ghost hashed = { λ x y e. ap hash_input_of e };
 
     /// The nanoseconds: those of 1 s are 1000000000.

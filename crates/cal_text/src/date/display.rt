@@ -31,6 +31,7 @@ impl CalendarText {
 
 impl OrdinalText {
     /// The text in place, of at most 11 bytes.
+    #[tactic(auto, using(cal_time::proofs::TextLengths::text_lengths))]
     pub fn text(self) -> ShortText
         ensures text { result ≡ ordinal_text self.0 }
         ensures short { length result ≤ 11 }
@@ -46,7 +47,7 @@ impl OrdinalText {
 
 impl WeekText {
     /// The text in place, of at most 13 bytes.
-    #[tactic(auto, using(crate::proofs::NumberTexts::week_digits))]
+    #[tactic(auto, using(crate::proofs::NumberTexts::week_digits, cal_time::proofs::TextLengths::text_lengths))]
     pub fn text(self) -> ShortText
         ensures text { result ≡ week_text self.0 }
         ensures short { length result ≤ 13 }

@@ -1,10 +1,14 @@
 //! Callers that know no more than the condition that a call states, so a stronger one is refused.
-ghost use Rattle.std.specs.Prelude.{pos, neg_ℤ, ◌+ℤ◌, ◌-ℤ◌, ◌*ℤ◌, FitsSigned};
+ghost use Rattle.std.specs.Prelude.{◌<◌, pos, neg_ℤ, ◌+ℤ◌, ◌-ℤ◌, ◌*ℤ◌, FitsSigned, length, unsigned_abs};
+ghost use Rattle.std.specs.Fmt.{signed_decimal};
 ghost use Rattle.std.specs.Int.{w64};
+ghost use Rattle.cal_units.specs.Digits.{decimals};
+ghost use Rattle.cal_units.specs.ShortText.{HasRoom};
+ghost use Rattle.cal_units.specs.YearText.{year_text};
 ghost use Rattle.cal_span.specs.SignedDuration.{second, minute, hour, day, week, IsDuration, HasQuotient, cut};
 
-use crate::SignedDuration;
 use crate::tests::same;
+use crate::{ShortText, SignedDuration};
 
 pub(super) fn made(weeks: i64, days: i64, hours: i64, minutes: i64) -> [SignedDuration; 4]
     requires weeks { IsDuration (weeks *ℤ pos week) }
@@ -101,6 +105,69 @@ pub(super) fn scaled_by_u32(a: SignedDuration, b: SignedDuration, k: u32) -> [Si
     requires quotient { HasQuotient b (pos k) }
 {
     scaled!(a, b, k)
+}
+
+fn push_signed(text: &mut ShortText, number: i32)
+    requires { HasRoom (length (signed_decimal number)) text.old }
+{
+    text.push_signed(number);
+}
+
+fn push_signed_wide(text: &mut ShortText, number: i128)
+    requires { HasRoom (length (signed_decimal number)) text.old }
+{
+    text.push_signed_wide(number);
+}
+
+fn push_year(text: &mut ShortText, year: i32)
+    requires room { HasRoom (length (year_text year)) text.old }
+    requires below { unsigned_abs year < 1_000_000 }
+{
+    text.push_year(year);
+}
+
+fn push_decimals(text: &mut ShortText, nanoseconds: u32)
+    requires room { HasRoom (length (decimals nanoseconds)) text.old }
+    requires below { nanoseconds < 1_000_000_000 }
+{
+    text.push_decimals(nanoseconds);
+}
+
+/// Each of the four on a text of its own, whose room is known by the lengths of such texts alone.
+#[tactic(auto, using(cal_units::proofs::TextLengths::text_lengths))]
+fn new_texts(
+    number: i32,
+    wide: i128,
+    year: i32,
+    nanoseconds: u32,
+) -> (ShortText, ShortText, ShortText, ShortText)
+    requires year { unsigned_abs year < 1_000_000 }
+    requires nanoseconds { nanoseconds < 1_000_000_000 }
+{
+    let mut texts = (
+        ShortText::new(),
+        ShortText::new(),
+        ShortText::new(),
+        ShortText::new(),
+    );
+    push_signed(&mut texts.0, number);
+    push_signed_wide(&mut texts.1, wide);
+    push_year(&mut texts.2, year);
+    push_decimals(&mut texts.3, nanoseconds);
+    texts
+}
+
+#[test]
+fn texts_within_their_room(rt: HostRuntime) {
+    let (number, wide, year, half) = new_texts(-7, i128::MIN, 2024, 500_000_000);
+    same(&rt, number.as_str(), "-7");
+    same(
+        &rt,
+        wide.as_str(),
+        "-170141183460469231731687303715884105728",
+    );
+    same(&rt, year.as_str(), "2024");
+    same(&rt, half.as_str(), "5");
 }
 
 #[test]

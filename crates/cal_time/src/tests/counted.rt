@@ -16,8 +16,6 @@ impl Counted for Floor {
 
     ghost alike = { λ x y. Prim.search rules };
 
-    ghost apart = { λ x y e. Prim.search rules };
-
     ghost hashed = { λ x y e. Prim.search rules };
 
     fn number(self) -> i128 {

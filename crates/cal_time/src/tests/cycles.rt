@@ -59,7 +59,7 @@ fn months_have_names_numbers_and_lengths(rt: HostRuntime) {
         let found = (name.parse::<Month>(), month.name());
         same(&rt, found, (Ok(month), name));
         same(&rt, Month::try_from(number).ok(), Some(month));
-        let found = (month as u8, u8::from(month), month.index().wrapping_add(1));
+        let found = (month as u8, u8::from(month), month.place().wrapping_add(1));
         same(&rt, found, (number, number, number));
         check_lengths(&rt, month, common, leap);
     }
@@ -82,7 +82,7 @@ fn weekdays_have_names_and_numbers(rt: HostRuntime) {
         same(&rt, found, numbers);
         same(&rt, weekday.number_days_from_monday(), days.0);
         same(&rt, weekday.number_days_from_sunday(), days.1);
-        same(&rt, (weekday as u8, weekday.index()), (days.0, days.0));
+        same(&rt, (weekday as u8, weekday.place()), (days.0, days.0));
     }
 }
 
@@ -187,25 +187,25 @@ fn asked<C: Cycle>(
     let mut count = 0u8;
     let all = walk.all_once(|value: C| {
         count = count.wrapping_add(1);
-        (low <= value.index() && value.index() <= high) == is_between
+        (low <= value.place() && value.place() <= high) == is_between
     });
     let all = (all, count);
     let mut count = 0u8;
     let any = walk.any_once(|value: C| {
         count = count.wrapping_add(1);
-        (low <= value.index() && value.index() <= high) == is_between
+        (low <= value.place() && value.place() <= high) == is_between
     });
     let any = (any, count);
     let mut count = 0u8;
     let back_all = back.all_once(|value: C| {
         count = count.wrapping_add(1);
-        (low <= value.index() && value.index() <= high) == is_between
+        (low <= value.place() && value.place() <= high) == is_between
     });
     let back_all = (back_all, count);
     let mut count = 0u8;
     let back_any = back.any_once(|value: C| {
         count = count.wrapping_add(1);
-        (low <= value.index() && value.index() <= high) == is_between
+        (low <= value.place() && value.place() <= high) == is_between
     });
     (
         [all, any, back_all, (back_any, count)],

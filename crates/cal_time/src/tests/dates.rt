@@ -81,7 +81,7 @@ fn check_parts(
     same(rt, (year, month as u8, day), calendar);
     let found = (date.year(), date.month(), date.day());
     same(rt, found, (year, month, day));
-    same(rt, date.month_index_and_day(), (month.index(), day));
+    same(rt, date.month_index_and_day(), (month.place(), day));
     same(rt, date.to_ordinal_date(), (year, ordinal));
     same(rt, date.ordinal(), ordinal);
     let (iso_year, week, weekday) = date.to_iso_week_date();

@@ -206,8 +206,8 @@ fn numbers_and_places(rt: HostRuntime) {
     ] {
         same(&rt, by_name, by_trait);
     }
-    same(&rt, Month::May.index(), Cycle::index(Month::May));
-    same(&rt, friday.index(), Cycle::index(friday));
+    same(&rt, Month::May.place(), Cycle::place(Month::May));
+    same(&rt, friday.place(), Cycle::place(friday));
     for index in 0..7 {
         same(&rt, Month::at(index), <Month as Cycle>::at(index));
         same(&rt, Weekday::at(index), <Weekday as Cycle>::at(index));

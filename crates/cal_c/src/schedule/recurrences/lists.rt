@@ -23,7 +23,7 @@ pub(super) fn numbers_of_months(months: &[Month]) -> [u8; MOST]
 {
     let mut numbers = [0; MOST];
     for index in 0..months.len() {
-        numbers[index] = months[index].index() + 1;
+        numbers[index] = months[index].place() + 1;
     }
     numbers
 }

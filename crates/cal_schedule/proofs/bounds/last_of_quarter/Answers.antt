@@ -7,8 +7,8 @@ use Rattle.cal_schedule.proofs.bounds.last_of_quarter.Goals as goal
 
 pub returns-clause-date : goal.returns-clause-date
 returns-clause-date c =
-    last-same _ _ _ _ _ (omega (arith, ints)) (rw c.at.ensures (omega (arith, month_at-range c.args.date, index-month_at (c.index-index.result - c.index-index.result % 3 + 2) (omega (arith, month_at-range c.args.date))))) c.last_in.ensures.date
+    last-same _ _ _ _ _ (omega (arith, ints)) (rw c.at.ensures (omega (arith, month_at-range c.args.date, index-month_at (c.place-index.result - c.place-index.result % 3 + 2) (omega (arith, month_at-range c.args.date))))) c.last_in.ensures.date
 
 pub returns-clause-not_before : goal.returns-clause-not_before
 returns-clause-not_before c =
-    last-greatest _ _ _ _ c.last_in.ensures.date (rw c.at.ensures (omega (arith, ints, month_at-range c.args.date, index-month_at (c.index-index.result - c.index-index.result % 3 + 2) (omega (arith, month_at-range c.args.date)))))
+    last-greatest _ _ _ _ c.last_in.ensures.date (rw c.at.ensures (omega (arith, ints, month_at-range c.args.date, index-month_at (c.place-index.result - c.place-index.result % 3 + 2) (omega (arith, month_at-range c.args.date)))))

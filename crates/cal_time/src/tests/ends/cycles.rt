@@ -43,11 +43,11 @@ fn months_far_on_and_far_back(rt: HostRuntime) {
         for n in [0, 255] {
             let on = index_after(index, usize::from(n), 12);
             let back = index_before(index, usize::from(n), 12);
-            let turned = (start.nth_next(n).index(), start.nth_prev(n).index());
+            let turned = (start.nth_next(n).place(), start.nth_prev(n).place());
             same_at(&rt, (start, n), turned, (on, back));
         }
         let far = nth_in(start, usize::MAX);
-        same_at(&rt, start, far.index(), index_after(index, usize::MAX, 12));
+        same_at(&rt, start, far.place(), index_after(index, usize::MAX, 12));
     }
 }
 
@@ -58,10 +58,10 @@ fn weekdays_far_on_and_far_back(rt: HostRuntime) {
         for n in [0, 255] {
             let on = index_after(index, usize::from(n), 7);
             let back = index_before(index, usize::from(n), 7);
-            let turned = (start.nth_next(n).index(), start.nth_prev(n).index());
+            let turned = (start.nth_next(n).place(), start.nth_prev(n).place());
             same_at(&rt, (start, n), turned, (on, back));
         }
         let far = nth_in(start, usize::MAX);
-        same_at(&rt, start, far.index(), index_after(index, usize::MAX, 7));
+        same_at(&rt, start, far.place(), index_after(index, usize::MAX, 7));
     }
 }

@@ -87,5 +87,5 @@ fn back_any_once<C: Cycle, F: FnMut(C) -> bool + Copy>(start: C, f: F) -> Twice<
 fn all_once_of_indices_below(start: Month, end: u8) -> Twice<bool>
     ensures { result.0 ≡ result.1 }
 {
-    all_once(start, move |month: Month| month.index() < end)
+    all_once(start, move |month: Month| month.place() < end)
 }

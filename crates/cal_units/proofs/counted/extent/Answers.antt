@@ -1,50 +1,70 @@
-use Rattle.std.proofs.Common.{◌≡◌, ◌∙◌, ◌⊎◌, ◌<◌, ◌+◌, ◌≤ℤ◌, ℕ, ℤ, ⊎_elim, sym, subst, List, length, slice_index_or, arith, Ordering}
-use Rattle.std.specs.List.{Contains}
-use Rattle.std.specs.Ordering.{int_cmp, ord_min, ord_max}
-use Rattle.std.proofs.lemmas.Bool.{cases_cond}
+use Rattle.std.proofs.Common.{◌≡◌, ◌∙◌, ◌∷◌, ◌++◌, [], ◌+◌, ◌<◌, ◌≤ℤ◌, ◌<ℤ◌, ℤ, Bool, true, false, Option, Some, ap, sym, subst, take, length, List, Ordering, arith}
+use Rattle.std.specs.Ordering.{int_cmp, partial_lt, partial_gt}
+use Rattle.std.proofs.Math.Seq.{take-length}
 use Rattle.std.proofs.lemmas.Bool.Decides.{nat_tests}
 use Rattle.std.proofs.lemmas.Int.{ints}
-use Rattle.std.proofs.lemmas.List.{get_or_default}
-use borrow.Author.Count.{below_more}
+use Rattle.std.proofs.lemmas.List.{get_or_default, take_more}
+use Rattle.cal_units.specs.Counted.{IsExtent, IsFirstMinimum, IsFirstMaximum}
+use Rattle.cal_units.proofs.Extents.{between-one, between-keeps, between-takes}
 use Rattle.cal_units.proofs.counted.extent.Goals as goal
+use Rattle.cal_units.proofs.counted.extent.Goals.{then-lt, else-lt, then-gt, else-gt}
 
--- the order is that of the numbers
-abbrev Ordered : {T : Type 0} → (T → ℤ) → (T → T → Ordering) → Type 0
-Ordered {T} number cmp = (x y : T) → cmp x y ≡ int_cmp (number x) (number y)
+-- `<` and `>` compare the numbers
+record Compares {T : Type 0} (number : T → ℤ) (partial_cmp : T → T → Option Ordering) : Type 0 where
+  cmp : T → T → Ordering
+  ordered : (x y : T) → cmp x y ≡ int_cmp (number x) (number y)
+  agrees : (x y : T) → partial_cmp x y ≡ Some (cmp x y)
 
--- the lesser of two items has the lesser number, the greater one the greater
-min-upto : {T : Type 0} (number : T → ℤ) (cmp : T → T → Ordering) (a b low : T) → Ordered number cmp → low ≡ ord_min cmp a b → (number low ≤ℤ number a) × (number low ≤ℤ number b)
-min-upto number cmp a b low ordered e =
-    let o = ordered b a in (grind (arith, ints, nat_tests), grind (arith, ints, nat_tests))
+less : {T : Type 0} (number : T → ℤ) (p : T → T → Option Ordering) → Compares number p → (x y : T) → partial_lt p x y ≡ true → number x <ℤ number y
+less number p compares x y = let agrees = compares.agrees x y in let ordered = compares.ordered x y in grind (arith, ints, nat_tests)
 
-max-from : {T : Type 0} (number : T → ℤ) (cmp : T → T → Ordering) (a b high : T) → Ordered number cmp → high ≡ ord_max cmp a b → (number a ≤ℤ number high) × (number b ≤ℤ number high)
-max-from number cmp a b high ordered e =
-    let o = ordered b a in (grind (arith, ints, nat_tests), grind (arith, ints, nat_tests))
+not_less : {T : Type 0} (number : T → ℤ) (p : T → T → Option Ordering) → Compares number p → (x y : T) → partial_lt p x y ≡ false → number y ≤ℤ number x
+not_less number p compares x y = let agrees = compares.agrees x y in let ordered = compares.ordered x y in grind (arith, ints, nat_tests)
 
--- what is one of two items is an item
-one_of-Contains : {T : Type 0} (xs : List T) (a b r : T) → (r ≡ a) ⊎ (r ≡ b) → Contains xs a → Contains xs b → Contains xs r
-one_of-Contains xs a b r h p q = ⊎_elim (λ e. subst (Contains xs) (sym e) p) (λ e. subst (Contains xs) (sym e) q) h
+greater : {T : Type 0} (number : T → ℤ) (p : T → T → Option Ordering) → Compares number p → (x y : T) → partial_gt p x y ≡ true → number y <ℤ number x
+greater number p compares x y = let agrees = compares.agrees x y in let ordered = compares.ordered x y in grind (arith, ints, nat_tests)
 
--- what holds of the items before i and of the item x at i holds of the items before i + 1
-more-items : {T : Type 0} (P : T → Type 0) (xs : List T) (i : ℕ) (x : T) → i < length xs → x ≡ slice_index_or xs i x → ((k : ℕ) (d : T) → k < i → P (slice_index_or xs k d)) → P x → (k : ℕ) (d : T) → k < i + 1 → P (slice_index_or xs k d)
-more-items P xs i x lt is before here k d lt' =
-    below_more (λ j. P (slice_index_or xs j d)) i (λ j. before j d) (subst P (is ∙ get_or_default xs i x d lt) here) k lt'
+not_greater : {T : Type 0} (number : T → ℤ) (p : T → T → Option Ordering) → Compares number p → (x y : T) → partial_gt p x y ≡ false → number x ≤ℤ number y
+not_greater number p compares x y = let agrees = compares.agrees x y in let ordered = compares.ordered x y in grind (arith, ints, nat_tests)
+
+minimum-takes : {T : Type 0} (number : T → ℤ) (seen : List T) (x y : T) → IsFirstMinimum number seen x → number y <ℤ number x → IsFirstMinimum number (seen ++ y ∷ []) y
+minimum-takes number seen x y old lt = between-takes _ _ _ _ seen x y old (λ z h. omega (arith, ints, h, lt)) lt (λ z h. omega (arith, ints, h, lt))
+
+maximum-takes : {T : Type 0} (number : T → ℤ) (seen : List T) (x y : T) → IsFirstMaximum number seen x → number x <ℤ number y → IsFirstMaximum number (seen ++ y ∷ []) y
+maximum-takes number seen x y old gt = between-takes _ _ _ _ seen x y old (λ z h. omega (arith, ints, h, gt)) gt (λ z h. omega (arith, ints, h, gt))
+
+pub loop-item-init : goal.loop-item-init
+loop-item-init g c =
+    let first = c.in_ok-first.first.now in
+    (first, (c.in_ok-first.ensures.cases.0, record { minimum = between-one _ _ first; maximum = between-one _ _ first }))
 
 pub loop-item-preserved : goal.loop-item-preserved
 loop-item-preserved g c =
     let number = g.T.Counted.number_of in
-    let cmp = g.T.Ord.cmp in
-    let items = c.args.items.now in
-    let old = c.loop-item.invariant in
-    let i = c.loop-item.item-index in
     let item = c.item-item.result in
-    let low = c.min-least.result in
-    let high = c.max-greatest.result in
-    let here : Contains items item = (i, c.loop-item-test.true, sym c.item-item.is) in
-    let upto = min-upto number cmp _ _ low g.met.T.Counted.ordered c.min-least.ensures in
-    let from = max-from number cmp _ _ high g.met.T.Counted.ordered c.max-greatest.ensures in (
-      one_of-Contains items _ _ _ (cases_cond _ _ _ _ c.min-least.ensures) here old.0,
-      one_of-Contains items _ _ _ (cases_cond _ _ _ _ c.max-greatest.ensures) old.1 here,
-      more-items (λ y. number low ≤ℤ number y) items i item c.loop-item-test.true c.item-item.is (λ k d b. omega (arith, ints, old.2 k d b)) upto.1,
-      more-items (λ y. number y ≤ℤ number high) items i item c.loop-item-test.true c.item-item.is (λ k d b. omega (arith, ints, old.3 k d b)) from.1,
-    )
+    let (first, so_far) = c.loop-item.invariant in
+    let are = so_far.0 in
+    let old = so_far.1 in
+    let rest = c.in_ok-first.rest.now in
+    let i = c.loop-item.item-index in
+    let seen = first ∷ take i rest in
+    let compares : Compares number g.T.PartialOrd.partial_cmp = record { cmp = g.T.Ord.cmp; ordered = g.met.T.Counted.ordered; agrees = g.met.T.Ord.matches_partial_cmp } in
+    let more : first ∷ take (i + 1) rest ≡ seen ++ item ∷ [] = ap (λ l. first ∷ l) (take_more rest i item c.loop-item-test.true ∙ ap (λ x. take i rest ++ x ∷ []) (sym c.item-item.is)) in
+    let minimum : IsFirstMinimum number (seen ++ item ∷ []) c.if-lt.minimum = elim c.if-lt.branch [
+      | then-lt w ↦ subst (IsFirstMinimum number (seen ++ item ∷ [])) (sym w.minimum-is) (minimum-takes number seen c.loop-item.minimum item old.minimum (less number _ compares _ _ (sym w.if-lt.ensures)))
+      | else-lt w ↦ subst (IsFirstMinimum number (seen ++ item ∷ [])) (sym w.minimum-is) (between-keeps _ _ seen c.loop-item.minimum item old.minimum (not_less number _ compares _ _ (sym w.if-lt.ensures)))
+    ] in
+    let maximum : IsFirstMaximum number (seen ++ item ∷ []) c.if-gt.maximum = elim c.if-gt.branch [
+      | then-gt w ↦ subst (IsFirstMaximum number (seen ++ item ∷ [])) (sym w.maximum-is) (maximum-takes number seen c.loop-item.maximum item old.maximum (greater number _ compares _ _ (sym w.if-gt.ensures)))
+      | else-gt w ↦ subst (IsFirstMaximum number (seen ++ item ∷ [])) (sym w.maximum-is) (between-keeps _ _ seen c.loop-item.maximum item old.maximum (not_greater number _ compares _ _ (sym w.if-gt.ensures)))
+    ] in
+    (first, (are, subst (λ items. IsExtent number items (c.if-lt.minimum, c.if-gt.maximum)) (sym more) (record { minimum = minimum; maximum = maximum })))
+
+pub returns : goal.returns
+returns g c =
+    let (first, so_far) = c.loop-item.invariant in
+    let are = so_far.0 in
+    let old = so_far.1 in
+    let rest = c.in_ok-first.rest.now in
+    let all : take c.loop-item.item-index rest ≡ rest = ap (λ i. take i rest) (omega arith) ∙ take-length rest in
+    subst (λ items. IsExtent g.T.Counted.number_of items (c.loop-item.minimum, c.loop-item.maximum)) (ap (λ l. first ∷ l) all ∙ sym are) old

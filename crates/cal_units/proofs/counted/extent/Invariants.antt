@@ -1,12 +1,8 @@
-use Rattle.std.proofs.Common.{ℕ, ◌<◌, ◌≤ℤ◌}
-use Rattle.std.specs.List.{Contains, slice_index_or}
+use Rattle.std.proofs.Common.{◌≡◌, ◌∷◌, take}
+use Rattle.cal_units.specs.Counted.{IsExtent}
 use Rattle.cal_units.proofs.counted.extent.Given as goal
 
--- both are items, and the numbers of the items so far lie between theirs
+-- they are those of the items so far
 abbrev pub invariant-loop-item : goal.invariant-loop-item
 invariant-loop-item g l =
-    let number = g.T.Counted.number_of in
-    Contains l.items l.least
-    × Contains l.items l.greatest
-    × ((k : ℕ) (d : _) → k < l.item-index → number l.least ≤ℤ number (slice_index_or l.items k d))
-    × ((k : ℕ) (d : _) → k < l.item-index → number (slice_index_or l.items k d) ≤ℤ number l.greatest)
+    (first : _) × ((l.items ≡ first ∷ l.rest) × IsExtent g.T.Counted.number_of (first ∷ take l.item-index l.rest) (l.minimum, l.maximum))

@@ -46,7 +46,7 @@ fits : (c : After-from) → Fits c
 fits c =
     let same : to_z w32 (of_z w32 c.args.year) ≡ c.args.year = to_z-of_z w32 _ c.ranges.year in
     let leap = rw same at c.is_leap_year-leap.ensures in
-    let before = rw c.index.ensures at (c.days_before_month.ensures.value c.args.year leap) in
+    let before = rw c.place.ensures at (c.days_before_month.ensures.value c.args.year leap) in
     let year = rw same at (c.is_year.ensures.0 c.if-not-is_year.false) in
     let is = c.has_day.ensures c.args.year leap in
     let day = is.0 c.if-not-has_day.false in

@@ -7,12 +7,12 @@ use Rattle.cal_units.proofs.text.ShortText.push_decimals.Goals as goal
 pub push_two_digits-requires-clause-room : goal.push_two_digits-requires-clause-room
 push_two_digits-requires-clause-room c =
     let l = c.loop-others in
-    omega (arith, c.requires.room, (two-more c.args.nanoseconds l.others c.args.self.now l.self l.invariant.below c.loop-others-test.true l.invariant.all).0)
+    omega (arith, c.requires.room, (two-more c.args.nanoseconds l.others c.args.self.now l.self l.invariant.below l.invariant.none c.loop-others-test.true l.invariant.all).0)
 
 pub loop-others-smaller : goal.loop-others-smaller
 loop-others-smaller c =
     let l = c.loop-others in
-    (two-more c.args.nanoseconds l.others c.args.self.now l.self l.invariant.below c.loop-others-test.true l.invariant.all).1
+    (two-more c.args.nanoseconds l.others c.args.self.now l.self l.invariant.below l.invariant.none c.loop-others-test.true l.invariant.all).1
 
 pub loop-others-preserved : goal.loop-others-preserved
 loop-others-preserved c =
@@ -30,13 +30,17 @@ pub push_digit-requires-clause-room : goal.push_digit-requires-clause-room
 push_digit-requires-clause-room c =
     let l = c.loop-others in
     let whole = digit-more c.args.nanoseconds l.others c.args.self.now l.self (omega (arith, c.loop-others-test.false)) l.invariant.none l.invariant.all c.then-others-gt0.either in
-    omega (arith, ap length whole, length-append l.self (digit (l.others / 100000000) ∷ []), length-append c.args.self.now (decimals c.args.nanoseconds), decimals-few c.args.nanoseconds, c.requires.room)
+    omega (arith, ap length whole, length-append l.self (digit (l.others / 100000000) ∷ []), length-append c.args.self.now (decimals c.args.nanoseconds), c.requires.room)
 
 pub returns-then-others-gt0-clause-appended : goal.returns-then-others-gt0-clause-appended
 returns-then-others-gt0-clause-appended c =
     let l = c.loop-others in
     c.push_digit.ensures.appended
     ∙ digit-more c.args.nanoseconds l.others c.args.self.now l.self (omega (arith, c.loop-others-test.false)) l.invariant.none l.invariant.all c.then-others-gt0.either
+
+pub returns-then-others-gt0-clause-longer : goal.returns-then-others-gt0-clause-longer
+returns-then-others-gt0-clause-longer c =
+    omega (arith, ap length (returns-then-others-gt0-clause-appended c), length-append c.args.self.now (decimals c.args.nanoseconds))
 
 pub returns-then-others-gt0-clause-ascii : goal.returns-then-others-gt0-clause-ascii
 returns-then-others-gt0-clause-ascii c = decimals-ascii c.args.nanoseconds c.requires.below
@@ -49,6 +53,10 @@ pub returns-else-nanoseconds-eq0-clause-appended : goal.returns-else-nanoseconds
 returns-else-nanoseconds-eq0-clause-appended c =
     let l = c.loop-others in
     none-more c.args.nanoseconds l.others c.args.self.now l.self l.invariant.all (omega (arith, c.if-others-gt0.false)) c.if-nanoseconds-eq0.false
+
+pub returns-else-nanoseconds-eq0-clause-longer : goal.returns-else-nanoseconds-eq0-clause-longer
+returns-else-nanoseconds-eq0-clause-longer c =
+    omega (arith, ap length (returns-else-nanoseconds-eq0-clause-appended c), length-append c.args.self.now (decimals c.args.nanoseconds))
 
 pub returns-else-nanoseconds-eq0-clause-ascii : goal.returns-else-nanoseconds-eq0-clause-ascii
 returns-else-nanoseconds-eq0-clause-ascii c = decimals-ascii c.args.nanoseconds c.requires.below

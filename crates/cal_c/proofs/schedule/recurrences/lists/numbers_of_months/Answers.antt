@@ -11,7 +11,7 @@ loop-index-preserved c =
     record {
       room = grind (arith, common_steps);
       put =
-          filled_more number c.args.months.now c.loop-index.numbers 62 c.loop-index.index January 0 (c.index.result + 1) (omega arith) (omega arith) kept.put (ap (λ n. n + 1) c.index.ensures);
+          filled_more number c.args.months.now c.loop-index.numbers 62 c.loop-index.index January 0 (c.place.result + 1) (omega arith) (omega arith) kept.put (ap (λ n. n + 1) c.place.ensures);
     }
 
 pub returns : goal.returns

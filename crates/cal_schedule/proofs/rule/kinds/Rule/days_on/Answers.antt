@@ -8,7 +8,7 @@ pub loop-days-preserved : goal.loop-days-preserved
 loop-days-preserved c =
     let rule = c.args.self.now in
     let days = c.loop-days.days in
-    let at : weekday_at c.args.day ≡ c.index.result = omega (arith, c.weekday.ensures.counted, c.index.ensures) in
+    let at : weekday_at c.args.day ≡ c.place.result = omega (arith, c.weekday.ensures.counted, c.place.ensures) in
     record {
       least = omega arith;
       most = omega (arith, c.loop-days-test.true);

@@ -1,0 +1,41 @@
+//! Worked values, each computed apart from the code.
+
+use cal_datetime::{OffsetDateTime, PlainDateTime, with_hms_nano};
+use cal_time::{Date, Month, UtcOffset};
+use std::fmt::Debug;
+use std::process::Abort;
+
+mod moments;
+mod one_answer;
+mod plain;
+
+/// The date-time of that calendar date, hour, minute, second and nanosecond.
+fn date_time(rt: &impl Abort, date: (i32, Month, u8), clock: (u8, u8, u8, u32)) -> PlainDateTime {
+    let Ok(day) = Date::from_calendar_date(date.0, date.1, date.2) else {
+        panic!(rt; "{date:?} is refused");
+    };
+    let Ok(plain) = with_hms_nano(day, clock.0, clock.1, clock.2, clock.3) else {
+        panic!(rt; "{clock:?} is refused");
+    };
+    plain
+}
+
+/// The offset of so many whole hours.
+fn hours(rt: &impl Abort, hours: i8) -> UtcOffset {
+    let Ok(offset) = UtcOffset::from_hms(hours, 0, 0) else {
+        panic!(rt; "{hours} is refused");
+    };
+    offset
+}
+
+/// 2024-02-29 23:59:59.25 +01:00.
+fn leap_night(rt: &impl Abort) -> OffsetDateTime {
+    date_time(rt, (2024, Month::February, 29), (23, 59, 59, 250_000_000)).assume_offset(hours(
+        rt, 1,
+    ))
+}
+
+/// Stops the test unless the two are equal. One function for all is proved once, where `assert_eq!` is proved at each place.
+fn same<T: Copy + Debug + PartialEq>(rt: &impl Abort, found: T, wanted: T) {
+    assert!(rt; found == wanted, "{found:?} and not {wanted:?}");
+}

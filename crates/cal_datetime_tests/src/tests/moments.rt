@@ -1,0 +1,270 @@
+//! Date-times at an offset.
+use crate::tests::{date_time, hours, leap_night, same};
+use cal_datetime::OffsetDateTime;
+use cal_datetime::laws::replacement::{
+    own_clock, own_date, own_day, own_hour, own_microsecond, own_millisecond, own_minute,
+    own_month, own_nanosecond, own_ordinal, own_second, own_time, own_year,
+};
+use cal_datetime::laws::{
+    first, hash_of_instant, is_earlier, is_same_instant, last, order_of_instants, there_and_back,
+};
+use cal_time::{Date, Month, SignedDuration, Time, UtcOffset};
+use std::cmp::Ordering;
+use std::process::Abort;
+use std::test::Fail;
+
+#[test]
+fn one_instant_on_three_clocks(rt: HostRuntime) {
+    let night = leap_night(&rt);
+    let utc = date_time(&rt, (2024, Month::February, 29), (22, 59, 59, 250_000_000)).assume_utc();
+    let east = date_time(&rt, (2024, Month::March, 1), (0, 59, 59, 250_000_000)).assume_offset(
+        hours(&rt, 2),
+    );
+    same(
+        &rt,
+        (night.unix_timestamp(), night.unix_timestamp_nanos()),
+        (1_709_247_599, 1_709_247_599_250_000_000),
+    );
+    same(
+        &rt,
+        (utc_of(&rt, night).local(), utc_of(&rt, night).offset()),
+        (utc.local(), UtcOffset::UTC),
+    );
+    same(
+        &rt,
+        shown_at(&rt, night, hours(&rt, 2)).local(),
+        east.local(),
+    );
+    same(&rt, night.checked_to_utc().is_some(), true);
+    same(
+        &rt,
+        (night == east, night == utc, is_same_instant(east, utc)),
+        (true, true, true),
+    );
+    same(
+        &rt,
+        (night < east, east < night, is_earlier(utc, east)),
+        (false, false, false),
+    );
+    same(&rt, order_of_instants(night, east), Ordering::Equal);
+    same(&rt, hash_of_instant(night) == hash_of_instant(east), true);
+    same(&rt, night.local() == east.local(), false);
+    same(&rt, night - east, SignedDuration::ZERO);
+    same(&rt, there_and_back(night, hours(&rt, 2)).is_some(), true);
+}
+
+#[test]
+fn at_the_ends_of_the_range(rt: HostRuntime) {
+    let west = hours(&rt, -2);
+    let evening = date_time(&rt, (999_999, Month::December, 31), (23, 0, 0, 0)).assume_offset(west);
+    let utc = date_time(&rt, (999_999, Month::December, 31), (23, 59, 59, 0)).assume_utc();
+    same(&rt, evening.checked_to_utc(), None);
+    same(&rt, (utc < evening, utc == evening), (true, false));
+    let earliest = first().assume_offset(hours(&rt, 1));
+    same(&rt, earliest < first().assume_utc(), true);
+    same(&rt, evening.checked_add(SignedDuration::MAX), None);
+    same(&rt, evening.checked_sub(SignedDuration::MAX), None);
+    same(
+        &rt,
+        evening.saturating_add(SignedDuration::MAX).local(),
+        last(),
+    );
+    same(
+        &rt,
+        evening.saturating_add(SignedDuration::MAX).offset(),
+        west,
+    );
+    same(
+        &rt,
+        evening.saturating_sub(SignedDuration::MAX).local(),
+        first(),
+    );
+}
+
+#[test]
+fn unix_times(rt: HostRuntime) {
+    let epoch = OffsetDateTime::unix_epoch();
+    same(
+        &rt,
+        epoch.local(),
+        date_time(&rt, (1970, Month::January, 1), (0, 0, 0, 0)),
+    );
+    same(
+        &rt,
+        (epoch.unix_timestamp(), epoch.unix_timestamp_nanos()),
+        (0, 0),
+    );
+    let before = back(&rt, epoch, SignedDuration::milliseconds(500));
+    same(
+        &rt,
+        (before.unix_timestamp(), before.unix_timestamp_nanos()),
+        (-1, -500_000_000),
+    );
+    for (seconds, wanted) in [
+        (0, Some(epoch.local())),
+        (
+            1_709_164_800,
+            Some(date_time(&rt, (2024, Month::February, 29), (0, 0, 0, 0))),
+        ),
+        (
+            -1,
+            Some(date_time(&rt, (1969, Month::December, 31), (23, 59, 59, 0))),
+        ),
+        (
+            31_494_784_780_799,
+            Some(date_time(&rt, (999_999, Month::December, 31), (23, 59, 59, 0))),
+        ),
+        (31_494_784_780_800, None),
+        (-31_619_087_596_800, Some(first())),
+        (-31_619_087_596_801, None),
+        (i64::MAX, None),
+        (i64::MIN, None),
+    ] {
+        let found = OffsetDateTime::from_unix_timestamp(seconds).ok();
+        same(&rt, found.map(|moment| moment.local()), wanted);
+    }
+    same(
+        &rt,
+        OffsetDateTime::from_unix_timestamp_nanos(-500_000_000).ok(),
+        Some(before),
+    );
+    same(
+        &rt,
+        OffsetDateTime::from_unix_timestamp_nanos(i128::MAX).is_err(),
+        true,
+    );
+    same(
+        &rt,
+        OffsetDateTime::from_unix_timestamp_nanos(i128::MIN).is_err(),
+        true,
+    );
+}
+
+#[test]
+fn texts_of_moments(rt: HostRuntime) -> Result<(), Fail> {
+    let night = leap_night(&rt);
+    let longest = last().assume_offset(hours(&rt, -25));
+    for (moment, text) in [
+        (night, "2024-02-29 23:59:59.25 +01:00:00"),
+        (longest, "+999999-12-31 23:59:59.999999999 -25:00:00"),
+    ] {
+        same(&rt, moment.text().as_str(), text);
+        same(&rt, format!(in rt.alloc(); "{moment}")?.as_str(), text);
+        same(&rt, format!(in rt.alloc(); "{moment:?}")?.as_str(), text);
+    }
+    let padded = format!(in rt.alloc(); "{night:>34}|{night:_<33?}|")?;
+    same(
+        &rt,
+        padded.as_str(),
+        "  2024-02-29 23:59:59.25 +01:00:00|2024-02-29 23:59:59.25 +01:00:00_|",
+    );
+    Ok(())
+}
+
+#[test]
+fn replaced_by_their_own(rt: HostRuntime) {
+    let moment = leap_night(&rt);
+    let plain = moment.local();
+    for (same_plain, same_moment) in [
+        own_year(plain, moment),
+        own_month(plain, moment),
+        own_day(plain, moment),
+        own_ordinal(plain, moment),
+        own_hour(plain, moment),
+        own_minute(plain, moment),
+        own_second(plain, moment),
+        own_millisecond(plain, moment),
+        own_microsecond(plain, moment),
+        own_nanosecond(plain, moment),
+    ] {
+        same(&rt, same_plain.ok(), Some(plain));
+        same(&rt, same_moment.ok(), Some(moment));
+    }
+    same(&rt, own_date(plain, moment), (plain, moment));
+    same(&rt, own_time(plain, moment), (plain, moment));
+    same(&rt, own_clock(moment), (moment, moment));
+}
+
+#[test]
+fn moved_and_replaced_at_an_offset(rt: HostRuntime) {
+    let (night, one) = (leap_night(&rt), hours(&rt, 1));
+    let two = SignedDuration::hours(2);
+    let later = date_time(&rt, (2024, Month::March, 1), (1, 59, 59, 250_000_000)).assume_offset(
+        one,
+    );
+    same(
+        &rt,
+        (night.checked_add(two), later.checked_sub(two)),
+        (Some(later), Some(night)),
+    );
+    same(
+        &rt,
+        (on(&rt, night, two), back(&rt, later, two)),
+        (later, night),
+    );
+    same(&rt, later - night, two);
+    same(
+        &rt,
+        night.replace_offset(UtcOffset::UTC) - night,
+        SignedDuration::hours(1),
+    );
+    same(&rt, night.replace_date_time(first()).offset(), one);
+    same(
+        &rt,
+        night
+            .replace_date(Date::MIN)
+            .replace_time(Time::MIDNIGHT)
+            .local(),
+        first(),
+    );
+    same(&rt, night.replace_year(2023).is_err(), true);
+    same(
+        &rt,
+        night
+            .replace_month(Month::March)
+            .ok()
+            .map(|moment| moment.offset()),
+        Some(one),
+    );
+    same(
+        &rt,
+        OffsetDateTime::new_in_offset(night.date(), night.time(), one),
+        night,
+    );
+    same(
+        &rt,
+        OffsetDateTime::new_utc(Date::MIN, Time::MIDNIGHT).local(),
+        first(),
+    );
+    same(&rt, later.partial_cmp(&night), Some(Ordering::Greater));
+}
+
+/// The date-time moved on, by `+=` and by `+`.
+fn on(rt: &impl Abort, from: OffsetDateTime, duration: SignedDuration) -> OffsetDateTime {
+    assert!(rt; from.checked_add(duration).is_some());
+    let mut moved = from;
+    moved += duration;
+    same(rt, moved, from + duration);
+    moved
+}
+
+/// The date-time moved back, by `-=` and by `-`.
+fn back(rt: &impl Abort, from: OffsetDateTime, duration: SignedDuration) -> OffsetDateTime {
+    assert!(rt; from.checked_sub(duration).is_some());
+    let mut moved = from;
+    moved -= duration;
+    same(rt, moved, from - duration);
+    moved
+}
+
+/// The same instant at UTC.
+fn utc_of(rt: &impl Abort, moment: OffsetDateTime) -> OffsetDateTime {
+    assert!(rt; moment.checked_to_utc().is_some());
+    moment.to_utc()
+}
+
+/// The same instant at that offset.
+fn shown_at(rt: &impl Abort, moment: OffsetDateTime, offset: UtcOffset) -> OffsetDateTime {
+    assert!(rt; moment.checked_to_offset(offset).is_some());
+    moment.to_offset(offset)
+}

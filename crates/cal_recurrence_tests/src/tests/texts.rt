@@ -1,0 +1,304 @@
+//! Texts that are refused, by the position and the reason; texts that are read in each case and order; recurrences by their fields.
+use cal_recurrence::{Recurrence, RuleEnd, RuleFault, RulePart, RuleReason, Values, parse};
+use cal_schedule::{ByDay, Frequency};
+use cal_time::{Date, Month, Weekday};
+use std::alloc::Global;
+use std::process::Abort;
+use std::test::Fail;
+
+/// A list of 63 values.
+const TOO_MANY: &str =
+    "FREQ=DAILY;BYMONTHDAY=1,1,1,1,1,1,1,1,1,1,1,1,1,1,1,1,1,1,1,1,1,1,1,1,1,1,1,1,1,1,1,\
+    1,1,1,1,1,1,1,1,1,1,1,1,1,1,1,1,1,1,1,1,1,1,1,1,1,1,1,1,1,1,1,2;COUNT=1";
+
+/// Stops the test unless the text is refused so.
+fn refused(rt: &impl Abort, text: &str, position: usize, reason: RuleReason) {
+    match parse(text.as_bytes()) {
+        Ok(_) => panic!(rt; "{text} is read"),
+        Err(fault) => {
+            let wanted = RuleFault { position, reason };
+            assert!(rt; fault == wanted, "{fault:?} and not {wanted:?} in {text}");
+        }
+    }
+}
+
+/// Stops the test unless the part is refused for its value after `FREQ=DAILY`.
+fn refused_value(rt: &impl Abort, part: RulePart, texts: &[&str]) {
+    for text in texts {
+        refused(rt, text, 11, RuleReason::Value(part));
+    }
+}
+
+#[test]
+fn faults(rt: HostRuntime) {
+    let rt = &rt;
+    refused(rt, "", 0, RuleReason::Unknown);
+    refused(rt, "=DAILY", 0, RuleReason::Unknown);
+    refused(rt, "FREQ =DAILY", 0, RuleReason::Unknown);
+    refused(rt, "FREQ=DAILY;", 11, RuleReason::Unknown);
+    refused(
+        rt,
+        "FREQ=MONTHLY;BYSETPOS=-1;BYDAY=FR",
+        13,
+        RuleReason::Unknown,
+    );
+    refused(rt, "FREQ=YEARLY;BYWEEKNO=20", 12, RuleReason::Unknown);
+    refused(
+        rt,
+        "FREQ=YEARLY;BYYEARDAY=1,100,200",
+        12,
+        RuleReason::Unknown,
+    );
+    refused(rt, "FREQ=DAILY;BYHOUR=9", 11, RuleReason::Unknown);
+    refused(
+        rt,
+        "FREQ=DAILY;FREQ=DAILY",
+        11,
+        RuleReason::Twice(RulePart::Frequency),
+    );
+    refused(
+        rt,
+        "FREQ=DAILY;byday=MO;BYDAY=TU",
+        20,
+        RuleReason::Twice(RulePart::Weekdays),
+    );
+    refused(
+        rt,
+        "FREQ=DAILY;UNTIL=20241231;COUNT=3",
+        26,
+        RuleReason::Twice(RulePart::Count),
+    );
+    refused(
+        rt,
+        "COUNT=3;UNTIL=20241231;FREQ=DAILY",
+        8,
+        RuleReason::Twice(RulePart::Until),
+    );
+    refused(rt, "BYDAY=MO", 8, RuleReason::Missing);
+    refused(rt, TOO_MANY, 11, RuleReason::TooMany(RulePart::MonthDays));
+    refused(rt, "FREQ", 0, RuleReason::Value(RulePart::Frequency));
+    refused(rt, "FREQ=HOURLY", 0, RuleReason::Value(RulePart::Frequency));
+    refused(rt, "FREQ=DAILY=", 0, RuleReason::Value(RulePart::Frequency));
+}
+
+/// Stops the test unless the text is refused in these words.
+fn refused_as(rt: &impl Abort, alloc: Global, text: &str, words: &str) -> Result<(), Fail> {
+    let Err(fault) = parse(text.as_bytes()) else {
+        return Err(Fail::from("a text that is read"));
+    };
+    let told = format!(in alloc; "{fault}")?;
+    assert!(rt; told.as_str() == words, "{told} and not {words}");
+    let reason = format!(in alloc; "{}", fault.reason)?;
+    assert!(rt; words.starts_with(reason.as_str()), "{reason}");
+    Ok(())
+}
+
+#[test]
+fn texts_of_faults(rt: HostRuntime) -> Result<(), Fail> {
+    let alloc = rt.alloc();
+    let rt = &rt;
+    refused_as(rt, alloc, "FREQ=DAILY;BYSETPOS=-1", "unknown part at 11")?;
+    refused_as(
+        rt,
+        alloc,
+        "FREQ=DAILY;FREQ=DAILY",
+        "one FREQ too many at 11",
+    )?;
+    refused_as(
+        rt,
+        alloc,
+        "FREQ=DAILY;UNTIL=20241231;COUNT=3",
+        "one COUNT too many at 26",
+    )?;
+    refused_as(
+        rt,
+        alloc,
+        "COUNT=3;UNTIL=20241231;FREQ=DAILY",
+        "one UNTIL too many at 8",
+    )?;
+    refused_as(
+        rt,
+        alloc,
+        TOO_MANY,
+        "more than 62 values of BYMONTHDAY at 11",
+    )?;
+    refused_as(rt, alloc, "FREQ=HOURLY", "invalid value of FREQ at 0")?;
+    refused_as(
+        rt,
+        alloc,
+        "FREQ=DAILY;INTERVAL=0",
+        "invalid value of INTERVAL at 11",
+    )?;
+    refused_as(
+        rt,
+        alloc,
+        "FREQ=DAILY;WKST=MON",
+        "invalid value of WKST at 11",
+    )?;
+    refused_as(
+        rt,
+        alloc,
+        "FREQ=DAILY;BYMONTH=13",
+        "invalid value of BYMONTH at 11",
+    )?;
+    refused_as(
+        rt,
+        alloc,
+        "FREQ=MONTHLY;BYDAY=54FR",
+        "invalid value of BYDAY at 13",
+    )?;
+    refused_as(rt, alloc, "BYDAY=MO", "missing FREQ at 8")
+}
+
+#[test]
+fn wrong_values(rt: HostRuntime) {
+    let rt = &rt;
+    refused_value(
+        rt,
+        RulePart::Interval,
+        &[
+            "FREQ=DAILY;INTERVAL=0",
+            "FREQ=DAILY;INTERVAL=",
+            "FREQ=DAILY;INTERVAL=+1",
+            "FREQ=DAILY;INTERVAL=-1",
+            "FREQ=DAILY;INTERVAL=4294967296",
+        ],
+    );
+    refused_value(
+        rt,
+        RulePart::WeekStart,
+        &["FREQ=DAILY;WKST=MON", "FREQ=DAILY;WKST=1"],
+    );
+    refused_value(
+        rt,
+        RulePart::Months,
+        &[
+            "FREQ=DAILY;BYMONTH=0",
+            "FREQ=DAILY;BYMONTH=13",
+            "FREQ=DAILY;BYMONTH=-1",
+            "FREQ=DAILY;BYMONTH=001",
+            "FREQ=DAILY;BYMONTH=1,",
+        ],
+    );
+    refused_value(
+        rt,
+        RulePart::MonthDays,
+        &[
+            "FREQ=DAILY;BYMONTHDAY=0",
+            "FREQ=DAILY;BYMONTHDAY=32",
+            "FREQ=DAILY;BYMONTHDAY=-32",
+            "FREQ=DAILY;BYMONTHDAY=--1",
+        ],
+    );
+    refused_value(
+        rt,
+        RulePart::Weekdays,
+        &[
+            "FREQ=DAILY;BYDAY=XX",
+            "FREQ=DAILY;BYDAY=0MO",
+            "FREQ=DAILY;BYDAY=54MO",
+            "FREQ=DAILY;BYDAY=-1",
+            "FREQ=DAILY;BYDAY=MO,,TU",
+        ],
+    );
+    refused_value(
+        rt,
+        RulePart::Until,
+        &[
+            "FREQ=DAILY;UNTIL=20240230",
+            "FREQ=DAILY;UNTIL=20241301",
+            "FREQ=DAILY;UNTIL=2024-12-31",
+            "FREQ=DAILY;UNTIL=20241231T000000Z",
+        ],
+    );
+    refused_value(
+        rt,
+        RulePart::Count,
+        &["FREQ=DAILY;COUNT=0", "FREQ=DAILY;COUNT=ten"],
+    );
+}
+
+/// Stops the test unless the text says so: in each second month, of March and December, the 31st and the last day, which are a Friday
+/// or the last Monday, twelve times, with weeks from Sunday on.
+fn read(rt: &impl Abort, text: &str) {
+    match parse(text.as_bytes()) {
+        Ok(recurrence) => {
+            assert!(rt;
+                matches!(recurrence.frequency, Frequency::Monthly),
+                "{text}"
+            );
+            assert!(rt; recurrence.interval == 2, "{text}");
+            assert!(rt; matches!(recurrence.week_start, Weekday::Sunday), "{text}");
+            assert!(rt;
+                matches!(
+                    recurrence.months.as_slice(),
+                    [Month::March, Month::December]
+                ),
+                "{text}"
+            );
+            assert!(rt;
+                matches!(recurrence.month_days.as_slice(), [31, -1]),
+                "{text}"
+            );
+            let weekdays = recurrence.weekdays.as_slice();
+            assert!(rt;
+                matches!(
+                    weekdays,
+                    [
+                        ByDay::Every(Weekday::Friday),
+                        ByDay::Nth(-1, Weekday::Monday)
+                    ]
+                ),
+                "{text}"
+            );
+            assert!(rt; matches!(recurrence.end, RuleEnd::Count(12)), "{text}");
+        }
+        Err(fault) => panic!(rt; "{fault:?} in {text}"),
+    }
+}
+
+#[test]
+fn orders_and_cases(rt: HostRuntime) {
+    let rt = &rt;
+    read(
+        rt,
+        "FREQ=MONTHLY;INTERVAL=2;WKST=SU;BYMONTH=3,12;BYMONTHDAY=31,-1;BYDAY=FR,-1MO;COUNT=12",
+    );
+    read(
+        rt,
+        "COUNT=0012;BYDAY=FR,-01MO;BYMONTHDAY=+31,-01;BYMONTH=03,12;WKST=SU;INTERVAL=2;FREQ=MONTHLY",
+    );
+    read(
+        rt,
+        "freq=monthly;Interval=2;wkst=su;byMonth=3,12;bymonthday=31,-1;byday=fr,-1mo;count=12",
+    );
+}
+
+#[test]
+fn by_fields(rt: HostRuntime) {
+    let rt = &rt;
+    let mut months = Values::none(Month::January);
+    months.push(Month::November);
+    let mut weekdays = Values::none(ByDay::Every(Weekday::Monday));
+    weekdays.push(ByDay::Nth(4, Weekday::Thursday));
+    assert!(rt; !weekdays.is_full());
+    let recurrence = Recurrence {
+        frequency: Frequency::Yearly,
+        interval: 1,
+        week_start: Weekday::Monday,
+        months,
+        month_days: Values::none(0),
+        weekdays,
+        end: RuleEnd::Count(1),
+    };
+    let (Ok(start), Ok(thanksgiving)) = (
+        Date::from_calendar_date(2024, Month::January, 1),
+        Date::from_calendar_date(2024, Month::November, 28),
+    ) else {
+        panic!(rt; "no date");
+    };
+    let mut days = recurrence.days(start);
+    assert!(rt; days.next() == Some(thanksgiving));
+    assert!(rt; days.next().is_none());
+    assert!(rt; recurrence.rule(start).contains(thanksgiving));
+}

@@ -1,0 +1,163 @@
+//! Recurrences written, and read again.
+use cal_recurrence::{Recurrence, RuleEnd, Values, parse};
+use cal_schedule::{ByDay, Frequency};
+use cal_time::{Date, Month, Weekday};
+use std::process::Abort;
+
+/// Stops the test unless the text is read as a recurrence that is written so, and that text is read as the same recurrence.
+fn written(rt: &impl Abort, text: &str, wanted: &str) {
+    let Ok(recurrence) = parse(text.as_bytes()) else {
+        panic!(rt; "{text} is refused");
+    };
+    let found = recurrence.text();
+    assert!(rt; found.as_str() == wanted, "{recurrence} and not {wanted}");
+    assert!(rt; found.as_bytes() == wanted.as_bytes() && found.len() == wanted.len());
+    assert!(rt; parse(found.as_bytes()) == Ok(recurrence), "{wanted}");
+}
+
+/// The same for a text that is written as it stands.
+fn same(rt: &impl Abort, texts: &[&str]) {
+    for text in texts {
+        written(rt, text, text);
+    }
+}
+
+/// The examples of RFC 5545 whose parts are in this order. Times of day are not read, so each `UNTIL` is a date here: what the RFC
+/// has for `19971224` is `19971224T000000Z`.
+#[test]
+fn examples_of_the_rfc(rt: HostRuntime) {
+    let rt = &rt;
+    same(
+        rt,
+        &[
+            "FREQ=DAILY;COUNT=10",
+            "FREQ=DAILY;UNTIL=19971224",
+            "FREQ=DAILY;INTERVAL=2",
+            "FREQ=DAILY;INTERVAL=10;COUNT=5",
+            "FREQ=YEARLY;UNTIL=20000131;BYMONTH=1;BYDAY=SU,MO,TU,WE,TH,FR,SA",
+            "FREQ=DAILY;UNTIL=20000131;BYMONTH=1",
+            "FREQ=WEEKLY;COUNT=10",
+            "FREQ=WEEKLY;UNTIL=19971224",
+            "FREQ=MONTHLY;COUNT=10;BYDAY=1FR",
+            "FREQ=MONTHLY;UNTIL=19971224;BYDAY=1FR",
+            "FREQ=MONTHLY;INTERVAL=2;COUNT=10;BYDAY=1SU,-1SU",
+            "FREQ=MONTHLY;COUNT=6;BYDAY=-2MO",
+            "FREQ=MONTHLY;BYMONTHDAY=-3",
+            "FREQ=MONTHLY;COUNT=10;BYMONTHDAY=2,15",
+            "FREQ=MONTHLY;COUNT=10;BYMONTHDAY=1,-1",
+            "FREQ=MONTHLY;INTERVAL=18;COUNT=10;BYMONTHDAY=10,11,12,13,14,15",
+            "FREQ=MONTHLY;INTERVAL=2;BYDAY=TU",
+            "FREQ=YEARLY;COUNT=10;BYMONTH=6,7",
+            "FREQ=YEARLY;INTERVAL=2;COUNT=10;BYMONTH=1,2,3",
+            "FREQ=YEARLY;BYDAY=20MO",
+            "FREQ=YEARLY;BYMONTH=3;BYDAY=TH",
+        ],
+    );
+}
+
+/// Other examples of RFC 5545, in the same way, and a text of ours with zeros, signs and small letters.
+#[test]
+fn other_orders(rt: HostRuntime) {
+    let rt = &rt;
+    written(
+        rt,
+        "FREQ=WEEKLY;INTERVAL=2;WKST=SU",
+        "FREQ=WEEKLY;INTERVAL=2;WKST=SU",
+    );
+    written(
+        rt,
+        "FREQ=WEEKLY;UNTIL=19971007;WKST=SU;BYDAY=TU,TH",
+        "FREQ=WEEKLY;UNTIL=19971007;BYDAY=TU,TH;WKST=SU",
+    );
+    written(
+        rt,
+        "FREQ=WEEKLY;INTERVAL=2;COUNT=4;BYDAY=TU,SU;WKST=MO",
+        "FREQ=WEEKLY;INTERVAL=2;COUNT=4;BYDAY=TU,SU",
+    );
+    written(
+        rt,
+        "FREQ=YEARLY;BYDAY=TH;BYMONTH=6,7,8",
+        "FREQ=YEARLY;BYMONTH=6,7,8;BYDAY=TH",
+    );
+    written(
+        rt,
+        "FREQ=MONTHLY;BYDAY=FR;BYMONTHDAY=13",
+        "FREQ=MONTHLY;BYMONTHDAY=13;BYDAY=FR",
+    );
+    written(
+        rt,
+        "FREQ=YEARLY;INTERVAL=4;BYMONTH=11;BYDAY=TU;BYMONTHDAY=2,3,4,5,6,7,8",
+        "FREQ=YEARLY;INTERVAL=4;BYMONTH=11;BYMONTHDAY=2,3,4,5,6,7,8;BYDAY=TU",
+    );
+    written(
+        rt,
+        "until=00010203;byday=+01mo,-53We;bymonth=12,01;interval=01;freq=yearly",
+        "FREQ=YEARLY;UNTIL=00010203;BYMONTH=12,1;BYDAY=1MO,-53WE",
+    );
+}
+
+/// The longest list.
+fn full<T: Copy>(value: T) -> Values<T> {
+    let mut values = Values::none(value);
+    for _ in 0..62 {
+        if !values.is_full() {
+            values.push(value);
+        }
+    }
+    values
+}
+
+#[test]
+fn longest(rt: HostRuntime) {
+    let rt = &rt;
+    let recurrence = Recurrence {
+        frequency: Frequency::Monthly,
+        interval: u32::MAX,
+        week_start: Weekday::Sunday,
+        months: full(Month::December),
+        month_days: full(-128),
+        weekdays: full(ByDay::Nth(-128, Weekday::Friday)),
+        end: RuleEnd::Until(Date::MIN),
+    };
+    let text = recurrence.text();
+    assert!(rt; text.len() == 1013);
+    let text = text.as_str();
+    assert!(rt;
+        text.starts_with("FREQ=MONTHLY;INTERVAL=4294967295;UNTIL=-9999990101;BYMONTH=12,12,")
+    );
+    assert!(rt; text.ends_with(",-128FR,-128FR;WKST=SU"));
+}
+
+#[test]
+fn printed_and_compared(rt: HostRuntime) {
+    let rt = &rt;
+    let Ok(recurrence) = parse(b"FREQ=DAILY;BYMONTHDAY=1,-1") else {
+        panic!(rt; "refused");
+    };
+    let shown = format!(in rt.alloc(); "{recurrence:>28}|{recurrence}|{:?}", recurrence.month_days);
+    let Ok(shown) = shown else {
+        panic!(rt; "no memory");
+    };
+    assert!(rt;
+        shown.as_str() == "  FREQ=DAILY;BYMONTHDAY=1,-1|FREQ=DAILY;BYMONTHDAY=1,-1|[1, -1]",
+        "{shown}"
+    );
+    let Ok(shown) = format!(in rt.alloc(); "{:?}", recurrence.text()) else {
+        panic!(rt; "no memory");
+    };
+    assert!(rt;
+        shown.as_str() == "\"FREQ=DAILY;BYMONTHDAY=1,-1\"",
+        "{shown}"
+    );
+    let Ok(clone) = recurrence.clone() else {
+        panic!(rt; "no clone");
+    };
+    assert!(rt; clone == recurrence);
+
+    // What stands at the free indexes of a list is not compared.
+    let mut days = Values::none(7);
+    days.push(1);
+    assert!(rt; days != recurrence.month_days);
+    days.push(-1);
+    assert!(rt; days == recurrence.month_days);
+}

@@ -1,8 +1,0 @@
-use Rattle.cal_time.specs.Laws.{calendar_date-one}
-use Rattle.cal_schedule.proofs.tests.one_answer.last_of_year.Goals as goal
-
-pub returns : goal.returns
-returns c =
-    let r = c.last_of_year.ensures in
-    let s = c.last_of_year-2.ensures in
-    calendar_date-one _ _ _ _ _ r.in_range.1 s.in_range.1 r.date s.date

@@ -1,8 +1,0 @@
-use Rattle.cal_schedule.proofs.OneAnswer.{held-one}
-use Rattle.cal_schedule.proofs.tests.one_answer.saturating_add_months.Goals as goal
-
-pub returns : goal.returns
-returns c =
-    let r = c.saturating_add_months.ensures in
-    let s = c.saturating_add_months-2.ensures in
-    held-one _ _ _ _ r.within r.before r.past s.within s.before s.past

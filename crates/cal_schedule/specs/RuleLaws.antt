@@ -1,0 +1,35 @@
+-- The periods and the numbers of weekdays of a rule, by a count of the days. The two records are
+-- laws, proved by functions of `laws`.
+use Rattle.std.specs.Prelude.{◌≡◌, ℕ, ◌+◌, ◌↔◌, true, false, ⊤, pos, negsuc}
+use Rattle.cal_time.specs.Date.{year_at, month_at, day_of_month_at, weekday_at}
+use Rattle.cal_time.specs.Weekday.{index}
+use Rattle.cal_time.specs.declared.Weekday.{Weekday}
+use Rattle.cal_schedule.specs.Rule.{is_nth_of, turn_at}
+use Rattle.cal_schedule.specs.Weekdays.{IsNthWeekday, IsLastWeekday, IsNthWeekdayFromEnd, IsNthWeekdayOfYear, IsNthWeekdayOfYearFromEnd}
+use Rattle.cal_schedule.specs.declared.rule.kinds.Frequency.{Frequency}
+use Rattle.cal_schedule.specs.declared.rule.kinds.Frequency.TheVariants.{Daily, Weekly, Monthly, Yearly}
+
+-- Day n begins a period: each day does, each day with the weekday that weeks begin with, each first
+-- of a month, each 1 January.
+abbrev pub Begins : Frequency → Weekday → ℕ → Type 0
+Begins Daily first n = ⊤
+Begins Weekly first n = weekday_at n ≡ index first
+Begins Monthly first n = day_of_month_at n ≡ 1
+Begins Yearly first n = (month_at n ≡ 1) × (day_of_month_at n ≡ 1)
+
+-- From day n to the next one the index of the period rises by one exactly if that day begins a
+-- period, and else stays.
+pub record RisesAtBeginning (f : Frequency) (first : Weekday) (n : ℕ) : Type 0 where
+  pub rises : (turn_at f first (n + 1) ≡ turn_at f first n + 1) ↔ Begins f first (n + 1)
+  pub stays : (turn_at f first (n + 1) ≡ turn_at f first n) ↔ ¬ Begins f first (n + 1)
+
+-- Day n is the k-th of its weekday in its month or year exactly if there are k such days up to it;
+-- from the end, from it on. negsuc k is the (k + 1)-th from the end, so negsuc 0 is the last.
+pub record NumbersByCount (n : ℕ) : Type 0 where
+  pub of_month : (k : ℕ) → (is_nth_of false n (pos k) ≡ true) ↔ IsNthWeekday (year_at n) (month_at n) (weekday_at n) k n
+  pub of_month_from_end : (k : ℕ)
+      → (is_nth_of false n (negsuc k) ≡ true) ↔ IsNthWeekdayFromEnd (year_at n) (month_at n) (weekday_at n) (k + 1) n
+  pub last_of_month : (is_nth_of false n (negsuc 0) ≡ true) ↔ IsLastWeekday (year_at n) (month_at n) (weekday_at n) n
+  pub of_year : (k : ℕ) → (is_nth_of true n (pos k) ≡ true) ↔ IsNthWeekdayOfYear (year_at n) (weekday_at n) k n
+  pub of_year_from_end : (k : ℕ)
+      → (is_nth_of true n (negsuc k) ≡ true) ↔ IsNthWeekdayOfYearFromEnd (year_at n) (weekday_at n) (k + 1) n

@@ -1,0 +1,26 @@
+//! Laws of several calls of working days together.
+ghost use Rattle.std.specs.Prelude.{◌≡◌, ◌+ℤ◌, Some, true};
+ghost use Rattle.cal_schedule.specs.Workdays.{is_workday};
+
+use crate::{Convention, Workdays};
+use cal_time::Date;
+
+/// Moves a working day to itself, by each convention.
+pub fn stays(workdays: &Workdays<'_>, date: Date, convention: Convention) -> Option<Date>
+    requires { is_workday workdays.now date ≡ true }
+    ensures { result ≡ Some date }
+{
+    workdays.adjusted(date, convention)
+}
+
+/// Counts the working days from the first day to the second, from there to the third, and from the
+/// first to the third: the last number is the sum of the other two, in any order of the days.
+pub fn adds_up(workdays: &Workdays<'_>, first: Date, second: Date, third: Date) -> (i32, i32, i32)
+    ensures { result.0 +ℤ result.1 ≡ result.2 }
+{
+    (
+        workdays.workdays_between(first, second),
+        workdays.workdays_between(second, third),
+        workdays.workdays_between(first, third),
+    )
+}

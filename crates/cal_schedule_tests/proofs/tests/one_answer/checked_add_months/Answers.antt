@@ -1,0 +1,8 @@
+use Rattle.cal_schedule.proofs.OneAnswer.{moved-one}
+use Rattle.cal_schedule_tests.proofs.tests.one_answer.checked_add_months.Goals as goal
+
+pub returns : goal.returns
+returns c =
+    let r = c.checked_add_months.ensures in
+    let s = c.checked_add_months-2.ensures in
+    moved-one _ _ _ r.every r.has s.every s.has

@@ -1,9 +1,0 @@
-use Rattle.std.proofs.Common.{◌∙◌, subst}
-use Rattle.caldate.specs.Runs.{Shown}
-use Rattle.caldate.proofs.Ends.{wrote}
-use Rattle.caldate.proofs.ending.tell.Goals as goal
-
-pub returns : goal.returns
-returns g c =
-    subst (λ words. Shown words c.write_all.result (g.W.Write.contents c.args.writer.now) (g.W.Write.contents c.write_all.new.writer)) (c.as_bytes.ensures ∙ c.push_words.ensures)
-    (wrote _ c.write_all.result _ _ c.write_all.ensures.ok c.write_all.ensures.front c.write_all.ensures.err)

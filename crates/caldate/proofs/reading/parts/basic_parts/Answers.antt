@@ -1,7 +1,0 @@
-use Rattle.std.proofs.Common.{Some, ap, sym, ◌∙◌, eq-eqb}
-use Rattle.caldate.proofs.Numbers.{guard_yes}
-use Rattle.caldate.proofs.PartTexts.{basic}
-use Rattle.caldate.proofs.reading.parts.basic_parts.Goals as goal
-
-pub returns : goal.returns
-returns c = ap Some (basic c.args.text.now c.if-text-ne8.false) ∙ sym (guard_yes _ _ (eq-eqb _ _ c.if-text-ne8.false))

@@ -1,8 +1,0 @@
-use Rattle.caldate.specs.Lists.{AreAll, AreFirst}
-use Rattle.caldate.proofs.Listed.{lists-one, one_list}
-use Rattle.caldate.proofs.tests.one_answer.lists.Goals as goal
-
-pub returns : goal.returns
-returns g c held old other ok too =
-    let listing = c.args.listing.now in
-    lists-one (AreAll listing) (AreFirst listing) (one_list listing) held _ _ _ _ ok too (rw old at c.list.ensures) (rw other at c.list-2.ensures)

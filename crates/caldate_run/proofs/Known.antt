@@ -1,0 +1,36 @@
+-- What several reads gave, and what several writes took.
+use Rattle.std.proofs.Common.{◌-◌, ◌≡◌, ℕ, ◌+◌, ◌≤◌, List, ◌++◌, length, take, drop, Option, sym, ap, ◌∙◌, append_assoc, take-append-drop, length-take, subst}
+use borrow.Rule.Slice.PartMut.{put_mid, post_of}
+use Rattle.std.specs.Io.KnownBytes.{Appends, Consumes}
+use Rattle.std.proofs.KnownBytes.{Appends-trans}
+use Rattle.std.proofs.Math.Nat.{min-eq_left}
+use Rattle.std.proofs.Math.Seq.{take-append-add}
+use Rattle.std.proofs.lemmas.List.{take-append-le, take_rest}
+use Rattle.caldate_run.specs.Runs.{HasRead}
+
+-- a read into what is free at the end of a buffer
+pub given_more : (old new : Option (List ℕ)) (a k n : ℕ) (xs ys : List ℕ) → a ≤ length xs → n ≤ length ys
+    → Consumes old new (take n ys) → HasRead old new (take a xs) (take (a + n) (put_mid a k xs ys))
+given_more old new a k n xs ys h e p =
+    let front : length (take a xs) ≡ a = length-take a xs ∙ min-eq_left h in (
+      take n ys,
+      p,
+      subst (λ m. take (m + n) (put_mid a k xs ys) ≡ take a xs ++ take n (ys ++ post_of a k xs)) front (take-append-add (take a xs) (ys ++ post_of a k xs) n)
+          ∙ ap (λ l. take a xs ++ l) (take-append-le n ys (post_of a k xs) e),
+    )
+
+-- the writer took all of the bytes but for the rest
+pub record HasTaken (old new : Option (List ℕ)) (bytes rest : List ℕ) : Type 0 where
+  pub taken : List ℕ
+  pub whole : bytes ≡ taken ++ rest
+  pub appended : Appends old new taken
+
+-- a write that takes n bytes; what is left is a slice of what was left
+pub taken_more : (old mid new : Option (List ℕ)) (bytes rest : List ℕ) (n : ℕ) → HasTaken old mid bytes rest
+    → Appends mid new (take n rest)
+    → HasTaken old new bytes (take (length rest - n) (drop n rest))
+taken_more old mid new bytes rest n p q = record {
+  taken = p.taken ++ take n rest;
+  whole = rw take_rest (p.whole ∙ ap (λ l. p.taken ++ l) (sym (take-append-drop n rest)) ∙ sym (append_assoc p.taken (take n rest) (drop n rest)));
+  appended = Appends-trans old mid new _ _ p.appended q;
+}

@@ -1,0 +1,114 @@
+-- The days of a list, one after the other.
+use Rattle.std.proofs.Common.{◌≡◌, ℕ, suc, ◌+◌, ◌*◌, ◌<◌, ◌∙◌, ap, sym, subst, arith, inl, inr, Option, None, Some, Result, Ok, Err, ℤ, pos, min, List, [], ◌∷◌, ◌++◌, length, get_or, append_assoc, length-append}
+use Rattle.std.specs.Prelude.{IfErr, IfSome, IsErrAnd, IsOk, MatchOption, OnErr, OnOk}
+use Rattle.std.specs.List.{flat_map}
+use Rattle.std.proofs.lemmas.Bool.{cases_lt, false≢true}
+use Rattle.std.proofs.lemmas.Int.{ints}
+use Rattle.std.proofs.lemmas.List.{append-nil, ext_get_or, get_or_append_left}
+use Rattle.std.proofs.lemmas.List.Concat.{flat_map-append}
+use Rattle.std.proofs.Math.Nat.{suc-mul}
+use Rattle.std.proofs.Math.Seq.{get_or-append_seam}
+use Rattle.std.specs.Io.KnownBytes.{Appends}
+use Rattle.cal_time.specs.Date.{IsDate}
+use Rattle.cal_schedule.specs.Months.{IsMonthsLater}
+use Rattle.cal_schedule.proofs.MonthMoves.{IsMonthNumber-date, one_later}
+use Rattle.caldate_run.specs.Lists.{AreAll, AreFirst, IsAfter, IsListed, TakesLines, line_of}
+use Rattle.caldate_run.specs.Runs.{AppendsFront, IsOfWrite}
+use Rattle.caldate_run.specs.declared.fault.Fault.{Fault}
+use Rattle.caldate_run.specs.declared.request.Listing.{Listing}
+use Rattle.caldate_run.specs.declared.request.StepUnit.{StepUnit}
+use Rattle.caldate_run.specs.declared.request.StepUnit.TheVariants.{Days, Months}
+use Rattle.caldate_run.proofs.OneAnswer.{took-one}
+use Rattle.caldate_run.proofs.Steps.{all_more, front_more}
+
+-- no two days of the range are a thousand million months apart
+few_months : (n m s : ℕ) → IsDate n → IsDate s → IsMonthsLater n (pos m) s → m < 1000000000
+few_months n m s d e h =
+    let a = IsMonthNumber-date n d in
+    let b = IsMonthNumber-date s e in
+    omega (arith, ints, a.not_before, b.not_after, h.month)
+
+-- what is found with so many months at most is found with them all
+pub by_few : (n m : ℕ) (z : ℤ) (r : Option ℕ) → IsDate n → z ≡ pos (min m 1000000000) → ((s : ℕ) → IsDate s → IsMonthsLater n z s → r ≡ Some s)
+    → IfSome r (λ s. IsDate s × IsMonthsLater n z s)
+    → MatchOption r ((s : ℕ) → ¬ (IsDate s × IsMonthsLater n (pos m) s)) (λ s. IsDate s × IsMonthsLater n (pos m) s)
+by_few n m z None d e every has = λ s h.
+    let same : pos m ≡ z = omega (arith, ints, few_months n m s d h.0 h.1) in
+    let found = every s h.0 (subst (λ y. IsMonthsLater n y s) same h.1) in cc
+by_few n m z (Some s) d e every has =
+    let few = few_months n (min m 1000000000) s d has.0 (subst (λ y. IsMonthsLater n y s) e has.1) in
+    let same : z ≡ pos m = omega (arith, ints, few) in
+    (has.0, subst (λ y. IsMonthsLater n y s) same has.1)
+
+pub near : (n m : ℕ) (z : ℤ) (r : Option ℕ) → IsDate n → z ≡ pos (min m 1000000000) → IfSome r (λ s. IsDate s × IsMonthsLater n z s)
+    → IfSome r (λ _. m < 1000000000)
+near n m z None d e has = tt
+near n m z (Some s) d e has = omega (arith, few_months n (min m 1000000000) s d has.0 (subst (λ y. IsMonthsLater n y s) e has.1))
+
+-- ---- one day more
+pub one_more : (listing : Listing) (days : List ℕ) (day : ℕ) → AreFirst listing days → IsListed listing (length days) day
+    → AreFirst listing (days ++ day ∷ [])
+one_more listing days day first next k less =
+    elim (cases_lt k (length days)) as (λ _. IsListed listing k (get_or (days ++ day ∷ []) k 0)) [
+      | inl before ↦ subst (IsListed listing k) (sym (get_or_append_left days (day ∷ []) 0 k before)) (first k before)
+      | inr after ↦
+          let last : length days ≡ k = omega (arith, length-append days (day ∷ []), less, after) in
+          subst (λ j. IsListed listing j (get_or (days ++ day ∷ []) j 0)) last
+          (subst (IsListed listing (length days)) (sym (get_or-append_seam days day [] 0)) next)
+    ]
+
+pub one_line_more : (days : List ℕ) (day : ℕ) (written gathered : List ℕ) → flat_map line_of days ≡ written ++ gathered
+    → flat_map line_of (days ++ day ∷ []) ≡ written ++ (gathered ++ line_of day)
+one_line_more days day written gathered e =
+    flat_map-append line_of days (day ∷ []) ∙ ap (λ l. l ++ (line_of day ++ [])) e
+    ∙ ap (λ l. written ++ gathered ++ l) (append-nil (line_of day)) ∙ append_assoc written gathered (line_of day)
+
+pub next_count : (days : List ℕ) (day count every : ℕ) → count ≡ length days * every → count + every ≡ length (days ++ day ∷ []) * every
+next_count days day count every e =
+    let longer : length (days ++ day ∷ []) ≡ suc (length days) = omega (arith, length-append days (day ∷ [])) in
+    sym (ap (λ k. k * every) longer ∙ suc-mul (length days) every ∙ ap (λ p. p + every) (sym e))
+
+-- ---- what the writer took
+pub lists_failed : (All First : List ℕ → Type 0) (r : Result Unit Fault) (old new : Option (List ℕ)) (days : List ℕ) → IsErrAnd r IsOfWrite → First days
+    → AppendsFront old new (flat_map line_of days) → TakesLines All First r old new
+lists_failed All First (Ok done) old new days is first front = absurd is
+lists_failed All First (Err fault) old new days is first front = (is, (days, first, front))
+
+pub lists_ended : (All First : List ℕ → Type 0) (r : Result Unit Fault) (start now new : Option (List ℕ)) (days written gathered : List ℕ) → All days → First days
+    → flat_map line_of days ≡ written ++ gathered → Appends start now written → OnOk r (Appends now new gathered) → OnErr r (AppendsFront now new gathered)
+    → IfErr r IsOfWrite → TakesLines All First r start new
+lists_ended All First (Ok done) start now new days written gathered all first whole taken ok front err =
+    (days, all, all_more start now new written gathered _ whole taken ok)
+lists_ended All First (Err fault) start now new days written gathered all first whole taken ok front err =
+    (err, (days, first, front_more start now new written gathered _ whole taken front))
+
+-- ---- a list has one answer
+pub one_after : (unit : StepUnit) (count n a b : ℕ) → IsAfter unit count n a → IsAfter unit count n b → a ≡ b
+one_after Days count n a b h k = h ∙ sym k
+one_after Months count n a b h k = one_later n a b (pos count) h k
+
+-- no list of all the days is shorter than another
+no_shorter : (listing : Listing) (days others : List ℕ) → AreAll listing days → AreFirst listing others → ¬ (length days < length others)
+no_shorter listing days others all first less = all.1 (get_or others (length days) 0) (first (length days) less)
+
+pub one_list : (listing : Listing) (days others : List ℕ) → AreAll listing days → AreAll listing others → days ≡ others
+one_list listing days others all too =
+    let same : length days ≡ length others =
+    elim (cases_lt (length days) (length others)) as (λ _. length days ≡ length others) [
+      | inl less ↦ absurd (no_shorter listing days others all too.0 less)
+      | inr most ↦ elim (cases_lt (length others) (length days)) as (λ _. length days ≡ length others) [
+        | inl more ↦ absurd (no_shorter listing others days too all.0 more)
+        | inr least ↦ omega arith
+      ]
+    ] in
+    ext_get_or 0 days others same (λ k less.
+    one_after listing.step.unit (k * listing.step.every) listing.first (get_or days k 0) (get_or others k 0)
+    (all.0 k less).after (too.0 k (omega (arith, less, same))).after)
+
+pub lists-one : (All First : List ℕ → Type 0) → ((days others : List ℕ) → All days → All others → days ≡ others)
+    → (held : List ℕ) (r s : Result Unit Fault) (w v : Option (List ℕ)) → IsOk r → IsOk s
+    → TakesLines All First r (Some held) w → TakesLines All First s (Some held) v → w ≡ v
+lists-one All First one held (Err e) s w v ok too first second = absurd (false≢true ok)
+lists-one All First one held (Ok done) (Err e) w v ok too first second = absurd (false≢true too)
+lists-one All First one held (Ok done) (Ok end) w v ok too (days, all, took) (others, every, taken) =
+    took-one held _ _ w v took taken (ap (flat_map line_of) (one days others all every))

@@ -1,0 +1,71 @@
+-- How bytes are cut at the first position where a byte stands.
+use Rattle.std.proofs.Common.{◌≡◌, ℕ, ◌+◌, ◌<◌, ◌≤◌, Bool, false, eqb, get_or, List, [], ◌∷◌, ◌++◌, length, take, drop, Some, None, ap, ◌∙◌, arith, subst}
+use Rattle.std.specs.List.{slice_split, position, position_or_len}
+use Rattle.std.specs.Prelude.{All}
+use Rattle.std.proofs.lemmas.List.Splits.{slice_split_first, slice_split_none}
+use Rattle.std.proofs.lemmas.List.Sums.{fails_before_first, passes_at_first, split_at_first}
+use Rattle.std.proofs.lemmas.Grind.{common_steps}
+use Rattle.std.proofs.lemmas.Bool.{eqb-true}
+use Rattle.std.proofs.lemmas.Option.{cond_some}
+use Rattle.std.proofs.lemmas.Bool.Decides.{nat_tests}
+use Rattle.caldate_run.specs.Lines.{is_end}
+use Rattle.caldate_run.specs.Requests.{arguments_of}
+use Rattle.caldate_run.specs.Standing.{NoEnd}
+
+-- the first part ends at the position
+split_at_some : (p : ℕ → Bool) (xs : List ℕ) (k : ℕ) → position p xs ≡ Some k
+    → (k < length xs) × (slice_split p xs ≡ take k xs ∷ slice_split p (drop (k + 1) xs))
+split_at_some p xs k e =
+    let c = cond_some _ _ _ e in
+    let within : position_or_len p xs < length xs = grind (arith, nat_tests) in
+    (omega arith, subst (λ n. slice_split p xs ≡ take n xs ∷ slice_split p (drop (n + 1) xs)) c.1 (slice_split_first p xs 0 within))
+
+-- where there is no such position, each element fails
+none_passes : (p : ℕ → Bool) (xs : List ℕ) → position p xs ≡ None → length xs ≤ position_or_len p xs
+none_passes p xs e = grind (arith, nat_tests)
+
+all_fail : (p : ℕ → Bool) (xs : List ℕ) → position p xs ≡ None → All (λ x. p x ≡ false) xs
+all_fail p xs e =
+    let all = none_passes p xs e in
+    λ k d h. fails_before_first p xs k d (omega arith)
+
+pub arguments_of_some : (xs : List ℕ) (k : ℕ) → position (λ b. eqb b 0) xs ≡ Some k
+    → (k < length xs) × (arguments_of xs ≡ take k xs ∷ arguments_of (drop (k + 1) xs))
+arguments_of_some xs k e = split_at_some (λ b. eqb b 0) xs k e
+
+pub arguments_of_none : (xs : List ℕ) → position (λ b. eqb b 0) xs ≡ None → arguments_of xs ≡ xs ∷ []
+arguments_of_none xs e = slice_split_none (λ b. eqb b 0) xs (all_fail (λ b. eqb b 0) xs e)
+
+before : (p : ℕ → Bool) (xs : List ℕ) (j d : ℕ) → j < length (take (position_or_len p xs) xs)
+    → p (get_or (take (position_or_len p xs) xs) j d) ≡ false
+before p xs j d m = let k = fails_before_first p xs j d (grind (arith, common_steps)) in grind (arith, common_steps)
+
+-- the first field ends at a separator, and what comes after it has the others
+pub some_fields : (c : ℕ) (xs : List ℕ) (k : ℕ) → position (λ b. eqb b c) xs ≡ Some k
+    → (k < length xs) × (slice_split (λ b. eqb b c) xs ≡ take k xs ∷ slice_split (λ b. eqb b c) (drop (k + 1) xs))
+    × (xs ≡ take k xs ++ c ∷ drop (k + 1) xs)
+some_fields c xs k e =
+    let p : ℕ → Bool = λ b. eqb b c in
+    let found = cond_some _ _ _ e in
+    let within : position_or_len p xs < length xs = grind (arith, nat_tests) in
+    let byte = eqb-true _ c (passes_at_first p xs 0 within) in
+    let whole = split_at_first p xs 0 within ∙ ap (λ b. take (position_or_len p xs) xs ++ b ∷ drop (position_or_len p xs + 1) xs) byte in
+    let cut = split_at_some p xs k e in
+    (cut.0, cut.1, subst (λ n. xs ≡ take n xs ++ c ∷ drop (n + 1) xs) found.1 whole)
+
+pub no_fields : (c : ℕ) (xs : List ℕ) → position (λ b. eqb b c) xs ≡ None → slice_split (λ b. eqb b c) xs ≡ xs ∷ []
+no_fields c xs e = slice_split_none (λ b. eqb b c) xs (all_fail (λ b. eqb b c) xs e)
+
+-- a line that ends
+pub first_ends : (xs : List ℕ) (k : ℕ) → position (λ b. eqb b 10) xs ≡ Some k
+    → (k < length xs) × NoEnd (take k xs) × (xs ≡ take k xs ++ 10 ∷ drop (k + 1) xs)
+first_ends xs k e =
+    let c = cond_some _ _ _ e in
+    let within : position_or_len is_end xs < length xs = grind (arith, nat_tests) in
+    let byte = eqb-true _ 10 (passes_at_first is_end xs 0 within) in
+    let front : NoEnd (take (position_or_len is_end xs) xs) = λ j d m. before is_end xs j d m in
+    let whole = split_at_first is_end xs 0 within ∙ ap (λ b. take (position_or_len is_end xs) xs ++ b ∷ drop (position_or_len is_end xs + 1) xs) byte in
+    (omega arith, subst (λ n. NoEnd (take n xs)) c.1 front, subst (λ n. xs ≡ take n xs ++ 10 ∷ drop (n + 1) xs) c.1 whole)
+
+pub none_ends : (xs : List ℕ) → position (λ b. eqb b 10) xs ≡ None → NoEnd xs
+none_ends xs e = all_fail (λ b. eqb b 10) xs e

@@ -1,0 +1,390 @@
+-- How far a run is after each of its steps.
+use Rattle.std.proofs.Common.{◌≡◌, ℕ, ◌+◌, ◌-◌, ◌<◌, ◌≤◌, Bool, true, false, List, [], ◌∷◌, ◌++◌, length, take, drop, Option, refl, sym, ap, ◌∙◌, subst, arith, append_assoc, length-append, length-take, length-drop, take-append-drop}
+use Rattle.std.specs.List.{slice_split}
+use Rattle.std.specs.Io.KnownBytes.{Appends}
+use Rattle.std.proofs.KnownBytes.{Appends-trans, Appends-nil}
+use Rattle.std.proofs.Math.Nat.{min-eq_left}
+use Rattle.std.specs.Prelude.{map}
+use Rattle.std.proofs.lemmas.List.{append-nil, take-append-le}
+use Rattle.std.proofs.lemmas.List.Elements.{All-append, All-head, All-take, All-drop}
+use Rattle.std.proofs.lemmas.List.Splits.{slice_split_at, slice_split_none, length-slice_split}
+use Rattle.std.proofs.lemmas.Bool.{false≢true}
+use Rattle.caldate_run.specs.Lines.{ended_lines, is_end, lines_of, without_empty_last, without_last}
+use Rattle.caldate_run.specs.Runs.{AnswersAll, AnswersFront, AppendsFront, AppendsThat, IsReplyTo, StopsAt}
+use Rattle.caldate_run.specs.Standing.{AreReplies, IsHeld, IsShown, NoEnd, Stands, Writes, counted}
+use Rattle.caldate_run.specs.Shown.{printed, shown, words_shown}
+use Rattle.caldate_run.specs.Unanswered.{IsUnanswered}
+use Rattle.caldate_run.specs.declared.progress.Progress.{Progress}
+use Rattle.caldate_run.specs.declared.request.Filter.{Filter}
+use Rattle.caldate_run.specs.declared.shown.ShownText.{ShownText}
+use Rattle.caldate_run.specs.declared.unanswered.UnansweredLine.{UnansweredLine}
+
+-- ---- replies
+pub one_reply : (Allowed : Writes) (before n : ℕ) (lines : List (List ℕ)) (line out reply : List ℕ) → n ≡ before + length lines
+    → AreReplies Allowed before lines out → Allowed n line reply → AreReplies Allowed before (lines ++ line ∷ []) (out ++ reply)
+one_reply Allowed before n [] line out reply e h r =
+    (reply, [], subst (λ k. Allowed k line reply) (omega (arith, e)) r, ap (λ l. l ++ reply) h ∙ sym (append-nil reply), refl)
+one_reply Allowed before n (l ∷ lines) line out reply e h r =
+    (h.0, h.1 ++ reply, h.2, ap (λ o. o ++ reply) h.3 ∙ append_assoc h.0 h.1 reply, one_reply Allowed (before + 1) n lines line h.1 reply (omega (arith, e)) h.4 r)
+
+-- what is gathered for a line is its reply, whatever was let go of it
+abbrev pub Replies : Writes → Progress → List ℕ → List ℕ → List ℕ → Type 0
+Replies Allowed progress line old new =
+    (kept : List ℕ) (before : ℕ) → IsHeld progress.is_long kept line → progress.number ≡ counted before → AppendsThat (Allowed before (kept ++ line)) old new
+
+-- ---- the line that was held
+kept_no_end : (b : Bool) (kept pending : List ℕ) → IsHeld b kept pending → NoEnd kept
+kept_no_end false kept pending h = subst NoEnd (sym h) (λ k d l. absurd (omega arith))
+kept_no_end true kept pending h = h.1
+
+-- the first byte of a line, where it is the first of what is pending
+first_of : (first : ℕ) (more line after : List ℕ) → first ∷ more ≡ line ++ 10 ∷ after → is_end first ≡ false
+    → (rest : List ℕ) × (line ≡ first ∷ rest)
+first_of first more [] after e n = absurd (false≢true (sym n ∙ ap (λ l. is_end (head_or l)) e))
+  where
+    head_or : List ℕ → ℕ
+    head_or [] = 0
+    head_or (x ∷ xs) = x
+first_of first more (x ∷ xs) after e n = (xs, ap (λ f. f ∷ xs) (sym (ap head_or e)))
+  where
+    head_or : List ℕ → ℕ
+    head_or [] = 0
+    head_or (y ∷ ys) = y
+
+pub held_line : (b : Bool) (kept pending line after : List ℕ) → IsHeld b kept pending → pending ≡ line ++ 10 ∷ after → IsHeld b kept line
+held_line false kept pending line after h e = h
+held_line true kept pending line after h e =
+    let found = first_of h.2.0 h.2.1 line after (sym h.2.2 ∙ e) h.2.3 in
+    (h.0, h.1, (h.2.0, found.0, found.1, h.2.3))
+
+no_end_append : (xs ys : List ℕ) → NoEnd xs → NoEnd ys → NoEnd (xs ++ ys)
+no_end_append xs ys h e = All-append (λ byte. is_end byte ≡ false) xs ys h e
+
+-- ---- one line
+cut_line : (kept line after more pending : List ℕ) → NoEnd kept → NoEnd line → pending ≡ line ++ 10 ∷ after
+    → slice_split is_end (kept ++ (pending ++ more)) ≡ (kept ++ line) ∷ slice_split is_end (after ++ more)
+cut_line kept line after more pending h n e =
+    ap (λ p. slice_split is_end (kept ++ (p ++ more))) e
+    ∙ ap (slice_split is_end) (ap (λ l. kept ++ l) (append_assoc line (10 ∷ after) more) ∙ sym (append_assoc kept line (10 ∷ (after ++ more))))
+    ∙ slice_split_at is_end (kept ++ line) 10 (after ++ more) (no_end_append kept line h n) refl
+
+counted_more : (n m : ℕ) → m ≡ counted n → counted (m + 1) ≡ counted (n + 1)
+counted_more n m e = omega (arith, e)
+
+pub answered : (Allowed : Writes) (input : List ℕ) (start now : Option (List ℕ)) (gathered gathered_now pending line after : List ℕ) (progress progress_now : Progress)
+    → NoEnd line → pending ≡ line ++ 10 ∷ after
+    → Replies Allowed progress line gathered gathered_now
+    → progress_now.is_long ≡ false → progress_now.number ≡ counted (progress.number + 1)
+    → Stands Allowed input start now gathered pending progress → Stands Allowed input start now gathered_now after progress_now
+answered Allowed input start now gathered gathered_now pending line after progress progress_now n e reply short number s =
+    let r = reply s.kept (length s.lines) (held_line progress.is_long s.kept pending line after s.held e) s.number in
+    record {
+      lines = s.lines ++ (s.kept ++ line) ∷ [];
+      kept = [];
+      out = s.out ++ r.0;
+      written = s.written;
+      cut = λ more. s.cut more ∙ ap (λ parts. s.lines ++ parts) (cut_line s.kept line after more pending (kept_no_end progress.is_long s.kept pending s.held) n e)
+          ∙ sym (append_assoc s.lines ((s.kept ++ line) ∷ []) (slice_split is_end (after ++ more)));
+      replies = one_reply Allowed 0 _ s.lines (s.kept ++ line) s.out r.0 (omega arith) s.replies r.2;
+      whole = ap (λ o. o ++ r.0) s.whole ∙ append_assoc s.written gathered r.0 ∙ ap (λ l. s.written ++ l) (sym r.1);
+      taken = s.taken;
+      held = subst (λ b. IsHeld b [] after) (sym short) refl;
+      front = subst (λ b. IsShown b progress_now.front []) (sym short) tt;
+      number = number ∙ counted_more (length s.lines) progress.number s.number ∙ ap counted (sym (length-append s.lines ((s.kept ++ line) ∷ [])));
+    }
+
+-- ---- what was gathered goes out, all of it or a front of it
+pub gone : (Allowed : Writes) (input : List ℕ) (start now new : Option (List ℕ)) (gathered left written pending : List ℕ) (progress : Progress)
+    → gathered ≡ written ++ left → Appends now new written
+    → Stands Allowed input start now gathered pending progress → Stands Allowed input start new left pending progress
+gone Allowed input start now new gathered left written pending progress e a s = record {
+  lines = s.lines;
+  kept = s.kept;
+  out = s.out;
+  written = s.written ++ written;
+  cut = s.cut;
+  replies = s.replies;
+  whole = s.whole ∙ ap (λ l. s.written ++ l) e ∙ sym (append_assoc s.written written left);
+  taken = Appends-trans start now new _ _ s.taken a;
+  held = s.held;
+  front = s.front;
+  number = s.number;
+}
+
+-- ---- the lines of the input
+part_counts : (part : List ℕ) (parts : List (List ℕ)) → 0 < length parts
+    → without_empty_last (part ∷ parts) ≡ part ∷ without_empty_last parts
+part_counts [] [] h = absurd (omega arith)
+part_counts (b ∷ bs) [] h = absurd (omega arith)
+part_counts [] (p ∷ parts) h = refl
+part_counts (b ∷ bs) (p ∷ parts) h = refl
+
+some_parts : (lines : List (List ℕ)) (parts : List (List ℕ)) → 0 < length parts → 0 < length (lines ++ parts)
+some_parts lines parts h = omega (arith, h, length-append lines parts)
+
+lines_begin : (lines : List (List ℕ)) (parts : List (List ℕ)) → 0 < length parts
+    → without_empty_last (lines ++ parts) ≡ lines ++ without_empty_last parts
+lines_begin [] parts h = refl
+lines_begin (l ∷ lines) parts h = part_counts l (lines ++ parts) (some_parts lines parts h) ∙ ap (λ ls. l ∷ ls) (lines_begin lines parts h)
+
+split_some : (xs : List ℕ) → 0 < length (slice_split is_end xs)
+split_some xs = omega (arith, length-slice_split is_end xs)
+
+-- those that are answered, and those that are pending
+lines_are : (input kept pending : List ℕ) (lines : List (List ℕ))
+    → ((more : List ℕ) → slice_split is_end (input ++ more) ≡ lines ++ slice_split is_end (kept ++ (pending ++ more)))
+    → slice_split is_end input ≡ lines ++ slice_split is_end (kept ++ pending)
+lines_are input kept pending lines cut =
+    ap (slice_split is_end) (sym (append-nil input)) ∙ cut [] ∙ ap (λ p. lines ++ slice_split is_end (kept ++ p)) (append-nil pending)
+
+lines_of_are : (input kept pending : List ℕ) (lines : List (List ℕ))
+    → ((more : List ℕ) → slice_split is_end (input ++ more) ≡ lines ++ slice_split is_end (kept ++ (pending ++ more)))
+    → lines_of input ≡ lines ++ lines_of (kept ++ pending)
+lines_of_are input kept pending lines cut =
+    ap without_empty_last (lines_are input kept pending lines cut) ∙ lines_begin lines (slice_split is_end (kept ++ pending)) (split_some (kept ++ pending))
+
+-- those that have ended
+part_ended : (part : List ℕ) (parts : List (List ℕ)) → 0 < length parts → without_last (part ∷ parts) ≡ part ∷ without_last parts
+part_ended part [] h = absurd (omega arith)
+part_ended part (p ∷ parts) h = refl
+
+ended_begin : (lines : List (List ℕ)) (parts : List (List ℕ)) → 0 < length parts → without_last (lines ++ parts) ≡ lines ++ without_last parts
+ended_begin [] parts h = refl
+ended_begin (l ∷ lines) parts h = part_ended l (lines ++ parts) (some_parts lines parts h) ∙ ap (λ ls. l ∷ ls) (ended_begin lines parts h)
+
+ended_are : (input kept pending : List ℕ) (lines : List (List ℕ))
+    → ((more : List ℕ) → slice_split is_end (input ++ more) ≡ lines ++ slice_split is_end (kept ++ (pending ++ more)))
+    → ended_lines input ≡ lines ++ ended_lines (kept ++ pending)
+ended_are input kept pending lines cut =
+    ap without_last (lines_are input kept pending lines cut) ∙ ended_begin lines (slice_split is_end (kept ++ pending)) (split_some (kept ++ pending))
+
+-- a line that has a byte and no end
+one_line : (line : List ℕ) → NoEnd line → 0 < length line → lines_of line ≡ line ∷ []
+one_line [] n h = absurd (omega arith)
+one_line (b ∷ bs) n h = ap without_empty_last (slice_split_none is_end (b ∷ bs) n)
+
+-- ---- a write that failed
+pub front_more : (start now new : Option (List ℕ)) (written gathered out : List ℕ) → out ≡ written ++ gathered → Appends start now written
+    → AppendsFront now new gathered → AppendsFront start new out
+front_more start now new written gathered out e a f = record {
+  front = written ++ f.front;
+  rest = f.rest;
+  whole = e ∙ ap (λ l. written ++ l) f.whole ∙ sym (append_assoc written f.front f.rest);
+  left = f.left;
+  taken = Appends-trans start now new _ _ a f.taken;
+}
+
+pub failed : (filter : Filter) (input : List ℕ) (start now new : Option (List ℕ)) (gathered pending : List ℕ) (progress : Progress)
+    → AppendsFront now new gathered
+    → Stands (IsReplyTo filter) input start now gathered pending progress → AnswersFront filter (ended_lines input) start new
+failed filter input start now new gathered pending progress f s = record {
+  lines = s.lines;
+  more = ended_lines (s.kept ++ pending);
+  out = s.out;
+  cut = ended_are input s.kept pending s.lines s.cut;
+  replies = s.replies;
+  taken = front_more start now new s.written gathered s.out s.whole s.taken f;
+}
+
+-- ---- a line without an answer
+abbrev pub Tells : Filter → Progress → List ℕ → UnansweredLine → Type 0
+Tells filter progress line told = (kept : List ℕ) (before : ℕ) → IsHeld progress.is_long kept line → IsShown progress.is_long progress.front kept
+    → progress.number ≡ counted before → IsUnanswered filter before (kept ++ line) told
+
+pub all_more : (start now new : Option (List ℕ)) (written gathered out : List ℕ) → out ≡ written ++ gathered → Appends start now written
+    → Appends now new gathered → Appends start new out
+all_more start now new written gathered out e a f = subst (Appends start new) (sym e) (Appends-trans start now new _ _ a f)
+
+pub stopped : (filter : Filter) (input : List ℕ) (start now new : Option (List ℕ)) (gathered pending line after : List ℕ) (progress : Progress) (told : UnansweredLine)
+    → NoEnd line → pending ≡ line ++ 10 ∷ after → filter.is_strict ≡ true → Tells filter progress line told → Appends now new gathered
+    → Stands (IsReplyTo filter) input start now gathered pending progress → StopsAt filter told (ended_lines input) start new
+stopped filter input start now new gathered pending line after progress told n e strict tells f s =
+    let held = kept_no_end progress.is_long s.kept pending s.held in
+    let parts = cut_line s.kept line after [] pending held n e in
+    let parts = ap (λ p. slice_split is_end (s.kept ++ p)) (sym (append-nil pending)) ∙ parts ∙ ap (λ a. (s.kept ++ line) ∷ slice_split is_end a) (append-nil after) in
+    record {
+      lines = s.lines;
+      line = s.kept ++ line;
+      more = ended_lines after;
+      out = s.out;
+      strict = strict;
+      cut = ended_are input s.kept pending s.lines s.cut
+          ∙ ap (λ p. s.lines ++ without_last p) parts ∙ ap (λ l. s.lines ++ l) (part_ended (s.kept ++ line) (slice_split is_end after) (split_some after));
+      unanswered = tells s.kept (length s.lines) (held_line progress.is_long s.kept pending line after s.held e) s.front s.number;
+      replies = s.replies;
+      taken = all_more start now new s.written gathered s.out s.whole s.taken f;
+    }
+
+-- ---- the end of the input
+kept_none : (b : Bool) (kept : List ℕ) → IsHeld b kept [] → kept ≡ []
+kept_none false kept h = h
+kept_none true kept h = absurd (omega (arith, ap length h.2.2))
+
+held_some : (b : Bool) (kept pending : List ℕ) → IsHeld b kept pending → 0 < length pending → 0 < length (kept ++ pending)
+held_some b kept pending h l = omega (arith, l, length-append kept pending)
+
+pub all_answered : (filter : Filter) (input : List ℕ) (start now : Option (List ℕ)) (progress : Progress)
+    → Stands (IsReplyTo filter) input start now [] [] progress → AnswersAll filter (lines_of input) start now
+all_answered filter input start now progress s =
+    let none = kept_none progress.is_long s.kept s.held in
+    let lines : lines_of input ≡ s.lines =
+    lines_of_are input s.kept [] s.lines s.cut ∙ ap (λ k. s.lines ++ lines_of (k ++ [])) none ∙ append-nil s.lines in
+    record {
+      out = s.out;
+      replies = subst (λ ls. AreReplies (IsReplyTo filter) 0 ls s.out) (sym lines) s.replies;
+      taken = subst (Appends start now) (sym (s.whole ∙ append-nil s.written)) s.taken;
+    }
+
+-- the lines, and the last one, which has no end
+with_last : (filter : Filter) (input : List ℕ) (start now : Option (List ℕ)) (gathered line : List ℕ) (progress : Progress)
+    → NoEnd line → 0 < length line → (s : Stands (IsReplyTo filter) input start now gathered line progress)
+    → lines_of input ≡ s.lines ++ (s.kept ++ line) ∷ []
+with_last filter input start now gathered line progress n l s =
+    lines_of_are input s.kept line s.lines s.cut
+    ∙ ap (λ ls. s.lines ++ ls) (one_line (s.kept ++ line) (no_end_append s.kept line (kept_no_end progress.is_long s.kept line s.held) n) (held_some progress.is_long s.kept line s.held l))
+
+pub last_answered : (filter : Filter) (input : List ℕ) (start now new : Option (List ℕ)) (gathered line : List ℕ) (progress : Progress)
+    → NoEnd line → 0 < length line
+    → Replies (IsReplyTo filter) progress line [] gathered
+    → Appends now new gathered
+    → Stands (IsReplyTo filter) input start now [] line progress → AnswersAll filter (lines_of input) start new
+last_answered filter input start now new gathered line progress n l reply f s =
+    let r = reply s.kept (length s.lines) s.held s.number in
+    record {
+      out = s.out ++ r.0;
+      replies = subst (λ ls. AreReplies (IsReplyTo filter) 0 ls (s.out ++ r.0)) (sym (with_last filter input start now [] line progress n l s))
+          (one_reply (IsReplyTo filter) 0 _ s.lines (s.kept ++ line) s.out r.0 (omega arith) s.replies r.2);
+      taken = all_more start now new s.written gathered (s.out ++ r.0) (ap (λ o. o ++ r.0) (s.whole ∙ append-nil s.written) ∙ ap (λ g. s.written ++ g) (sym r.1)) s.taken f;
+    }
+
+pub last_failed : (filter : Filter) (input : List ℕ) (start now new : Option (List ℕ)) (gathered line : List ℕ) (progress : Progress)
+    → NoEnd line → 0 < length line
+    → Replies (IsReplyTo filter) progress line [] gathered
+    → AppendsFront now new gathered
+    → Stands (IsReplyTo filter) input start now [] line progress → AnswersFront filter (lines_of input) start new
+last_failed filter input start now new gathered line progress n l reply f s =
+    let r = reply s.kept (length s.lines) s.held s.number in
+    record {
+      lines = s.lines ++ (s.kept ++ line) ∷ [];
+      more = [];
+      out = s.out ++ r.0;
+      cut = with_last filter input start now [] line progress n l s ∙ sym (append-nil (s.lines ++ (s.kept ++ line) ∷ []));
+      replies = one_reply (IsReplyTo filter) 0 _ s.lines (s.kept ++ line) s.out r.0 (omega arith) s.replies r.2;
+      taken = front_more start now new s.written gathered (s.out ++ r.0) (ap (λ o. o ++ r.0) (s.whole ∙ append-nil s.written) ∙ ap (λ g. s.written ++ g) (sym r.1)) s.taken f;
+    }
+
+pub last_stopped : (filter : Filter) (input : List ℕ) (start now : Option (List ℕ)) (line : List ℕ) (progress : Progress) (told : UnansweredLine)
+    → NoEnd line → 0 < length line → filter.is_strict ≡ true → Tells filter progress line told
+    → Stands (IsReplyTo filter) input start now [] line progress → StopsAt filter told (lines_of input) start now
+last_stopped filter input start now line progress told n l strict tells s =
+    record {
+      lines = s.lines;
+      line = s.kept ++ line;
+      more = [];
+      out = s.out;
+      strict = strict;
+      cut = with_last filter input start now [] line progress n l s;
+      unanswered = tells s.kept (length s.lines) s.held s.front s.number;
+      replies = s.replies;
+      taken = subst (Appends start now) (sym (s.whole ∙ append-nil s.written)) s.taken;
+    }
+
+-- ---- reads
+pub begun : (Allowed : Writes) (start : Option (List ℕ)) (progress : Progress) → progress.is_long ≡ false → progress.number ≡ 0
+    → Stands Allowed [] start start [] [] progress
+begun Allowed start progress short zero = record {
+  lines = [];
+  kept = [];
+  out = [];
+  written = [];
+  cut = λ more. refl;
+  replies = refl;
+  whole = refl;
+  taken = Appends-nil start;
+  held = subst (λ b. IsHeld b [] []) (sym short) refl;
+  front = subst (λ b. IsShown b progress.front []) (sym short) tt;
+  number = zero;
+}
+
+held_more : (b : Bool) (kept pending given : List ℕ) → IsHeld b kept pending → IsHeld b kept (pending ++ given)
+held_more false kept pending given h = h
+held_more true kept pending given h = (h.0, h.1, (h.2.0, h.2.1 ++ given, ap (λ p. p ++ given) h.2.2, h.2.3))
+
+pub read : (Allowed : Writes) (input given : List ℕ) (start now : Option (List ℕ)) (gathered pending : List ℕ) (progress : Progress)
+    → Stands Allowed input start now gathered pending progress → Stands Allowed (input ++ given) start now gathered (pending ++ given) progress
+read Allowed input given start now gathered pending progress s = record {
+  lines = s.lines;
+  kept = s.kept;
+  out = s.out;
+  written = s.written;
+  cut = λ more. ap (slice_split is_end) (append_assoc input given more) ∙ s.cut (given ++ more)
+      ∙ ap (λ p. s.lines ++ slice_split is_end (s.kept ++ p)) (sym (append_assoc pending given more));
+  replies = s.replies;
+  whole = s.whole;
+  taken = s.taken;
+  held = held_more progress.is_long s.kept pending given s.held;
+  front = s.front;
+  number = s.number;
+}
+
+pub ended_answered : (filter : Filter) (input : List ℕ) (start now : Option (List ℕ)) (pending : List ℕ) (progress : Progress) → NoEnd pending
+    → Stands (IsReplyTo filter) input start now [] pending progress → AnswersAll filter (ended_lines input) start now
+ended_answered filter input start now pending progress n s =
+    let none = slice_split_none is_end (s.kept ++ pending) (no_end_append s.kept pending (kept_no_end progress.is_long s.kept pending s.held) n) in
+    let lines : ended_lines input ≡ s.lines =
+    ended_are input s.kept pending s.lines s.cut ∙ ap (λ parts. s.lines ++ without_last parts) none ∙ append-nil s.lines in
+    record {
+      out = s.out;
+      replies = subst (λ ls. AreReplies (IsReplyTo filter) 0 ls s.out) (sym lines) s.replies;
+      taken = subst (Appends start now) (sym (s.whole ∙ append-nil s.written)) s.taken;
+    }
+
+-- ---- a long line is let go but for its last byte
+one_byte : (xs : List ℕ) → 0 < length xs → NoEnd xs → (first : ℕ) × (more : List ℕ) × (xs ≡ first ∷ more) × (is_end first ≡ false)
+one_byte [] h n = absurd (omega arith)
+one_byte (x ∷ xs) h n = (x, xs, refl, All-head (λ byte. is_end byte ≡ false) x xs n)
+
+-- what is shown of a line is what is shown of its front
+pub shown_front : (xs ys : List ℕ) → 80 ≤ length xs → shown (xs ++ ys) ≡ shown xs
+unfolding shown
+shown_front xs ys h = ap (map printed) (take-append-le 80 xs ys h)
+
+front_shown : (b : Bool) (front front_now : ShownText) (kept pending : List ℕ) (k : ℕ) → 80 ≤ length (take k pending) → IsHeld b kept pending → IsShown b front kept
+    → (b ≡ false → words_shown front_now ≡ shown pending) → (b ≡ true → front_now ≡ front) → words_shown front_now ≡ shown (kept ++ take k pending)
+front_shown false front front_now kept pending k h held is whole same =
+    whole refl ∙ ap shown (sym (take-append-drop k pending)) ∙ shown_front (take k pending) (drop k pending) h ∙ ap (λ l. shown (l ++ take k pending)) (sym held)
+front_shown true front front_now kept pending k h held is whole same =
+    ap words_shown (same refl) ∙ is ∙ sym (shown_front kept (take k pending) (omega (arith, held.0)))
+
+pub let_go : (Allowed : Writes) (input : List ℕ) (start now : Option (List ℕ)) (gathered pending pending_now : List ℕ) (progress progress_now : Progress)
+    → NoEnd pending → 4097 < length pending → pending_now ≡ drop (length pending - 1) pending → (progress.is_long ≡ false → words_shown progress_now.front ≡ shown pending)
+    → (progress.is_long ≡ true → progress_now.front ≡ progress.front) → progress_now.is_long ≡ true → progress_now.number ≡ progress.number
+    → Stands Allowed input start now gathered pending progress → Stands Allowed input start now gathered pending_now progress_now
+let_go Allowed input start now gathered pending pending_now progress progress_now n long last_byte whole_front same_front is_long same s =
+    let k = length pending - 1 in
+    let front : length (take k pending) ≡ k = length-take k pending ∙ min-eq_left (omega arith) in
+    let last : length (drop k pending) ≡ 1 = omega (arith, length-drop k pending) in
+    let n_front : NoEnd (take k pending) = All-take (λ byte. is_end byte ≡ false) k pending n in
+    let n_last : NoEnd (drop k pending) = All-drop (λ byte. is_end byte ≡ false) k pending n in
+    let whole : (more : List ℕ) → s.kept ++ (pending ++ more) ≡ (s.kept ++ take k pending) ++ (drop k pending ++ more) = λ more.
+    ap (λ p. s.kept ++ (p ++ more)) (sym (take-append-drop k pending)) ∙ ap (λ l. s.kept ++ l) (append_assoc (take k pending) (drop k pending) more)
+    ∙ sym (append_assoc s.kept (take k pending) (drop k pending ++ more)) in
+    let held : IsHeld true (s.kept ++ take k pending) (drop k pending) = (
+      omega (arith, front, length-append s.kept (take k pending)),
+      no_end_append s.kept (take k pending) (kept_no_end progress.is_long s.kept pending s.held) n_front,
+      one_byte (drop k pending) (omega (arith, last)) n_last,
+    ) in
+    subst (λ (p : List ℕ). Stands Allowed input start now gathered p progress_now) (sym last_byte) (record {
+      lines = s.lines;
+      kept = s.kept ++ take k pending;
+      out = s.out;
+      written = s.written;
+      cut = λ more. s.cut more ∙ ap (λ p. s.lines ++ slice_split is_end p) (whole more);
+      replies = s.replies;
+      whole = s.whole;
+      taken = s.taken;
+      held = subst (λ b. IsHeld b (s.kept ++ take k pending) (drop k pending)) (sym is_long) held;
+      front = subst (λ b. IsShown b progress_now.front (s.kept ++ take k pending)) (sym is_long)
+          (front_shown progress.is_long progress.front progress_now.front s.kept pending k (omega arith) s.held s.front whole_front same_front);
+      number = same ∙ s.number;
+    })

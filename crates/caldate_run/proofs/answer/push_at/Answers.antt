@@ -1,0 +1,12 @@
+use Rattle.std.proofs.Common.{◌∙◌, sym, subst}
+use Rattle.cal_text.specs.declared.any.MomentForm.TheVariants.{Rfc3339}
+use Rattle.caldate_run.specs.Forms.{IsInForm}
+use Rattle.caldate_run.specs.declared.request.Form.TheVariants.{Moment}
+use Rattle.caldate_run.proofs.answer.push_at.Goals as goal
+
+pub returns-in-Some-clause-none : goal.returns-in-Some-clause-none
+returns-in-Some-clause-none c = λ no.
+    let none = c.push_in_form.ensures.none no in (
+      none.0,
+      λ words h. none.1 words (subst (λ m. IsInForm (Moment Rfc3339) m words) (h.1.shown ∙ sym c.in-Some.ensures.value.1) h.2),
+    )

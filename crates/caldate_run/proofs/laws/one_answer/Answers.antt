@@ -1,0 +1,6 @@
+use Rattle.caldate_run.proofs.OneAnswer.{one_answer}
+use Rattle.caldate_run.proofs.laws.one_answer.Goals as goal
+
+pub returns : goal.returns
+returns c = λ words others.
+    one_answer c.args.filter.now c.args.text.now c.read_in.result words others c.read_in.ensures.every c.read_in.ensures.form c.read_in.ensures.component

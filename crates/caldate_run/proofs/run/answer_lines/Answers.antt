@@ -1,0 +1,49 @@
+use Rattle.std.proofs.Common.{◌++◌, ◌∷◌, [], ◌∙◌, ap, sym, subst, arith, refl, append_assoc}
+use Rattle.std.specs.Io.KnownBytes.{Appends}
+use Rattle.caldate_run.specs.Runs.{AppendsFront, IsReplyTo}
+use Rattle.caldate_run.specs.declared.fault.Fault.TheVariants.{Unanswered}
+use Rattle.caldate_run.proofs.Ends.{same_fault}
+use Rattle.caldate_run.proofs.Replied.{taken_back, tells}
+use Rattle.caldate_run.proofs.Steps.{Tells, answered, gone, failed, stopped}
+use Rattle.caldate_run.proofs.run.answer_lines.Goals as goal
+
+pub returns-in_err-make_room-clause-write : goal.returns-in_err-make_room-clause-write
+returns-in_err-make_room-clause-write g c = λ h input start s.
+    failed c.args.filter.now input start _ _ c.loop-line.buffer c.loop-line.rest.now c.loop-line.progress c.in_err-make_room.ensures.front (c.loop-line.invariant.1 input start s)
+
+pub returns-in-Err-clause-write : goal.returns-in-Err-clause-write
+returns-in-Err-clause-write g c = λ h input start s.
+    let room = c.in_ok-make_room.ensures.ok in
+    let same = taken_back c.make_room.new.buffer c.push_line.new.buffer c.in-Err.ensures.strict.2.0 _ _ c.len-before.ensures c.in-Err.ensures.strict.2.1 c.take_back-told.ensures.kept in
+    let s = gone (IsReplyTo c.args.filter.now) input start _ _ c.loop-line.buffer c.make_room.new.buffer room.0 c.loop-line.rest.now c.loop-line.progress room.1 room.2 (c.loop-line.invariant.1 input start s) in
+    failed c.args.filter.now input start _ _ c.make_room.new.buffer c.loop-line.rest.now c.loop-line.progress
+    (subst (AppendsFront (g.W.Write.contents c.make_room.new.writer) (g.W.Write.contents c.stop.new.writer)) same (c.stop.ensures.write h)) s
+
+pub returns-in-Err-clause-unanswered : goal.returns-in-Err-clause-unanswered
+returns-in-Err-clause-unanswered g c = λ told h input start s.
+    let room = c.in_ok-make_room.ensures.ok in
+    let no = c.in-Err.ensures.strict in
+    let same = taken_back c.make_room.new.buffer c.push_line.new.buffer no.2.0 _ _ c.len-before.ensures no.2.1 c.take_back-told.ensures.kept in
+    let took = c.take_back-told.ensures in
+    let went = c.stop.ensures.unanswered told (same_fault c.stop.result (Unanswered told) h) in
+    let tells = tells c.args.filter.now c.loop-line.progress c.in-Some.line.now _ c.take_back-told.result c.in-Err.ensures.reason took.number took.reason took.whole took.long in
+    let s = gone (IsReplyTo c.args.filter.now) input start _ _ c.loop-line.buffer c.make_room.new.buffer room.0 c.loop-line.rest.now c.loop-line.progress room.1 room.2 (c.loop-line.invariant.1 input start s) in
+    stopped c.args.filter.now input start _ _ c.make_room.new.buffer c.loop-line.rest.now c.in-Some.line.now c.in-Some.after.now c.loop-line.progress told
+    c.in-Some.ensures.parts.0 c.in-Some.ensures.parts.1 no.0
+    (subst (Tells c.args.filter.now c.loop-line.progress c.in-Some.line.now) (sym went.0) tells)
+    (subst (Appends (g.W.Write.contents c.make_room.new.writer) (g.W.Write.contents c.stop.new.writer)) same went.1) s
+
+pub loop-line-preserved : goal.loop-line-preserved
+loop-line-preserved g c =
+    let front = c.loop-line.invariant.0.0 in
+    let line = c.in-Some.line.now in
+    let after = c.in-Some.after.now in
+    let parts = c.in-Some.ensures.parts in
+    let room = c.in_ok-make_room.ensures.ok in
+    let reply = c.in-Ok.ensures.replied in (
+      (front ++ (line ++ 10 ∷ []), c.loop-line.invariant.0.1 ∙ ap (λ rest. front ++ rest) (parts.1 ∙ sym (append_assoc line (10 ∷ []) after)) ∙ sym (append_assoc front (line ++ 10 ∷ []) after)),
+      λ input start s.
+          answered (IsReplyTo c.args.filter.now) input start _ c.make_room.new.buffer c.push_line.new.buffer c.loop-line.rest.now line after c.loop-line.progress _ parts.0 parts.1 reply refl
+          (omega (arith, c.saturating_add-progress.ensures))
+          (gone (IsReplyTo c.args.filter.now) input start _ _ c.loop-line.buffer c.make_room.new.buffer room.0 c.loop-line.rest.now c.loop-line.progress room.1 room.2 (c.loop-line.invariant.1 input start s)),
+    )

@@ -1,0 +1,104 @@
+use Rattle.std.proofs.Common.{◌≡◌, ◌++◌, ◌∙◌, ◌-◌, ℕ, List, [], Option, length, drop, ap, sym, subst, arith, rules, refl, Err, false, inl, inr}
+use Rattle.std.proofs.lemmas.List.{append-nil}
+use Rattle.std.specs.Prelude.{IsErrAnd}
+use Rattle.std.specs.Io.KnownBytes.{Consumes, IsAtEnd}
+use Rattle.std.proofs.KnownBytes.{Consumes-nil, Consumes-trans, Consumes-kept}
+use Rattle.std.proofs.lemmas.Result.{on_ok_weaker}
+use Rattle.caldate_run.specs.Lines.{lines_of}
+use Rattle.caldate_run.specs.Runs.{AnswersAll, EndsFrom, Gives, HasRead, IsReplyTo, IsOfWrite}
+use Rattle.caldate_run.specs.declared.request.Filter.{Filter}
+use Rattle.caldate_run.specs.Standing.{NoEnd, Stands}
+use Rattle.caldate_run.specs.declared.progress.Progress.{Progress}
+use Rattle.caldate_run.specs.declared.fault.Fault.TheVariants.{Read, Unanswered}
+use Rattle.caldate_run.proofs.Ends.{ended, read_ended, same_fault, write_ended}
+use Rattle.caldate_run.proofs.Steps.{begun, read, gone, failed, ended_answered}
+use Rattle.caldate_run.proofs.run.run.Goals as goal
+
+pub loop-reads-init : goal.loop-reads-init
+loop-reads-init g c =
+    let progress : Progress = record { number = 0; is_long = false; front = c.new.result } in
+    let start = g.W.Write.contents c.args.writer.now in (
+      ([], Consumes-nil _, subst (λ (p : List ℕ). Stands (IsReplyTo c.args.filter) [] start start [] p progress) (sym c.new-input.ensures) (begun (IsReplyTo c.args.filter) start progress refl refl)),
+      subst NoEnd (sym c.new-input.ensures) (λ k d l. absurd (omega arith)),
+      c.new-buffer.ensures,
+      omega (arith, ap length c.new-input.ensures),
+    )
+
+pub returns-in_err-read_more : goal.returns-in_err-read_more
+returns-in_err-read_more g c =
+    let inv = c.loop-reads.invariant in
+    let is : IsErrAnd c.from_residual.result (λ fault. fault ≡ Read) = search rules in
+    read_ended c.args.filter _ _ _ _ _ is
+    (inv.0.0, Consumes-kept _ _ _ _ inv.0.1 c.in_err-read_more.ensures.err.1, ended_answered c.args.filter inv.0.0 _ _ c.loop-reads.input c.loop-reads.progress inv.1 inv.0.2)
+
+-- what stands once a read gave some bytes
+stands_read : (filter : Filter) (r0 r r' w0 w : Option (List ℕ)) (gathered pending bytes got : List ℕ) (progress : Progress) → gathered ≡ [] → bytes ≡ got
+    → ((input : List ℕ) × Consumes r0 r input × Stands (IsReplyTo filter) input w0 w [] pending progress)
+    → HasRead r r' pending got
+    → (input : List ℕ) × Consumes r0 r' input × Stands (IsReplyTo filter) input w0 w gathered bytes progress
+stands_read filter r0 r r' w0 w gathered pending bytes got progress none same s given =
+    let all = read (IsReplyTo filter) s.0 given.0 w0 w [] pending progress s.2 in
+    let all = subst (λ (p : List ℕ). Stands (IsReplyTo filter) (s.0 ++ given.0) w0 w [] p progress) (sym (same ∙ given.2)) all in (
+      s.0 ++ given.0,
+      Consumes-trans _ _ _ _ _ s.1 given.1,
+      subst (λ (l : List ℕ). Stands (IsReplyTo filter) (s.0 ++ given.0) w0 w l bytes progress) (sym none) all,
+    )
+
+-- what stands once its lines are answered and what is left of them is kept
+stands_kept : (filter : Filter) (input : List ℕ) (w0 w : Option (List ℕ)) (gathered bytes got kept : List ℕ) (left : ℕ) (progress : Progress) → bytes ≡ got
+    → kept ≡ drop (length got - left) got
+    → Stands (IsReplyTo filter) input w0 w gathered (drop (length bytes - left) bytes) progress → Stands (IsReplyTo filter) input w0 w gathered kept progress
+stands_kept filter input w0 w gathered bytes got kept left progress same e s =
+    subst (λ (p : List ℕ). Stands (IsReplyTo filter) input w0 w gathered p progress) (ap (λ b. drop (length b - left) b) same ∙ sym e) s
+
+pub returns-then-branch-eq0 : goal.returns-then-branch-eq0
+returns-then-branch-eq0 g c =
+    let s = stands_read c.args.filter _ _ _ _ _ [] c.loop-reads.input c.as_bytes.result.now c.read_more.new.self c.loop-reads.progress
+    refl c.as_bytes.ensures.bytes c.loop-reads.invariant.0 c.in_ok-read_more.ensures.given in
+    let end = c.in_ok-read_more.ensures.end c.if-branch-eq0.true in
+    let all : EndsFrom c.args.filter (g.W.Write.contents c.loop-reads.writer) (g.W.Write.contents c.answer_last.new.writer) [] c.as_bytes.result.now c.loop-reads.progress
+    → IsAtEnd (g.R.Read.remaining c.read_more.new.reader) × Gives (g.R.Read.remaining c.args.reader.now) (g.R.Read.remaining c.read_more.new.reader) (λ input. AnswersAll c.args.filter (lines_of input) (g.W.Write.contents c.args.writer.now) (g.W.Write.contents c.answer_last.new.writer))
+    = λ ends. (end.0, (s.0, s.1, ends s.0 _ s.2)) in
+    ended c.args.filter c.answer_last.result _ _ _ _ (on_ok_weaker _ all c.answer_last.ensures.ok)
+    (λ h. record { input = s.0; given = s.1; holds = inr (end.0, c.answer_last.ensures.write h s.0 _ s.2) })
+    c.answer_last.ensures.no_read
+    (λ number h. record { input = s.0; given = s.1; holds = inr (end.0, c.answer_last.ensures.unanswered number h s.0 _ s.2) })
+
+pub returns-in-Err : goal.returns-in-Err
+returns-in-Err g c =
+    let s = stands_read c.args.filter _ _ _ _ _ c.loop-reads.buffer c.loop-reads.input c.as_bytes-in-loop-reads.result.now c.read_more.new.self c.loop-reads.progress
+    c.loop-reads.invariant.2 c.as_bytes-in-loop-reads.ensures.bytes c.loop-reads.invariant.0 c.in_ok-read_more.ensures.given in
+    ended c.args.filter (Err c.in-Err.fault) _ _ _ _ tt
+    (λ h. record { input = s.0; given = s.1; holds = inl (c.in-Err.ensures.write h s.0 _ s.2) })
+    (λ h. c.in-Err.ensures.no_read (ap Err (same_fault c.in-Err.fault Read h)))
+    (λ number h. record { input = s.0; given = s.1; holds = inl (c.in-Err.ensures.unanswered number (ap Err (same_fault c.in-Err.fault (Unanswered number) h)) s.0 _ s.2) })
+
+pub returns-in_err-flush : goal.returns-in_err-flush
+returns-in_err-flush g c =
+    let s = stands_read c.args.filter _ _ _ _ _ c.loop-reads.buffer c.loop-reads.input c.as_bytes-in-loop-reads.result.now c.read_more.new.self c.loop-reads.progress
+    c.loop-reads.invariant.2 c.as_bytes-in-loop-reads.ensures.bytes c.loop-reads.invariant.0 c.in_ok-read_more.ensures.given in
+    let kept = stands_kept c.args.filter s.0 _ _ c.answer_lines.new.buffer c.as_bytes-in-loop-reads.result.now c.read_more.new.self c.keep_last.new.self c.in-Ok.left c.answer_lines.new.progress
+    c.as_bytes-in-loop-reads.ensures.bytes c.keep_last.ensures (c.in-Ok.ensures.ok s.0 _ s.2) in
+    let went = c.let_go.ensures.advances c.args.filter _ c.answer_lines.new.buffer s.0 _ kept in
+    let is : IsErrAnd c.from_residual-in_err-flush.result IsOfWrite = search rules in
+    write_ended c.args.filter _ _ _ _ _ is
+    (record { input = s.0; given = s.1; holds = inl (failed c.args.filter s.0 _ _ _ c.answer_lines.new.buffer c.let_go.new.input c.let_go.new.progress c.in_err-flush.ensures.front went) })
+
+pub loop-reads-preserved : goal.loop-reads-preserved
+loop-reads-preserved g c =
+    let s = stands_read c.args.filter _ _ _ _ _ c.loop-reads.buffer c.loop-reads.input c.as_bytes-in-loop-reads.result.now c.read_more.new.self c.loop-reads.progress
+    c.loop-reads.invariant.2 c.as_bytes-in-loop-reads.ensures.bytes c.loop-reads.invariant.0 c.in_ok-read_more.ensures.given in
+    let kept = stands_kept c.args.filter s.0 _ _ c.answer_lines.new.buffer c.as_bytes-in-loop-reads.result.now c.read_more.new.self c.keep_last.new.self c.in-Ok.left c.answer_lines.new.progress
+    c.as_bytes-in-loop-reads.ensures.bytes c.keep_last.ensures (c.in-Ok.ensures.ok s.0 _ s.2) in
+    let went = c.let_go.ensures.advances c.args.filter _ c.answer_lines.new.buffer s.0 _ kept in
+    let out = c.in_ok-flush.ensures.ok in (
+      (s.0, s.1, gone (IsReplyTo c.args.filter) s.0 _ _ _ c.answer_lines.new.buffer [] c.answer_lines.new.buffer c.let_go.new.input c.let_go.new.progress (sym (append-nil c.answer_lines.new.buffer)) out.0 went),
+      c.let_go.ensures.no_end,
+      out.1,
+      c.let_go.ensures.few,
+    )
+
+pub returns : goal.returns
+returns g c =
+    let inv = c.loop-reads.invariant in
+    (inv.0.0, inv.0.1, ended_answered c.args.filter inv.0.0 _ _ c.loop-reads.input c.loop-reads.progress inv.1 inv.0.2)

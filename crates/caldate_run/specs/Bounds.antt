@@ -1,0 +1,32 @@
+-- Which dates and moments lie within bounds.
+use Rattle.std.specs.Prelude.{not, nat_lt, int_lt, ◌&&◌, Bool, Option, Some, None, if◌then◌else◌}
+use Rattle.cal_datetime.specs.OffsetDateTime.{instant}
+use Rattle.cal_text.specs.declared.any.DateOrMoment.{DateOrMoment}
+use Rattle.cal_text.specs.declared.any.DateOrMoment.TheVariants.{Date, Moment}
+use Rattle.caldate_run.specs.Found.{day_of, is_date, moment_of}
+use Rattle.caldate_run.specs.declared.request.Bounds.{Bounds}
+use Rattle.caldate_run.specs.declared.request.Bounds.TheVariants.{FromTo, After, Before}
+
+-- the date that its clock shows comes before this date, its instant before that of this moment
+abbrev pub is_before : DateOrMoment → DateOrMoment → Bool
+is_before found (Date form n) = nat_lt (day_of found) n
+is_before found (Moment form m) = int_lt (instant (moment_of found)) (instant m)
+
+-- or after it
+abbrev pub is_after : DateOrMoment → DateOrMoment → Bool
+is_after found (Date form n) = nat_lt n (day_of found)
+is_after found (Moment form m) = int_lt (instant m) (instant (moment_of found))
+
+abbrev pub is_within : Bounds → DateOrMoment → Bool
+is_within (FromTo first last) found = not (is_before found first) && not (is_after found last)
+is_within (After bound) found = is_after found bound
+is_within (Before bound) found = is_before found bound
+
+abbrev pub are_dates : Bounds → Bool
+are_dates (FromTo first last) = is_date first && is_date last
+are_dates (After bound) = is_date bound
+are_dates (Before bound) = is_date bound
+
+-- whether it lies within them, where that is known: a date has no time to compare with a moment
+abbrev pub lies_in : Bounds → DateOrMoment → Option Bool
+lies_in bounds found = if is_date found && not (are_dates bounds) then None else Some (is_within bounds found)

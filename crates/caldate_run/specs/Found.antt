@@ -1,0 +1,23 @@
+-- What was read: its moment, where a date is midnight at UTC, its day and its form.
+use Rattle.std.specs.Prelude.{ℕ, Bool, true, false, pos}
+use Rattle.cal_datetime.specs.DateTime.{date_time, date_at}
+use Rattle.cal_datetime.specs.OffsetDateTime.{Shown}
+use Rattle.cal_text.specs.declared.any.DateOrMoment.{DateOrMoment}
+use Rattle.cal_text.specs.declared.any.DateOrMoment.TheVariants as read
+use Rattle.caldate_run.specs.declared.request.Form.{Form}
+use Rattle.caldate_run.specs.declared.request.Form.TheVariants.{Date, Moment}
+
+abbrev pub moment_of : DateOrMoment → Shown
+moment_of (read.Date form n) = record { local = date_time n 0; offset = pos 0 }
+moment_of (read.Moment form m) = m
+
+abbrev pub day_of : DateOrMoment → ℕ
+day_of found = date_at (moment_of found).local
+
+abbrev pub form_read : DateOrMoment → Form
+form_read (read.Date form n) = Date form
+form_read (read.Moment form m) = Moment form
+
+abbrev pub is_date : DateOrMoment → Bool
+is_date (read.Date form n) = true
+is_date (read.Moment form m) = false

@@ -1,0 +1,42 @@
+-- The day that a move leads to.
+use Rattle.std.specs.Prelude.{◌≡◌, ℕ, ◌+◌, ◌-◌, ◌*◌, true, false, pos, ◌*ℤ◌, [], ◌∷◌, Some, slice_get}
+use Rattle.cal_time.specs.Date.{IsDate, HasCalendarDate, year_at, month_at, weekday_at}
+use Rattle.cal_time.specs.Lengths.{days_in_month}
+use Rattle.cal_time.specs.Occurrence.{next_occurrences, prev_occurrences, kth}
+use Rattle.cal_time.specs.Weekday.{index}
+use Rattle.cal_schedule.specs.Months.{IsMonthsLater, quarter_at}
+use Rattle.cal_schedule.specs.Weekdays.{occurrences_from, occurrences_upto}
+use Rattle.cal_schedule.specs.Workdays.{WorkWeek, nth_workday}
+use Rattle.caldate_run.specs.declared.request.DayMove.{DayMove}
+use Rattle.caldate_run.specs.declared.request.DayMove.TheVariants as move
+use Rattle.caldate_run.specs.declared.request.Period.{Period}
+use Rattle.caldate_run.specs.declared.request.Period.TheVariants.{Week, Month, Quarter, Year}
+
+-- Monday to Friday, and no holidays
+abbrev pub monday_to_friday : WorkWeek
+monday_to_friday = record { marks = true ∷ true ∷ true ∷ true ∷ true ∷ false ∷ false ∷ []; holidays = [] }
+
+-- day r is the first day of the period that has day n, or the last; a week goes from Monday, 0, to Sunday, 6
+abbrev pub IsFirstOf : Period → ℕ → ℕ → Type 0
+IsFirstOf Week n r = r + weekday_at n ≡ n
+IsFirstOf Month n r = HasCalendarDate (year_at n) (month_at n) 1 r
+IsFirstOf Quarter n r = HasCalendarDate (year_at n) (3 * quarter_at n - 2) 1 r
+IsFirstOf Year n r = HasCalendarDate (year_at n) 1 1 r
+
+abbrev pub IsLastOf : Period → ℕ → ℕ → Type 0
+IsLastOf Week n r = r + weekday_at n ≡ n + 6
+IsLastOf Month n r = HasCalendarDate (year_at n) (month_at n) (days_in_month (year_at n) (month_at n)) r
+IsLastOf Quarter n r = HasCalendarDate (year_at n) (3 * quarter_at n) (days_in_month (year_at n) (3 * quarter_at n)) r
+IsLastOf Year n r = HasCalendarDate (year_at n) 12 31 r
+
+-- the move leads from day n to day r
+abbrev pub LeadsTo : DayMove → ℕ → ℕ → Type 0
+LeadsTo (move.Next w k) n r = kth k (next_occurrences (index w) n) ≡ Some r
+LeadsTo (move.Last w k) n r = kth k (prev_occurrences (index w) n) ≡ Some r
+LeadsTo (move.OnOrAfter w) n r = slice_get (occurrences_from (index w) n) 0 ≡ Some r
+LeadsTo (move.OnOrBefore w) n r = slice_get (occurrences_upto (index w) n) 0 ≡ Some r
+LeadsTo (move.Months z) n r = IsDate r × IsMonthsLater n z r
+LeadsTo (move.Years z) n r = IsDate r × IsMonthsLater n (pos 12 *ℤ z) r
+LeadsTo (move.Workdays z) n r = nth_workday monday_to_friday z n ≡ Some r
+LeadsTo (move.Start period) n r = IsDate r × IsFirstOf period n r
+LeadsTo (move.End period) n r = IsDate r × IsLastOf period n r

@@ -1,0 +1,432 @@
+-- What the arguments ask for, or the first word that makes no sense, with what is wanted there.
+use denote.Ref.{Bor}
+use Rattle.std.specs.Prelude.{ℕ, ◌+◌, nat_lt, not, ◌&&◌, ◌||◌, Bool, true, false, is_none, is_some, unwrap_or, ℤ, pos, neg_ℤ, ◌*ℤ◌, int_le, nat_abs, List, [], ◌∷◌, ◌==◌, length, take, Option, Some, None, MatchOption, option_map, option_and_then, ok_or, Result, Ok, Err, slice_get, position, bytes_eq, codes, if◌then◌else◌, ◌*◌}
+use Rattle.std.specs.List.{All, slice_split}
+use Rattle.std.specs.Option.{option_map_or}
+use Rattle.std.specs.Result.{result_ok}
+use Rattle.std.specs.Str.{all_ascii_digits, str_eq_ignore_ascii_case}
+use Rattle.std.specs.Str.Parse.{signed_digits_value, without_leading_sign}
+use Rattle.cal_time.specs.SignedDuration.{second}
+use Rattle.cal_time.specs.declared.Weekday.{Weekday}
+use Rattle.cal_time.specs.declared.Weekday.TheVariants as weekday
+use Rattle.cal_text.specs.AnyForm.{IsTextOf}
+use Rattle.cal_text.specs.declared.any.DateForm.TheVariants.{Calendar, Ordinal, Week, JulianDay}
+use Rattle.cal_text.specs.declared.any.DateOrMoment.{DateOrMoment}
+use Rattle.cal_text.specs.declared.any.DateOrMoment.TheVariants as dated
+use Rattle.cal_text.specs.declared.any.MomentForm.TheVariants.{Rfc3339, Unix}
+use Rattle.cal_recurrence.specs.Text.{recurrence_of}
+use Rattle.cal_recurrence.specs.declared.recurrence.Recurrence.{Recurrence}
+use Rattle.caldate_run.specs.Offsets.{offset_of}
+use Rattle.caldate_run.specs.declared.options.Options.{Options}
+use Rattle.caldate_run.specs.declared.reading.Reading.{Reading}
+use Rattle.caldate_run.specs.declared.reading.Reading.TheVariants as read
+use Rattle.caldate_run.specs.declared.request.Field.{Field}
+use Rattle.caldate_run.specs.declared.request.Filter.{Filter}
+use Rattle.caldate_run.specs.declared.request.Form.{Form}
+use Rattle.caldate_run.specs.declared.request.Form.TheVariants as form
+use Rattle.caldate_run.specs.declared.request.DayMove.TheVariants as move
+use Rattle.caldate_run.specs.declared.request.Period.{Period}
+use Rattle.caldate_run.specs.declared.request.Period.TheVariants as period
+use Rattle.caldate_run.specs.declared.request.Pace.{Pace}
+use Rattle.caldate_run.specs.declared.request.Pace.TheVariants.{Steps, Rule}
+use Rattle.caldate_run.specs.declared.request.Step.{Step}
+use Rattle.caldate_run.specs.declared.request.StepUnit.TheVariants as steps
+use Rattle.caldate_run.specs.declared.request.TimeUnit.{TimeUnit}
+use Rattle.caldate_run.specs.declared.request.TimeUnit.TheVariants as unit
+use Rattle.caldate_run.specs.declared.request.UnixUnit.TheVariants.{Milliseconds, Microseconds, Nanoseconds}
+use Rattle.caldate_run.specs.declared.request.Request.{Request}
+use Rattle.caldate_run.specs.declared.request.Request.TheVariants.{To, Add, Move, Until, Since, At, Keep}
+use Rattle.caldate_run.specs.declared.request.Bounds.{Bounds}
+use Rattle.caldate_run.specs.declared.request.Bounds.TheVariants.{FromTo, After, Before}
+use Rattle.caldate_run.specs.declared.request.Asked.{Asked}
+use Rattle.caldate_run.specs.declared.request.Asked.TheVariants.{Help, Version, Lines, Dates, Recurring}
+use Rattle.caldate_run.specs.declared.senseless.Senseless.{Senseless}
+use Rattle.caldate_run.specs.declared.senseless.Wanted.{Wanted}
+use Rattle.caldate_run.specs.declared.senseless.Wanted.TheVariants as wanted
+
+-- the arguments, between which stands the byte 0, of which no argument has one
+abbrev pub arguments_of : List ℕ → List (List ℕ)
+arguments_of bytes = slice_split (λ byte. byte == 0) bytes
+
+-- the words that come, if any do
+abbrev pub words_left : Option (Bor (List ℕ)) → List (List ℕ)
+words_left None = []
+words_left (Some words) = arguments_of words.now
+
+-- the answer to the text is right: the date or the moment whose text it is, or none where it is that of none
+abbrev pub IsRead : (List ℕ → Option DateOrMoment) → List ℕ → Type 0
+IsRead reading text = MatchOption (reading text) ((found : DateOrMoment) → ¬ IsTextOf text found) (IsTextOf text)
+
+-- so is that to each of the words
+abbrev pub IsReading : (List ℕ → Option DateOrMoment) → List (List ℕ) → Type 0
+IsReading reading words = All (IsRead reading) words
+
+-- ---- words
+-- a number: digits, perhaps after a sign, that is from -9223372036854775808 to 9223372036854775807
+abbrev pub is_number : List ℕ → Bool
+is_number word =
+    nat_lt 0 (length (without_leading_sign word)) && (all_ascii_digits (without_leading_sign word)
+    && (int_le (neg_ℤ (pos 9223372036854775808)) (signed_digits_value 10 word) && int_le (signed_digits_value 10 word) (pos 9223372036854775807)))
+
+abbrev pub number_of : List ℕ → Option ℤ
+number_of word = if is_number word then Some (signed_digits_value 10 word) else None
+
+-- such a number from one to another, of which neither is negative
+abbrev pub number_between : ℕ → ℕ → List ℕ → Option ℕ
+number_between low high word =
+    option_and_then (λ z. if int_le (pos low) z && int_le z (pos high) then Some (nat_abs z) else None) (number_of word)
+
+abbrev pub count_of : List ℕ → Option ℕ
+count_of word = number_between 1 255 word
+
+abbrev pub many_of : List ℕ → Option ℕ
+many_of word = number_between 1 4294967295 word
+
+abbrev pub further_form_of : List ℕ → Option Form
+further_form_of word =
+    if bytes_eq word (codes "short-weekday") then Some form.ShortWeekday else
+    if bytes_eq word (codes "month") then Some form.Month else
+    if bytes_eq word (codes "quarter") then Some form.Quarter else
+    if bytes_eq word (codes "basic") then Some form.Basic else
+    if bytes_eq word (codes "unix-ms") then Some (form.Unix Milliseconds) else
+    if bytes_eq word (codes "unix-us") then Some (form.Unix Microseconds) else
+    if bytes_eq word (codes "unix-ns") then Some (form.Unix Nanoseconds) else
+    None
+
+abbrev pub form_of : List ℕ → Option Form
+form_of word =
+    if bytes_eq word (codes "calendar") then Some (form.Date Calendar) else
+    if bytes_eq word (codes "ordinal") then Some (form.Date Ordinal) else
+    if bytes_eq word (codes "week") then Some (form.Date Week) else
+    if bytes_eq word (codes "julian") then Some (form.Date JulianDay) else
+    if bytes_eq word (codes "weekday") then Some form.Weekday else
+    if bytes_eq word (codes "rfc3339") then Some (form.Moment Rfc3339) else
+    if bytes_eq word (codes "unix") then Some (form.Moment Unix) else
+    further_form_of word
+
+-- a name in any case of its letters, or its first three letters so
+unfoldable pub spells : List ℕ → List ℕ → Bool
+spells word name = str_eq_ignore_ascii_case word name || str_eq_ignore_ascii_case word (take 3 name)
+
+-- a unit likewise, as one or as many
+unfoldable pub spells_unit : List ℕ → List ℕ → List ℕ → Bool
+spells_unit word one many = spells word one || str_eq_ignore_ascii_case word many
+
+abbrev pub weekday_of : List ℕ → Option Weekday
+weekday_of word =
+    if spells word (codes "Monday") then Some weekday.Monday else
+    if spells word (codes "Tuesday") then Some weekday.Tuesday else
+    if spells word (codes "Wednesday") then Some weekday.Wednesday else
+    if spells word (codes "Thursday") then Some weekday.Thursday else
+    if spells word (codes "Friday") then Some weekday.Friday else
+    if spells word (codes "Saturday") then Some weekday.Saturday else
+    if spells word (codes "Sunday") then Some weekday.Sunday else
+    None
+
+abbrev pub period_of : List ℕ → Option Period
+period_of word =
+    if spells word (codes "week") then Some period.Week else
+    if spells word (codes "month") then Some period.Month else
+    if spells word (codes "quarter") then Some period.Quarter else
+    if spells word (codes "year") then Some period.Year else
+    None
+
+abbrev pub unit_of : List ℕ → Option TimeUnit
+unit_of word =
+    if spells_unit word (codes "day") (codes "days") then Some unit.Days else
+    if spells_unit word (codes "week") (codes "weeks") then Some unit.Weeks else
+    if spells_unit word (codes "month") (codes "months") then Some unit.Months else
+    if spells_unit word (codes "year") (codes "years") then Some unit.Years else
+    if spells_unit word (codes "workday") (codes "workdays") then Some unit.Workdays else
+    if spells_unit word (codes "hour") (codes "hours") then Some unit.Hours else
+    if spells_unit word (codes "minute") (codes "minutes") then Some unit.Minutes else
+    if spells_unit word (codes "second") (codes "seconds") then Some unit.Seconds else
+    None
+
+-- so many seconds as a duration, where they are one
+abbrev pub seconds_in : ℕ → ℤ → Option ℤ
+seconds_in unit amount =
+    let seconds = amount *ℤ pos unit in
+    if int_le (neg_ℤ (pos 9223372036854775808)) seconds && int_le seconds (pos 9223372036854775807) then Some (seconds *ℤ pos second) else None
+
+-- ---- the words, each by its index among the arguments, counted from 0
+-- the first word that makes no sense has this index, where this is wanted; a word that is missing has the index that it would have
+abbrev pub senseless_at : ℕ → Wanted → Senseless
+senseless_at at what = record { index = at; wanted = what }
+
+-- some words make sense, and so do those that come after them; else the first that makes none is told
+abbrev pub and_then : {X Y : Type 0} → Result X Senseless → (X → Result Y Senseless) → Result Y Senseless
+and_then (Ok x) more = more x
+and_then (Err senseless) more = Err senseless
+
+-- what the word at the index means, where this is wanted
+abbrev pub word_as : {X : Type 0} → List (List ℕ) → ℕ → (List ℕ → Option X) → Wanted → Result X Senseless
+word_as words at meaning what = ok_or (option_and_then meaning (slice_get words at)) (senseless_at at what)
+
+-- nothing more than that the word is this one
+abbrev pub keyword : List ℕ → List ℕ → Option Unit
+keyword name word = if bytes_eq word name then Some tt else None
+
+-- no word comes at the index, or one is too many
+abbrev pub ends_at : List (List ℕ) → ℕ → Bool
+ends_at words at = is_none (slice_get words at)
+
+abbrev pub ended : {X : Type 0} → List (List ℕ) → ℕ → X → Result X Senseless
+ended words at x = if ends_at words at then Ok x else Err (senseless_at at wanted.End)
+
+-- what the word at the index means, which is to be the last one
+abbrev pub only_at : {X : Type 0} → List (List ℕ) → ℕ → (List ℕ → Option X) → Wanted → Result X Senseless
+only_at words at meaning what = and_then (word_as words at meaning what) (ended words (at + 1))
+
+-- ---- requests, by the words from an index on
+-- `add N UNIT`: so many units, of which a duration has not all that a number counts
+abbrev pub duration_of : ℕ → ℤ → Option Request
+duration_of unit z = option_map Add (seconds_in unit z)
+
+abbrev pub amount_of : ℤ → TimeUnit → Option Request
+amount_of z unit.Years = Some (Move (move.Years z))
+amount_of z unit.Months = Some (Move (move.Months z))
+amount_of z unit.Workdays = Some (Move (move.Workdays z))
+amount_of z unit.Weeks = duration_of 604800 z
+amount_of z unit.Days = duration_of 86400 z
+amount_of z unit.Hours = duration_of 3600 z
+amount_of z unit.Minutes = duration_of 60 z
+amount_of z unit.Seconds = duration_of 1 z
+
+-- the unit of `add`, which is days where nothing is said
+abbrev pub unit_at : List (List ℕ) → ℕ → Result TimeUnit Senseless
+unit_at words at = if ends_at words at then Ok unit.Days else only_at words at unit_of wanted.UnitOfTime
+
+-- `N`, `N UNIT`
+abbrev pub amount_at : List (List ℕ) → ℕ → Result Request Senseless
+amount_at words at =
+    and_then (word_as words at number_of wanted.Number) (λ z.
+    and_then (unit_at words (at + 1)) (λ unit.
+    ok_or (amount_of z unit) (senseless_at at wanted.Amount)))
+
+-- how often a weekday comes, which is once where nothing is said
+abbrev pub count_at : List (List ℕ) → ℕ → Result ℕ Senseless
+count_at words at = if ends_at words at then Ok 1 else only_at words at count_of wanted.Count
+
+-- `WEEKDAY`, `WEEKDAY N`
+abbrev pub occurrence_at : List (List ℕ) → ℕ → Result (Weekday × ℕ) Senseless
+occurrence_at words at =
+    and_then (word_as words at weekday_of wanted.Weekday) (λ day.
+    and_then (count_at words (at + 1)) (λ n. Ok (day, n)))
+
+-- `in UNIT`, or nothing
+abbrev pub in_unit_at : List (List ℕ) → ℕ → Result (Option TimeUnit) Senseless
+in_unit_at words at =
+    if ends_at words at then Ok None else
+    and_then (word_as words at (keyword (codes "in")) wanted.In) (λ in_word.
+    and_then (only_at words (at + 1) unit_of wanted.UnitOfTime) (λ unit. Ok (Some unit)))
+
+-- `TEXT`, `TEXT in UNIT`
+abbrev pub target_at : (List ℕ → Option DateOrMoment) → List (List ℕ) → ℕ → Result (DateOrMoment × Option TimeUnit) Senseless
+target_at reading words at =
+    and_then (word_as words at reading wanted.Target) (λ found.
+    and_then (in_unit_at words (at + 1)) (λ unit. Ok (found, unit)))
+
+-- `from A to B`, `after A`, `before B`
+abbrev pub range_at : (List ℕ → Option DateOrMoment) → List (List ℕ) → ℕ → Result Bounds Senseless
+range_at reading words at =
+    and_then (word_as words at reading wanted.Target) (λ first.
+    and_then (word_as words (at + 1) (keyword (codes "to")) wanted.UpTo) (λ to_word.
+    and_then (only_at words (at + 2) reading wanted.Target) (λ last. Ok (FromTo first last))))
+
+abbrev pub bounds_at : (List ℕ → Option DateOrMoment) → List (List ℕ) → ℕ → Result Bounds Senseless
+bounds_at reading words at =
+    and_then (word_as words at Some wanted.Bounds) (λ word.
+    if bytes_eq word (codes "from") then range_at reading words (at + 1) else
+    if bytes_eq word (codes "after") then and_then (only_at words (at + 1) reading wanted.Target) (λ bound. Ok (After bound)) else
+    if bytes_eq word (codes "before") then and_then (only_at words (at + 1) reading wanted.Target) (λ bound. Ok (Before bound)) else
+    Err (senseless_at at wanted.Bounds))
+
+-- the verb, and what comes after it; at the start an option that stands alone is wanted too
+abbrev pub verb_wanted : ℕ → Wanted
+verb_wanted at = if at == 0 then wanted.Start else wanted.Verb
+
+abbrev pub request_at : (List ℕ → Option DateOrMoment) → List (List ℕ) → ℕ → Result Request Senseless
+request_at reading words at =
+    and_then (word_as words at Some (verb_wanted at)) (λ word.
+    if bytes_eq word (codes "to") then and_then (only_at words (at + 1) form_of wanted.Form) (λ form. Ok (To form)) else
+    if bytes_eq word (codes "add") then amount_at words (at + 1) else
+    if bytes_eq word (codes "next") then and_then (occurrence_at words (at + 1)) (λ o. Ok (Move (move.Next o.0 o.1))) else
+    if bytes_eq word (codes "last") then and_then (occurrence_at words (at + 1)) (λ o. Ok (Move (move.Last o.0 o.1))) else
+    if bytes_eq word (codes "until") then and_then (target_at reading words (at + 1)) (λ t. Ok (Until t.0 t.1)) else
+    if bytes_eq word (codes "since") then and_then (target_at reading words (at + 1)) (λ t. Ok (Since t.0 t.1)) else
+    if bytes_eq word (codes "start") then and_then (only_at words (at + 1) period_of wanted.Period) (λ p. Ok (Move (move.Start p))) else
+    if bytes_eq word (codes "end") then and_then (only_at words (at + 1) period_of wanted.Period) (λ p. Ok (Move (move.End p))) else
+    if bytes_eq word (codes "on-or-after") then and_then (only_at words (at + 1) weekday_of wanted.Weekday) (λ w. Ok (Move (move.OnOrAfter w))) else
+    if bytes_eq word (codes "on-or-before") then and_then (only_at words (at + 1) weekday_of wanted.Weekday) (λ w. Ok (Move (move.OnOrBefore w))) else
+    if bytes_eq word (codes "at") then and_then (only_at words (at + 1) offset_of wanted.Offset) (λ o. Ok (At o)) else
+    if bytes_eq word (codes "keep") then and_then (bounds_at reading words (at + 1)) (λ bounds. Ok (Keep bounds)) else
+    Err (senseless_at at (verb_wanted at)))
+
+-- ---- lists: `from A to B`, and a pace
+-- the day that a text is the date of
+abbrev pub date_in : DateOrMoment → Option ℕ
+date_in (dated.Date form n) = Some n
+date_in (dated.Moment form m) = None
+
+abbrev pub date_at : (List ℕ → Option DateOrMoment) → List (List ℕ) → ℕ → Result ℕ Senseless
+date_at reading words at = and_then (word_as words at reading wanted.Date) (λ found. ok_or (date_in found) (senseless_at at wanted.Date))
+
+-- so many days, weeks, months or years
+abbrev pub step_in : ℕ → TimeUnit → Option Step
+step_in n unit.Days = Some (record { every = n; unit = steps.Days })
+step_in n unit.Weeks = Some (record { every = n * 7; unit = steps.Days })
+step_in n unit.Months = Some (record { every = n; unit = steps.Months })
+step_in n unit.Years = Some (record { every = n * 12; unit = steps.Months })
+step_in n other = None
+
+-- `N UNIT`
+abbrev pub steps_of : List (List ℕ) → Result Pace Senseless
+steps_of words =
+    and_then (word_as words 6 many_of wanted.Many) (λ n.
+    and_then (word_as words 7 (λ word. option_and_then (step_in n) (unit_of word)) wanted.UnitOfDays) (λ step. ended words 8 (Steps step)))
+
+-- `RULE`: each recurrence has a `=` (61), and no number
+abbrev pub is_rule_like : List ℕ → Bool
+is_rule_like word = is_some (position (λ b. b == 61) word)
+
+abbrev pub rule_of : List ℕ → Option Recurrence
+rule_of word = result_ok (recurrence_of word)
+
+-- `by N UNIT`, `by RULE`, or each day
+abbrev pub pace_of : List (List ℕ) → Result Pace Senseless
+pace_of words =
+    if ends_at words 5 then Ok (Steps (record { every = 1; unit = steps.Days })) else
+    and_then (word_as words 5 (keyword (codes "by")) wanted.By) (λ by_word.
+    if option_map_or is_rule_like (slice_get words 6) false then and_then (only_at words 6 rule_of wanted.Rule) (λ rule. Ok (Rule rule)) else
+    steps_of words)
+
+abbrev pub paced : ℕ → ℕ → Pace → Asked
+paced a b (Steps step) = Dates (record { first = a; last = b; step = step })
+paced a b (Rule recurrence) = Recurring (record { first = a; last = b; recurrence = recurrence })
+
+abbrev pub list_of : (List ℕ → Option DateOrMoment) → List (List ℕ) → Result Asked Senseless
+list_of reading words =
+    and_then (word_as words 1 (keyword (codes "from")) wanted.From) (λ from_word.
+    and_then (date_at reading words 2) (λ first.
+    and_then (word_as words 3 (keyword (codes "to")) wanted.UpTo) (λ to_word.
+    and_then (date_at reading words 4) (λ last.
+    and_then (pace_of words) (λ pace. Ok (paced first last pace))))))
+
+-- ---- the options before a request, in any order, each at most once
+abbrev pub no_options : Options
+no_options = record { is_strict = false; number = None; separator = None; skip = None; reading = None; offset = None }
+
+-- `--strict`
+abbrev pub takes_strict : Options → List ℕ → Bool
+takes_strict options word = bytes_eq word (codes "--strict") && not options.is_strict
+
+abbrev pub with_strict : Options → Options
+with_strict options = record options { is_strict = true }
+
+-- `--field N`
+abbrev pub field_number_of : List ℕ → Option ℕ
+field_number_of word = number_between 1 65535 word
+
+-- `--separator C`: one byte
+abbrev pub byte_of : List ℕ → Option ℕ
+byte_of (byte ∷ []) = Some byte
+byte_of word = None
+
+-- `--skip K`
+abbrev pub skip_of : List ℕ → Option ℕ
+skip_of word = number_between 0 9223372036854775807 word
+
+-- `--read FORM`: the reading that the word names; that of `local` waits for its offset
+abbrev pub reading_of : List ℕ → Option Reading
+reading_of word =
+    if bytes_eq word (codes "basic") then Some read.Basic else
+    if bytes_eq word (codes "dmy") then Some read.DayFirst else
+    if bytes_eq word (codes "mdy") then Some read.MonthFirst else
+    if bytes_eq word (codes "unix-ms") then Some (read.Unix Milliseconds) else
+    if bytes_eq word (codes "unix-us") then Some (read.Unix Microseconds) else
+    if bytes_eq word (codes "unix-ns") then Some (read.Unix Nanoseconds) else
+    if bytes_eq word (codes "local") then Some (read.Local (pos 0)) else
+    None
+
+-- what comes after the word, where it is an option that may stand there
+abbrev pub value_of : Options → List ℕ → Option Wanted
+value_of options word =
+    if bytes_eq word (codes "--field") && is_none options.number then Some wanted.FieldNumber else
+    if bytes_eq word (codes "--separator") && is_none options.separator then Some wanted.Separator else
+    if bytes_eq word (codes "--skip") && is_none options.skip then Some wanted.Skip else
+    if bytes_eq word (codes "--read") && is_none options.reading then Some wanted.Reading else
+    if bytes_eq word (codes "--assume") && is_none options.offset then Some wanted.Offset else
+    None
+
+-- the options with the one that wants this, which has this value
+abbrev pub with_value : Options → List ℕ → Wanted → Option Options
+with_value options value wanted.FieldNumber = option_map (λ n. record options { number = Some n }) (field_number_of value)
+with_value options value wanted.Separator = option_map (λ c. record options { separator = Some c }) (byte_of value)
+with_value options value wanted.Skip = option_map (λ k. record options { skip = Some k }) (skip_of value)
+with_value options value wanted.Reading = option_map (λ form. record options { reading = Some form }) (reading_of value)
+with_value options value wanted.Offset = option_map (λ o. record options { offset = Some o }) (offset_of value)
+with_value options value other = None
+
+-- the options at the front of the words that are left, of which the first has this index, and the index of the word after them. The first
+-- may be the value that the option before it wants
+abbrev pub options_from : Option Wanted → Options → ℕ → List (List ℕ) → Result (Options × ℕ) Senseless
+options_from None options at [] = Ok (options, at)
+options_from None options at (word ∷ words) =
+    if takes_strict options word then options_from None (with_strict options) (at + 1) words else
+    if is_some (value_of options word) then options_from (value_of options word) options (at + 1) words else
+    Ok (options, at)
+options_from (Some what) options at [] = Err (senseless_at at what)
+options_from (Some what) options at (word ∷ words) =
+    option_map_or (λ more. options_from None more (at + 1) words) (with_value options word what) (Err (senseless_at at what))
+
+-- ---- the whole: `--help`, `--version`, a list, or a request, perhaps after options
+abbrev pub asks_for_help : List ℕ → Bool
+asks_for_help word = bytes_eq word (codes "--help") || bytes_eq word (codes "-h") || bytes_eq word (codes "help")
+
+-- the field that is named, whose separator is a tab where none is said
+abbrev pub field_of : Options → Option Field
+field_of options = option_map (λ n. record { number = n; separator = unwrap_or options.separator 9 }) options.number
+
+-- what the lines are read as: in any form where none is named, and as `local` at the offset that is assumed
+abbrev pub reading_at : Option Reading → Option ℤ → Reading
+reading_at None offset = read.Any
+reading_at (Some (read.Local waiting)) (Some offset) = read.Local offset
+reading_at (Some form) offset = form
+
+abbrev pub is_local : Option Reading → Bool
+is_local (Some (read.Local waiting)) = true
+is_local form = false
+
+-- what the options lack, where they make no sense without it: a separator needs a field, and `local` and an offset need one another
+abbrev pub lacking : Options → Option Wanted
+lacking options =
+    if is_some options.separator && is_none options.number then Some wanted.Field else
+    if is_local options.reading && is_none options.offset then Some wanted.Assume else
+    if is_some options.offset && not (is_local options.reading) then Some wanted.Local else
+    None
+
+abbrev pub filter_of : Options → Request → Filter
+filter_of options request = record {
+  request = request;
+  reading = reading_at options.reading options.offset;
+  is_strict = options.is_strict;
+  field = field_of options;
+  skip = unwrap_or options.skip 0;
+}
+
+abbrev pub lines_of : (List ℕ → Option DateOrMoment) → List (List ℕ) → Result Asked Senseless
+lines_of reading words =
+    and_then (options_from None no_options 0 words) (λ front.
+    option_map_or (λ what. Err (senseless_at front.1 what)) (lacking front.0)
+    (and_then (request_at reading words front.1) (λ request. Ok (Lines (filter_of front.0 request)))))
+
+-- an argument alone that is empty is as none
+abbrev pub asked_of : (List ℕ → Option DateOrMoment) → List (List ℕ) → Result Asked Senseless
+asked_of reading words =
+    and_then (word_as words 0 Some wanted.Something) (λ first.
+    if bytes_eq first [] && ends_at words 1 then Err (senseless_at 0 wanted.Something) else
+    if asks_for_help first then ended words 1 Help else
+    if bytes_eq first (codes "--version") then ended words 1 Version else
+    if bytes_eq first (codes "list") then list_of reading words else
+    lines_of reading words)

@@ -1,0 +1,218 @@
+//! What the arguments ask for.
+ghost use Rattle.std.specs.Prelude.{◌≡◌, ◌+◌, ◌<◌, ◌^◌, ℕ, List, Option, IfOk};
+ghost use Rattle.cal_text.specs.declared.any.DateOrMoment.{DateOrMoment};
+ghost use Rattle.caldate_run.specs.Lists.{IsAsked};
+ghost use Rattle.caldate_run.specs.Offsets.{offset_of};
+ghost use Rattle.caldate_run.specs.Requests.{IsReading, amount_at, amount_of, arguments_of, asked_of, count_at, duration_of, filter_of, in_unit_at, lines_of, occurrence_at, only_at, request_at, target_at, unit_at, verb_wanted};
+
+use crate::bounds::bounds_at;
+use crate::listing::list_of;
+use crate::offset::offset_of;
+use crate::options::{Options, field_of, lacking, options_of, reading_in};
+use crate::request::{Asked, DayMove, Filter, Request, TimeUnit};
+use crate::senseless::{Senseless, Wanted, senseless_at};
+use crate::spelling::{
+    asks_for_help, count_of, form_of, number_of, period_of, unit_of, weekday_of,
+};
+use crate::words::{ended, ends_at, found_at, keyword_at, only_at, word_as, word_at};
+use cal_text::DateOrMoment;
+use cal_time::{SignedDuration, UtcOffset, Weekday};
+
+/// What the arguments ask for, or the first word that makes no sense. Between them stands a zero byte.
+///
+/// `to week` asks for the lines in the form of week dates; of `add 1 fortnight` the word at index 2 is no unit.
+pub fn asked_of(words: &[u8]) -> Result<Asked, Senseless>
+    ensures steps { IfOk result IsAsked }
+    ensures asked { (reading : List ℕ → Option DateOrMoment)
+        → IsReading reading (arguments_of words.now)
+        → result ≡ asked_of reading (arguments_of words.now) }
+{
+    let nothing = senseless_at(0, Wanted::Something);
+    let first = word_at(words, 0).ok_or(nothing)?;
+    if first == b"".as_slice() && ends_at(words, 1) {
+        Err(nothing)
+    } else if asks_for_help(first) {
+        ended(words, 1, Asked::Help)
+    } else if first == b"--version".as_slice() {
+        ended(words, 1, Asked::Version)
+    } else if first == b"list".as_slice() {
+        list_of(words)
+    } else {
+        lines_of(words)
+    }
+}
+
+/// What a request asks for, perhaps after options.
+fn lines_of(words: &[u8]) -> Result<Asked, Senseless>
+    ensures steps { IfOk result IsAsked }
+    ensures asked { (reading : List ℕ → Option DateOrMoment)
+        → IsReading reading (arguments_of words.now)
+        → result ≡ lines_of reading (arguments_of words.now) }
+{
+    let (options, at) = options_of(words)?;
+    if let Some(wanted) = lacking(&options) {
+        return Err(senseless_at(at, wanted));
+    }
+    let request = request_at(words, at)?;
+    Ok(Asked::Lines(filter_of(&options, request)))
+}
+
+/// To answer the lines so.
+fn filter_of(options: &Options, request: Request) -> Filter
+    ensures { result ≡ filter_of options.now request }
+{
+    Filter {
+        request,
+        reading: reading_in(options),
+        is_strict: options.is_strict,
+        field: field_of(options),
+        skip: options.skip.unwrap_or(0),
+    }
+}
+
+/// The request whose verb has this index.
+fn request_at(words: &[u8], at: usize) -> Result<Request, Senseless>
+    requires { at + 5 < 2 ^ 64 }
+    ensures { (reading : List ℕ → Option DateOrMoment) → IsReading reading (arguments_of words.now)
+        → result ≡ request_at reading (arguments_of words.now) at }
+{
+    let senseless = senseless_at(at, verb_wanted(at));
+    let verb = word_at(words, at).ok_or(senseless)?;
+    if verb == b"to".as_slice() {
+        Ok(Request::To(only_at(words, at + 1, form_of, Wanted::Form)?))
+    } else if verb == b"add".as_slice() {
+        amount_at(words, at + 1)
+    } else if verb == b"next".as_slice() {
+        let (weekday, count) = occurrence_at(words, at + 1)?;
+        Ok(Request::Move(DayMove::Next(weekday, count)))
+    } else if verb == b"last".as_slice() {
+        let (weekday, count) = occurrence_at(words, at + 1)?;
+        Ok(Request::Move(DayMove::Last(weekday, count)))
+    } else if verb == b"until".as_slice() {
+        let (target, unit) = target_at(words, at + 1)?;
+        Ok(Request::Until(target, unit))
+    } else if verb == b"since".as_slice() {
+        let (target, unit) = target_at(words, at + 1)?;
+        Ok(Request::Since(target, unit))
+    } else if verb == b"start".as_slice() {
+        Ok(Request::Move(DayMove::Start(only_at(words, at + 1, period_of, Wanted::Period)?)))
+    } else if verb == b"end".as_slice() {
+        Ok(Request::Move(DayMove::End(only_at(words, at + 1, period_of, Wanted::Period)?)))
+    } else if verb == b"on-or-after".as_slice() {
+        Ok(Request::Move(DayMove::OnOrAfter(only_at(words, at + 1, weekday_of, Wanted::Weekday)?)))
+    } else if verb == b"on-or-before".as_slice() {
+        Ok(Request::Move(DayMove::OnOrBefore(only_at(words, at + 1, weekday_of, Wanted::Weekday)?)))
+    } else if verb == b"at".as_slice() {
+        Ok(Request::At(offset_at(words, at + 1)?))
+    } else if verb == b"keep".as_slice() {
+        Ok(Request::Keep(bounds_at(words, at + 1)?))
+    } else {
+        Err(senseless)
+    }
+}
+
+/// The offset that the last word is.
+fn offset_at(words: &[u8], at: usize) -> Result<UtcOffset, Senseless>
+    requires { at + 1 < 2 ^ 64 }
+    ensures { result ≡ only_at (arguments_of words.now) at offset_of Wanted.Offset }
+{
+    only_at(words, at, offset_of, Wanted::Offset)
+}
+
+/// A verb, or at the start an option that stands alone too.
+fn verb_wanted(at: usize) -> Wanted
+    ensures { result ≡ verb_wanted at }
+{
+    if at == 0 { Wanted::Start } else { Wanted::Verb }
+}
+
+/// That many units later, days where no unit is named.
+fn amount_at(words: &[u8], at: usize) -> Result<Request, Senseless>
+    requires { at + 2 < 2 ^ 64 }
+    ensures { result ≡ amount_at (arguments_of words.now) at }
+{
+    let number = word_as(words, at, number_of, Wanted::Number)?;
+    let unit = unit_at(words, at + 1)?;
+    match amount_of(number, unit) {
+        Some(request) => Ok(request),
+        None => Err(senseless_at(at, Wanted::Amount)),
+    }
+}
+
+/// The last word as a unit, or days where there is none.
+fn unit_at(words: &[u8], at: usize) -> Result<TimeUnit, Senseless>
+    requires { at + 1 < 2 ^ 64 }
+    ensures { result ≡ unit_at (arguments_of words.now) at }
+{
+    if ends_at(words, at) {
+        return Ok(TimeUnit::Days);
+    }
+    only_at(words, at, unit_of, Wanted::UnitOfTime)
+}
+
+/// That many units later, if a duration has so many of its unit.
+fn amount_of(number: i64, unit: TimeUnit) -> Option<Request>
+    ensures { result ≡ amount_of number unit }
+{
+    match unit {
+        TimeUnit::Years => Some(Request::Move(DayMove::Years(number))),
+        TimeUnit::Months => Some(Request::Move(DayMove::Months(number))),
+        TimeUnit::Workdays => Some(Request::Move(DayMove::Workdays(number))),
+        TimeUnit::Weeks => duration_of(number, 604_800),
+        TimeUnit::Days => duration_of(number, 86_400),
+        TimeUnit::Hours => duration_of(number, 3_600),
+        TimeUnit::Minutes => duration_of(number, 60),
+        TimeUnit::Seconds => duration_of(number, 1),
+    }
+}
+
+/// That many units later, each of so many seconds.
+fn duration_of(number: i64, unit: u32) -> Option<Request>
+    ensures { result ≡ duration_of unit number }
+{
+    let seconds = number.checked_mul(i64::from(unit))?;
+    Some(Request::Add(SignedDuration::seconds(seconds)))
+}
+
+/// A weekday, and how often it comes.
+fn occurrence_at(words: &[u8], at: usize) -> Result<(Weekday, u8), Senseless>
+    requires { at + 2 < 2 ^ 64 }
+    ensures { result ≡ occurrence_at (arguments_of words.now) at }
+{
+    let weekday = word_as(words, at, weekday_of, Wanted::Weekday)?;
+    Ok((weekday, count_at(words, at + 1)?))
+}
+
+/// The last word as a count, or once where there is none.
+fn count_at(words: &[u8], at: usize) -> Result<u8, Senseless>
+    requires { at + 1 < 2 ^ 64 }
+    ensures { result ≡ count_at (arguments_of words.now) at }
+{
+    if ends_at(words, at) {
+        return Ok(1);
+    }
+    only_at(words, at, count_of, Wanted::Count)
+}
+
+/// A date or a moment, and perhaps a unit.
+fn target_at(words: &[u8], at: usize) -> Result<(DateOrMoment, Option<TimeUnit>), Senseless>
+    requires { at + 3 < 2 ^ 64 }
+    ensures { (reading : List ℕ → Option DateOrMoment) → IsReading reading (arguments_of words.now)
+        → result ≡ target_at reading (arguments_of words.now) at }
+{
+    let target = found_at(words, at, Wanted::Target)?;
+    Ok((target, in_unit_at(words, at + 1)?))
+}
+
+/// The unit of the last words, `in UNIT`, where there are any.
+fn in_unit_at(words: &[u8], at: usize) -> Result<Option<TimeUnit>, Senseless>
+    requires { at + 2 < 2 ^ 64 }
+    ensures { result ≡ in_unit_at (arguments_of words.now) at }
+{
+    if ends_at(words, at) {
+        return Ok(None);
+    }
+    keyword_at(words, at, b"in", Wanted::In)?;
+    let unit = only_at(words, at + 1, unit_of, Wanted::UnitOfTime)?;
+    Ok(Some(unit))
+}

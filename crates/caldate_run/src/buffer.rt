@@ -1,0 +1,122 @@
+//! Replies that go out in one write.
+ghost use Rattle.std.specs.Prelude.{◌≡◌, ◌↔◌, ◌+◌, ◌≤◌, ◌++◌, ◌∷◌, [], length, decimal, drop, take, IsTrue, if◌then◌else◌};
+ghost use Rattle.caldate_run.specs.Room.{HasRoom, longest_reply};
+
+use cal_time::ShortText;
+use std::marker::Model;
+
+/// The most bytes that go out in one write.
+const CAPACITY: usize = 65_536;
+
+/// The most bytes that a reply may have. The longest has fewer.
+const LONGEST_REPLY: usize = 4352;
+
+/// Replies gathered for one write.
+#[derive(Drop)]
+pub struct Buffer {
+    bytes: [u8; CAPACITY],
+    filled: usize,
+}
+
+impl Model for Buffer {
+    ghost use Rattle.std.specs.Prelude.{ℕ, ◌≤◌, List, take};
+    ghost use Rattle.caldate_run.specs.Room.{capacity};
+
+    ghost Value = { List ℕ };
+
+    ghost view = { λ buffer. take buffer.filled buffer.bytes };
+
+    ghost invariant = { λ buffer. buffer.filled ≤ capacity };
+}
+
+impl Buffer {
+    /// No bytes.
+    pub fn new() -> Self
+        ensures { result ≡ [] }
+    {
+        Buffer {
+            bytes: [0; CAPACITY],
+            filled: 0,
+        }
+    }
+
+    /// The bytes gathered so far.
+    pub fn as_bytes(&self) -> &[u8]
+        ensures { result.now ≡ self.now }
+    {
+        &self.bytes[..self.filled]
+    }
+
+    /// How many they are.
+    pub fn len(&self) -> usize
+        ensures { result ≡ length self.now }
+    {
+        self.filled
+    }
+
+    /// Those that come after so many.
+    pub fn after(&self, count: usize) -> &[u8]
+        requires { count ≤ length self.now }
+        ensures { result.now ≡ drop count self.now }
+    {
+        &self.bytes[count..self.filled]
+    }
+
+    /// Whether there is room for a reply.
+    pub fn has_room_for_a_reply(&self) -> bool
+        ensures { IsTrue result ↔ HasRoom longest_reply self.now }
+    {
+        self.filled <= CAPACITY - LONGEST_REPLY
+    }
+
+    /// Appends the bytes.
+    pub fn push(&mut self, bytes: &[u8])
+        requires { HasRoom (length bytes.now) self.old }
+        ensures appended { self.new ≡ self.old ++ bytes.now }
+        ensures longer { length self.new ≡ length self.old + length bytes.now }
+    {
+        let end = self.filled + bytes.len();
+        self.bytes[self.filled..end].copy_from_slice(bytes);
+        self.filled = end;
+    }
+
+    /// Appends the end of a line: a line feed, or a carriage return and a line feed.
+    // A copy of a length that the compiler knows is no call.
+    pub fn push_end(&mut self, has_return: bool)
+        requires { HasRoom 2 self.old }
+        ensures { self.new ≡ self.old ++ (if has_return then 13 ∷ 10 ∷ [] else 10 ∷ []) }
+    {
+        if has_return {
+            self.push(b"\r\n");
+        } else {
+            self.push(b"\n");
+        }
+    }
+
+    /// Appends the digits of a number.
+    #[tactic(auto, using(crate::proofs::Texts::few_digits))]
+    pub fn push_number(&mut self, number: u64)
+        requires { HasRoom 20 self.old }
+        ensures appended { self.new ≡ self.old ++ decimal number }
+        ensures short { length self.new ≤ length self.old + 20 }
+    {
+        let mut text = ShortText::new();
+        text.push_number(number);
+        self.push(text.as_bytes());
+    }
+
+    /// Keeps the first bytes alone.
+    pub fn truncate(&mut self, count: usize)
+        requires { count ≤ length self.old }
+        ensures { self.new ≡ take count self.old }
+    {
+        self.filled = count;
+    }
+
+    /// Drops the bytes.
+    pub fn clear(&mut self)
+        ensures { self.new ≡ [] }
+    {
+        self.filled = 0;
+    }
+}

@@ -1,0 +1,42 @@
+//! What follows from the answers: a text has one, a line has one reply, and arguments have a reading.
+ghost use Rattle.std.specs.Prelude.{◌≡◌, ℕ, List, Option};
+ghost use Rattle.cal_text.specs.declared.any.DateOrMoment.{DateOrMoment};
+ghost use Rattle.caldate_run.specs.Answers.{IsAnswer};
+ghost use Rattle.caldate_run.specs.Requests.{IsReading, arguments_of};
+ghost use Rattle.caldate_run.specs.Runs.{IsReplyTo};
+
+use crate::fields::asked_text;
+use crate::lines::cut_return;
+use crate::reading::read_in;
+use crate::request::Filter;
+use crate::words::cut;
+use cal_text::{DateOrMoment, Unreadable, read_any};
+
+/// No text has two answers to one request in one reading.
+pub fn one_answer(filter: &Filter, text: &[u8]) -> Result<DateOrMoment, Unreadable>
+    ensures { (words others : List ℕ) → IsAnswer filter.now text.now words
+        → IsAnswer filter.now text.now others → words ≡ others }
+{
+    read_in(filter.reading, text)
+}
+
+/// No line has two replies. Where lines are kept, it goes out, or it does not.
+pub fn one_reply(filter: &Filter, line: &[u8]) -> Option<Result<DateOrMoment, Unreadable>>
+    ensures { (before : ℕ) (reply other : List ℕ) → IsReplyTo filter.now before line.now reply
+        → IsReplyTo filter.now before line.now other → reply ≡ other }
+{
+    let (text, _has_return) = cut_return(line);
+    Some(read_in(filter.reading, asked_text(filter.field, text)?))
+}
+
+/// Whatever the words of the arguments are, there is a reading of them.
+pub fn have_reading(arguments: &[u8])
+    ensures { (reading : List ℕ → Option DateOrMoment)
+        × IsReading reading (arguments_of arguments.now) }
+{
+    let (word, rest) = cut(arguments);
+    let _ = read_any(word);
+    if let Some(words) = rest {
+        have_reading(words);
+    }
+}

@@ -1,0 +1,87 @@
+//! The dates from one to another.
+ghost use Rattle.std.specs.Prelude.{◌≡◌, ◌<◌, ◌≤◌, ◌+◌, ◌++◌, ℕ, length, IfSome, MatchOption};
+ghost use Rattle.cal_time.specs.Date.{IsDate};
+ghost use Rattle.caldate_run.specs.Lists.{IsAfter, IsStep, IsWithin, Lists, line_of};
+ghost use Rattle.caldate_run.specs.Room.{HasRoom, longest_reply};
+
+use crate::buffer::Buffer;
+use crate::fault::Fault;
+use crate::output::write_all;
+use crate::request::{Listing, StepUnit};
+use crate::run::make_room;
+use cal_schedule::checked_add_months;
+use cal_text::date::CalendarText;
+use cal_time::Date;
+use std::io::Write;
+
+/// More days, and more months, than lie between any two dates.
+const FAR: u64 = 1_000_000_000;
+
+/// Writes the dates of the list in order, each in the calendar form with a line feed, however many they are.
+pub fn list<W: Write>(listing: &Listing, writer: &mut W) -> Result<(), Fault>
+    requires { IsStep listing.now.step }
+    ensures { Lists listing.now result (W.contents writer.old) (W.contents writer.new) }
+{
+    let mut buffer = Buffer::new();
+    let mut count = 0;
+    while let Some(day) = day_within(listing, count) {
+        make_room(&mut buffer, writer)?;
+        push_line(&mut buffer, day);
+        count += listing.step.every;
+    }
+    write_all(writer, buffer.as_bytes())
+}
+
+/// The day so many days or months after the first, or `None` where it is past the last.
+fn day_within(listing: &Listing, count: u64) -> Option<Date>
+    ensures day { MatchOption result ((day : ℕ) → ¬ IsWithin listing.now count day)
+        (IsWithin listing.now count) }
+    ensures near { IfSome result (λ _. count < 1_000_000_000) }
+{
+    let day = day_after(listing.step.unit, listing.first, count)?;
+    if day > listing.last {
+        return None;
+    }
+    Some(day)
+}
+
+/// The day so many days or months later, or `None` where it is past the end of the range.
+fn day_after(unit: StepUnit, date: Date, count: u64) -> Option<Date>
+    ensures day { MatchOption result ((n : ℕ) → ¬ (IsDate n × IsAfter unit count date n))
+        (λ n. IsDate n × IsAfter unit count date n) }
+    ensures near { IfSome result (λ _. count < 1_000_000_000) }
+{
+    match unit {
+        StepUnit::Days => days_after(date, count),
+        StepUnit::Months => months_after(date, count),
+    }
+}
+
+fn days_after(date: Date, days: u64) -> Option<Date>
+    ensures day { MatchOption result ((n : ℕ) → ¬ (IsDate n × (n ≡ date + days)))
+        (λ n. IsDate n × (n ≡ date + days)) }
+    ensures near { IfSome result (λ _. days < 1_000_000_000) }
+{
+    match Date::from_julian_day(date.to_julian_day() + days.min(FAR) as i32) {
+        Ok(day) => Some(day),
+        Err(_) => None,
+    }
+}
+
+fn months_after(date: Date, months: u64) -> Option<Date>
+    ensures day { MatchOption result
+        ((n : ℕ) → ¬ (IsDate n × IsAfter StepUnit.Months months date n))
+        (λ n. IsDate n × IsAfter StepUnit.Months months date n) }
+    ensures near { IfSome result (λ _. months < 1_000_000_000) }
+{
+    checked_add_months(date, months.min(FAR) as i32)
+}
+
+/// Gathers the line of a day.
+pub fn push_line(buffer: &mut Buffer, day: Date)
+    requires { HasRoom longest_reply buffer.old }
+    ensures { buffer.new ≡ buffer.old ++ line_of day }
+{
+    buffer.push(CalendarText(day).text().as_bytes());
+    buffer.push(b"\n");
+}

@@ -1,0 +1,134 @@
+//! What `list` asks for.
+ghost use Rattle.std.specs.Prelude.{◌≡◌, ◌≤◌, ℕ, List, Option, IfOk, IfSome, false, slice_get};
+ghost use Rattle.std.specs.Option.{option_map_or};
+ghost use Rattle.cal_text.specs.declared.any.DateOrMoment.{DateOrMoment};
+ghost use Rattle.caldate_run.specs.Lists.{IsAsked, IsPace, IsStep};
+ghost use Rattle.caldate_run.specs.Requests.{IsReading, arguments_of, date_at, date_in, is_rule_like, list_of, pace_of, paced, rule_of, step_in, steps_of};
+
+use crate::lines::index_of;
+use crate::request::{Asked, Listing, Occurrences, Pace, Step, StepUnit, TimeUnit};
+use crate::senseless::{Senseless, Wanted, senseless_at};
+use crate::spelling::{many_of, unit_of};
+use crate::words::{ended, ends_at, found_at, keyword_at, only_at, word_as, word_at};
+use cal_recurrence::{Recurrence, parse};
+use cal_text::DateOrMoment;
+use cal_time::Date;
+
+/// The list of `list from A to B`, `list from A to B by N UNIT` and `list from A to B by RULE`.
+pub fn list_of(words: &[u8]) -> Result<Asked, Senseless>
+    ensures steps { IfOk result IsAsked }
+    ensures list { (reading : List ℕ → Option DateOrMoment)
+        → IsReading reading (arguments_of words.now)
+        → result ≡ list_of reading (arguments_of words.now) }
+{
+    keyword_at(words, 1, b"from", Wanted::From)?;
+    let first = date_at(words, 2)?;
+    keyword_at(words, 3, b"to", Wanted::UpTo)?;
+    let last = date_at(words, 4)?;
+    let pace = pace_of(words)?;
+    Ok(paced(first, last, pace))
+}
+
+/// The date at an index.
+fn date_at(words: &[u8], at: usize) -> Result<Date, Senseless>
+    ensures { (reading : List ℕ → Option DateOrMoment) → IsReading reading (arguments_of words.now)
+        → result ≡ date_at reading (arguments_of words.now) at }
+{
+    let found = found_at(words, at, Wanted::Date)?;
+    date_in(&found).ok_or(senseless_at(at, Wanted::Date))
+}
+
+/// The date of what was read, if it is one and no moment.
+fn date_in(found: &DateOrMoment) -> Option<Date>
+    ensures { result ≡ date_in found.now }
+{
+    match found {
+        DateOrMoment::Date(_, date) => Some(*date),
+        DateOrMoment::Moment(_, _) => None,
+    }
+}
+
+/// The dates between the two that the pace leads to.
+fn paced(first: Date, last: Date, pace: Pace) -> Asked
+    requires { IsPace pace }
+    ensures steps { IsAsked result }
+    ensures list { result ≡ paced first last pace }
+{
+    match pace {
+        Pace::Steps(step) => Asked::Dates(Listing { first, last, step }),
+        Pace::Rule(recurrence) => Asked::Recurring(Occurrences {
+            first,
+            last,
+            recurrence,
+        }),
+    }
+}
+
+/// The step where none is named.
+const EVERY_DAY: Step = Step {
+    every: 1,
+    unit: StepUnit::Days,
+};
+
+/// The pace of `by N UNIT` and `by RULE`, after the two dates.
+fn pace_of(words: &[u8]) -> Result<Pace, Senseless>
+    ensures steps { IfOk result IsPace }
+    ensures pace { result ≡ pace_of (arguments_of words.now) }
+{
+    if ends_at(words, 5) {
+        return Ok(Pace::Steps(EVERY_DAY));
+    }
+    keyword_at(words, 5, b"by", Wanted::By)?;
+    if is_rule_like(words) {
+        return Ok(Pace::Rule(only_at(words, 6, rule_of, Wanted::Rule)?));
+    }
+    steps_of(words)
+}
+
+/// Whether the word with the place of a rule is like one: each recurrence has a `=`, and no number.
+fn is_rule_like(words: &[u8]) -> bool
+    ensures { result ≡ option_map_or is_rule_like (slice_get (arguments_of words.now) 6) false }
+{
+    match word_at(words, 6) {
+        Some(word) => index_of(b'=', word).is_some(),
+        None => false,
+    }
+}
+
+/// The recurrence that the text says, if it is one.
+fn rule_of(text: &[u8]) -> Option<Recurrence>
+    ensures { result ≡ rule_of text.now }
+{
+    parse(text).ok()
+}
+
+/// The steps of `N UNIT`.
+fn steps_of(words: &[u8]) -> Result<Pace, Senseless>
+    ensures steps { IfOk result IsPace }
+    ensures pace { result ≡ steps_of (arguments_of words.now) }
+{
+    let number = word_as(words, 6, many_of, Wanted::Many)?;
+    let step = word_as(
+        words,
+        7,
+        |word| step_in(number, unit_of(word)?),
+        Wanted::UnitOfDays,
+    )?;
+    ended(words, 8, Pace::Steps(step))
+}
+
+/// That many days, weeks, months or years. A step counts no other units.
+fn step_in(number: u32, unit: TimeUnit) -> Option<Step>
+    ensures steps { 1 ≤ number → IfSome result IsStep }
+    ensures step { result ≡ step_in number unit }
+{
+    let number = u64::from(number);
+    let (every, unit) = match unit {
+        TimeUnit::Days => (number, StepUnit::Days),
+        TimeUnit::Weeks => (number * 7, StepUnit::Days),
+        TimeUnit::Months => (number, StepUnit::Months),
+        TimeUnit::Years => (number * 12, StepUnit::Months),
+        _ => return None,
+    };
+    Some(Step { every, unit })
+}

@@ -1,0 +1,59 @@
+//! What a word spells as an offset from UTC.
+ghost use Rattle.std.specs.Prelude.{◌≡◌, ◌+◌, ◌<◌, ◌≤◌, Some, length, unsigned_abs};
+ghost use Rattle.caldate_run.specs.Offsets.{number_at, offset_of, seconds_after};
+
+use cal_time::UtcOffset;
+
+/// The offset that a word spells: `Z`, or a sign and two digits each of the hours and the minutes, as `-05:30`.
+pub fn offset_of(word: &[u8]) -> Option<UtcOffset>
+    ensures { result ≡ offset_of word.now }
+{
+    if word == b"Z".as_slice() || word == b"z".as_slice() {
+        return Some(UtcOffset::UTC);
+    }
+    if word.len() != 6 || word[3] != b':' {
+        return None;
+    }
+    let hours = number_at(word, 1)?;
+    let minutes = number_at(word, 4)?;
+    seconds_after(word[0], (hours, minutes))
+}
+
+/// The number of two digits that begin at this position.
+fn number_at(word: &[u8], index: usize) -> Option<u8>
+    requires { index + 1 < length word.now }
+    ensures { result ≡ number_at word.now index }
+{
+    let tens = word[index];
+    let ones = word[index + 1];
+    if tens.is_ascii_digit() && ones.is_ascii_digit() {
+        Some((tens - b'0') * 10 + (ones - b'0'))
+    } else {
+        None
+    }
+}
+
+/// The offset of hours from 0 to 23 and minutes from 0 to 59, after a sign.
+fn seconds_after(sign: u8, at: (u8, u8)) -> Option<UtcOffset>
+    ensures { result ≡ seconds_after sign at }
+{
+    if at.0 > 23 || at.1 > 59 {
+        return None;
+    }
+    let seconds = u32::from(at.0) * 3_600 + u32::from(at.1) * 60;
+    if sign == b'+' {
+        offset_by(seconds as i32)
+    } else if sign == b'-' {
+        offset_by(-(seconds as i32))
+    } else {
+        None
+    }
+}
+
+/// The offset of so many seconds, which is one.
+fn offset_by(seconds: i32) -> Option<UtcOffset>
+    requires { unsigned_abs seconds ≤ 93_599 }
+    ensures { result ≡ Some seconds }
+{
+    UtcOffset::from_whole_seconds(seconds).ok()
+}

@@ -1,0 +1,221 @@
+//! The options before a request.
+ghost use Rattle.std.specs.Prelude.{◌≡◌, ◌+◌, ◌≤◌, ◌^◌, IfOk, None, length};
+ghost use Rattle.caldate_run.specs.Requests.{arguments_of, byte_of, field_number_of, field_of, is_local, lacking, no_options, options_from, reading_at, reading_of, skip_of, takes_strict, value_of, with_value, words_left};
+
+use crate::offset::offset_of;
+use crate::reading::Reading;
+use crate::request::{Field, UnixUnit};
+use crate::senseless::{Senseless, Wanted, senseless_at};
+use crate::spelling::number_of;
+use crate::words::cut;
+use cal_time::UtcOffset;
+
+/// The options before a request.
+#[derive(Clone, Copy)]
+pub struct Options {
+    /// Whether `--strict` is one of them.
+    pub is_strict: bool,
+    /// The number N of `--field N`.
+    pub number: Option<u16>,
+    /// The byte C of `--separator C`.
+    pub separator: Option<u8>,
+    /// The number K of `--skip K`.
+    pub skip: Option<u64>,
+    /// The form of `--read FORM`. That of `local` waits for its offset, and is at UTC till then.
+    pub reading: Option<Reading>,
+    /// The offset of `--assume OFFSET`.
+    pub offset: Option<UtcOffset>,
+}
+
+/// The options at the front of the arguments, and the index of the word after them.
+#[tactic(auto, using(crate::proofs::Indices::few_words))]
+pub fn options_of(arguments: &[u8]) -> Result<(Options, usize), Senseless>
+    ensures options { result ≡ options_from None no_options 0 (arguments_of arguments.now) }
+    ensures within { IfOk result (λ front. front.1 ≤ 2 ^ 63) }
+{
+    let options = Options {
+        is_strict: false,
+        number: None,
+        separator: None,
+        skip: None,
+        reading: None,
+        offset: None,
+    };
+    options_from(None, &options, 0, Some(arguments))
+}
+
+/// The options at the front of the words that are left, of which the first has this index, and the index of the word after them. The first
+/// is the value that the option before it wants, if it wants any.
+fn options_from(
+    wanted: Option<Wanted>,
+    options: &Options,
+    at: usize,
+    words: Option<&[u8]>,
+) -> Result<(Options, usize), Senseless>
+    requires { at + length (words_left words) ≤ 2 ^ 63 }
+    ensures options { result ≡ options_from wanted options.now at (words_left words.entry) }
+    ensures within { IfOk result (λ front. front.1 ≤ 2 ^ 63) }
+{
+    let Some(words) = words else {
+        return match wanted {
+            Some(wanted) => Err(senseless_at(at, wanted)),
+            None => Ok((*options, at)),
+        };
+    };
+    let (word, rest) = cut(words);
+    if let Some(wanted) = wanted {
+        let more = with_value(options, word, wanted).ok_or(senseless_at(at, wanted))?;
+        return options_from(None, &more, at + 1, rest);
+    }
+    if takes_strict(options, word) {
+        let mut more = *options;
+        more.is_strict = true;
+        return options_from(None, &more, at + 1, rest);
+    }
+    match value_of(options, word) {
+        Some(wanted) => options_from(Some(wanted), options, at + 1, rest),
+        None => Ok((*options, at)),
+    }
+}
+
+/// Whether the word is `--strict`, and the first one.
+fn takes_strict(options: &Options, word: &[u8]) -> bool
+    ensures { result ≡ takes_strict options.now word.now }
+{
+    word == b"--strict".as_slice() && !options.is_strict
+}
+
+/// What comes after the word, where it is an option that may stand there.
+fn value_of(options: &Options, word: &[u8]) -> Option<Wanted>
+    ensures { result ≡ value_of options.now word.now }
+{
+    if word == b"--field".as_slice() && options.number.is_none() {
+        Some(Wanted::FieldNumber)
+    } else if word == b"--separator".as_slice() && options.separator.is_none() {
+        Some(Wanted::Separator)
+    } else if word == b"--skip".as_slice() && options.skip.is_none() {
+        Some(Wanted::Skip)
+    } else if word == b"--read".as_slice() && options.reading.is_none() {
+        Some(Wanted::Reading)
+    } else if word == b"--assume".as_slice() && options.offset.is_none() {
+        Some(Wanted::Offset)
+    } else {
+        None
+    }
+}
+
+/// The options with the one that wants this, which has this value.
+fn with_value(options: &Options, value: &[u8], wanted: Wanted) -> Option<Options>
+    ensures { result ≡ with_value options.now value.now wanted }
+{
+    let mut more = *options;
+    match wanted {
+        Wanted::FieldNumber => more.number = Some(field_number_of(value)?),
+        Wanted::Separator => more.separator = Some(byte_of(value)?),
+        Wanted::Skip => more.skip = Some(skip_of(value)?),
+        Wanted::Reading => more.reading = Some(reading_of(value)?),
+        Wanted::Offset => more.offset = Some(offset_of(value)?),
+        _ => return None,
+    }
+    Some(more)
+}
+
+/// The number from 1 to 65535 that a word spells.
+fn field_number_of(word: &[u8]) -> Option<u16>
+    ensures { result ≡ field_number_of word.now }
+{
+    let number = number_of(word)?;
+    if number < 1 || number > 65_535 {
+        return None;
+    }
+    Some(number as u16)
+}
+
+/// The byte that a word is.
+fn byte_of(word: &[u8]) -> Option<u8>
+    ensures { result ≡ byte_of word.now }
+{
+    match word {
+        [byte] => Some(*byte),
+        _ => None,
+    }
+}
+
+/// The number from 0 on that a word spells.
+fn skip_of(word: &[u8]) -> Option<u64>
+    ensures { result ≡ skip_of word.now }
+{
+    let number = number_of(word)?;
+    if number < 0 {
+        return None;
+    }
+    Some(number as u64)
+}
+
+/// The reading that a word names.
+fn reading_of(word: &[u8]) -> Option<Reading>
+    ensures { result ≡ reading_of word.now }
+{
+    if word == b"basic".as_slice() {
+        Some(Reading::Basic)
+    } else if word == b"dmy".as_slice() {
+        Some(Reading::DayFirst)
+    } else if word == b"mdy".as_slice() {
+        Some(Reading::MonthFirst)
+    } else if word == b"unix-ms".as_slice() {
+        Some(Reading::Unix(UnixUnit::Milliseconds))
+    } else if word == b"unix-us".as_slice() {
+        Some(Reading::Unix(UnixUnit::Microseconds))
+    } else if word == b"unix-ns".as_slice() {
+        Some(Reading::Unix(UnixUnit::Nanoseconds))
+    } else if word == b"local".as_slice() {
+        Some(Reading::Local(UtcOffset::UTC))
+    } else {
+        None
+    }
+}
+
+/// The field that they name, whose separator is a tab where none is said.
+pub fn field_of(options: &Options) -> Option<Field>
+    ensures { result ≡ field_of options.now }
+{
+    Some(Field {
+        number: options.number?,
+        separator: options.separator.unwrap_or(b'\t'),
+    })
+}
+
+/// What the lines are read as, which is any form where none is named.
+pub fn reading_in(options: &Options) -> Reading
+    ensures { result ≡ reading_at options.now.reading options.now.offset }
+{
+    match (options.reading, options.offset) {
+        (None, _) => Reading::Any,
+        (Some(Reading::Local(_)), Some(offset)) => Reading::Local(offset),
+        (Some(reading), _) => reading,
+    }
+}
+
+fn is_local(options: &Options) -> bool
+    ensures { result ≡ is_local options.now.reading }
+{
+    match options.reading {
+        Some(Reading::Local(_)) => true,
+        _ => false,
+    }
+}
+
+/// What the options need beside them, where they lack it.
+pub fn lacking(options: &Options) -> Option<Wanted>
+    ensures { result ≡ lacking options.now }
+{
+    if options.separator.is_some() && options.number.is_none() {
+        Some(Wanted::Field)
+    } else if is_local(options) && options.offset.is_none() {
+        Some(Wanted::Assume)
+    } else if options.offset.is_some() && !is_local(options) {
+        Some(Wanted::Local)
+    } else {
+        None
+    }
+}

@@ -1,0 +1,94 @@
+//! What the program does for its arguments.
+ghost use Rattle.std.specs.Prelude.{◌≡◌, ℕ, List, Option, Some, None, Result, Ok, Err};
+ghost use Rattle.caldate_run.specs.Ending.{Tells};
+ghost use Rattle.caldate_run.specs.Lists.{Lists};
+ghost use Rattle.caldate_run.specs.Program.{Asks, HasComplaint};
+ghost use Rattle.caldate_run.specs.Recurring.{ListsOccurrences};
+ghost use Rattle.caldate_run.specs.Runs.{Ended, Shown};
+ghost use Rattle.caldate_run.specs.declared.fault.Fault.{Fault};
+ghost use Rattle.caldate_run.specs.declared.request.Filter.{Filter};
+ghost use Rattle.caldate_run.specs.declared.request.Listing.{Listing};
+ghost use Rattle.caldate_run.specs.declared.request.Occurrences.{Occurrences};
+ghost use Rattle.caldate_run.specs.declared.senseless.Senseless.{Senseless};
+
+use crate::asked::asked_of;
+use crate::complaint::{TOO_LONG, complain};
+use crate::ending::{Ending, end};
+use crate::help::{HELP, VERSION};
+use crate::list::list;
+use crate::output::write_all;
+use crate::recurring::list_occurrences;
+use crate::request::Asked;
+use crate::run::run;
+use std::io::{Read, Write};
+
+/// The status where the arguments make no sense.
+const SENSELESS: u8 = 2;
+
+/// Does what the arguments ask for, between which stands a zero byte, and returns the status and what came of the words on
+/// standard error. Where they make no sense, or are `None` since they have too many bytes, nothing is read, one line goes to standard
+/// error, and the status is 2.
+pub fn perform<R: Read, W: Write, E: Write>(
+    arguments: Option<&[u8]>,
+    reader: &mut R,
+    writer: &mut W,
+    errors: &mut E,
+) -> Ending
+    ensures lines { (filter : Filter) → Asks arguments.entry (Asked.Lines filter)
+        → (outcome : Result Unit Fault)
+        × Ended filter outcome (R.remaining reader.old) (R.remaining reader.new)
+        (W.contents writer.old) (W.contents writer.new)
+        × Tells outcome result (E.contents errors.old) (E.contents errors.new) }
+    ensures list { (listing : Listing) → Asks arguments.entry (Asked.Dates listing)
+        → (reader.new ≡ reader.old) × ((outcome : Result Unit Fault)
+        × Lists listing outcome (W.contents writer.old) (W.contents writer.new)
+        × Tells outcome result (E.contents errors.old) (E.contents errors.new)) }
+    ensures recurring { (dates : Occurrences) → Asks arguments.entry (Asked.Recurring dates)
+        → (reader.new ≡ reader.old) × ((outcome : Result Unit Fault)
+        × ListsOccurrences dates outcome (W.contents writer.old) (W.contents writer.new)
+        × Tells outcome result (E.contents errors.old) (E.contents errors.new)) }
+    ensures help { Asks arguments.entry Asked.Help
+        → (reader.new ≡ reader.old) × ((outcome : Result Unit Fault)
+        × Shown HELP.now outcome (W.contents writer.old) (W.contents writer.new)
+        × Tells outcome result (E.contents errors.old) (E.contents errors.new)) }
+    ensures version { Asks arguments.entry Asked.Version
+        → (reader.new ≡ reader.old) × ((outcome : Result Unit Fault)
+        × Shown VERSION.now outcome (W.contents writer.old) (W.contents writer.new)
+        × Tells outcome result (E.contents errors.old) (E.contents errors.new)) }
+    ensures senseless { (words : List ℕ) → HasComplaint arguments.entry words
+        → (reader.new ≡ reader.old) × (writer.new ≡ writer.old) × (result.status ≡ 2)
+        × Shown words result.told (E.contents errors.old) (E.contents errors.new) }
+{
+    let Some(arguments) = arguments else {
+        return Ending {
+            status: SENSELESS,
+            told: write_all(errors, TOO_LONG),
+        };
+    };
+    match asked_of(arguments) {
+        Ok(Asked::Lines(filter)) => {
+            let outcome = run(filter, reader, writer);
+            end(outcome, errors)
+        }
+        Ok(Asked::Dates(listing)) => {
+            let outcome = list(&listing, writer);
+            end(outcome, errors)
+        }
+        Ok(Asked::Recurring(dates)) => {
+            let outcome = list_occurrences(&dates, writer);
+            end(outcome, errors)
+        }
+        Ok(Asked::Help) => {
+            let outcome = write_all(writer, HELP);
+            end(outcome, errors)
+        }
+        Ok(Asked::Version) => {
+            let outcome = write_all(writer, VERSION);
+            end(outcome, errors)
+        }
+        Err(senseless) => Ending {
+            status: SENSELESS,
+            told: complain(arguments, senseless, errors),
+        },
+    }
+}

@@ -1,0 +1,62 @@
+//! What the text of a line is read as, where a reading is named.
+ghost use Rattle.std.specs.Prelude.{◌≡◌, ◌↔◌, IfOk, IfErr, Ok};
+ghost use Rattle.cal_time.specs.declared.error.ComponentRange.{ComponentRange};
+ghost use Rattle.cal_text.specs.Position.{IsAtStop};
+ghost use Rattle.cal_text.specs.Reading.{IsRefusedFor, IsRefusedForForm};
+ghost use Rattle.cal_text.specs.declared.any.DateOrMoment.{DateOrMoment};
+ghost use Rattle.caldate_run.specs.Readings.{HasFormIn, IsFaultIn, IsTextIn};
+
+mod local;
+mod number;
+mod parts;
+mod template;
+
+use crate::reading::local::read_local;
+use crate::reading::number::read_number;
+use crate::reading::parts::{
+    basic_parts, day_first_parts, month_first_parts, parted_template, read_parts,
+};
+use crate::request::UnixUnit;
+use cal_text::{DateOrMoment, Unreadable, read_any};
+use cal_time::UtcOffset;
+
+/// What the text of a line is read as.
+#[derive(Clone, Copy)]
+pub enum Reading {
+    /// Any of the six forms.
+    Any,
+    /// A date, as `20240229`.
+    Basic,
+    /// A date, as `29.02.2024`, `29/02/2024` or `29-02-2024`.
+    DayFirst,
+    /// A date, as `02.29.2024`, `02/29/2024` or `02-29-2024`.
+    MonthFirst,
+    /// A moment at UTC, as `1709164800500`, by what has gone by since 1970.
+    Unix(UnixUnit),
+    /// A moment at this offset, as `2024-02-29T10:00:00`.
+    Local(UtcOffset),
+}
+
+/// The date or the moment that the text is in this reading, and the form that it is answered in.
+///
+/// `29.02.2024` is 2024-02-29 where the day comes first. A text of another form is refused with the position of the first byte that no
+/// text of the reading has there; one that has the form, for the component at fault: in `31.04.2024` for `day`.
+// In line, so that a line in one of the six forms costs no call more.
+#[inline(always)]
+pub fn read_in(reading: Reading, text: &[u8]) -> Result<DateOrMoment, Unreadable>
+    ensures every { (found : DateOrMoment) → IsTextIn reading text.now found → result ≡ Ok found }
+    ensures has { IfOk result (IsTextIn reading text.now) }
+    ensures form { IsRefusedForForm result ↔ ¬ HasFormIn reading text.now }
+    ensures position { IfErr result (IsAtStop (HasFormIn reading) text.now) }
+    ensures component { (why : ComponentRange)
+        → IsRefusedFor why result ↔ IsFaultIn reading text.now why }
+{
+    match reading {
+        Reading::Any => read_any(text),
+        Reading::Basic => read_parts(basic_parts(text), text, b"dddddddd"),
+        Reading::DayFirst => read_parts(day_first_parts(text), text, &parted_template(text)),
+        Reading::MonthFirst => read_parts(month_first_parts(text), text, &parted_template(text)),
+        Reading::Unix(unit) => read_number(unit, text),
+        Reading::Local(offset) => read_local(offset, text),
+    }
+}

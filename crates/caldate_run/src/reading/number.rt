@@ -1,0 +1,93 @@
+//! Unix times that are a whole number of milliseconds, microseconds or nanoseconds.
+ghost use Rattle.std.specs.Prelude.{◌≡◌, ◌<◌, ◌↔◌, ◌≤◌, ℤ, IfErr, IfOk, IfSome, IsTrue, Ok, Some, length, slice_index};
+ghost use Rattle.cal_time.specs.declared.error.ComponentRange.{ComponentRange};
+ghost use Rattle.cal_text.specs.Position.{IsAtStop};
+ghost use Rattle.cal_text.specs.Reading.{IsRefusedFor, IsRefusedForForm};
+ghost use Rattle.cal_text.specs.declared.any.DateOrMoment.{DateOrMoment};
+ghost use Rattle.caldate_run.specs.Readings.{HasFormIn, IsFaultIn, IsNumber, IsTextIn, nanoseconds_in};
+ghost use Rattle.caldate_run.specs.Templates.{IsTemplateFor};
+ghost use Rattle.caldate_run.specs.declared.reading.Reading.TheVariants.{Unix};
+ghost use Rattle.caldate_run.specs.declared.request.UnixUnit.{UnixUnit};
+
+use crate::reading::template::wrong_at;
+use crate::request::UnixUnit;
+use crate::signed::signed_text;
+use cal_datetime::OffsetDateTime;
+use cal_text::{DateOrMoment, MomentForm, Unreadable};
+use std::str;
+
+/// The least number with more digits than a number may have: those of the seconds of a Unix time, and nine more.
+const TOO_MANY: u128 = 1_000_000_000_000_000_000_000_000_000;
+
+/// The moment at UTC that is so many units after 1970-01-01.
+pub fn read_number(unit: UnixUnit, text: &[u8]) -> Result<DateOrMoment, Unreadable>
+    ensures every { (found : DateOrMoment) → IsTextIn (Unix unit) text.now found
+        → result ≡ Ok found }
+    ensures has { IfOk result (IsTextIn (Unix unit) text.now) }
+    ensures form { IsRefusedForForm result ↔ ¬ HasFormIn (Unix unit) text.now }
+    ensures position { IfErr result (IsAtStop (HasFormIn (Unix unit)) text.now) }
+    ensures component { (why : ComponentRange)
+        → IsRefusedFor why result ↔ IsFaultIn (Unix unit) text.now why }
+{
+    let Some(number) = number_of(text) else {
+        return Err(wrong_at(text, number_template(text)));
+    };
+    match OffsetDateTime::from_unix_timestamp_nanos(number * i128::from(nanoseconds_in(unit))) {
+        Ok(moment) => Ok(DateOrMoment::Moment(MomentForm::Unix, moment)),
+        Err(error) => Err(Unreadable::OutOfRange(error)),
+    }
+}
+
+/// How many nanoseconds a unit has.
+fn nanoseconds_in(unit: UnixUnit) -> u32
+    ensures value { result ≡ nanoseconds_in unit }
+    ensures few { result ≤ 1_000_000 }
+{
+    match unit {
+        UnixUnit::Milliseconds => 1_000_000,
+        UnixUnit::Microseconds => 1_000,
+        UnixUnit::Nanoseconds => 1,
+    }
+}
+
+/// The number that a text is, without a plus sign and without zeros before it.
+fn number_of(text: &[u8]) -> Option<i128>
+    ensures every { (z : ℤ) → IsNumber text.now z → result ≡ Some z }
+    ensures has { IfSome result (IsNumber text.now) }
+{
+    let Ok(digits) = str::from_utf8(text) else {
+        return None;
+    };
+    let number: i128 = digits.parse().ok()?;
+    if number.unsigned_abs() >= TOO_MANY {
+        return None;
+    }
+
+    // Only what it prints is a text of it.
+    if signed_text(number).as_bytes() != text {
+        return None;
+    }
+    Some(number)
+}
+
+/// The template of a number that begins as the text.
+fn number_template(text: &[u8]) -> &'static [u8]
+    ensures { (unit : UnixUnit) → IsTemplateFor (HasFormIn (Unix unit)) text.now result.now }
+{
+    if begins_with(text, b'-') {
+        b"-ndddddddddddddddddddddddddd"
+    } else if begins_with(text, b'0') {
+        b"0"
+    } else {
+        b"ndddddddddddddddddddddddddd"
+    }
+}
+
+fn begins_with(text: &[u8], byte: u8) -> bool
+    ensures { IsTrue result ↔ (0 < length text.now) × (slice_index text.now 0 ≡ byte) }
+{
+    match text {
+        [first, ..] => *first == byte,
+        [] => false,
+    }
+}

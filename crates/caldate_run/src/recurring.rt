@@ -1,0 +1,40 @@
+//! The dates of a recurrence, from one to another.
+ghost use Rattle.std.specs.Prelude.{◌≡◌, [], ◌∷◌, nat_le, MatchOption};
+ghost use Rattle.std.specs.List.{take_while};
+ghost use Rattle.caldate_run.specs.Recurring.{ListsOccurrences};
+
+use crate::buffer::Buffer;
+use crate::fault::Fault;
+use crate::list::push_line;
+use crate::output::write_all;
+use crate::request::Occurrences;
+use crate::run::make_room;
+use cal_schedule::RuleDays;
+use cal_time::Date;
+use std::io::Write;
+
+/// Writes the dates of the recurrence in order, each in the calendar form with a line feed, however many they are.
+pub fn list_occurrences<W: Write>(asked: &Occurrences, writer: &mut W) -> Result<(), Fault>
+    ensures { ListsOccurrences asked.now result (W.contents writer.old) (W.contents writer.new) }
+{
+    let mut buffer = Buffer::new();
+    let mut days = asked.recurrence.days(asked.first);
+    while let Some(day) = next_within(&mut days, asked.last) {
+        make_room(&mut buffer, writer)?;
+        push_line(&mut buffer, day);
+    }
+    write_all(writer, buffer.as_bytes())
+}
+
+/// The next of the days, which is taken from the walk, or `None` where there is none or it is past the last.
+fn next_within(days: &mut RuleDays<'_>, last: Date) -> Option<Date>
+    ensures { MatchOption result (take_while (λ day. nat_le day last) days.old ≡ [])
+        (λ next. take_while (λ day. nat_le day last) days.old
+        ≡ next ∷ take_while (λ day. nat_le day last) days.new) }
+{
+    let day = days.next()?;
+    if day > last {
+        return None;
+    }
+    Some(day)
+}

@@ -1,0 +1,198 @@
+//! The run: the answers to the lines of an input of any length.
+ghost use Rattle.std.specs.Prelude.{◌≡◌, ◌≤◌, ◌+◌, ◌-◌, ◌++◌, ℕ, List, [], length, drop, Option, OnOk, OnErr, IfOk, IfErr, IsErrAnd, IsErrOf};
+ghost use Rattle.std.specs.Io.KnownBytes.{Appends};
+ghost use Rattle.caldate_run.specs.Lines.{ended_lines, lines_of};
+ghost use Rattle.caldate_run.specs.Room.{HasRoom, longest_reply, longest_text};
+ghost use Rattle.caldate_run.specs.Runs.{AppendsFront, Ended, EndsFrom, FailsFrom, IsReplyTo, IsOfWrite, StopsFrom};
+ghost use Rattle.caldate_run.specs.Standing.{Advances, NoEnd};
+ghost use Rattle.caldate_run.specs.declared.unanswered.UnansweredLine.{UnansweredLine};
+
+use crate::buffer::Buffer;
+use crate::fault::Fault;
+use crate::input::Input;
+use crate::keep::push_line;
+use crate::lines::first_line;
+use crate::output::write_all;
+use crate::progress::Progress;
+use crate::reply::take_back;
+use crate::request::Filter;
+use crate::shown::ShownText;
+use crate::unanswered::UnansweredLine;
+use std::io::{Read, Write};
+
+/// The most bytes of a line that are kept where it has not ended: those of a text, and a carriage return.
+const MOST_KEPT: usize = 4097;
+
+/// Answers the lines of the input, in order, to its end.
+///
+/// The answers to what one read gave go out before the next read. It gives up as after a failed read once it has read 2^64 - 1 times.
+pub fn run<R: Read, W: Write>(filter: Filter, reader: &mut R, writer: &mut W) -> Result<(), Fault>
+    ensures { Ended filter result (R.remaining reader.old) (R.remaining reader.new)
+        (W.contents writer.old) (W.contents writer.new) }
+{
+    let mut input = Input::new();
+    let mut buffer = Buffer::new();
+    let mut progress = Progress {
+        number: 0,
+        is_long: false,
+        front: ShownText::new(b""),
+    };
+    let mut reads = u64::MAX;
+    while reads > 0 {
+        if input.read_more(reader)? == 0 {
+            return answer_last(
+                &filter,
+                &mut progress,
+                &mut buffer,
+                writer,
+                input.as_bytes(),
+            );
+        }
+        let left = match answer_lines(
+            &filter,
+            &mut progress,
+            &mut buffer,
+            writer,
+            input.as_bytes(),
+        ) {
+            Ok(left) => left,
+            Err(fault) => return Err(fault),
+        };
+        input.keep_last(left);
+        let_go(&mut input, &mut progress);
+        flush(&mut buffer, writer)?;
+        reads -= 1;
+    }
+    Err(Fault::Read)
+}
+
+/// Answers the lines that end within the bytes, and returns how many bytes come after them.
+fn answer_lines<W: Write>(
+    filter: &Filter,
+    progress: &mut Progress,
+    buffer: &mut Buffer,
+    writer: &mut W,
+    bytes: &[u8],
+) -> Result<usize, Fault>
+    ensures within { IfOk result (λ left. left ≤ length bytes.now) }
+    ensures no_end { IfOk result (λ left. NoEnd (drop (length bytes.now - left) bytes.now)) }
+    ensures ok { IfOk result (λ left.
+        Advances (IsReplyTo filter.now) (W.contents writer.old)
+        (W.contents writer.new) buffer.old buffer.new
+        bytes.now (drop (length bytes.now - left) bytes.now) progress.old progress.new) }
+    ensures write { IsErrAnd result IsOfWrite
+        → FailsFrom filter.now ended_lines (W.contents writer.old)
+        (W.contents writer.new) buffer.old bytes.now progress.old }
+    ensures unanswered { (told : UnansweredLine) → IsErrOf result (Fault.Unanswered told)
+        → StopsFrom filter.now told ended_lines (W.contents writer.old)
+        (W.contents writer.new) buffer.old bytes.now progress.old }
+    ensures no_read { IsErrOf result Fault.Read → ⊥ }
+{
+    let mut rest = bytes;
+    while let Some((line, after)) = first_line(rest) {
+        make_room(buffer, writer)?;
+        let before = buffer.len();
+        match push_line(buffer, filter, progress, line) {
+            Ok(()) => {}
+            Err(start) => {
+                let told = take_back(buffer, before, start, progress, line);
+                return Err(stop(told, buffer, writer));
+            }
+        }
+        progress.number = progress.number.saturating_add(1);
+        progress.is_long = false;
+        rest = after;
+    }
+    Ok(rest.len())
+}
+
+/// Lets what was answered before a line without an answer go out, and tells that line.
+fn stop<W: Write>(told: UnansweredLine, buffer: &Buffer, writer: &mut W) -> Fault
+    ensures write { IsOfWrite result
+        → AppendsFront (W.contents writer.old) (W.contents writer.new) buffer.now }
+    ensures unanswered { (line : UnansweredLine) → result ≡ Fault.Unanswered line → (line ≡ told)
+        × Appends (W.contents writer.old) (W.contents writer.new) buffer.now }
+    ensures no_read { result ≡ Fault.Read → ⊥ }
+{
+    match write_all(writer, buffer.as_bytes()) {
+        Ok(()) => Fault::Unanswered(told),
+        Err(fault) => fault,
+    }
+}
+
+/// Answers the last line where it does not end, and lets the answers go out.
+fn answer_last<W: Write>(
+    filter: &Filter,
+    progress: &mut Progress,
+    buffer: &mut Buffer,
+    writer: &mut W,
+    line: &[u8],
+) -> Result<(), Fault>
+    requires no_end { NoEnd line.now }
+    requires none { buffer.old ≡ [] }
+    ensures ok { OnOk result (EndsFrom filter.now (W.contents writer.old)
+        (W.contents writer.new) [] line.now progress.old) }
+    ensures write { IsErrAnd result IsOfWrite
+        → FailsFrom filter.now lines_of (W.contents writer.old)
+        (W.contents writer.new) [] line.now progress.old }
+    ensures unanswered { (told : UnansweredLine) → IsErrOf result (Fault.Unanswered told)
+        → StopsFrom filter.now told lines_of (W.contents writer.old)
+        (W.contents writer.new) [] line.now progress.old }
+    ensures no_read { IsErrOf result Fault.Read → ⊥ }
+{
+    if line.is_empty() {
+        return Ok(());
+    }
+    match push_line(buffer, filter, progress, line) {
+        Ok(()) => write_all(writer, buffer.as_bytes()),
+        Err(start) => {
+            let told = take_back(buffer, 0, start, progress, line);
+            Err(Fault::Unanswered(told))
+        }
+    }
+}
+
+/// Lets go of a long line but for its last byte. Whether that is a carriage return tells how the line ends.
+#[tactic(auto, using(crate::proofs::Steps::let_go))]
+fn let_go(input: &mut Input, progress: &mut Progress)
+    requires { NoEnd input.old }
+    ensures few { length input.new ≤ longest_text + 1 }
+    ensures no_end { NoEnd input.new }
+    ensures advances { (filter : Filter) (now : Option (List ℕ)) (buffer : List ℕ)
+        → Advances (IsReplyTo filter) now now buffer buffer input.old input.new progress.old
+        progress.new }
+{
+    if input.len() > MOST_KEPT {
+        progress.front = progress.shown(input.as_bytes());
+        input.keep_last(1);
+        progress.is_long = true;
+    }
+}
+
+/// Makes room for a reply: where there is none, what was gathered is written.
+pub fn make_room<W: Write>(buffer: &mut Buffer, writer: &mut W) -> Result<(), Fault>
+    ensures room { OnOk result (HasRoom longest_reply buffer.new) }
+    ensures ok { OnOk result ((written : List ℕ) × (buffer.old ≡ written ++ buffer.new)
+        × Appends (W.contents writer.old) (W.contents writer.new) written) }
+    ensures front { OnErr result (AppendsFront (W.contents writer.old)
+        (W.contents writer.new) buffer.old) }
+    ensures err { IfErr result IsOfWrite }
+{
+    if !buffer.has_room_for_a_reply() {
+        flush(buffer, writer)?;
+    }
+    Ok(())
+}
+
+/// Writes what was gathered.
+fn flush<W: Write>(buffer: &mut Buffer, writer: &mut W) -> Result<(), Fault>
+    ensures ok { OnOk result (Appends (W.contents writer.old) (W.contents writer.new) buffer.old
+        × (buffer.new ≡ [])) }
+    ensures front { OnErr result (AppendsFront (W.contents writer.old)
+        (W.contents writer.new) buffer.old) }
+    ensures err { IfErr result IsOfWrite }
+{
+    write_all(writer, buffer.as_bytes())?;
+    buffer.clear();
+    Ok(())
+}

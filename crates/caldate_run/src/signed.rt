@@ -1,0 +1,16 @@
+//! The text of a number of any width.
+ghost use Rattle.std.specs.Prelude.{◌≡◌, ◌≤◌, length};
+ghost use Rattle.std.specs.Fmt.{signed_decimal};
+
+use cal_time::ShortText;
+
+/// The digits of a number, after a minus sign below 0.
+#[tactic(auto, using(cal_time::proofs::TextLengths::text_lengths))]
+pub fn signed_text(number: i128) -> ShortText
+    ensures text { result ≡ signed_decimal number }
+    ensures short { length result ≤ 40 }
+{
+    let mut text = ShortText::new();
+    text.push_signed_wide(number);
+    text
+}

@@ -1,0 +1,184 @@
+//! What single words of the arguments spell.
+ghost use Rattle.std.specs.Prelude.{◌≡◌, ◌≤◌, length};
+ghost use Rattle.std.specs.Str.{str_eq_ignore_ascii_case};
+ghost use Rattle.caldate_run.specs.Requests.{asks_for_help, number_of, count_of, form_of, further_form_of, weekday_of, period_of, unit_of, spells, spells_unit, many_of};
+
+use crate::request::{Form, Period, TimeUnit, UnixUnit};
+use cal_text::{DateForm, MomentForm};
+use cal_time::Weekday;
+use std::str;
+
+/// Whether the word asks for the page of examples.
+pub fn asks_for_help(word: &[u8]) -> bool
+    ensures { result ≡ asks_for_help word.now }
+{
+    word == b"--help".as_slice() || word == b"-h".as_slice() || word == b"help".as_slice()
+}
+
+/// The number that a word spells, from -9223372036854775808 to 9223372036854775807.
+pub fn number_of(word: &[u8]) -> Option<i64>
+    ensures { result ≡ number_of word.now }
+{
+    let Ok(text) = str::from_utf8(word) else {
+        return None;
+    };
+    text.parse().ok()
+}
+
+/// The number from 1 to 255 that a word spells.
+pub fn count_of(word: &[u8]) -> Option<u8>
+    ensures { result ≡ count_of word.now }
+{
+    let number = number_of(word)?;
+    if number < 1 || number > 255 {
+        return None;
+    }
+    Some(number as u8)
+}
+
+/// The number from 1 to 4294967295 that a word spells.
+pub fn many_of(word: &[u8]) -> Option<u32>
+    ensures { result ≡ many_of word.now }
+{
+    let number = number_of(word)?;
+    if number < 1 || number > 4_294_967_295 {
+        return None;
+    }
+    Some(number as u32)
+}
+
+/// The form that a word names.
+pub fn form_of(word: &[u8]) -> Option<Form>
+    ensures { result ≡ form_of word.now }
+{
+    if word == b"calendar".as_slice() {
+        Some(Form::Date(DateForm::Calendar))
+    } else if word == b"ordinal".as_slice() {
+        Some(Form::Date(DateForm::Ordinal))
+    } else if word == b"week".as_slice() {
+        Some(Form::Date(DateForm::Week))
+    } else if word == b"julian".as_slice() {
+        Some(Form::Date(DateForm::JulianDay))
+    } else if word == b"weekday".as_slice() {
+        Some(Form::Weekday)
+    } else if word == b"rfc3339".as_slice() {
+        Some(Form::Moment(MomentForm::Rfc3339))
+    } else if word == b"unix".as_slice() {
+        Some(Form::Moment(MomentForm::Unix))
+    } else {
+        further_form_of(word)
+    }
+}
+
+/// The form that a word names, of those that no line is read in.
+fn further_form_of(word: &[u8]) -> Option<Form>
+    ensures { result ≡ further_form_of word.now }
+{
+    if word == b"short-weekday".as_slice() {
+        Some(Form::ShortWeekday)
+    } else if word == b"month".as_slice() {
+        Some(Form::Month)
+    } else if word == b"quarter".as_slice() {
+        Some(Form::Quarter)
+    } else if word == b"basic".as_slice() {
+        Some(Form::Basic)
+    } else if word == b"unix-ms".as_slice() {
+        Some(Form::Unix(UnixUnit::Milliseconds))
+    } else if word == b"unix-us".as_slice() {
+        Some(Form::Unix(UnixUnit::Microseconds))
+    } else if word == b"unix-ns".as_slice() {
+        Some(Form::Unix(UnixUnit::Nanoseconds))
+    } else {
+        None
+    }
+}
+
+/// The weekday whose name a word spells: `Friday`, `FRIDAY` and `fri` are one.
+pub fn weekday_of(word: &[u8]) -> Option<Weekday>
+    ensures { result ≡ weekday_of word.now }
+{
+    if spells(word, b"Monday") {
+        Some(Weekday::Monday)
+    } else if spells(word, b"Tuesday") {
+        Some(Weekday::Tuesday)
+    } else if spells(word, b"Wednesday") {
+        Some(Weekday::Wednesday)
+    } else if spells(word, b"Thursday") {
+        Some(Weekday::Thursday)
+    } else if spells(word, b"Friday") {
+        Some(Weekday::Friday)
+    } else if spells(word, b"Saturday") {
+        Some(Weekday::Saturday)
+    } else if spells(word, b"Sunday") {
+        Some(Weekday::Sunday)
+    } else {
+        None
+    }
+}
+
+/// The period that a word spells: `month`, `MONTH` and `mon` are one.
+pub fn period_of(word: &[u8]) -> Option<Period>
+    ensures { result ≡ period_of word.now }
+{
+    if spells(word, b"week") {
+        Some(Period::Week)
+    } else if spells(word, b"month") {
+        Some(Period::Month)
+    } else if spells(word, b"quarter") {
+        Some(Period::Quarter)
+    } else if spells(word, b"year") {
+        Some(Period::Year)
+    } else {
+        None
+    }
+}
+
+/// The unit of time that a word spells: `day`, `Days` and `DAY` are one.
+pub fn unit_of(word: &[u8]) -> Option<TimeUnit>
+    ensures { result ≡ unit_of word.now }
+{
+    if spells_unit(word, b"day", b"days") {
+        Some(TimeUnit::Days)
+    } else if spells_unit(word, b"week", b"weeks") {
+        Some(TimeUnit::Weeks)
+    } else if spells_unit(word, b"month", b"months") {
+        Some(TimeUnit::Months)
+    } else if spells_unit(word, b"year", b"years") {
+        Some(TimeUnit::Years)
+    } else if spells_unit(word, b"workday", b"workdays") {
+        Some(TimeUnit::Workdays)
+    } else if spells_unit(word, b"hour", b"hours") {
+        Some(TimeUnit::Hours)
+    } else if spells_unit(word, b"minute", b"minutes") {
+        Some(TimeUnit::Minutes)
+    } else if spells_unit(word, b"second", b"seconds") {
+        Some(TimeUnit::Seconds)
+    } else {
+        None
+    }
+}
+
+/// Whether the word is the name in any case of its letters, or its first three letters so.
+#[tactic(auto, unfolding(crate::specs::Requests::spells))]
+fn spells(word: &[u8], name: &[u8]) -> bool
+    requires { 3 ≤ length name.now }
+    ensures { result ≡ spells word.now name.now }
+{
+    is_alike(word, name) || is_alike(word, &name[..3])
+}
+
+/// Whether the word spells the unit, as one or as many.
+#[tactic(auto, unfolding(crate::specs::Requests::spells_unit))]
+fn spells_unit(word: &[u8], one: &[u8], many: &[u8]) -> bool
+    requires { 3 ≤ length one.now }
+    ensures { result ≡ spells_unit word.now one.now many.now }
+{
+    spells(word, one) || is_alike(word, many)
+}
+
+/// Whether the two differ at most in the case of ASCII letters.
+fn is_alike(word: &[u8], name: &[u8]) -> bool
+    ensures { result ≡ str_eq_ignore_ascii_case word.now name.now }
+{
+    word.eq_ignore_ascii_case(name)
+}

@@ -1,0 +1,119 @@
+//! The words of the arguments, each by its index, and what they mean where something is wanted.
+ghost use Rattle.std.specs.Fn.{FnOnceReturnsAt};
+ghost use Rattle.std.specs.Prelude.{◌≡◌, ◌∷◌, ◌+◌, ◌<◌, ◌^◌, ℕ, List, MatchOption, Option, ok_or, slice_get};
+ghost use Rattle.cal_text.specs.declared.any.DateOrMoment.{DateOrMoment};
+ghost use Rattle.caldate_run.specs.Requests.{IsRead, IsReading, and_then, arguments_of, ended, ends_at, keyword, senseless_at, word_as, words_left};
+
+use crate::lines::index_of;
+use crate::senseless::{Senseless, Wanted, senseless_at};
+use cal_text::{DateOrMoment, read_any};
+
+/// The first word, and those after the zero byte that ends it, where there are any.
+#[tactic(auto, using(crate::proofs::Parts::arguments_of_some, crate::proofs::Parts::arguments_of_none, std::proofs::lemmas::List::take_rest))]
+pub fn cut(words: &[u8]) -> (&[u8], Option<&[u8]>)
+    ensures { arguments_of words.now ≡ result.0.now ∷ words_left result.1 }
+{
+    match index_of(0, words) {
+        Some(at) => (&words[..at], Some(&words[at + 1..])),
+        None => (words, None),
+    }
+}
+
+/// The word at an index, if there is one.
+pub fn word_at(words: &[u8], at: usize) -> Option<&[u8]>
+    ensures { MatchOption result (slice_get (arguments_of words.now) at ≡ None)
+        (λ word. slice_get (arguments_of words.now) at ≡ Some word.now) }
+{
+    let mut left = Some(words);
+    for _ in 0..at {
+        left = cut(left?).1;
+    }
+    Some(cut(left?).0)
+}
+
+/// What the word at an index means, where this is wanted.
+pub fn word_as<T: Drop, F: FnOnce(&[u8]) -> Option<T>>(
+    words: &[u8],
+    at: usize,
+    meaning: F,
+    wanted: Wanted,
+) -> Result<T, Senseless>
+    requires { F.IsAlwaysCallable meaning }
+    ensures { MatchOption (slice_get (arguments_of words.now) at)
+        (result ≡ Err (senseless_at at wanted))
+        (λ word. (found : Option T) × FnOnceReturnsAt F.FnOnce meaning word found
+        × (result ≡ ok_or found (senseless_at at wanted))) }
+{
+    word_at(words, at)
+        .and_then(meaning)
+        .ok_or(senseless_at(at, wanted))
+}
+
+/// That the word at an index is this one.
+pub fn keyword_at(words: &[u8], at: usize, name: &[u8], wanted: Wanted) -> Result<(), Senseless>
+    ensures { result ≡ word_as (arguments_of words.now) at (keyword name.now) wanted }
+{
+    match word_at(words, at) {
+        Some(word) if word == name => Ok(()),
+        _ => Err(senseless_at(at, wanted)),
+    }
+}
+
+/// The date or the moment that the word at an index is, where this is wanted.
+pub fn found_at(words: &[u8], at: usize, wanted: Wanted) -> Result<DateOrMoment, Senseless>
+    ensures { (reading : List ℕ → Option DateOrMoment) → IsReading reading (arguments_of words.now)
+        → result ≡ word_as (arguments_of words.now) at reading wanted }
+{
+    match word_at(words, at) {
+        Some(word) => found_in(word).ok_or(senseless_at(at, wanted)),
+        None => Err(senseless_at(at, wanted)),
+    }
+}
+
+/// The date or the moment of a text, if it is one.
+fn found_in(text: &[u8]) -> Option<DateOrMoment>
+    ensures { (reading : List ℕ → Option DateOrMoment) → IsRead reading text.now
+        → result ≡ reading text.now }
+{
+    match read_any(text) {
+        Ok(found) => Some(found),
+        Err(_) => None,
+    }
+}
+
+/// Whether no word comes at the index.
+pub fn ends_at(words: &[u8], at: usize) -> bool
+    ensures { result ≡ ends_at (arguments_of words.now) at }
+{
+    word_at(words, at).is_none()
+}
+
+/// What the words before the index mean, where no word comes there.
+pub fn ended<T: Drop>(words: &[u8], at: usize, meaning: T) -> Result<T, Senseless>
+    ensures { result ≡ ended (arguments_of words.now) at meaning }
+{
+    if ends_at(words, at) {
+        Ok(meaning)
+    } else {
+        Err(senseless_at(at, Wanted::End))
+    }
+}
+
+/// What the word at an index means, which is to be the last one.
+pub fn only_at<T: Drop, F: FnOnce(&[u8]) -> Option<T>>(
+    words: &[u8],
+    at: usize,
+    meaning: F,
+    wanted: Wanted,
+) -> Result<T, Senseless>
+    requires calls { F.IsAlwaysCallable meaning }
+    requires fits { at + 1 < 2 ^ 64 }
+    ensures { MatchOption (slice_get (arguments_of words.now) at)
+        (result ≡ Err (senseless_at at wanted))
+        (λ word. (found : Option T) × FnOnceReturnsAt F.FnOnce meaning word found
+        × (result ≡ and_then (ok_or found (senseless_at at wanted))
+        (ended (arguments_of words.now) (at + 1)))) }
+{
+    let meaning = word_as(words, at, meaning, wanted)?;
+    ended(words, at + 1, meaning)
+}

@@ -1,0 +1,85 @@
+//! A run leaves one answer: two runs over one input that reach its end leave alike writers, and so do two that write one list, whether by
+//! steps or by a rule. What arguments ask for is one thing, since they have a reading.
+ghost use Rattle.std.specs.List.{slice_split};
+ghost use Rattle.std.specs.Prelude.{◌≡◌, List, ℕ, All, Some, IsOk};
+ghost use Rattle.caldate_run.specs.Lines.{is_end};
+ghost use Rattle.caldate_run.specs.Lists.{IsStep};
+ghost use Rattle.caldate_run.specs.Runs.{IsReplyTo};
+
+use caldate_run::asked::asked_of;
+use caldate_run::fault::Fault;
+use caldate_run::laws::{have_reading, one_reply};
+use caldate_run::lines::first_line;
+use caldate_run::list::list;
+use caldate_run::recurring::list_occurrences;
+use caldate_run::request::{Asked, Filter, Listing, Occurrences};
+use caldate_run::run::run;
+use caldate_run::senseless::Senseless;
+use std::io::{Read, Write};
+
+/// Each part of the input between line feeds has one reply.
+fn one_reply_each(filter: &Filter, input: &[u8])
+    ensures { All (λ line. (before : ℕ) (reply other : List ℕ)
+        → IsReplyTo filter.now before line reply → IsReplyTo filter.now before line other
+        → reply ≡ other) (slice_split is_end input.now) }
+{
+    match first_line(input) {
+        Some((line, others)) => {
+            let _reply = one_reply(filter, line);
+            one_reply_each(filter, others);
+        }
+        None => {
+            let _reply = one_reply(filter, input);
+        }
+    }
+}
+
+fn runs<R: Read, W: Write>(
+    filter: &Filter,
+    input: &[u8],
+    reader: &mut R,
+    twin: &mut R,
+    writer: &mut W,
+    other: &mut W,
+) -> (Result<(), Fault>, Result<(), Fault>)
+    ensures { (held : List ℕ) → R.remaining reader.old ≡ Some input.now
+        → R.remaining twin.old ≡ Some input.now
+        → W.contents writer.old ≡ Some held → W.contents other.old ≡ Some held
+        → IsOk result.0 → IsOk result.1 → W.contents writer.new ≡ W.contents other.new }
+{
+    one_reply_each(filter, input);
+    (run(*filter, reader, writer), run(*filter, twin, other))
+}
+
+fn lists<W: Write>(
+    listing: &Listing,
+    writer: &mut W,
+    other: &mut W,
+) -> (Result<(), Fault>, Result<(), Fault>)
+    requires { IsStep listing.now.step }
+    ensures { (held : List ℕ) → W.contents writer.old ≡ Some held → W.contents other.old ≡ Some held
+        → IsOk result.0 → IsOk result.1 → W.contents writer.new ≡ W.contents other.new }
+{
+    (list(listing, writer), list(listing, other))
+}
+
+fn occurrences<W: Write>(
+    asked: &Occurrences,
+    writer: &mut W,
+    other: &mut W,
+) -> (Result<(), Fault>, Result<(), Fault>)
+    ensures { (held : List ℕ) → W.contents writer.old ≡ Some held → W.contents other.old ≡ Some held
+        → IsOk result.0 → IsOk result.1 → W.contents writer.new ≡ W.contents other.new }
+{
+    (
+        list_occurrences(asked, writer),
+        list_occurrences(asked, other),
+    )
+}
+
+fn asks(arguments: &[u8]) -> (Result<Asked, Senseless>, Result<Asked, Senseless>)
+    ensures { result.0 ≡ result.1 }
+{
+    have_reading(arguments);
+    (asked_of(arguments), asked_of(arguments))
+}
