@@ -1,4 +1,4 @@
--- Where a contract leaves one answer, and search does not find why.
+-- Contracts that allow only one result, if the search doesn't find the proof.
 use Rattle.std.proofs.Common.{◌≡◌, ℤ, arith, Result, Ok, ◌↔◌}
 use Rattle.std.proofs.lemmas.Int.{ints}
 use Rattle.cal_time.specs.Refusal.{IsRefused}
@@ -6,7 +6,7 @@ use Rattle.cal_time.specs.declared.error.ComponentRange.{ComponentRange}
 use Rattle.cal_datetime.specs.DateTime.{IsDateTime}
 use Rattle.cal_datetime.specs.OffsetDateTime.{Shown, timestamp_out_of_range}
 
--- the value of a number in range, or the one refusal
+-- The value of a number in range, or the only error.
 pub in_range-one : (z : ℤ) (v : Shown) (r s : Result Shown ComponentRange)
     → (IsDateTime z → r ≡ Ok v) → (IsRefused timestamp_out_of_range r ↔ ¬ IsDateTime z)
     → (IsDateTime z → s ≡ Ok v) → (IsRefused timestamp_out_of_range s ↔ ¬ IsDateTime z) → r ≡ s

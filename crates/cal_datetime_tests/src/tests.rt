@@ -1,4 +1,4 @@
-//! Worked values, each computed apart from the code.
+//! Worked values, each computed without the code.
 
 use cal_datetime::{OffsetDateTime, PlainDateTime, with_hms_nano};
 use cal_time::{Date, Month, UtcOffset};
@@ -20,7 +20,7 @@ fn date_time(rt: &impl Abort, date: (i32, Month, u8), clock: (u8, u8, u8, u32)) 
     plain
 }
 
-/// The offset of so many whole hours.
+/// The offset of a number of whole hours.
 fn hours(rt: &impl Abort, hours: i8) -> UtcOffset {
     let Ok(offset) = UtcOffset::from_hms(hours, 0, 0) else {
         panic!(rt; "{hours} is refused");
@@ -35,7 +35,7 @@ fn leap_night(rt: &impl Abort) -> OffsetDateTime {
     ))
 }
 
-/// Stops the test unless the two are equal. One function for all is proved once, where `assert_eq!` is proved at each place.
+/// Stops the test unless the two are equal. It is proved once, and `assert_eq!` at each use.
 fn same<T: Copy + Debug + PartialEq>(rt: &impl Abort, found: T, wanted: T) {
     assert!(rt; found == wanted, "{found:?} and not {wanted:?}");
 }

@@ -1,5 +1,5 @@
-//! Worked values. Each comes from outside: from the documentation of other libraries of dates, from published calendars and lists
-//! of holidays, or from the published examples of the conventions of interest; the rows at the ends of the range by hand.
+//! Worked values from outside: documentation of other date libraries, published calendars and lists
+//! of holidays, and published examples of interest. Rows at the ends of the range are by hand.
 
 mod months;
 mod one_answer;

@@ -1,4 +1,5 @@
--- Where the contract of a reader leaves one answer, or one but for the position of a wrong byte.
+-- Contracts of parsers that allow only one result, or only one except for the position of a wrong
+-- byte.
 use Rattle.std.proofs.Common.{◌≡◌, ◌↔◌, ◌∙◌, ℕ, List, Option, None, Some, refl, sym, ap, arith, Result, Ok, Err}
 use Rattle.std.specs.Prelude.{IfOk, IfErr}
 use Rattle.cal_time.specs.declared.error.ComponentRange.{ComponentRange}
@@ -9,7 +10,7 @@ use Rattle.cal_text.specs.Position.{IsAtStop}
 use Rattle.cal_text.proofs.Positions.{one_position}
 use Rattle.cal_text.specs.Reading.{component_of, IsRefusedFor, IsRefusedForForm}
 
--- two answers that say the same, but for the position of a wrong byte
+-- Two results that are equal, except for the position of a wrong byte.
 abbrev AreAlikeButForPosition : {V : Type 0} → Result V Unreadable → Result V Unreadable → Type 0
 AreAlikeButForPosition (Ok v) (Ok w) = v ≡ w
 AreAlikeButForPosition (Ok v) (Err f) = ⊥
@@ -30,7 +31,7 @@ alike Has (Err e) (Ok w) has other here there form forms component fault = cc (h
 alike Has (Err e) (Err f) has other here there form forms component fault =
     same_component (component_of e) (component_of f) (component_of e) form forms component fault refl
 
--- an answer that is alike is the same where it names the position
+-- Such a result is equal if it names the position.
 same_answer : {V : Type 0} (IsText : List ℕ → Type 0) (text : List ℕ) (r s : Result V Unreadable) → IfErr r (IsAtStop IsText text)
     → IfErr s (IsAtStop IsText text) → AreAlikeButForPosition r s → r ≡ s
 same_answer IsText text (Ok v) (Ok w) a b e = ap Ok e

@@ -15,12 +15,12 @@ mod moments;
 mod one_answer;
 mod unix_times;
 
-/// Stops the test unless the two are equal. One function for all is proved once, where `assert_eq!` is proved at each place.
+/// Stops the test unless the two are equal. It is proved once, and `assert_eq!` at each use.
 fn same<T: Copy + Debug + PartialEq>(rt: &impl Abort, found: T, wanted: T) {
     assert!(rt; found == wanted, "{found:?} and not {wanted:?}");
 }
 
-/// A moment that was read, by its three parts: moments alone are equal at two offsets too.
+/// A parsed moment in three parts, because moments at different offsets can be equal.
 fn parts_of(
     found: Result<OffsetDateTime, Unreadable>,
 ) -> Result<(Date, Time, UtcOffset), Unreadable> {
@@ -30,7 +30,7 @@ fn parts_of(
     }
 }
 
-/// Stops the test unless this is what was read in the row, which is a text or what was changed in one.
+/// Stops the test unless this is the result for the row, which is a text or a change of one.
 fn reads<T: Copy + Debug + PartialEq, R: Copy + Debug>(
     rt: &impl Abort,
     row: R,
@@ -43,7 +43,7 @@ fn reads<T: Copy + Debug + PartialEq, R: Copy + Debug>(
     );
 }
 
-/// Stops the test unless the text was refused for the component of this name, with this mark.
+/// Stops the test unless the error is the component with this name and this mark.
 fn out_of_range<T: Copy + Debug>(
     rt: &impl Abort,
     text: &str,

@@ -1,4 +1,4 @@
--- The day of the range that passes a test, where a constructor of dates has found it, or found that there is none.
+-- The day of the range that passes a test, if a constructor of dates has found it, or found none.
 use Rattle.std.proofs.Common.{◌≡◌, ℕ, zero, suc, ◌+◌, ◌<◌, Bool, true, false, Some, None, Result, Ok, Err, [], ◌∷◌, refl, sym, ap, ◌∙◌, arith, inl, inr, ℤ, pos, negsuc, ◌+ℤ◌, Decides}
 use Rattle.std.specs.Ordering.{int_eq}
 use Rattle.std.specs.Cmp.Lexicographic.{pointwise}
@@ -30,7 +30,7 @@ first_below-fails : (test : ℕ → Bool) (n : ℕ) → first_below test n ≡ N
 unfolding first_below
 first_below-fails test n e p = rw (e, p) refl
 
--- where none passes, none is found
+-- If no day passes, none is found.
 pub first_below-none : (test : ℕ → Bool) (n : ℕ) → ((m : ℕ) → m < n → test m ≡ false) → first_below test n ≡ None
 first_below-none test zero fails = unfold first_below in refl
 first_below-none test (suc n) fails =
@@ -65,7 +65,7 @@ module _ (Has : ℕ → Type 0) (test : ℕ → Bool) (decides : (n : ℕ) → D
   pub found : {E : Type 0} (day : ℕ) → ((n : ℕ) → IsDate n → Has n → ◌≡◌ {A = Result ℕ E} (Ok day) (Ok n)) → IsDate day × Has day → day_where test ≡ Some day
   found day every has = day_where-has day has.0 has.1 (λ n h f. let e = every n h f in cc)
 
-  -- or a refusal, so that no day has it
+  -- or an error, so no day has it
   pub refused : {E : Type 0} (error : E) → ((n : ℕ) → IsDate n → Has n → ◌≡◌ {A = Result ℕ E} (Err error) (Ok n)) → NoDate Has × (day_where test ≡ None)
   refused error every =
       let none : NoDate Has = λ n h f. let e = every n h f in cc in
@@ -101,12 +101,12 @@ pub decides_iso_week_date : (y : ℤ) (w wd n : ℕ)
     → Decides (pointwise int_eq (iso_week_date_at n) (y ∷ pos w ∷ pos wd ∷ [])) (HasIsoWeekDate y w wd n)
 decides_iso_week_date y w wd n = (λ p. (grind (arith, ints), grind (arith, ints), grind (arith, ints)), λ e. grind (arith, ints))
 
--- the nearest number of a day is the number itself, where it is one
+-- The nearest number of a day is the number itself, if it is in range.
 date_nearest-same : (z : ℤ) → IsDateNumber z → pos (date_nearest z) ≡ z
 date_nearest-same (pos n) h = grind (arith, ints)
 date_nearest-same (negsuc n) h = absurd (omega (arith, ints, h.not_before))
 
--- a day moved by so many days, as its Julian day is
+-- A day plus w days has the Julian day plus w.
 moved : (n : ℕ) (w : ℤ) → julian_day_at n +ℤ w ≡ first_julian_day +ℤ (pos n +ℤ w)
 moved n w = omega (arith, ints)
 

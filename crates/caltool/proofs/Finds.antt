@@ -1,4 +1,4 @@
--- The day or the refusal that a constructor of dates returns, as the day and the reason of the answers.
+-- The day or the error of a constructor of dates is the day or the reason of the answer.
 use Rattle.std.proofs.Common.{◌≡◌, ℕ, ◌⊎◌, Result, Ok, Err, ℤ, inl, inr}
 use Rattle.std.specs.Prelude.{IfOk, IfErr, ◌↔◌}
 use Rattle.cal_time.specs.declared.error.ComponentRange.{ComponentRange}
@@ -12,7 +12,7 @@ use Rattle.caltool.specs.Answers.{day_of_julian_day, day_of_ordinal_date, day_of
 use Rattle.caltool.specs.Finds.{Finds}
 use Rattle.caltool.proofs.Days.{found, refused, decides_julian_day, decides_ordinal_date, decides_calendar_date, decides_iso_week_date, number-is_month, a_year, not_a_year, a_week, not_a_week}
 
--- a constructor returns the one day of the range that has it, if there is one
+-- A constructor returns the day of the range with a property, if there is one.
 abbrev Every : (ℕ → Type 0) → Result ℕ ComponentRange → Type 0
 Every Has r = (n : ℕ) → IsDate n → Has n → r ≡ Ok n
 

@@ -1,4 +1,4 @@
--- What several reads gave, and what several writes took.
+-- The bytes of several reads, and of several writes.
 use Rattle.std.proofs.Common.{arith, length-append, ◌<◌, ◌-◌, ◌≡◌, ℕ, ◌+◌, ◌≤◌, List, ◌++◌, length, take, drop, Option, sym, ap, ◌∙◌, append_assoc, take-append-drop, length-take, subst}
 use borrow.Rule.Slice.PartMut.{put_mid, post_of}
 use Rattle.std.specs.Io.KnownBytes.{Appends, Consumes}
@@ -16,7 +16,7 @@ take-read a k n xs ys h e =
     subst (λ m. take (m + n) (put_mid a k xs ys) ≡ take a xs ++ take n (ys ++ post_of a k xs)) front (take-append-add (take a xs) (ys ++ post_of a k xs) n)
     ∙ ap (λ l. take a xs ++ l) (take-append-le n ys (post_of a k xs) e)
 
--- what was read before, and n bytes more
+-- The bytes read before, and n more.
 pub given_more : (old mid new : Option (List ℕ)) (a k n : ℕ) (xs ys : List ℕ) → a ≤ length xs → n ≤ length ys
     → Consumes old mid (take a xs) → Consumes mid new (take n ys)
     → Consumes old new (take (a + n) (put_mid a k xs ys))
@@ -32,13 +32,13 @@ given_too_many old mid new a n xs ys p q f h e s = record {
   given = Consumes-trans old mid new _ _ p q;
 }
 
--- the writer took all of the bytes but for the rest
+-- The writer took all bytes except the rest.
 pub record HasTaken (old new : Option (List ℕ)) (bytes rest : List ℕ) : Type 0 where
   pub taken : List ℕ
   pub whole : bytes ≡ taken ++ rest
   pub appended : Appends old new taken
 
--- a write that takes n bytes; what is left is a slice of what was left
+-- A write of n bytes. The new rest is a slice of the old rest.
 pub taken_more : (old mid new : Option (List ℕ)) (bytes rest : List ℕ) (n : ℕ) → HasTaken old mid bytes rest
     → Appends mid new (take n rest)
     → HasTaken old new bytes (take (length rest - n) (drop n rest))
@@ -59,7 +59,7 @@ taken_front old mid new bytes rest p q = record {
   taken = Appends-trans old mid new _ _ p.appended q.taken;
 }
 
--- a front that is not all of the bytes, where more were to follow
+-- A prefix of the bytes that isn't all, if more were to follow.
 pub front_of_longer : (old new : Option (List ℕ)) (bytes more : List ℕ) → AppendsFront old new bytes
     → AppendsFront old new (bytes ++ more)
 front_of_longer old new bytes more q = record {

@@ -1,4 +1,4 @@
--- Where a run leaves one answer: what two readers gave, and what two writers took.
+-- A run has only one result: two readers gave the same, and two writers took the same.
 use Rattle.std.proofs.Common.{◌≡◌, List, ◌++◌, Option, Some, None, Result, Ok, Err, ap, sym, ◌∙◌, refl}
 use Rattle.std.proofs.lemmas.List.{append-nil}
 use Rattle.std.proofs.Common.{ℕ}

@@ -1,4 +1,4 @@
--- The command that a line spells, with its numbers as whole numbers. A line whose words are not all such numbers spells none.
+-- Commands. A line is not a command if a word is not a number of its type.
 use Rattle.std.specs.Prelude.{Some, ℕ, ◌-◌, ◌&&◌, nat_le, List, [], ◌∷◌, if◌then◌else◌, Option, None, option_map, option_and_then, bytes_eq, codes}
 use Rattle.std.specs.Option.{option_zip}
 use Rattle.cal_time.specs.declared.Weekday.{Weekday}
@@ -23,7 +23,7 @@ calendar_command (y ∷ m ∷ d ∷ []) =
     option_map (λ n. Calendar n.0 n.1.0 n.1.1) (option_zip (i32_of y) (option_zip (u8_of m) (u8_of d)))
 calendar_command words = None
 
--- the weekday that has the number, from Monday, 1, to Sunday, 7 (ISO 8601)
+-- The weekday with a number, from 1, Monday, to 7, Sunday (ISO 8601).
 abbrev pub weekday_numbered : ℕ → Option Weekday
 weekday_numbered n = if nat_le 1 n && nat_le n 7 then Some (weekday_at (n - 1)) else None
 
@@ -51,7 +51,7 @@ moment_command (j ∷ h ∷ m ∷ s ∷ d ∷ []) =
     (option_zip (i32_of j) (option_zip (u8_of h) (option_zip (u8_of m) (option_zip (u8_of s) (i64_of d)))))
 moment_command words = None
 
--- the command that the words of a line spell, if they spell one
+-- The command that the words of a line spell.
 abbrev pub command_of : List (List ℕ) → Option Command
 command_of [] = None
 command_of (name ∷ words) =

@@ -1,27 +1,27 @@
--- What a run does to the bytes of its reader and its writer, where those are told.
+-- The bytes that a run reads and writes, if the reader and the writer know them.
 use Rattle.std.specs.Prelude.{◌≡◌, ℕ, ◌<◌, ◌≤◌, List, ◌++◌, length, Option, Result, Ok, Err}
 use Rattle.std.specs.Io.KnownBytes.{Appends, Consumes, IsAtEnd, Keeps}
 use Rattle.caltool.specs.Answers.{out}
 use Rattle.caltool.specs.declared.fault.Fault.{Fault}
 use Rattle.caltool.specs.declared.fault.Fault.TheVariants.{TooLong, Read, Write}
 
--- the most bytes that an input may have
+-- The maximum length of an input.
 abbrev pub most_bytes : ℕ
 most_bytes = 4096
 
--- the reader gave this input, which is not too long, and is at its end
+-- The reader gave this input, which is not too long, and is at its end.
 pub record GivesAll (old new : Option (List ℕ)) (input : List ℕ) : Type 0 where
   pub fits : length input ≤ most_bytes
   pub given : Consumes old new input
   pub ended : IsAtEnd new
 
--- the reader gave more bytes than that
+-- The reader gave more bytes than the maximum.
 pub record GivesTooMany (old new : Option (List ℕ)) : Type 0 where
   pub bytes : List ℕ
   pub more : most_bytes < length bytes
   pub given : Consumes old new bytes
 
--- the writer took a beginning of the bytes, perhaps none of them, and never all
+-- The writer took a prefix of the bytes, possibly empty, but not all.
 pub record AppendsFront (old new : Option (List ℕ)) (bytes : List ℕ) : Type 0 where
   pub front : List ℕ
   pub rest : List ℕ
@@ -29,7 +29,7 @@ pub record AppendsFront (old new : Option (List ℕ)) (bytes : List ℕ) : Type 
   pub left : 0 < length rest
   pub taken : Appends old new front
 
--- what a run with this outcome read and wrote
+-- The bytes that a run with this outcome read and wrote.
 abbrev pub Ended : Result Unit Fault → Option (List ℕ) → Option (List ℕ) → Option (List ℕ) → Option (List ℕ) → Type 0
 Ended (Ok done) r0 r w0 w = (input : List ℕ) × GivesAll r0 r input × Appends w0 w (out input)
 Ended (Err Write) r0 r w0 w = (input : List ℕ) × GivesAll r0 r input × AppendsFront w0 w (out input)

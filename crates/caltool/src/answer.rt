@@ -1,4 +1,4 @@
-//! What a line is answered.
+//! The answers to lines.
 ghost use Rattle.std.specs.Prelude.{◌≡◌, ◌+◌, ◌≤◌, ◌++◌, length};
 ghost use Rattle.std.specs.Fmt.{signed_decimal};
 ghost use Rattle.cal_time.specs.Weekday.{index};
@@ -11,7 +11,7 @@ use crate::find::{find_calendar_date, find_iso_week_date, find_julian_day, find_
 use cal_time::error::ComponentRange;
 use cal_time::{Date, ShortText, SignedDuration, Time, Weekday, add_to_pair};
 
-/// Gathers what is written for a line: its answer, and a line end.
+/// Appends the answer to a line and a line end.
 pub fn reply(buffer: &mut Buffer, line: &[u8])
     requires { HasRoom longest_reply buffer.old }
     ensures { buffer.new ≡ buffer.old ++ reply_to line.now }
@@ -20,7 +20,7 @@ pub fn reply(buffer: &mut Buffer, line: &[u8])
     buffer.push(b"\n");
 }
 
-/// Answers a command, or a line that spells none.
+/// Appends the answer to a command, or to a line that is not a command.
 fn write_answer(buffer: &mut Buffer, command: Option<Command>)
     requires { HasRoom longest_answer buffer.old }
     ensures text { buffer.new ≡ buffer.old ++ answer_of command }

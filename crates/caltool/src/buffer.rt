@@ -1,16 +1,16 @@
-//! Bytes that go out in one write.
+//! The buffer of the output.
 ghost use Rattle.std.specs.Prelude.{◌≡◌, ◌↔◌, ◌+◌, ◌++◌, [], length, IsTrue};
 ghost use Rattle.caltool.specs.Room.{HasRoom, longest_reply};
 
 use std::marker::Model;
 
-/// The most bytes that go out in one write.
+/// The maximum number of bytes in one write.
 const CAPACITY: usize = 4096;
 
-/// The most bytes that a reply may have. The longest has fewer.
+/// The room for a reply in bytes. The longest reply is shorter.
 const LONGEST_REPLY: usize = 128;
 
-/// Bytes gathered for one write.
+/// Bytes that wait for one write.
 #[derive(Drop)]
 pub struct Buffer {
     bytes: [u8; CAPACITY],
@@ -29,7 +29,7 @@ impl Model for Buffer {
 }
 
 impl Buffer {
-    /// No bytes.
+    /// Creates an empty buffer.
     pub fn new() -> Self
         ensures { result ≡ [] }
     {
@@ -39,21 +39,21 @@ impl Buffer {
         }
     }
 
-    /// The bytes gathered so far.
+    /// Returns the bytes.
     pub fn as_bytes(&self) -> &[u8]
         ensures { result.now ≡ self.now }
     {
         &self.bytes[..self.filled]
     }
 
-    /// Whether there is room for a reply.
+    /// Returns `true` if there is room for a reply.
     pub fn has_room_for_a_reply(&self) -> bool
         ensures { IsTrue result ↔ HasRoom longest_reply self.now }
     {
         self.filled <= CAPACITY - LONGEST_REPLY
     }
 
-    /// Appends the bytes.
+    /// Appends bytes.
     pub fn push(&mut self, bytes: &[u8])
         requires { HasRoom (length bytes.now) self.old }
         ensures appended { self.new ≡ self.old ++ bytes.now }
@@ -64,7 +64,7 @@ impl Buffer {
         self.filled = end;
     }
 
-    /// Drops the bytes.
+    /// Removes all bytes.
     pub fn clear(&mut self)
         ensures { self.new ≡ [] }
     {

@@ -1,4 +1,4 @@
-//! The command that a line spells.
+//! Parsing commands.
 ghost use Rattle.std.specs.Prelude.{◌≡◌, ℕ, List, [], ◌∷◌, MatchOption};
 ghost use Rattle.caltool.specs.Commands.{command_of, julian_command, ordinal_command, calendar_command, iso_command, show_command, add_command, moment_command, weekday_numbered};
 ghost use Rattle.caltool.specs.Lines.{words_of};
@@ -7,26 +7,26 @@ use crate::lines::index_of;
 use crate::number::{parse_i32, parse_i64, parse_u8, parse_u16};
 use cal_time::Weekday;
 
-/// What a line asks for.
+/// A command, which a line spells.
 #[derive(Clone, Copy)]
 pub enum Command {
-    /// `julian N`: the day that has this Julian day.
+    /// `julian N`: the day with this Julian day.
     Julian(i32),
-    /// `ordinal Y N`: the day of that year that has this ordinal.
+    /// `ordinal Y N`: the day with this year and ordinal.
     Ordinal(i32, u16),
-    /// `calendar Y M D`: the day of that year and of the month of that number.
+    /// `calendar Y M D`: the day with this year, month and day of the month.
     Calendar(i32, u8, u8),
-    /// `iso Y W D`: the day of that week of the ISO year that is the weekday of that number.
+    /// `iso Y W D`: the day with this ISO year, week and weekday.
     Iso(i32, u8, Weekday),
-    /// `show N`: the date and the ISO week date of the day that has this Julian day.
+    /// `show N`: the date and the ISO week date of this Julian day.
     Show(i32),
-    /// `add N S`: the day that has this Julian day, moved by so many seconds.
+    /// `add N S`: this Julian day, plus a number of seconds.
     Add(i32, i64),
-    /// `moment N H M S D`: the day that has this Julian day, at that hour, minute and second, moved by so many seconds.
+    /// `moment N H M S D`: this day at this time of day, plus a number of seconds.
     Moment(i32, u8, u8, u8, i64),
 }
 
-/// The command that a line spells. All its words are read as numbers before any of them is used.
+/// Parses a line as a command. All words are parsed before any is used.
 pub fn parse(line: &[u8]) -> Option<Command>
     ensures { result ≡ command_of (words_of line.now) }
 {
@@ -114,7 +114,7 @@ fn parse_moment(words: &[u8]) -> Option<Command>
     ))
 }
 
-/// The weekday that has the number, from Monday, 1, to Sunday, 7.
+/// Returns the weekday with a number, from 1, Monday, to 7, Sunday.
 fn numbered_weekday(number: u8) -> Option<Weekday>
     ensures { result ≡ weekday_numbered number }
 {
@@ -124,7 +124,7 @@ fn numbered_weekday(number: u8) -> Option<Weekday>
     Some(Weekday::Monday.nth_next(number - 1))
 }
 
-/// The first word, and what comes after the space that ends it. There is none if no space is in the bytes.
+/// Returns the first word and the bytes after its space, or `None` without a space.
 #[tactic(auto, using(crate::proofs::Parts::words_of_some, crate::proofs::Parts::words_of_none, std::proofs::lemmas::List::take_rest))]
 fn first_word(bytes: &[u8]) -> Option<(&[u8], &[u8])>
     ensures { MatchOption result (words_of bytes.now ≡ bytes.now ∷ [])
@@ -134,7 +134,7 @@ fn first_word(bytes: &[u8]) -> Option<(&[u8], &[u8])>
     Some((&bytes[..at], &bytes[at + 1..]))
 }
 
-/// The bytes, if they are one word.
+/// Returns the bytes if they are one word.
 #[tactic(auto, using(crate::proofs::Parts::two_words, crate::proofs::Parts::words_of_none))]
 fn only_word(bytes: &[u8]) -> Option<&[u8]>
     ensures { MatchOption result

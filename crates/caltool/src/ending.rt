@@ -1,4 +1,4 @@
-//! How the program ends: its status, and its words on standard error.
+//! The end of the program: its status and its message on standard error.
 ghost use Rattle.std.specs.Prelude.{◌≡◌};
 ghost use Rattle.caltool.specs.Ending.{Says, status_of, words_of_end};
 
@@ -7,9 +7,8 @@ use crate::output::write_all;
 use crate::retries::Retries;
 use std::io::Write;
 
-/// Tells why the run ended early, in one line, and returns the status: 0 after a run that answered all of its input, else 2.
-///
-/// Where the writer fails, a beginning of the line was written, and the status alone tells the rest.
+/// Writes the message of the outcome, if it is an error, and returns the status: 0 for a run that
+/// answered its whole input, else 2. If the writer fails, it took only a prefix of the message.
 pub fn end<W: Write>(outcome: Result<(), Fault>, writer: &mut W) -> u8
     ensures status { result ≡ status_of outcome }
     ensures told { Says (words_of_end outcome) (W.contents writer.old) (W.contents writer.new) }
@@ -21,7 +20,7 @@ pub fn end<W: Write>(outcome: Result<(), Fault>, writer: &mut W) -> u8
     }
 }
 
-/// What is said of a run.
+/// Returns the message of an outcome, or nothing for a run that answered its whole input.
 fn words(outcome: Result<(), Fault>) -> &'static [u8]
     ensures { result.now ≡ words_of_end outcome }
 {

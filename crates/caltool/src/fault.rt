@@ -1,6 +1,6 @@
-//! Why a run ends early.
+//! The errors of a run.
 
-/// Why a run ends early.
+/// An error that ends a run.
 #[derive(Clone, Copy, Debug, PartialEq, Eq)]
 pub enum Fault {
     /// The input is longer than 4096 bytes.

@@ -1,4 +1,4 @@
-//! The day that a command asks for, or why there is none.
+//! Finding the day of a command.
 ghost use Rattle.cal_time.specs.Month.{number};
 ghost use Rattle.cal_time.specs.Refusals.{julian_day_out_of_range};
 ghost use Rattle.cal_time.specs.Weekday.{index};
@@ -8,21 +8,21 @@ ghost use Rattle.caltool.specs.Finds.{Finds};
 use cal_time::error::ComponentRange;
 use cal_time::{Date, Month, Weekday};
 
-/// The day of this Julian day.
+/// Returns the day with a Julian day, or the error `julian_day`.
 pub fn find_julian_day(julian_day: i32) -> Result<Date, ComponentRange>
     ensures { Finds (day_of_julian_day julian_day) julian_day_out_of_range result }
 {
     Date::from_julian_day(julian_day)
 }
 
-/// The day of this year and ordinal.
+/// Returns the day with a year and an ordinal, or the error `year` or `ordinal`.
 pub fn find_ordinal_date(year: i32, ordinal: u16) -> Result<Date, ComponentRange>
     ensures { Finds (day_of_ordinal_date year ordinal) (why_no_ordinal_date year) result }
 {
     Date::from_ordinal_date(year, ordinal)
 }
 
-/// The day of this year, number of a month and day of the month.
+/// Returns the day of a calendar date, or the first error that applies: `month`, `year` or `day`.
 pub fn find_calendar_date(year: i32, month: u8, day: u8) -> Result<Date, ComponentRange>
     ensures { Finds (day_of_calendar_date year month day) (why_no_calendar_date year month) result }
 {
@@ -39,7 +39,7 @@ fn find_date_of_month(year: i32, month: Month, day: u8) -> Result<Date, Componen
     Date::from_calendar_date(year, month, day)
 }
 
-/// The day of this ISO year, week and weekday.
+/// Returns the day of a week date, or the first error that applies: `year`, `week` or `weekday`.
 pub fn find_iso_week_date(year: i32, week: u8, weekday: Weekday) -> Result<Date, ComponentRange>
     ensures { Finds (day_of_iso_date year week (index weekday)) (why_no_iso_date year week) result }
 {

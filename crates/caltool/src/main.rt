@@ -20,7 +20,7 @@ mod tests;
 use std::io;
 use std::process::ExitCode;
 
-/// Ends with status 0, or with 2 and the reason on standard error.
+/// Ends with status 0, or with status 2 and a message on standard error.
 fn main(rt: HostRuntime) -> ExitCode {
     ExitCode::from(program::perform(&mut rt.reader(), &mut io::writer(&rt), &mut rt.stderr()))
 }

@@ -1,31 +1,31 @@
-//! The number that a word spells.
+//! Parsing numbers.
 ghost use Rattle.std.specs.Prelude.{◌≡◌, ◌==◌, slice_index};
 ghost use Rattle.caltool.specs.Numbers.{i64_of, i32_of, u8_of, u16_of};
 
 use std::str;
 
-/// A number from -2147483648 to 2147483647.
+/// Parses a number from -2147483648 to 2147483647.
 pub fn parse_i32(word: &[u8]) -> Option<i32>
     ensures { result ≡ i32_of word.now }
 {
     i32::try_from(parse_i64(word)?).ok()
 }
 
-/// A number from 0 to 255.
+/// Parses a number from 0 to 255.
 pub fn parse_u8(word: &[u8]) -> Option<u8>
     ensures { result ≡ u8_of word.now }
 {
     u8::try_from(parse_i64(word)?).ok()
 }
 
-/// A number from 0 to 65535.
+/// Parses a number from 0 to 65535.
 pub fn parse_u16(word: &[u8]) -> Option<u16>
     ensures { result ≡ u16_of word.now }
 {
     u16::try_from(parse_i64(word)?).ok()
 }
 
-/// A number of 64 bits with a sign. The narrower ones are read by it too, since std reads no `-0` as an unsigned number.
+/// Parses an `i64`. The smaller types use it too, because std's unsigned `parse` rejects `-0`.
 pub fn parse_i64(word: &[u8]) -> Option<i64>
     ensures { result ≡ i64_of word.now }
 {
@@ -38,7 +38,7 @@ pub fn parse_i64(word: &[u8]) -> Option<i64>
     text.parse().ok()
 }
 
-/// Whether a plus sign stands first, which std's `parse` takes.
+/// Returns `true` if the word begins with a plus sign, which std's `parse` accepts.
 fn begins_with_plus(word: &[u8]) -> bool
     ensures { result ≡ (slice_index word.now 0 == 43) }
 {

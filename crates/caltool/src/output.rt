@@ -7,9 +7,8 @@ use crate::fault::Fault;
 use crate::retries::Retries;
 use std::io::Write;
 
-/// Writes all the bytes. Where that fails, a beginning of them has gone out.
-///
-/// A write is taken again where it was interrupted and a retry is left.
+/// Writes all bytes. If this fails, only a prefix of them was written. Retries an interrupted write
+/// if a retry is left.
 #[tactic(auto, using(crate::proofs::Known::taken_more))]
 pub fn write_all<W: Write>(writer: &mut W, bytes: &[u8], retries: &mut Retries) -> Result<(), Fault>
     ensures ok { OnOk result (Appends (W.contents writer.old) (W.contents writer.new) bytes.now) }

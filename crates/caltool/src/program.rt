@@ -1,4 +1,4 @@
-//! The program, from its three streams to its status.
+//! The program over any three streams.
 ghost use Rattle.std.specs.Prelude.{Result};
 ghost use Rattle.caltool.specs.Ending.{Tells};
 ghost use Rattle.caltool.specs.Runs.{Ended};
@@ -8,11 +8,11 @@ use crate::ending::end;
 use crate::run::run;
 use std::io::{Read, Write};
 
-/// Answers the input line by line, tells on `errors` why that ended early, and returns the status: 0 after a run that answered all of
-/// its input, else 2.
+/// Answers the input line by line, writes a message to `errors` if that ended early, and returns
+/// the status: 0 for a run that answered its whole input, else 2.
 ///
-/// After the input `julian 0` and a line end it is 0, with `-4713 ordinal 328 julian 0` written and nothing told. After 4097 bytes it
-/// is 2, with nothing written and `input too long` told.
+/// After `julian 0` and a line end it has written `-4713 ordinal 328 julian 0` and no message, with
+/// status 0. After 4097 bytes it has written only the message `input too long`, with status 2.
 pub fn perform<R: Read, W: Write, E: Write>(reader: &mut R, writer: &mut W, errors: &mut E) -> u8
     ensures { (outcome : Result Unit Fault)
         × Ended outcome (R.remaining reader.old) (R.remaining reader.new) (W.contents writer.old)

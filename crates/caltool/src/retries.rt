@@ -1,13 +1,13 @@
-//! How often the reads of a run, or its writes, are taken again where they are interrupted.
+//! Retries of interrupted reads and writes.
 ghost use Rattle.std.specs.Prelude.{◌≡◌, ◌+◌, if◌then◌else◌};
 
 use std::io::{self, ErrorKind};
 use std::marker::Model;
 
-/// How many interrupted reads a run takes again, and how many interrupted writes. The next interruption is a failure.
+/// The number of retried reads of a run, and of retried writes. The next one fails.
 const INTERRUPTIONS: u16 = 4096;
 
-/// How often an interrupted call may still be taken again.
+/// The number of retries left.
 #[derive(Drop)]
 pub struct Retries {
     left: u16,
@@ -22,7 +22,7 @@ impl Model for Retries {
 }
 
 impl Retries {
-    /// That of a run which was not interrupted yet.
+    /// Creates the retries of a run that was not interrupted yet.
     pub fn new() -> Self
         ensures { result ≡ 4096 }
     {
@@ -31,7 +31,7 @@ impl Retries {
         }
     }
 
-    /// Whether a call that failed like this is taken again: it was interrupted, and not for too many times.
+    /// Returns `true` if the error is an interruption and a retry is left, which is then used.
     pub fn allows(&mut self, error: &io::Error) -> bool
         ensures { self.old ≡ (if result then self.new + 1 else self.new) }
     {

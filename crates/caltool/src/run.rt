@@ -33,7 +33,7 @@ pub fn run<R: Read, W: Write>(reader: &mut R, writer: &mut W) -> Result<(), Faul
     write_answers(writer, &buffer[..length])
 }
 
-/// Answers the lines in order. The answers go out in as few writes as their gathering allows.
+/// Answers the lines in order. Collects the answers, so that few writes are needed.
 fn write_answers<W: Write>(writer: &mut W, input: &[u8]) -> Result<(), Fault>
     ensures ok { OnOk result
         (Appends (W.contents writer.old) (W.contents writer.new) (out input.now)) }
@@ -52,7 +52,7 @@ fn write_answers<W: Write>(writer: &mut W, input: &[u8]) -> Result<(), Fault>
     write_all(writer, buffer.as_bytes(), &mut retries)
 }
 
-/// Makes room for a reply: where there is none, what was gathered is written.
+/// Makes room for a reply, by writing the buffer if it has none.
 fn make_room<W: Write>(
     writer: &mut W,
     buffer: &mut Buffer,

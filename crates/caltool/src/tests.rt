@@ -1,4 +1,4 @@
-//! Runs over inputs in memory: rows from outside, and inputs that are answered as a plain reading of the manual does.
+//! Runs over inputs in memory: rows from outside, and answers from a plain reading of the manual.
 ghost use Rattle.std.specs.Prelude.{◌≡◌, IfOk, OnOk};
 ghost use Rattle.caltool.specs.Answers.{out};
 
@@ -140,7 +140,7 @@ fn takes_4096_bytes(rt: HostRuntime) -> Result<(), Fail> {
     Ok(())
 }
 
-// The longest answer of each command, and of a refusal.
+// The longest answer of each command, and of an error.
 #[test]
 fn the_longest_answers_are_whole(rt: HostRuntime) -> Result<(), Fail> {
     let cases: [(&[u8], &[u8]); 8] = [

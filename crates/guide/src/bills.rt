@@ -42,7 +42,7 @@ fn due(workdays: &Workdays<'_>, billed: Date) -> Option<Date>
     workdays.adjusted(end, Convention::ModifiedFollowing)
 }
 
-/// The same day a year later, or 28 February for the 29th, for a caller who knows that there is a later year.
+/// Returns the date a year later, or 28 February for the 29th. The resulting year must be in range.
 fn a_year_on(date: Date) -> Date
     requires { IsYear (year_at date +ℤ pos 1) }
     ensures { IsMonthsLater date (pos 12) result }
@@ -53,7 +53,7 @@ fn a_year_on(date: Date) -> Date
     }
 }
 
-/// The working days from Monday to Friday but for the holidays, for a caller who knows that these rise.
+/// Creates the working days from Monday to Friday. The holidays must be in ascending order.
 fn office(holidays: &[Date]) -> Workdays<'_>
     requires { IsRising julian_day_at holidays.now }
     ensures { result ≡ record {
@@ -85,7 +85,7 @@ fn thanksgiving(year: i32) -> Result<Date, ComponentRange>
     nth_weekday_of_month(year, Month::November, Weekday::Thursday, 4)
 }
 
-/// Labor Day in the United States, for a caller who knows that the range has the year: each month has four Mondays.
+/// Returns Labor Day in the United States, the first Monday of September. The year is in range.
 fn labor_day(year: i32) -> Date
     requires { IsYear year }
     ensures { IsNthWeekday year 9 0 1 result }

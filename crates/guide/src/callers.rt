@@ -1,4 +1,4 @@
-//! Callers that know the clauses alone: what the documentation says of a call is provable here.
+//! Functions that are proved from the clauses of the calls only.
 ghost use Rattle.std.specs.Prelude.{◌≡◌, ℕ, ◌+◌, ◌-◌, ◌<◌, ◌≤◌, ◌+ℤ◌, ◌-ℤ◌, ◌≤ℤ◌, ◌==◌, ◌⊎◌, pos, IfOk, IfSome, IfNone, IsNone, IsSome, ◌↔◌, Some, Ok};
 ghost use Rattle.cal_time.specs.Date.{last_day, year_at, month_at, day_of_month_at, ordinal_at, weekday_at, HasCalendarDate, HasJulianDay, HasOrdinalDate, IsYear, NoDate};
 ghost use Rattle.cal_time.specs.IsoWeekDate.{HasIsoWeekDate};
@@ -10,8 +10,7 @@ use cal_time::util::{days_in_month, days_in_year, weeks_in_year};
 use cal_time::{Date, Month, SignedDuration, Time, Weekday, add_to_pair};
 use std::io;
 
-/// How many whole years someone who was born on the one day has lived on the other, that day or a later one: those between the
-/// two years, and one less before the birthday, which for 29 February is 1 March in a year that has no 29th.
+/// Returns the age in years. For 29 February, the birthday in common years is 1 March.
 fn age(born: Date, at: Date) -> i32
     requires { born ≤ at }
     ensures before { (month_at at < month_at born) ⊎ ((month_at at ≡ month_at born)
@@ -30,7 +29,7 @@ fn age(born: Date, at: Date) -> i32
     }
 }
 
-/// The day itself, by way of its Julian day.
+/// Converts a date to its Julian day and back.
 fn through_julian_day(date: Date) -> Date
     ensures { result ≡ date }
 {
@@ -40,7 +39,7 @@ fn through_julian_day(date: Date) -> Date
     }
 }
 
-/// The Julian day itself, by way of its day, or `None` exactly where no day has it.
+/// Converts a Julian day to its date and back. Returns `None` if it is out of range.
 fn julian_day_through(julian_day: i32) -> Option<i32>
     ensures same { IfSome result (λ same. same ≡ julian_day) }
     ensures none { IsNone result ↔ NoDate (HasJulianDay julian_day) }
@@ -51,7 +50,7 @@ fn julian_day_through(julian_day: i32) -> Option<i32>
     }
 }
 
-/// The day itself, by way of its ordinal date.
+/// Converts a date to its ordinal date and back.
 fn through_ordinal_date(date: Date) -> Date
     ensures { result ≡ date }
 {
@@ -62,7 +61,7 @@ fn through_ordinal_date(date: Date) -> Date
     }
 }
 
-/// The ordinal date itself, by way of its day, or `None` exactly where no day has it.
+/// Converts an ordinal date to its date and back. Returns `None` if no date has it.
 fn ordinal_date_through(year: i32, ordinal: u16) -> Option<(i32, u16)>
     ensures same { IfSome result (λ same. same ≡ (year, ordinal)) }
     ensures none { IsNone result ↔ NoDate (HasOrdinalDate year ordinal) }
@@ -73,7 +72,7 @@ fn ordinal_date_through(year: i32, ordinal: u16) -> Option<(i32, u16)>
     }
 }
 
-/// The day itself, by way of its calendar date.
+/// Converts a date to its calendar date and back.
 fn through_calendar_date(date: Date) -> Date
     ensures { result ≡ date }
 {
@@ -84,7 +83,7 @@ fn through_calendar_date(date: Date) -> Date
     }
 }
 
-/// The calendar date itself, by way of its day, or `None` exactly where no day has it.
+/// Converts a calendar date to its date and back. Returns `None` if no date has it.
 fn calendar_date_through(year: i32, month: Month, day: u8) -> Option<(i32, Month, u8)>
     ensures same { IfSome result (λ same. same ≡ (year, month, day)) }
     ensures none { IsNone result ↔ NoDate (HasCalendarDate year (number month) day) }
@@ -95,7 +94,7 @@ fn calendar_date_through(year: i32, month: Month, day: u8) -> Option<(i32, Month
     }
 }
 
-/// The day itself, by way of its week date.
+/// Converts a date to its week date and back.
 fn through_iso_week_date(date: Date) -> Date
     ensures { result ≡ date }
 {
@@ -106,7 +105,7 @@ fn through_iso_week_date(date: Date) -> Date
     }
 }
 
-/// The week date itself, by way of its day, or `None` exactly where no day has it.
+/// Converts a week date to its date and back. Returns `None` if no date has it.
 fn iso_week_date_through(year: i32, week: u8, weekday: Weekday) -> Option<(i32, u8, Weekday)>
     ensures same { IfSome result (λ same. same ≡ (year, week, weekday)) }
     ensures none { IsNone result ↔ NoDate (HasIsoWeekDate year week (index weekday)) }
@@ -124,26 +123,26 @@ fn days_left(date: Date) -> u16
     days_in_year(date.year()) - date.ordinal()
 }
 
-/// The days that are left in the month after this one.
+/// Returns the number of days left in the month after this one.
 fn days_left_in_month(date: Date) -> u8
     ensures { result + day_of_month_at date ≡ days_in_month (year_at date) (month_at date) }
 {
     date.month().length(date.year()) - date.day()
 }
 
-/// The days since 1 January.
+/// Returns the number of days since 1 January.
 fn days_since_new_year(date: Date) -> u16
     ensures { result + 1 ≡ ordinal_at date }
 {
     date.ordinal() - 1
 }
 
-/// Whether the year has a week 53.
+/// Returns 1 if the year has a week 53, else 0.
 fn extra_weeks(year: i32) -> u8 {
     weeks_in_year(year) - 52
 }
 
-/// The weeks of the ISO year that came before the week of this day.
+/// Returns the number of weeks of the ISO year before the week of this day.
 fn weeks_gone(date: Date) -> u8 {
     date.iso_week() - 1
 }
@@ -165,7 +164,7 @@ fn last_friday(year: i32, month: Month) -> Option<Date>
     }
 }
 
-/// The day itself, by a move there and back.
+/// Adds a duration and subtracts it again, which gives the same date.
 fn there_and_back_by(date: Date, duration: SignedDuration) -> Option<Date>
     ensures { IfSome result (λ same. same ≡ date) }
 {
@@ -174,7 +173,7 @@ fn there_and_back_by(date: Date, duration: SignedDuration) -> Option<Date>
     Some(back)
 }
 
-/// The pair of date and time that a move by nothing leads to: there is one, as the parts say that the two are in their ranges.
+/// Adds a duration of 0 to a date and a time. The result exists, because the parts are in range.
 fn moved_by_nothing(date: Date, time: Time) -> Option<(Date, Time)>
     ensures { IsSome result }
 {
@@ -182,7 +181,7 @@ fn moved_by_nothing(date: Date, time: Time) -> Option<(Date, Time)>
     add_to_pair(date, time, SignedDuration::ZERO)
 }
 
-/// The day a week before, where there is one.
+/// Returns the date a week earlier, or `None` if it is out of range.
 fn a_week_back(date: Date) -> Option<Date>
     ensures back { IfSome result (λ day. day + 7 ≡ date) }
     ensures none { IsNone result ↔ (date < 7) }
@@ -190,7 +189,7 @@ fn a_week_back(date: Date) -> Option<Date>
     date.checked_sub(SignedDuration::WEEK)
 }
 
-/// The day on which a bill of this day is due, 30 days later, and the week that this is in.
+/// Returns the due date of a bill, 30 days later, and the ISO week of the due date.
 fn due(date: Date) -> Option<(Date, u8)>
     ensures { IfSome result (λ due. due.0 ≡ date + 30) }
 {
@@ -198,21 +197,21 @@ fn due(date: Date) -> Option<(Date, u8)>
     Some((due, due.iso_week()))
 }
 
-/// The next Thursday, at most a week away.
+/// Returns the next Thursday, at most a week later.
 fn next_thursday(date: Date) -> Option<Date>
     ensures { IfSome result (λ day. (date < day) × (day ≤ date + 7) × (weekday_at day ≡ 3)) }
 {
     date.checked_next_occurrence(Weekday::Thursday)
 }
 
-/// The day some whole days later, or the last one: never an earlier day.
+/// Adds days, up to the last day of the range. The result is not earlier.
 fn not_before(date: Date, days: u32) -> Date
     ensures { date ≤ result }
 {
     date.saturating_add(SignedDuration::days(i64::from(days)))
 }
 
-/// The day itself, by the year that it has.
+/// Replaces the year with the current year.
 fn same_year(date: Date) -> Date
     ensures { result ≡ date }
 {
@@ -222,14 +221,14 @@ fn same_year(date: Date) -> Date
     }
 }
 
-/// Whether this is the last day of the range.
+/// Returns `true` for the last day of the range.
 fn is_last(date: Date) -> bool
     ensures { result ≡ (date == last_day) }
 {
     date.next_day().is_none()
 }
 
-/// How many days from one to the other, both included, are no Saturday and no Sunday.
+/// Counts the days from one date to another, both included, without Saturdays and Sundays.
 fn working_days(from: Date, to: Date) -> u32
     ensures { result ≤ to + 1 - from }
 {

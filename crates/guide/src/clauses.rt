@@ -1,4 +1,4 @@
-//! Functions that are proved from the clauses of `cal_time` alone.
+//! Functions that are proved from the clauses of `cal_time` only.
 ghost use Rattle.std.specs.Prelude.{◌≡◌, pos, ◌+ℤ◌, IfOk, IfSome};
 ghost use Rattle.cal_time.specs.Date.{last_day, year_at, month_at, HasCalendarDate};
 ghost use Rattle.cal_time.specs.Move.{IsDateNumber};
@@ -18,7 +18,7 @@ fn last_of_month(year: i32, month: Month) -> Result<Date, ComponentRange>
     Date::from_calendar_date(year, month, days_in_month(month, year))
 }
 
-/// The first day of the month of that day, by the month's index.
+/// Returns the first day of the month, by the month's index.
 fn month_start(date: Date) -> Date
     ensures { HasCalendarDate (year_at date) (month_at date) 1 result }
 {

@@ -1,4 +1,4 @@
-//! Date-times, alone and at an offset, and what their clauses let a caller prove.
+//! Date-times with and without an offset, and the properties that follow from their clauses.
 ghost use Rattle.std.specs.Prelude.{◌≡◌, ◌↔◌, ◌≤◌, pos, ◌+ℤ◌, ◌-ℤ◌, ◌*ℤ◌, ◌<ℤ◌, IfSome, IsSome, IsTrue, Some, Ok};
 ghost use Rattle.cal_time.specs.Date.{IsDate, IsYear};
 ghost use Rattle.cal_time.specs.SignedDuration.{second, IsDuration};
@@ -12,7 +12,7 @@ use cal_time::error::ComponentRange;
 use cal_time::{Date, Month, SignedDuration, Time, UtcOffset};
 use std::io;
 
-/// The date and the time of a date-time that was made of them.
+/// Returns the date and the time that a date-time was made from.
 fn parts_come_back(date: Date, time: Time) -> (Date, Time)
     ensures { result ≡ (date, time) }
 {
@@ -20,14 +20,14 @@ fn parts_come_back(date: Date, time: Time) -> (Date, Time)
     (plain.date(), plain.time())
 }
 
-/// A date-time made of its own parts.
+/// Creates a date-time from its own parts.
 fn made_of_its_parts(plain: PlainDateTime) -> PlainDateTime
     ensures { result ≡ plain }
 {
     PlainDateTime::new(plain.date(), plain.time())
 }
 
-/// A date-time made again of its calendar date and its clock.
+/// Creates a date-time from its own calendar date and time.
 fn made_of_its_numbers(plain: PlainDateTime) -> Result<PlainDateTime, ComponentRange>
     ensures { result ≡ Ok plain }
 {
@@ -37,7 +37,7 @@ fn made_of_its_numbers(plain: PlainDateTime) -> Result<PlainDateTime, ComponentR
     with_hms_nano(date, hour, minute, second, nanosecond)
 }
 
-/// The date and the clock of a date-time that was made of them.
+/// Returns the date, the hour and the minute that a date-time was made from.
 fn clock_comes_back(date: Date, hour: u8, minute: u8) -> Option<(Date, u8, u8)>
     ensures some { IsSome result ↔ (hour ≤ 23) × (minute ≤ 59) }
     ensures same { IfSome result (λ same. same ≡ (date, hour, minute)) }
@@ -46,7 +46,7 @@ fn clock_comes_back(date: Date, hour: u8, minute: u8) -> Option<(Date, u8, u8)>
     Some((plain.date(), plain.hour(), plain.minute()))
 }
 
-/// The year of a date-time is one of the range, its date a day of it, and its time one of a day.
+/// Returns the year, the date and the time of day, which are in range.
 fn ranges(plain: PlainDateTime) -> (i32, Date, Time)
     ensures year { IsYear result.0 }
     ensures date { IsDate result.1 }
@@ -55,7 +55,7 @@ fn ranges(plain: PlainDateTime) -> (i32, Date, Time)
     (plain.year(), plain.date(), plain.time())
 }
 
-/// The ranges of the parts of the date.
+/// Returns the components of the date, within their ranges.
 fn date_ranges(plain: PlainDateTime) -> (u8, u16, u8, u8, u8)
     ensures day { result.0 ≤ 31 }
     ensures ordinal { result.1 ≤ 366 }
@@ -70,7 +70,7 @@ fn date_ranges(plain: PlainDateTime) -> (u8, u16, u8, u8, u8)
     )
 }
 
-/// The ranges of the parts of the clock.
+/// Returns the components of the time of day, within their ranges.
 fn clock_ranges(plain: PlainDateTime) -> (u8, u8, u8, u16, u32, u32)
     ensures clock { (result.0 ≤ 23) × (result.1 ≤ 59) × (result.2 ≤ 59) }
     ensures below { (result.3 ≤ 999) × (result.4 ≤ 999_999) × (result.5 ≤ 999_999_999) }
@@ -85,7 +85,7 @@ fn clock_ranges(plain: PlainDateTime) -> (u8, u8, u8, u16, u32, u32)
     )
 }
 
-/// At an offset the local date is a day of the range too, and the local time one of a day.
+/// Returns the local date-time, its date and time, and the offset, which are in range.
 fn local_ranges(moment: OffsetDateTime) -> (PlainDateTime, Date, Time, UtcOffset)
     ensures local { IsDateTime result.0 }
     ensures date { IsDate result.1 }
@@ -100,7 +100,7 @@ fn local_ranges(moment: OffsetDateTime) -> (PlainDateTime, Date, Time, UtcOffset
     )
 }
 
-/// A duration on and back again is the same date-time.
+/// Adds a duration and subtracts it again, which gives the same date-time.
 fn on_and_back(plain: PlainDateTime, duration: SignedDuration) -> Option<PlainDateTime>
     ensures some { IsSome result ↔ IsDateTime (plain +ℤ duration) }
     ensures same { IfSome result (λ same. same ≡ plain) }
@@ -108,7 +108,7 @@ fn on_and_back(plain: PlainDateTime, duration: SignedDuration) -> Option<PlainDa
     plain.checked_add(duration)?.checked_sub(duration)
 }
 
-/// A difference is a duration.
+/// Returns the difference of two date-times, which is a duration.
 fn difference(a: PlainDateTime, b: PlainDateTime) -> SignedDuration
     ensures value { result ≡ a -ℤ b }
     ensures range { IsDuration result }
@@ -116,35 +116,35 @@ fn difference(a: PlainDateTime, b: PlainDateTime) -> SignedDuration
     a - b
 }
 
-/// Moved by the difference, one is the other.
+/// Adds the difference of two date-times to the first, which gives the second.
 fn moved_by_difference(from: PlainDateTime, to: PlainDateTime) -> Option<PlainDateTime>
     ensures { result ≡ Some to }
 {
     from.checked_add(to - from)
 }
 
-/// And back by it.
+/// Subtracts the difference from the second, which gives the first.
 fn back_by_difference(from: PlainDateTime, to: PlainDateTime) -> Option<PlainDateTime>
     ensures { result ≡ Some from }
 {
     to.checked_sub(to - from)
 }
 
-/// A time of day replaced by itself.
+/// Replaces the time of day with itself.
 fn own_time(plain: PlainDateTime) -> PlainDateTime
     ensures { result ≡ plain }
 {
     plain.replace_time(plain.time())
 }
 
-/// A date replaced by itself.
+/// Replaces the date with itself.
 fn own_date(plain: PlainDateTime) -> PlainDateTime
     ensures { result ≡ plain }
 {
     plain.replace_date(plain.date())
 }
 
-/// The offset and the local date-time of what was made of them.
+/// Returns the parts that a date-time at an offset was made from.
 fn offset_comes_back(plain: PlainDateTime, offset: UtcOffset) -> (PlainDateTime, UtcOffset)
     ensures { result ≡ (plain, offset) }
 {
@@ -152,7 +152,7 @@ fn offset_comes_back(plain: PlainDateTime, offset: UtcOffset) -> (PlainDateTime,
     (moment.local(), moment.offset())
 }
 
-/// The same instant at another offset is equal to the first.
+/// Compares a moment with the same instant at another offset. They are equal.
 fn is_same_elsewhere(moment: OffsetDateTime, offset: UtcOffset) -> Option<bool>
     ensures some { IsSome result ↔ IsDateTime (local_at (instant moment) offset) }
     ensures equal { IfSome result (λ same. IsTrue same) }
@@ -160,7 +160,7 @@ fn is_same_elsewhere(moment: OffsetDateTime, offset: UtcOffset) -> Option<bool>
     Some(moment.checked_to_offset(offset)? == moment)
 }
 
-/// The same instant at another offset, where it is in the range.
+/// Converts a moment to another offset, if it is in range there.
 fn elsewhere(moment: OffsetDateTime, offset: UtcOffset) -> Option<OffsetDateTime>
     ensures some { IsSome result ↔ IsDateTime (local_at (instant moment) offset) }
     ensures same_instant { IfSome result (λ there. instant there ≡ instant moment) }
@@ -169,7 +169,7 @@ fn elsewhere(moment: OffsetDateTime, offset: UtcOffset) -> Option<OffsetDateTime
     moment.checked_to_offset(offset)
 }
 
-/// There and back is the same value, offset and all.
+/// Converts a moment to another offset and back, which gives the same value.
 fn there_and_back(moment: OffsetDateTime, offset: UtcOffset) -> Option<OffsetDateTime>
     ensures some { IsSome result ↔ IsDateTime (local_at (instant moment) offset) }
     ensures same { IfSome result (λ same. same ≡ moment) }
@@ -179,21 +179,21 @@ fn there_and_back(moment: OffsetDateTime, offset: UtcOffset) -> Option<OffsetDat
         .checked_to_offset(moment.offset())
 }
 
-/// Equality goes by the instant.
+/// Returns `true` if two moments are the same instant.
 fn is_same(a: OffsetDateTime, b: OffsetDateTime) -> bool
     ensures { IsTrue result ↔ (instant a ≡ instant b) }
 {
     a == b
 }
 
-/// So does the order.
+/// Returns `true` if the first moment is earlier.
 fn is_earlier(a: OffsetDateTime, b: OffsetDateTime) -> bool
     ensures { IsTrue result ↔ (instant a <ℤ instant b) }
 {
     a < b
 }
 
-/// The later of two, the second where they are the same instant.
+/// Returns the later of two moments, or the second if they are the same instant.
 fn later(a: OffsetDateTime, b: OffsetDateTime) -> OffsetDateTime
     ensures tie { instant a ≡ instant b → result ≡ b }
     ensures from_a { ¬ (instant result <ℤ instant a) }
@@ -202,7 +202,7 @@ fn later(a: OffsetDateTime, b: OffsetDateTime) -> OffsetDateTime
     if b < a { a } else { b }
 }
 
-/// A move keeps the offset and moves the instant.
+/// Adds a duration. The offset stays, and the instant changes.
 fn moved(moment: OffsetDateTime, duration: SignedDuration) -> Option<OffsetDateTime>
     ensures instant { IfSome result (λ moved. instant moved ≡ instant moment +ℤ duration) }
     ensures offset { IfSome result (λ moved. moved.offset ≡ moment.offset) }
@@ -210,7 +210,7 @@ fn moved(moment: OffsetDateTime, duration: SignedDuration) -> Option<OffsetDateT
     moment.checked_add(duration)
 }
 
-/// The difference of two is that of their instants, and a duration.
+/// Returns the difference of two instants, which is a duration.
 fn between(a: OffsetDateTime, b: OffsetDateTime) -> SignedDuration
     ensures value { result ≡ instant a -ℤ instant b }
     ensures range { IsDuration result }
@@ -218,7 +218,7 @@ fn between(a: OffsetDateTime, b: OffsetDateTime) -> SignedDuration
     a - b
 }
 
-/// Moved by the difference, one is the other at its own offset: equal, and the same value where the offsets are.
+/// Adds the difference of two moments to the first, which gives the instant of the second.
 fn moved_to(from: OffsetDateTime, to: OffsetDateTime) -> Option<OffsetDateTime>
     ensures instant { IfSome result (λ moved. instant moved ≡ instant to) }
     ensures offset { IfSome result (λ moved. moved.offset ≡ from.offset) }
@@ -227,7 +227,7 @@ fn moved_to(from: OffsetDateTime, to: OffsetDateTime) -> Option<OffsetDateTime>
     from.checked_add(to - from)
 }
 
-/// A Unix time in seconds, read at any offset.
+/// Converts a Unix time in seconds to a moment at an offset and back.
 fn unix_seconds_there_and_back(timestamp: i64, offset: UtcOffset) -> Option<i64>
     ensures { IfSome result (λ same. same ≡ timestamp) }
 {
@@ -235,7 +235,7 @@ fn unix_seconds_there_and_back(timestamp: i64, offset: UtcOffset) -> Option<i64>
     Some(moment.checked_to_offset(offset)?.unix_timestamp())
 }
 
-/// A Unix time in nanoseconds, read at any offset.
+/// Converts a Unix time in nanoseconds to a moment at an offset and back.
 #[tactic(auto, using(std::proofs::lemmas::Int::ints))]
 fn unix_nanoseconds_there_and_back(timestamp: i128, offset: UtcOffset) -> Option<i128>
     ensures { IfSome result (λ same. same ≡ timestamp) }
@@ -247,7 +247,7 @@ fn unix_nanoseconds_there_and_back(timestamp: i128, offset: UtcOffset) -> Option
     Some(shown.unix_timestamp_nanos())
 }
 
-/// The moment at UTC of a moment's Unix time is the same instant.
+/// Converts a moment to a Unix time and back, which gives the same instant at UTC.
 #[tactic(auto, using(std::proofs::lemmas::Int::ints))]
 fn through_unix_time(moment: OffsetDateTime) -> Option<OffsetDateTime>
     ensures { IfSome result (λ utc. instant utc ≡ instant moment) }
@@ -258,16 +258,16 @@ fn through_unix_time(moment: OffsetDateTime) -> Option<OffsetDateTime>
     Some(utc)
 }
 
-/// Shown at the offset that the Unix time was taken at, it is the same value.
+/// Converts a moment to a Unix time, back, and to its own offset, which gives the same value.
 fn moment_comes_back(moment: OffsetDateTime) -> Option<OffsetDateTime>
     ensures { IfSome result (λ same. same ≡ moment) }
 {
-    // That what its clock shows is in the range is known from a call alone.
+    // This call states that the local date-time is in range.
     let _ = moment.local();
     through_unix_time(moment)?.checked_to_offset(moment.offset())
 }
 
-/// The instant of a Unix time in seconds.
+/// Creates a moment from a Unix time in seconds.
 fn unix_instant(timestamp: i64) -> Option<OffsetDateTime>
     ensures some { IsSome result ↔ IsDateTime (unix_epoch +ℤ timestamp *ℤ pos second) }
     ensures instant { IfSome result (λ moment.
@@ -276,7 +276,7 @@ fn unix_instant(timestamp: i64) -> Option<OffsetDateTime>
     OffsetDateTime::from_unix_timestamp(timestamp).ok()
 }
 
-/// The Unix time is the same at every offset.
+/// Returns the Unix time of a moment at another offset, which is the same.
 fn unix_time_elsewhere(moment: OffsetDateTime, offset: UtcOffset) -> Option<i128>
     ensures { IfSome result (λ time. time ≡ unix_nanoseconds (instant moment)) }
 {

@@ -1,4 +1,4 @@
-//! Callers that know the clauses and the laws of `cal_time`: the order of days, and how many lie between.
+//! Functions that are proved from the clauses and the laws of `cal_time`: days in order.
 ghost use Rattle.std.specs.Prelude.{◌≡◌, ◌+◌, ◌-◌, ◌≤◌, ◌<ℤ◌, ◌≤ℤ◌, ◌==◌, pos, IfSome, IsTrue, ◌↔◌, Some};
 ghost use Rattle.cal_time.specs.Date.{first_year, last_year, last_day, year_at, month_at, IsYear, HasCalendarDate, HasOrdinalDate};
 ghost use Rattle.cal_time.specs.Filters.{IsFirstDay};
@@ -8,7 +8,7 @@ ghost use Rattle.cal_time.specs.Occurrence.{is_on};
 use cal_time::{Date, Month, SignedDuration, Weekday};
 use std::io;
 
-/// Whether the two are one day.
+/// Returns `true` if two dates are the same.
 fn is_same(one: Date, other: Date) -> bool
     ensures value { result ≡ (one == other) }
     ensures same { IsTrue result ↔ (one ≡ other) }
@@ -16,14 +16,14 @@ fn is_same(one: Date, other: Date) -> bool
     one == other
 }
 
-/// Whether the day has itself in its own year: it always has.
+/// Returns `true`: replacing the year with the current year gives the same date.
 fn stays_in_its_year(date: Date) -> bool
     ensures { IsTrue result }
 {
     date.replace_year(date.year()) == Ok(date)
 }
 
-/// The year of the day some whole days later, or of the last one: never an earlier year.
+/// Returns the year some days later, or the last year of the range. It is not an earlier year.
 fn later_year(date: Date, days: u32) -> i32
     ensures { year_at date ≤ℤ result }
 {
@@ -41,7 +41,7 @@ fn days_between_in_year(from: Date, to: Date) -> u16
     to.ordinal() - from.ordinal()
 }
 
-/// The first day of the year.
+/// Returns the first day of a year. The year must be in range.
 fn new_year(year: i32) -> Date
     requires { IsYear year }
     ensures { HasOrdinalDate year 1 result }
@@ -52,7 +52,7 @@ fn new_year(year: i32) -> Date
     }
 }
 
-/// The days from 1 January of the year to that of the next one.
+/// Returns the number of days from 1 January of the year to the next 1 January.
 fn days_to_next_new_year(year: i32) -> i32
     requires first { first_year ≤ℤ year }
     requires last { year <ℤ last_year }
@@ -61,7 +61,7 @@ fn days_to_next_new_year(year: i32) -> i32
     new_year(year + 1).to_julian_day() - new_year(year).to_julian_day()
 }
 
-/// The first day of the month of this day.
+/// Returns the first day of the month of this date.
 #[tactic(auto, using(cal_time::specs::Days::ranges))]
 fn first_of_its_month(date: Date) -> Date
     ensures { HasCalendarDate (year_at date) (month_at date) 1 result }
@@ -72,7 +72,7 @@ fn first_of_its_month(date: Date) -> Date
     }
 }
 
-/// The first day of the walk from one day to another that does not come before it.
+/// Returns the first item of the iterator from one date to another, the first date.
 #[tactic(auto, using(cal_time::specs::Walks::days_of_walks))]
 fn first_of_walk(from: Date, to: Date) -> Option<Date>
     requires { from ≤ to }
@@ -81,7 +81,7 @@ fn first_of_walk(from: Date, to: Date) -> Option<Date>
     from.iter_to(to).next()
 }
 
-/// The next Friday: no day between is one.
+/// Returns the next Friday. No day before it is a Friday.
 #[tactic(auto, using(cal_time::specs::Filters::first_passing))]
 fn next_friday(date: Date) -> Option<Date>
     ensures { IfSome result (IsFirstDay (is_on 4) (date + 1) (last_day - date)) }

@@ -1,4 +1,4 @@
-//! Dates made in each of the four forms.
+//! Creating dates in each of the four forms.
 use cal_time::{Date, Month, Weekday};
 use std::io;
 

@@ -1,4 +1,4 @@
-//! Moves by durations and to weekdays.
+//! Moving dates by durations and to weekdays.
 use cal_time::{Date, Month, SignedDuration, Time, Weekday};
 use std::io;
 
@@ -29,7 +29,7 @@ pub fn show(rt: &impl Print) -> io::Result<()> {
     println!(rt; "{:?}", in_march(day))?;
     println!(rt; "{:?}", Date::MAX.checked_add(SignedDuration::DAY))?;
 
-    // A clock goes round, and tells into which day.
+    // A time of day wraps around midnight, and the adjustment says to which day.
     let (_, time) = Time::MIDNIGHT.adjusting_sub(SignedDuration::MINUTE);
     println!(rt; "{time}")
 }

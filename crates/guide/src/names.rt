@@ -1,4 +1,4 @@
-//! Each name that `cal_time` offers is used here or in another module, with the conditions met.
+//! Uses the names of `cal_time`, so that each is used here or in another module.
 ghost use Rattle.std.specs.Prelude.{◌+◌, ◌≤◌};
 ghost use Rattle.cal_time.specs.Date.{last_day};
 
@@ -263,7 +263,7 @@ fn dates(rt: &impl Print, date: Date) -> io::Result<()> {
     println!(rt; "{}", is_rising(&[date, Date::MAX]))
 }
 
-/// The occurrences around a day, for a caller who knows that they are in the range.
+/// Returns the occurrences around a date, which must be in range.
 fn occurrences(date: Date) -> [Date; 4]
     requires before { 14 ≤ date }
     requires after { date + 14 ≤ last_day }

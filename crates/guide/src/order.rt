@@ -1,4 +1,4 @@
-//! Values compared and sorted.
+//! Comparing and sorting values.
 use cal_time::{Date, extent, is_rising};
 use std::io;
 

@@ -1,4 +1,4 @@
-//! The parts of dates, times, offsets and durations.
+//! The components of dates, times, offsets and durations.
 use cal_time::{Date, SignedDuration, Time, UtcOffset};
 use std::io;
 

@@ -1,4 +1,4 @@
-//! The texts of values.
+//! Printing values.
 ghost use Rattle.std.specs.Prelude.{◌≡◌, ◌≤◌, ◌++◌, codes};
 ghost use Rattle.cal_time.specs.DateText.{text};
 ghost use Rattle.cal_time.specs.Time.{text as time_text};
@@ -18,7 +18,7 @@ fn date_and_time(date: Date, time: Time) -> ShortText
     line
 }
 
-/// A weekday and an offset, in place.
+/// Returns a weekday and an offset as one text.
 fn weekday_and_offset(weekday: Weekday, offset: UtcOffset) -> ShortText
     ensures { result ≡ name weekday ++ codes " " ++ offset_text offset }
 {
@@ -29,7 +29,7 @@ fn weekday_and_offset(weekday: Weekday, offset: UtcOffset) -> ShortText
     line
 }
 
-/// How many bytes a duration prints.
+/// Returns the length of a printed duration.
 fn width(duration: SignedDuration) -> usize
     ensures { result ≤ 42 }
 {

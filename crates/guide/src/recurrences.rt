@@ -1,4 +1,4 @@
-//! Days that come back, by a rule and by its text.
+//! Recurrence rules, and recurrences in text.
 ghost use Rattle.std.specs.Prelude.{◌≡◌, ◌<◌, IfOk, IfSome, Ok, true};
 ghost use Rattle.cal_recurrence.specs.declared.recurrence.Recurrence.{Recurrence};
 ghost use Rattle.cal_recurrence.specs.Text.{recurrence_of};
@@ -10,7 +10,7 @@ use cal_schedule::{ByDay, Frequency, Rule};
 use cal_time::{Date, Month, Weekday};
 use std::io;
 
-/// The next day of the rule, and the one after it.
+/// Returns the next two days of a rule after a date.
 fn next_two(rule: &Rule<'_>, date: Date) -> Option<(Date, Date)>
     ensures order { IfSome result (λ days. (date < days.0) × (days.0 < days.1)) }
     ensures on { IfSome result (λ days.

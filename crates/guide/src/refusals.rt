@@ -1,4 +1,4 @@
-//! What a constructor refuses, why, and how a refusal is handed on.
+//! Errors of constructors, and how to pass them on.
 ghost use Rattle.std.specs.Prelude.{◌≡◌, ℕ, IfOk, IfErr, IfSome, IsNone};
 ghost use Rattle.cal_time.specs.Date.{weekday_at, HasCalendarDate, HasJulianDay, HasOrdinalDate, IsDate};
 ghost use Rattle.cal_time.specs.Month.{number};
@@ -18,33 +18,33 @@ fn first_of_month(year: i32, month: Month) -> Result<(Date, Weekday), ComponentR
     Ok((date, date.weekday()))
 }
 
-/// The day of that year with that ordinal, or nothing.
+/// Returns the date of a year and an ordinal, or `None`.
 fn day_of_year(year: i32, ordinal: u16) -> Option<Date>
     ensures { IfSome result (HasOrdinalDate year ordinal) }
 {
     Date::from_ordinal_date(year, ordinal).ok()
 }
 
-/// The weekday of the day of that Julian day, or the refusal.
+/// Returns the weekday of a Julian day, or the error.
 fn weekday_of(julian_day: i32) -> Result<Weekday, ComponentRange>
     ensures { IfErr result (λ error. error ≡ julian_day_out_of_range) }
 {
     Date::from_julian_day(julian_day).map(|date| date.weekday())
 }
 
-/// The day of that Julian day, or the last of all where there is none.
+/// Returns the date of a Julian day, or the last one if it is out of range.
 fn day_or_last(julian_day: i32) -> Date
     ensures { (n : ℕ) → IsDate n → HasJulianDay julian_day n → result ≡ n }
 {
     Date::from_julian_day(julian_day).unwrap_or(Date::MAX)
 }
 
-/// Why a table is not booked.
+/// An error of a booking.
 #[derive(Clone, Copy, Debug, PartialEq, Eq)]
 enum NotBooked {
-    /// There is no such day.
+    /// The date is out of range.
     Date(ComponentRange),
-    /// There is no such time.
+    /// The time is out of range.
     Time(ComponentRange),
 }
 
@@ -63,7 +63,7 @@ fn booking(year: i32, month: Month, day: u8, hour: u8) -> Result<(Date, Time), N
     Ok((date, time))
 }
 
-/// The name of the component that has no such value, or nothing where the date is one.
+/// Returns the name of the first component out of range, or `None` for a date.
 fn component_at_fault(year: i32, month: Month, day: u8) -> Option<&'static str>
     ensures { (n : ℕ) → IsDate n → HasCalendarDate year (number month) day n → IsNone result }
 {

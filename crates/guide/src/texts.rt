@@ -20,7 +20,7 @@ fn show_date(rt: &impl Print, text: &str) -> io::Result<()> {
     }
 }
 
-/// Prints how long after 1970-01-01 0:00 UTC a moment in text is, and the moment at UTC.
+/// Prints the time from 1970-01-01 0:00 UTC to a moment in text, and the moment at UTC.
 fn show_moment(rt: &impl Print, text: &str) -> io::Result<()> {
     let moment = match rfc3339::read(text.as_bytes()) {
         Ok(moment) => moment,
@@ -53,7 +53,7 @@ fn bytes_so_far(text: &[u8]) -> Option<usize>
     }
 }
 
-/// The day of a calendar date, and of no other text.
+/// Parses a calendar date, and no other text.
 fn calendar_day(bytes: &[u8]) -> Option<Date>
     ensures { IfSome result (λ n. bytes.now ≡ text n) }
 {
@@ -69,7 +69,7 @@ fn calendar_day(bytes: &[u8]) -> Option<Date>
     }
 }
 
-/// Prints a moment of RFC 3339 by its Unix time, and any other text by what it is.
+/// Prints a moment of RFC 3339 as a Unix time, a date with its form, and a Unix time in parts.
 fn show_any(rt: &impl Print, text: &str) -> io::Result<()> {
     let found = match read_any(text.as_bytes()) {
         Ok(found) => found,

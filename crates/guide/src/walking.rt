@@ -1,4 +1,4 @@
-//! Walks over days, and endless walks over months and weekdays.
+//! Iterating over days, and endlessly over months and weekdays.
 use cal_time::iter::MonthIter;
 use cal_time::{Date, Month, Weekday};
 use std::io;
@@ -23,7 +23,7 @@ pub fn show(rt: &impl Print) -> io::Result<()> {
     };
     println!(rt; "{}", fridays_13th(from, to))?;
 
-    // From both ends, by index, and with the length known.
+    // An iterator goes from both ends and by index, and knows its length.
     let mut walk = from.iter_to(to);
     let (day, last) = (walk.nth(30), walk.next_back());
     println!(rt; "{day:?} {last:?} {}", walk.len())?;

@@ -1,8 +1,8 @@
-//! Each contract that is no plain equation leaves one answer: two calls with the same arguments are proved to give the same.
+//! Each contract that isn't a plain equation allows only one result: two calls return the same.
 //!
-//! A proof knows nothing of a call but its clauses. So where they let a second answer through, the line of that call stays open.
+//! A proof knows only the clauses, so a second result would leave the line of its call open.
 
-/// What two calls give.
+/// The results of two calls.
 type Twice<T> = (T, T);
 
 macro_rules! twice {

@@ -52,7 +52,7 @@ fn months_later(rt: HostRuntime) {
         // The documentation of chrono.
         ((2022, 2, 20), 6, (2022, 8, 20)),
         ((2022, 7, 31), 2, (2022, 9, 30)),
-        // That of java.time.
+        // java.time.
         ((2007, 3, 31), 1, (2007, 4, 30)),
         // ISO 8601: the year 0 comes after the year -1.
         ((0, 1, 1), -1, (-1, 12, 1)),
@@ -115,7 +115,8 @@ fn months_years_and_periods_until(rt: HostRuntime) {
     for (from, to, months, (years, past_years, days)) in [
         // The documentation of java.time.
         ((2010, 1, 15), (2011, 3, 18), 14, (1, 2, 3)),
-        // `relativedelta` of Python's `dateutil`: the day before a birthday, the birthday, and days that a month does not have.
+        // `relativedelta` of Python's `dateutil`: the day before a birthday, the birthday, and days
+        // that a month doesn't have.
         ((1980, 6, 1), (2024, 5, 31), 527, (43, 11, 30)),
         ((1980, 6, 1), (2024, 6, 1), 528, (44, 0, 0)),
         ((2020, 2, 29), (2021, 2, 27), 11, (0, 11, 29)),
@@ -296,7 +297,7 @@ fn last_fridays_of_2024(rt: HostRuntime) {
     }
 }
 
-/// The range begins on a Monday, and ends on a Friday: 31 January -999999 is a Wednesday, and 25 December 999999 a Saturday.
+/// The range begins on a Monday and ends on a Friday, from which these weekdays follow.
 #[test]
 fn last_weekdays_at_the_ends(rt: HostRuntime) {
     for (month, weekday, day) in [
@@ -376,7 +377,8 @@ fn days_of_thirty(rt: HostRuntime) {
         ((2024, 1, 31), (2024, 1, 30), 0, 0, -1),
         ((2024, 2, 1), (2024, 1, 31), 0, -1, -1),
         ((2024, 1, 31), (2024, 1, 15), -15, -15, -16),
-        // The range: 1,999,998 years and 11 months, and from the 1st to the 31st, or the 30th; Julian days -363521074 to 366963559.
+        // The range: 1,999,998 years and 11 months, and from the 1st to the 31st, or the 30th;
+        // Julian days -363521074 to 366963559.
         (MIN, MAX, 719_999_640, 719_999_639, 730_484_633),
         (MAX, MIN, -719_999_639, -719_999_639, -730_484_633),
     ] {
@@ -407,7 +409,7 @@ fn days_of_years_of_both_lengths(rt: HostRuntime) {
         ((1999, 7, 30), (2000, 1, 30), 155, 29),
         ((2000, 1, 30), (2000, 6, 30), 0, 152),
         ((1999, 11, 30), (2000, 4, 30), 32, 120),
-        // The range: of its 1,999,999 years 484,999 are leap years, and its last day does not count.
+        // The range: 484,999 of its 1,999,999 years are leap years, and its last day doesn't count.
         (MIN, (-999995, 1, 1), 1095, 366),
         (MIN, MAX, 552_974_999, 177_509_634),
     ] {

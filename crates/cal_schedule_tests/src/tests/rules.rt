@@ -1,4 +1,4 @@
-//! Rules by their fields. What RFC 5545 gives with its examples is read from their texts, in the crate of recurrences.
+//! Rules by their fields. The crate of recurrences has the examples of RFC 5545.
 use cal_schedule::ByDay::Nth;
 use cal_schedule::Frequency::{Daily, Monthly, Weekly};
 use cal_schedule::laws::rules::{is_nth_weekday, period_index};
@@ -8,7 +8,7 @@ use cal_time::{Date, Month};
 use std::process::Abort;
 use std::test::Fail;
 
-/// The day with the number of eight digits, as `1997_09_02`.
+/// The day with a number of eight digits, such as `1997_09_02`.
 fn date(rt: &impl Abort, number: i64) -> Date {
     let parts = (
         i32::try_from(number / 10_000),
@@ -53,7 +53,7 @@ fn so_many_days(rt: HostRuntime) {
     gives(rt, text, rule.first_days(0).next(), None);
 }
 
-/// FREQ=MONTHLY;BYDAY=-1FR;COUNT=12: a rule that ends after a number of times is the first so many of its days.
+/// FREQ=MONTHLY;BYDAY=-1FR;COUNT=12: a rule with a count has its first days.
 #[test]
 fn times(rt: HostRuntime) {
     let rt = &rt;
@@ -89,7 +89,7 @@ fn counts(rt: HostRuntime) {
     }
 }
 
-/// The text for debugging is that of Rust's `derive`: the type and its fields.
+/// The text for debugging is the text of Rust's `derive`: the type and its fields.
 #[test]
 fn debug(rt: HostRuntime) -> Result<(), Fail> {
     let walk = rule(&rt, Daily, 2024_01_01).first_days(2);

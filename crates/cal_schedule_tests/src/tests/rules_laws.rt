@@ -1,4 +1,4 @@
-//! What callers of a rule rest on, each proved from the clauses of its calls.
+//! Properties that callers of a rule need, each proved from the clauses of its calls.
 ghost use Rattle.std.specs.Prelude.{◌≡◌, ◌<◌, IfSome, true};
 
 use cal_schedule::Rule;

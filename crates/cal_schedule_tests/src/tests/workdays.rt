@@ -1,8 +1,8 @@
 //! Worked days of working weeks.
 //!
-//! The holidays are those of the federal calendar of the United States for 2024 but for Columbus Day: ten. What is said of them
-//! was counted one day at a time with the module `datetime` of Python. The rows of NumPy stand in its documentation of
-//! `busday_offset` and `busday_count`.
+//! The holidays are the ten of the federal calendar of the United States for 2024 except Columbus
+//! Day. Their rows were counted one day at a time with `datetime` of Python. The rows of NumPy are
+//! from its documentation of `busday_offset` and `busday_count`.
 ghost use Rattle.std.specs.Prelude.{◌≡◌};
 
 use cal_schedule::{Convention, Workdays};
@@ -162,8 +162,8 @@ fn rows_of_numpy(rt: HostRuntime) {
     }
 }
 
-/// A holiday on a Saturday changes nothing; a slice that does not rise is refused; a million working days are 200,000 weeks, which
-/// `datetime` of Python adds.
+/// A holiday on a Saturday changes nothing; a slice that isn't ascending is rejected; a million
+/// working days are 200,000 weeks, added by `datetime` of Python.
 #[test]
 fn lists_and_weeks(rt: HostRuntime) {
     let christmas = date(&rt, (2021, 12, 25));
@@ -251,7 +251,7 @@ fn ends(rt: HostRuntime) {
     );
 }
 
-/// The text for debugging is that of Rust's `derive`: the type and its fields.
+/// The text for debugging is the text of Rust's `derive`: the type and its fields.
 #[test]
 fn debug(rt: HostRuntime) -> Result<(), Fail> {
     let holidays = [date(&rt, (2024, 1, 1))];
@@ -267,7 +267,7 @@ fn debug(rt: HostRuntime) -> Result<(), Fail> {
 /// Two answers of `new`.
 type Twice<T> = (T, T);
 
-/// What its clause leaves: one answer.
+/// Its clause allows only one result.
 fn one_answer<'a>(marks: [bool; 7], holidays: &'a [Date]) -> Twice<Option<Workdays<'a>>>
     ensures { result.0 ≡ result.1 }
 {

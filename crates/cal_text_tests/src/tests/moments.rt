@@ -28,7 +28,7 @@ fn moment(rt: &impl Abort, numbers: Numbers) -> (Date, Time, UtcOffset) {
     (date, time, offset)
 }
 
-/// What a text reads as, by the three parts.
+/// The three parts of a text.
 fn read(text: &[u8]) -> Result<(Date, Time, UtcOffset), Unreadable> {
     parts_of(rfc3339::read(text))
 }
@@ -38,7 +38,7 @@ fn printed(parts: (Date, Time, UtcOffset)) -> Option<Text> {
     Text::new(OffsetDateTime::new_in_offset(parts.0, parts.1, parts.2))
 }
 
-/// The examples of the standard, but those with a leap second, come first.
+/// The examples of the standard come first, except those with a leap second.
 #[test]
 fn moments_read(rt: HostRuntime) {
     for (text, numbers) in [

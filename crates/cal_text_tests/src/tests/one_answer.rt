@@ -5,7 +5,7 @@ use cal_datetime::OffsetDateTime;
 use cal_text::{DateOrMoment, Unreadable, date, julian_day, read_any, rfc3339, unix};
 use cal_time::Date;
 
-/// What two calls give.
+/// The results of two calls.
 type Twice<T> = (Result<T, Unreadable>, Result<T, Unreadable>);
 
 fn of_date(text: &[u8]) -> Twice<Date>

@@ -6,7 +6,7 @@ use cal_text::unix;
 use cal_time::{Date, Month, Time, UtcOffset};
 use std::test::Fail;
 
-/// What a clock shows at a Unix time, there and at UTC.
+/// The local date and time of a Unix time, and at UTC.
 #[test]
 fn unix_times(rt: HostRuntime) -> Result<(), Fail> {
     for (year, month, day, time, hours, text) in [

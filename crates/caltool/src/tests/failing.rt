@@ -53,7 +53,7 @@ impl Read for Dripping<'_> {
     }
 }
 
-/// Takes one byte a call, and at these calls fails, or takes none where no kind of failure is named.
+/// Takes one byte a call, and at these calls fails, or takes nothing if no kind of error is named.
 #[derive(Drop)]
 struct Sipping {
     taken: Vec<u8>,
@@ -102,7 +102,7 @@ impl Write for Counting {
     }
 }
 
-// The answers are gathered: 4096 of nine bytes each go out in a few writes.
+// The answers are buffered: 4096 of nine bytes each take a few writes.
 #[test]
 fn answers_are_buffer(rt: HostRuntime) {
     let mut reader = [b'\n'; 4096].as_slice();
@@ -111,7 +111,7 @@ fn answers_are_buffer(rt: HostRuntime) {
     assert!(rt; writer.calls < 20, "{} writes", writer.calls);
 }
 
-/// What came of a run, in how many reads or writes, and what it wrote.
+/// The outcome of a run, its number of reads or writes, and the bytes that it wrote.
 #[derive(Drop)]
 struct Run {
     outcome: Result<(), Fault>,
@@ -232,7 +232,7 @@ fn interrupted_writes_are_counted(rt: HostRuntime) {
     }
 }
 
-// A read that fails after the last byte is told, and one that fails after a byte too many is not asked for.
+// A read that fails after the last byte is an error. After a byte too many the run stops reading.
 #[test]
 fn a_read_fails_at_the_limit(rt: HostRuntime) {
     for (input, failing, outcome) in [
@@ -268,7 +268,7 @@ fn the_status_and_the_words_of_each_end(rt: HostRuntime) -> Result<(), Fail> {
     Ok(())
 }
 
-/// The status of the program over an output that takes so many bytes, and what it wrote and told.
+/// The status of the program over an output that takes this many bytes, its output and its message.
 fn performed(alloc: Global, reader: &mut Dripping<'_>, taken: u32) -> (u8, Vec<u8>, Vec<u8>) {
     let mut writer = Sipping {
         taken: Vec::new(alloc),
@@ -325,7 +325,7 @@ fn the_program_over_three_streams(rt: HostRuntime) {
     }
 }
 
-// Where standard error fails as well, the status is the same, and what was told is a beginning of the line.
+// If standard error fails too, the status is the same, and it took a prefix of the message.
 #[test]
 fn words_that_cannot_be_told(rt: HostRuntime) {
     let words = b"input too long\n".as_slice();

@@ -1,4 +1,4 @@
-//! A plain reading of the manual: the answers to an input by a table of months and a running count of days.
+//! A plain reading of the manual: answers from a table of months and a running count of days.
 //!
 //! It calls nothing of the program or of the calendar.
 
@@ -16,7 +16,7 @@ pub const LAST_JULIAN_DAY: i64 = 366_963_559;
 
 const DAYS_IN_400_YEARS: i64 = 146_097;
 
-/// Why there is no answer but a refusal.
+/// An error instead of an answer.
 #[derive(Clone, Copy, PartialEq, Eq)]
 enum Refusal {
     Year,
@@ -330,7 +330,7 @@ fn i64_of(word: &[u8]) -> Option<i64> {
     number(word, i64::MIN, i64::MAX)
 }
 
-/// What a line asks for.
+/// The meaning of a line.
 enum Question {
     Day(Result<i64, Refusal>),
     Week(Result<i64, Refusal>),

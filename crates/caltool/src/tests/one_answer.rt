@@ -1,4 +1,4 @@
-//! A run leaves one answer: two runs over one input that end alike leave alike writers, but where a write failed.
+//! Two runs with the same input and outcome write the same, except after a failed write.
 ghost use Rattle.std.specs.Prelude.{◌≡◌, List, ℕ, Some, IsErrOf};
 ghost use Rattle.caltool.specs.Runs.{Ended};
 

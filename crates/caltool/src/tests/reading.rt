@@ -1,4 +1,5 @@
-//! Inputs of every length, of every byte and of days of every century, answered as a plain reading of the manual does.
+//! Inputs of every length, of every byte and of days of every century, with the answers of the
+//! manual.
 
 use crate::fault::Fault;
 use crate::tests::{answers, manual};
@@ -83,8 +84,8 @@ fn lines_of_every_length(rt: HostRuntime) -> Result<(), Fail> {
     Ok(())
 }
 
-// A day of each century, and of a few two, made and taken apart by each command: neither the step of the years nor that of the days
-// divides a century or a month, so that each month and each number of a day comes.
+// A day of each century, and of a few two, by each command. Neither the step of the years nor the
+// step of the days divides a century or a month, so each month and each number of a day occurs.
 #[test]
 fn days_of_every_century(rt: HostRuntime) -> Result<(), Fail> {
     let mut year = manual::FIRST_YEAR;
