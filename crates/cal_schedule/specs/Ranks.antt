@@ -8,7 +8,7 @@ use Rattle.std.specs.Int.{from_bool}
 use Rattle.cal_time.specs.IsoWeekDate.{count_before}
 use Rattle.cal_time.specs.Occurrence.{days_from, days_before_back}
 
--- No day comes before day 0.
+-- The count before day 0 is 0.
 pub count-none : (test : ℕ → Bool) → count_before test 0 ≡ 0
 unfolding count_before
 count-none test = refl
@@ -109,6 +109,7 @@ none-back : (test : ℕ → Bool) → length (filter test (days_before_back 0)) 
 unfolding days_before_back
 none-back test = refl
 
+-- The length of a list is the difference of two counts.
 pub length-from : (test : ℕ → Bool) (n count : ℕ) → length (filter test (days_from n count)) + count_before test n ≡ count_before test (n + count)
 length-from test n zero =
     let e : n + zero ≡ n = omega arith in

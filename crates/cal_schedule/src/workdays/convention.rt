@@ -7,10 +7,10 @@ pub enum Convention {
     Unadjusted,
     /// The first working day on or after the date.
     Following,
-    /// `Following`, or `Preceding` if that is in another month.
+    /// `Following`, or `Preceding` if that is in another month or out of range.
     ModifiedFollowing,
     /// The last working day on or before the date.
     Preceding,
-    /// `Preceding`, or `Following` if that is in another month.
+    /// `Preceding`, or `Following` if that is in another month or out of range.
     ModifiedPreceding,
 }
