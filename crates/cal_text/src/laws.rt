@@ -1,28 +1,17 @@
-//! What follows from reading: a text belongs to one day, has one form, and belongs to one moment.
-ghost use Rattle.std.specs.Prelude.{◌≡◌, ℕ};
-ghost use Rattle.cal_time.specs.Date.{IsDate};
+//! What follows from reading: a text has one form, and belongs to one date or moment.
+ghost use Rattle.std.specs.Prelude.{◌≡◌};
 ghost use Rattle.cal_datetime.specs.OffsetDateTime.{Shown};
 ghost use Rattle.cal_text.specs.declared.date_numbers.DateNumbers.{DateNumbers};
 ghost use Rattle.cal_text.specs.declared.any.DateOrMoment.{DateOrMoment};
 ghost use Rattle.cal_text.specs.AnyForm.{IsTextOf};
-ghost use Rattle.cal_text.specs.DateForms.{IsDateText, HasForm};
+ghost use Rattle.cal_text.specs.DateForms.{HasForm};
 ghost use Rattle.cal_text.specs.Rfc3339Form.{IsMomentText};
 
 use crate::any::{DateOrMoment, read_any};
-use crate::date::read;
 use crate::date_numbers::{DateNumbers, form_of};
 use crate::error::Unreadable;
 use crate::rfc3339;
 use cal_datetime::OffsetDateTime;
-use cal_time::Date;
-
-/// No two days share a text, be it of one form or of two.
-pub(crate) fn one_day(text: &[u8]) -> Result<Date, Unreadable>
-    ensures { (m n : ℕ) → IsDate m → IsDate n → IsDateText text.now m → IsDateText text.now n
-        → m ≡ n }
-{
-    read(text)
-}
 
 /// No text is in two forms, nor in one form with two sets of numbers.
 #[tactic(auto, using(crate::proofs::DayForms::same_form))]
