@@ -5,8 +5,10 @@ use Rattle.cal_date.specs.Date.{last_day, weekday_at, IsDate, HasOrdinalDate, Ha
 use Rattle.cal_date.specs.IsoWeekDate.{HasIsoWeekDate}
 use Rattle.cal_date.specs.Occurrence.{next_occurrences, prev_occurrences, kth}
 use Rattle.cal_date.specs.DateIter.{Walk, walk_between, days_of}
+use Rattle.cal_date.specs.DateText.{text}
 use Rattle.cal_time.specs.Pair.{HasPairNumber, PairAt}
 use Rattle.cal_date.proofs.CallersLaws as proved
+use Rattle.cal_date.proofs.DistinctTexts as texts
 
 -- the weekday of a day by a remainder, as day 0 is a Monday
 pub weekday_at-is : (n : ℕ) → weekday_at n ≡ n % 7
@@ -21,6 +23,13 @@ calendar_date-one = proved.calendar_date-one
 
 pub iso_week_date-one : (y : ℤ) (w wd m n : ℕ) → IsDate m → IsDate n → HasIsoWeekDate y w wd m → HasIsoWeekDate y w wd n → m ≡ n
 iso_week_date-one = proved.iso_week_date-one
+
+-- no two days of the range print alike
+pub text-one : (m n : ℕ) → IsDate m → IsDate n → text m ≡ text n → m ≡ n
+text-one = texts.text-one
+
+-- the same for a caller's `#[tactic(auto, using(..))]`, which takes no name with a dash
+pub ruleset distinct_texts = (text-one)
 
 -- The k-th occurrence, counted from 1, is as many days away as the first one, from 1 to 7, and seven more for each further one.
 pub kth-next_occurrences : (w n k m : ℕ) → 1 ≤ k → k ≤ 7 → (weekday_at n + k) % 7 ≡ w

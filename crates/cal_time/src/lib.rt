@@ -7,6 +7,7 @@
 
 pub mod error;
 pub mod iter;
+mod laws;
 mod pair;
 pub mod util;
 

@@ -175,8 +175,9 @@ fn walks_over_the_months_have_bounds(rt: HostRuntime) {
     same(&rt, [walk.is_sorted(), back.is_sorted()], [false, false]);
 }
 
-/// Asks whether all and whether any value has an index between these two, or outside them, and counts the values asked: by a walk
-/// from there and by the same turned round. Then gives the next value of both walks.
+/// Asks whether all and whether any value has a place between these two, or outside them, and counts
+/// the values asked: by a walk from there and by the same walk turned round. Then gives the next value
+/// of both walks.
 fn asked<C: Cycle>(
     start: C,
     (low, high): (u8, u8),
