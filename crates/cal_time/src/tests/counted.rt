@@ -1,4 +1,4 @@
-//! The bound at a type of the tests.
+//! The bound `Counted` at a type of the tests.
 ghost use Rattle.std.specs.Prelude.{◌≡◌, ◌↔◌, ◌<ℤ◌, IsTrue};
 
 use crate::tests::{hash_of, same};
