@@ -925,7 +925,7 @@ fots_read_moment_result fots_unix_read(const char *text, size_t length);
  * FOTS_NO_TIME for a time, and 0 for a part with 8 or 16 bits, which the next call rejects.
  *
  * A call returns the number of rows without a result. Each array is followed by its length. If the
- * lengths differ, it writes nothing and returns FOTS_UNLIKE. Written arrays must not overlap. */
+ * lengths differ, it writes nothing and returns FOTS_UNLIKE. Written arrays overlap no others. */
 #define FOTS_UNLIKE SIZE_MAX
 
 size_t fots_dates_from_julian_days(const int64_t *julian_days, size_t julian_days_length, int32_t *dates, size_t dates_length,
