@@ -26,8 +26,7 @@
 
 namespace fotsevindre {
 
-// Thrown by a call without a result: for a component or a result out of range, or an unreadable
-// text.
+// Thrown by a call without a result. status() says why.
 class error : public std::runtime_error {
 public:
     explicit error(std::int32_t status, std::size_t position = SIZE_MAX)
