@@ -1,4 +1,4 @@
--- Numbers of nanoseconds cut into days.
+-- Numbers of nanoseconds, split into days.
 use Rattle.std.proofs.Common.{◌≡◌, ℕ, zero, suc, ◌*◌, ◌/◌, ◌%◌, ◌<◌, ℤ, pos, negsuc, neg_ℤ, ◌+ℤ◌, ◌-ℤ◌, ◌*ℤ◌, ◌≤ℤ◌, ◌<ℤ◌, int_rem, FitsSigned, to_z, of_z, lit<, refl, sym, subst, ◌∙◌, arith}
 use Rattle.std.specs.Int.{w64}
 use borrow.Author.Differences.{up, down}
@@ -7,17 +7,18 @@ use Rattle.cal_span.specs.SignedDuration.{second, day, cut, past_second}
 use Rattle.cal_span.specs.FieldsLaws.{times-second}
 use Rattle.cal_clock.specs.Time.{IsPastDays, modulo_day}
 
--- a day times a number
+-- The positive part and the negative part of a number of days in nanoseconds.
 times-day : (s : ℤ) → (up (s *ℤ pos day) ≡ day * up s) × (down (s *ℤ pos day) ≡ day * down s)
 times-day (pos n) = (omega (arith, ints), omega (arith, ints))
 times-day (negsuc n) = (omega (arith, ints), omega (arith, ints))
 
--- the remainder of a negated number
+-- The remainder of a negative number.
 int_rem-neg : (q : ℕ) → int_rem (neg_ℤ (pos q)) (pos 86_400) ≡ neg_ℤ (pos (q % 86_400))
 int_rem-neg zero = refl
 int_rem-neg (suc q) = refl
 
--- what is left of the seconds past the whole days, with the nanoseconds past them, is what is left past the days
+-- The seconds past the whole days, with the nanoseconds past the seconds, are the nanoseconds past
+-- the whole days.
 pub past_days-is : (v : ℤ)
     → int_rem (cut v (pos second)) (pos 86_400) *ℤ pos second +ℤ past_second v ≡ int_rem v (pos day)
 past_days-is (pos n) = omega (arith, ints)
@@ -40,7 +41,7 @@ IsPastDays-rem v = record {
   negative = (rem-sign v).1;
 }
 
--- what is computed on the way fits
+-- The steps of the computation fit in an i64.
 pub record HasRest (v s n : ℤ) : Type 0 where
   pub rem_fits : FitsSigned w64 (int_rem s (pos 86_400))
   pub product_fits : FitsSigned w64 (int_rem s (pos 86_400) *ℤ pos second)
@@ -60,7 +61,7 @@ rest-of v s n whole past =
       past = is_past;
     }
 
--- a number in 64 bits and back
+-- A number that goes through 64 bits and back.
 abbrev pub kept : ℤ → ℤ
 kept z = to_z w64 (of_z w64 z)
 
@@ -72,7 +73,7 @@ computed-rest v s n fits_s fits_n h =
     let rest = h.rest_fits in
     simp to_z-of_z
 
--- d is -1, 0 or 1, and a number of nanoseconds less d days lies in a day
+-- d is -1, 0 or 1, and n without d days is in a day.
 pub record IsInDay (n d : ℤ) : Type 0 where
   pub low : negsuc 0 ≤ℤ d
   pub high : d ≤ℤ pos 1
@@ -88,7 +89,7 @@ IsInDay-counted n d low high before same after =
     (λ below. let is = same from below in record { low = omega (arith, ints); high = omega (arith, ints); from = omega (arith, ints); below = omega (arith, ints) })
     (λ over. let is = after over in record { low = omega (arith, ints); high = omega (arith, ints); from = omega (arith, ints); below = omega (arith, ints) }))
 
--- a step back within the days, and then whole days back
+-- A step back within a day, and then whole days back.
 pub moved-back : (t v w r c u : ℤ) → v ≡ w *ℤ pos day +ℤ r → t -ℤ r ≡ c *ℤ pos day +ℤ u
     → t -ℤ v ≡ (c -ℤ w) *ℤ pos day +ℤ u
 moved-back t v w r c u p q =
@@ -97,7 +98,7 @@ moved-back t v w r c u p q =
     let z = times-day (c -ℤ w) in
     omega (arith, ints)
 
--- a number is known modulo a day once it is cut into days and less than a day
+-- A number modulo a day is u if the number is u more than some whole days and u is less than a day.
 pub modulo_day-is : (v k : ℤ) (u : ℕ) → v ≡ k *ℤ pos day +ℤ pos u → u < day → modulo_day v ≡ u
 modulo_day-is (pos n) (pos j) u e h = let x = times-day (pos j) in omega (arith, ints)
 modulo_day-is (pos n) (negsuc j) u e h = let x = times-day (negsuc j) in absurd (omega (arith, ints))

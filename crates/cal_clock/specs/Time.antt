@@ -1,5 +1,6 @@
--- A time of day is one whole number of nanoseconds since midnight, below a day of 24 hours (a local time of day of
--- ISO 8601, without leap seconds). Here stands what its calls answer, as functions of that number.
+-- A time of day is a whole number of nanoseconds since midnight, less than a day of 24 hours (a
+-- local time of day of ISO 8601, without leap seconds). The results of its calls are functions of
+-- this number.
 use Rattle.std.specs.Prelude.{◌≡◌, ℕ, ◌+◌, ◌*◌, ◌/◌, ◌%◌, ◌<◌, ◌≤◌, ◌↔◌, ℤ, pos, negsuc, ◌+ℤ◌, ◌*ℤ◌, ◌≤ℤ◌, unsigned_abs, List, ◌++◌, codes, Result}
 use Rattle.std.specs.Int.{int_rem_euclid}
 use Rattle.std.specs.Fmt.{decimal}
@@ -11,11 +12,11 @@ use Rattle.cal_units.specs.declared.util.date_adjustment.DateAdjustment.TheVaria
 use Rattle.cal_span.specs.SignedDuration.{microsecond, millisecond, second, minute, hour, day, whole_days}
 use Rattle.cal_units.specs.Digits.{decimals, two_digits}
 
--- a number of nanoseconds that is a time of day
+-- A number of nanoseconds is a time of day if it is less than a day.
 pub record IsTime (t : ℕ) : Type 0 where
   pub below_day : t < day
 
--- ---- refusals
+-- ---- errors
 abbrev pub hour_out_of_range : ComponentRange
 hour_out_of_range = unconditional component.Hour
 
@@ -34,18 +35,18 @@ microsecond_out_of_range = unconditional component.Microsecond
 abbrev pub nanosecond_out_of_range : ComponentRange
 nanosecond_out_of_range = unconditional component.Nanosecond
 
--- an hour, a minute and a second are refused for the first of them that is out of range
+-- The error for an hour, a minute and a second names the first of them that is out of range.
 pub record IsRefusedByClock {T : Type 0} (h m s : ℕ) (result : Result T ComponentRange) : Type 0 where
   pub hour : IsRefused hour_out_of_range result ↔ (23 < h)
   pub minute : IsRefused minute_out_of_range result ↔ (h ≤ 23) × (59 < m)
   pub second : IsRefused second_out_of_range result ↔ (h ≤ 23) × (m ≤ 59) × (59 < s)
 
 -- ---- components
--- the time of hours, minutes, seconds and nanoseconds
+-- The time of day with these hours, minutes, seconds and nanoseconds.
 abbrev pub time_of : ℕ → ℕ → ℕ → ℕ → ℕ
 time_of hours minutes seconds nanoseconds = hours * hour + minutes * minute + seconds * second + nanoseconds
 
--- the parts of a time; each of the last three is all that lies below the second, in its unit
+-- The parts of a time of day. Milliseconds, microseconds and nanoseconds count from the second on.
 abbrev pub hour_of : ℕ → ℕ
 hour_of t = t / hour
 
@@ -65,25 +66,26 @@ abbrev pub nanosecond_of : ℕ → ℕ
 nanosecond_of t = t % second
 
 -- ---- days
--- the remainder of a number of nanoseconds by a day, from 0 to below a day
+-- The remainder of a number of nanoseconds by a day, from 0 to less than a day.
 abbrev pub modulo_day : ℤ → ℕ
 modulo_day v = unsigned_abs (int_rem_euclid v (pos day))
 
--- r is what a number of nanoseconds has past its whole days, with its sign
+-- r is the part of v past its whole days. It doesn't have the opposite sign of v.
 pub record IsPastDays (v r : ℤ) : Type 0 where
   pub value : v ≡ whole_days v *ℤ pos day +ℤ r
   pub below_day : unsigned_abs r < day
   pub positive : pos 0 ≤ℤ v → pos 0 ≤ℤ r
   pub negative : v ≤ℤ pos 0 → r ≤ℤ pos 0
 
--- how many days a step of the clock adds to those that were asked for
+-- The number of days that an adjustment adds.
 abbrev pub carry : DateAdjustment → ℤ
 carry Previous = negsuc 0
 carry None = pos 0
 carry Next = pos 1
 
--- ---- the text
--- the hour without padding, two digits each of the minute and the second, and the decimals
+-- ---- text
+-- The text has the hour without padding, two digits each for the minute and the second, and the
+-- decimals.
 abbrev pub text : ℕ → List ℕ
 text t =
     decimal (hour_of t) ++ codes ":" ++ two_digits (minute_of t) ++ codes ":" ++ two_digits (second_of t)

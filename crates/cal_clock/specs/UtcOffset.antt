@@ -1,5 +1,5 @@
--- An offset from UTC is one whole number of seconds, above 0 to the east (a time shift of ISO 8601). Here stands what
--- its calls answer, as functions of that number.
+-- An offset from UTC is a whole number of seconds, positive to the east (a time shift of ISO 8601).
+-- The results of its calls are functions of this number.
 use Rattle.std.specs.Prelude.{ℕ, zero, suc, ◌+◌, ◌*◌, ◌/◌, ◌%◌, ◌≤◌, ℤ, pos, negsuc, neg_ℤ, ◌-ℤ◌, ◌*ℤ◌, unsigned_abs, List, ◌++◌, codes}
 use Rattle.cal_span.specs.SignedDuration.{cut}
 use Rattle.cal_units.specs.declared.error.Component.TheVariants as component
@@ -7,15 +7,15 @@ use Rattle.cal_units.specs.declared.error.ComponentRange.{ComponentRange}
 use Rattle.cal_units.specs.Refusal.{unconditional}
 use Rattle.cal_units.specs.Digits.{two_digits}
 
--- 25 hours, 59 minutes and 59 seconds
+-- The maximum magnitude is 25 hours, 59 minutes and 59 seconds.
 abbrev pub greatest : ℕ
 greatest = 93_599
 
--- a number of seconds that is an offset: from -93599 to 93599
+-- A number of seconds is an offset if it is from -93599 to 93599.
 pub record IsOffset (seconds : ℤ) : Type 0 where
   pub magnitude : unsigned_abs seconds ≤ greatest
 
--- ---- refusals
+-- ---- errors
 abbrev pub offset_hour_out_of_range : ComponentRange
 offset_hour_out_of_range = unconditional component.OffsetHour
 
@@ -29,28 +29,28 @@ abbrev pub seconds_out_of_range : ComponentRange
 seconds_out_of_range = unconditional component.Seconds
 
 -- ---- the offset of hours, minutes and seconds
--- the first number, or the second one where the first is 0
+-- The first number, or the second if the first is 0.
 abbrev pub or_else : ℤ → ℤ → ℤ
 or_else (pos zero) next = next
 or_else (pos (suc n)) next = pos (suc n)
 or_else (negsuc n) next = negsuc n
 
--- the first of three numbers that is not 0, or 0
+-- The first of three numbers that isn't 0, or 0.
 abbrev pub leading : ℤ → ℤ → ℤ → ℤ
 leading hours minutes seconds = or_else hours (or_else minutes seconds)
 
--- n, or the negation of n where the number that gives the sign is below 0
+-- n, or -n if the number that gives the sign is negative.
 abbrev pub with_sign_of : ℤ → ℕ → ℤ
 with_sign_of (pos _) n = pos n
 with_sign_of (negsuc _) n = neg_ℤ (pos n)
 
--- the sum of the magnitudes, with the sign of the first number that is not 0
+-- The offset is the sum of the magnitudes, with the sign of the first number that isn't 0.
 abbrev pub offset_of : ℤ → ℤ → ℤ → ℤ
 offset_of hours minutes seconds =
     with_sign_of (leading hours minutes seconds)
     (3_600 * unsigned_abs hours + 60 * unsigned_abs minutes + unsigned_abs seconds)
 
--- ---- parts: quotients cut toward zero, and what is left of them
+-- ---- parts: quotients truncated toward zero, and remainders
 abbrev pub whole_hours : ℤ → ℤ
 whole_hours o = cut o (pos 3_600)
 
@@ -63,16 +63,16 @@ minutes_past_hour o = whole_minutes o -ℤ whole_hours o *ℤ pos 60
 abbrev pub seconds_past_minute : ℤ → ℤ
 seconds_past_minute o = o -ℤ whole_minutes o *ℤ pos 60
 
--- ---- the text
--- `+` from 0 on, `-` below 0
+-- ---- text
+-- A negative offset has a minus sign, any other offset a plus sign.
 abbrev pub sign : ℤ → List ℕ
 sign (pos _) = codes "+"
 sign (negsuc _) = codes "-"
 
--- hours, minutes and seconds of a magnitude, as `HH:MM:SS`
+-- A magnitude is written as `HH:MM:SS`.
 abbrev pub magnitude_text : ℕ → List ℕ
 magnitude_text n = two_digits (n / 3_600) ++ codes ":" ++ two_digits (n / 60 % 60) ++ codes ":" ++ two_digits (n % 60)
 
--- the text of an offset
+-- The text of an offset is its sign and its magnitude.
 abbrev pub text : ℤ → List ℕ
 text o = sign o ++ magnitude_text (unsigned_abs o)

@@ -1,7 +1,5 @@
-//! What callers rest on and no clause of a call says: which numbers the constants are, and that a clone is the value
-//! itself.
-//!
-//! Constants and derives have no clauses, so a function that gives them back says what they are.
+//! Properties of constants and derived traits, which have no clauses: functions return their
+//! values.
 
 ghost use Rattle.std.specs.Prelude.{◌≡◌, ◌+◌, Ok, pos};
 ghost use Rattle.cal_span.specs.SignedDuration.{day};
@@ -9,7 +7,7 @@ ghost use Rattle.cal_span.specs.SignedDuration.{day};
 use crate::{Time, UtcOffset};
 use std::alloc::AllocError;
 
-/// Midnight is nanosecond 0 of the day, and the greatest time its last one.
+/// Returns the minimum, nanosecond 0 of the day, and the maximum, the last nanosecond of the day.
 pub(crate) fn limits() -> (Time, Time)
     ensures midnight { result.0 ≡ 0 }
     ensures max { result.1 + 1 ≡ day }
@@ -17,14 +15,14 @@ pub(crate) fn limits() -> (Time, Time)
     (Time::MIDNIGHT, Time::MAX)
 }
 
-/// UTC is no seconds away from UTC.
+/// Returns UTC, the offset of 0 seconds.
 pub(crate) fn utc() -> UtcOffset
     ensures { result ≡ pos 0 }
 {
     UtcOffset::UTC
 }
 
-/// A clone of a time or an offset is the value itself.
+/// Clones a time and an offset. Each clone equals its original.
 pub(crate) fn clones(time: Time, offset: UtcOffset) -> Result<(Time, UtcOffset), AllocError>
     ensures { result ≡ Ok (time, offset) }
 {

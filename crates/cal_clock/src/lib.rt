@@ -1,4 +1,4 @@
-//! Times of day, to the nanosecond, and offsets from UTC.
+//! Times of day with nanosecond precision, and offsets from UTC.
 #![tactic(auto)]
 
 mod laws;

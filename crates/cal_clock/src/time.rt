@@ -12,10 +12,11 @@ mod display;
 mod order;
 mod parts;
 
-/// A time of day, exact to the nanosecond, from 0:00:00.0 to 23:59:59.999999999, without leap seconds.
+/// A time of day with nanosecond precision, without leap seconds: 0:00:00.0 to 23:59:59.999999999.
 ///
-/// It prints the hour without padding, two digits each of the minute and the second, and the decimals without trailing
-/// zeros, but at least one, as `9:05:00.12`. Under a width the whole text is padded. `Debug` prints the same.
+/// It prints the hour without padding, two digits each for the minute and the second, and the
+/// decimals without trailing zeros: `9:05:00.12`, or `9:05:00.0` for a whole second. A width pads
+/// the whole text. `Debug` prints the same.
 #[derive(Clone, Copy, PartialEq, Eq, PartialOrd, Ord, Hash)]
 pub struct Time {
     nanoseconds: u64,
@@ -35,19 +36,18 @@ impl Model for Time {
 }
 
 impl Time {
-    /// 0:00:00.0, the least time.
+    /// The minimum time, 0:00:00.0.
     pub const MIDNIGHT: Self = Self { nanoseconds: 0 };
 
-    /// 23:59:59.999999999, the greatest time.
+    /// The maximum time, 23:59:59.999999999.
     pub const MAX: Self = Self {
         nanoseconds: 86_399_999_999_999,
     };
 
-    /// The time of that hour, minute and second: `from_hms(9, 5, 0)` is 9:05:00.0.
+    /// Creates a time from an hour, a minute and a second. `from_hms(9, 5, 0)` is 9:05:00.0.
     ///
-    /// # Refusals
-    ///
-    /// The first component out of range, unconditionally: `hour` above 23, else `minute` above 59, else `second` above 59.
+    /// Returns the unconditional error of the first component that is out of range: `hour` above
+    /// 23, `minute` above 59 or `second` above 59.
     pub fn from_hms(hour: u8, minute: u8, second: u8) -> Result<Self, ComponentRange>
         ensures refused { IsRefusedByClock hour minute second result }
         ensures value { hour ≤ 23 → minute ≤ 59 → second ≤ 59
@@ -69,11 +69,11 @@ impl Time {
         })
     }
 
-    /// The time of that hour, minute, second and millisecond: `from_hms_milli(1, 2, 3, 4)` is 1:02:03.004.
+    /// Creates a time from an hour, a minute, a second and a millisecond.
+    /// `from_hms_milli(1, 2, 3, 4)` is 1:02:03.004.
     ///
-    /// # Refusals
-    ///
-    /// The first component out of range, unconditionally: as [`Self::from_hms`], else `millisecond` above 999.
+    /// Returns the errors of [`Self::from_hms`], and then the unconditional error `millisecond` if
+    /// it is above 999.
     pub fn from_hms_milli(
         hour: u8,
         minute: u8,
@@ -92,11 +92,11 @@ impl Time {
         }
     }
 
-    /// The time of that hour, minute, second and microsecond: `from_hms_micro(1, 2, 3, 4_005)` is 1:02:03.004005.
+    /// Creates a time from an hour, a minute, a second and a microsecond.
+    /// `from_hms_micro(1, 2, 3, 4_005)` is 1:02:03.004005.
     ///
-    /// # Refusals
-    ///
-    /// The first component out of range, unconditionally: as [`Self::from_hms`], else `microsecond` above 999999.
+    /// Returns the errors of [`Self::from_hms`], and then the unconditional error `microsecond` if
+    /// it is above 999999.
     pub fn from_hms_micro(
         hour: u8,
         minute: u8,
@@ -115,11 +115,11 @@ impl Time {
         }
     }
 
-    /// The time of that hour, minute, second and nanosecond: `from_hms_nano(1, 2, 3, 4_005_006)` is 1:02:03.004005006.
+    /// Creates a time from an hour, a minute, a second and a nanosecond.
+    /// `from_hms_nano(1, 2, 3, 4_005_006)` is 1:02:03.004005006.
     ///
-    /// # Refusals
-    ///
-    /// The first component out of range, unconditionally: as [`Self::from_hms`], else `nanosecond` above 999999999.
+    /// Returns the errors of [`Self::from_hms`], and then the unconditional error `nanosecond` if
+    /// it is above 999999999.
     pub fn from_hms_nano(
         hour: u8,
         minute: u8,

@@ -1,4 +1,4 @@
-//! How many of a unit the greater ones have, each number of the type that the code counts it in.
+//! Units of time in smaller units. Each number has the type that the code computes with.
 
 pub(crate) const NANOSECONDS_PER_MICROSECOND: u64 = 1_000;
 

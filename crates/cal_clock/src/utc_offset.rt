@@ -12,12 +12,11 @@ use std::fmt;
 use std::marker::Model;
 use std::ops::Neg;
 
-/// An offset from UTC, exact to the second, from -25:59:59 to +25:59:59.
+/// An offset from UTC with second precision, from -25:59:59 to +25:59:59.
 ///
-/// East of Greenwich it is positive. Offsets are ordered by their seconds, so the order goes from west to east.
-///
-/// It prints its sign, `+` for zero too, and two digits each of hours, minutes and seconds, as `-05:30:00`. Under a
-/// width the whole text is padded. `Debug` prints the same.
+/// Offsets east of Greenwich are positive, and offsets are ordered from west to east. An offset
+/// prints its sign, `+` for zero too, and two digits each for hours, minutes and seconds:
+/// `-05:30:00`. A width pads the whole text. `Debug` prints the same.
 #[derive(Clone, Copy, PartialEq, Eq, PartialOrd, Ord, Hash)]
 pub struct UtcOffset {
     seconds: i32,
@@ -37,19 +36,16 @@ impl Model for UtcOffset {
 }
 
 impl UtcOffset {
-    /// UTC itself, the offset zero.
+    /// UTC, the zero offset.
     pub const UTC: Self = Self { seconds: 0 };
 
-    /// The offset of that many hours, minutes and seconds.
+    /// Creates an offset from hours, minutes and seconds.
     ///
-    /// The first of them that is not zero gives the sign, and the magnitudes are added up under it, whatever signs the
-    /// others have: `from_hms(1, -2, -3)` is one hour, two minutes and three seconds, and `from_hms(0, -30, 15)` is
-    /// thirty minutes and fifteen seconds below zero.
+    /// The first of them that isn't zero gives the sign; the signs of the others are ignored.
+    /// `from_hms(1, -2, -3)` is +01:02:03, and `from_hms(0, -30, 15)` is -00:30:15.
     ///
-    /// # Refusals
-    ///
-    /// The first component out of range, unconditionally: `offset hour` outside -25 to 25, else `offset minute` outside
-    /// -59 to 59, else `offset second` outside -59 to 59.
+    /// Returns the unconditional error of the first component that is out of range: `offset hour`
+    /// outside -25 to 25, `offset minute` outside -59 to 59, or `offset second` outside -59 to 59.
     pub fn from_hms(hours: i8, minutes: i8, seconds: i8) -> Result<Self, ComponentRange>
         ensures hour { IsRefused offset_hour_out_of_range result ↔ (25 < unsigned_abs hours) }
         ensures minute { IsRefused offset_minute_out_of_range result
@@ -73,7 +69,7 @@ impl UtcOffset {
         Ok(Self::of_components(hours, minutes, seconds))
     }
 
-    /// The offset of components that are in range.
+    /// Creates an offset from components that are in range.
     fn of_components(hours: i8, minutes: i8, seconds: i8) -> Self
         requires hour { unsigned_abs hours ≤ 25 }
         requires minute { unsigned_abs minutes ≤ 59 }
@@ -93,9 +89,8 @@ impl UtcOffset {
         }
     }
 
-    /// The offset of that many seconds: `from_whole_seconds(3723)` is +01:02:03.
-    ///
-    /// Refused with `seconds`, unconditional, outside -93599 to 93599.
+    /// Creates an offset from seconds. `from_whole_seconds(3723)` is +01:02:03. Returns the
+    /// unconditional error `seconds` if they are outside -93599 to 93599.
     pub fn from_whole_seconds(seconds: i32) -> Result<Self, ComponentRange>
         ensures refused { IsRefused seconds_out_of_range result
             ↔ (greatest < unsigned_abs seconds) }
@@ -107,8 +102,8 @@ impl UtcOffset {
         Ok(Self { seconds })
     }
 
-    /// The whole hours, the minutes past them and the seconds past these, all of one sign: those of -01:30:00 are -1, -30
-    /// and 0.
+    /// Returns the whole hours, the minutes past them and the seconds past the minutes, all with
+    /// the sign of the offset. For -01:30:00 they are -1, -30 and 0.
     pub fn as_hms(self) -> (i8, i8, i8)
         ensures hours { result.0 ≡ whole_hours self }
         ensures minutes { result.1 ≡ minutes_past_hour self }
@@ -121,28 +116,29 @@ impl UtcOffset {
         )
     }
 
-    /// The whole hours, cut toward zero: from -25 to 25. Those of -01:30:00 are -1.
+    /// Returns the whole hours, truncated toward zero, from -25 to 25. For -01:30:00 they are -1.
     pub fn whole_hours(self) -> i8
         ensures { result ≡ whole_hours self }
     {
         (self.seconds / SECONDS_PER_HOUR as i32) as i8
     }
 
-    /// The whole minutes, cut toward zero: from -1559 to 1559. Those of -01:30:00 are -90.
+    /// Returns the whole minutes, truncated toward zero, from -1559 to 1559. For -01:30:00 they are
+    /// -90.
     pub fn whole_minutes(self) -> i16
         ensures { result ≡ whole_minutes self }
     {
         (self.seconds / SECONDS_PER_MINUTE as i32) as i16
     }
 
-    /// The whole minutes past the whole hours, with the sign of the offset: from -59 to 59. Those of -01:30:00 are -30.
+    /// Returns the minutes past the whole hours, from -59 to 59. For -01:30:00 they are -30.
     pub fn minutes_past_hour(self) -> i8
         ensures { result ≡ minutes_past_hour self }
     {
         (self.seconds % SECONDS_PER_HOUR as i32 / SECONDS_PER_MINUTE as i32) as i8
     }
 
-    /// The seconds, from -93599 to 93599. Those of -01:30:00 are -5400.
+    /// Returns the seconds, from -93599 to 93599. For -01:30:00 they are -5400.
     pub fn whole_seconds(self) -> i32
         ensures value { result ≡ self }
         ensures range { IsOffset self }
@@ -150,16 +146,15 @@ impl UtcOffset {
         self.seconds
     }
 
-    /// The seconds past the whole minutes, with the sign of the offset: from -59 to 59. Those of +01:02:03 are 3.
+    /// Returns the seconds past the whole minutes, from -59 to 59. For -01:02:03 they are -3.
     pub fn seconds_past_minute(self) -> i8
         ensures { result ≡ seconds_past_minute self }
     {
         (self.seconds % SECONDS_PER_MINUTE as i32) as i8
     }
 
-    /// The text, as the offset prints it: that of five and a half hours to the west is `-05:30:00`.
-    ///
-    /// It has the sign, `+` for zero too, and two digits each of hours, minutes and seconds: 9 bytes, all of them ASCII.
+    /// Returns the text that the offset prints, such as `-05:30:00`. It has the sign, `+` for zero
+    /// too, and two digits each for hours, minutes and seconds: 9 bytes, all ASCII.
     pub fn text(self) -> ShortText
         ensures text { result ≡ text self }
         ensures short { length result ≤ 9 }
@@ -176,21 +171,21 @@ impl UtcOffset {
         text
     }
 
-    /// Whether the offset is zero, as [`Self::UTC`] alone is.
+    /// Returns `true` if the offset is zero, [`Self::UTC`].
     pub fn is_utc(self) -> bool
         ensures { IsTrue result ↔ (self ≡ pos 0) }
     {
         self == Self::UTC
     }
 
-    /// Whether the offset is above zero, east of UTC, as +00:00:01 is, and UTC is not.
+    /// Returns `true` if the offset is positive, east of UTC. +00:00:01 is positive, and UTC isn't.
     pub fn is_positive(self) -> bool
         ensures { IsTrue result ↔ (pos 0 <ℤ self) }
     {
         self.seconds > 0
     }
 
-    /// Whether the offset is below zero, west of UTC, as -00:00:01 is, and UTC is not.
+    /// Returns `true` if the offset is negative, west of UTC. -00:00:01 is negative, and UTC isn't.
     pub fn is_negative(self) -> bool
         ensures { IsTrue result ↔ (self <ℤ pos 0) }
     {
@@ -198,7 +193,7 @@ impl UtcOffset {
     }
 }
 
-/// The first component that is not zero, or zero.
+/// Returns the first component that isn't zero, or zero.
 fn leading(hours: i8, minutes: i8, seconds: i8) -> i8
     ensures { result ≡ leading hours minutes seconds }
 {
@@ -216,7 +211,7 @@ impl Neg for UtcOffset {
 
     ghost neg_gives = { λ o opposite. opposite ≡ neg_ℤ o };
 
-    /// The offset as far on the other side of UTC: that of -05:30:00 is +05:30:00.
+    /// Returns the offset with the opposite sign. For -05:30:00 it is +05:30:00.
     fn neg(self) -> Self {
         Self {
             seconds: -self.seconds,
@@ -237,7 +232,7 @@ impl Counted for UtcOffset {
 
     ghost hashed = { λ x y e. ap fed.i32 e };
 
-    /// The seconds: those of -01:30:00 are -5400.
+    /// Returns the seconds. For -01:30:00 they are -5400.
     fn number(self) -> i128 {
         self.seconds as i128
     }

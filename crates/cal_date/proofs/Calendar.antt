@@ -1,4 +1,4 @@
--- Each number of the count has its calendar date, and each calendar date of the range its number.
+-- Each number of the count has a calendar date, and each calendar date of the range has a number.
 use Rattle.std.proofs.Common.{◌≡◌, ℕ, ◌+◌, ◌-◌, ◌<◌, ◌≤◌, sym, ap, ◌∙◌, subst, arith, ℤ, ◌≤ℤ◌}
 use Rattle.std.proofs.lemmas.Bool.Decides.{nat_tests}
 use Rattle.cal_units.specs.Lengths.{days_in_month}
@@ -8,11 +8,11 @@ use Rattle.cal_date.specs.CountLaws.{days_of_months, days_before, in_months, ind
 use Rattle.cal_date.specs.PackedDate.{ordinal_number}
 use Rattle.cal_date.proofs.Dates.{stands, in_range}
 
--- the ordinal of so many months and days into a year, and its number
+-- The ordinal of a day of the month, i months into the year.
 abbrev pub ordinal_in : ℤ → ℕ → ℕ → ℕ
 ordinal_in y i d = days_of_months y i + d
 
--- day n is so many months into a year of the count, and has that day of the month
+-- Day n has this day of the month, i months into a year of the count.
 pub record StandsInMonth (y : ℤ) (i d n : ℕ) : Type 0 where
   pub has : HasCalendarDate y (i + 1) d n
   pub year : first_year ≤ℤ y
@@ -21,7 +21,7 @@ pub record StandsInMonth (y : ℤ) (i d n : ℕ) : Type 0 where
   pub ordinal_is : ordinal_at n ≡ ordinal_in y i d
   pub number_is : n ≡ ordinal_number y (ordinal_in y i d)
 
--- each calendar date stands in the count
+-- Each calendar date is in the count.
 pub stands_at : (y : ℤ) (i d : ℕ) → first_year ≤ℤ y → i < 12 → IsDayOfMonth y (i + 1) d → StandsInMonth y i d (ordinal_number y (ordinal_in y i d))
 stands_at y i d late low h =
     let here = in_months (days_before y) y i (d - 1) (year_start-days_before y late) low (omega (arith, h.0, h.1)) in
@@ -36,7 +36,7 @@ stands_at y i d late low h =
       number_is = omega arith;
     }
 
--- and each number has its calendar date
+-- Each number has a calendar date.
 pub record IsInMonthOf (n : ℕ) : Type 0 where
   pub months : ℕ
   pub stands : StandsInMonth (year_at n) months (day_of_month_at n) n
@@ -56,7 +56,7 @@ in_month_of n =
       month_is = ap (λ d. d.month) here.has;
     }
 
--- what a day of the range has: a year of the range, a day of that month, and so one number
+-- A day of the range has a year of the range, a day of its month, and therefore one number.
 pub record IsCalendarInRange (y : ℤ) (i d n : ℕ) : Type 0 where
   pub year : IsYear y
   pub day : IsDayOfMonth y (i + 1) d
@@ -75,7 +75,7 @@ calendar_in_range n y i d h has =
       number_is = is.number_is;
     }
 
--- the ordinal of a calendar date is one that the year has
+-- The year has the ordinal of a calendar date.
 pub IsOrdinal-ordinal_in : (y : ℤ) (i d : ℕ) → first_year ≤ℤ y → i < 12 → IsDayOfMonth y (i + 1) d → IsOrdinal y (ordinal_in y i d)
 IsOrdinal-ordinal_in y i d late low h =
     let at = stands_at y i d late low h in
@@ -83,11 +83,11 @@ IsOrdinal-ordinal_in y i d late low h =
     let year : year_at n ≡ y = ap (λ day. day.year) at.has in
     subst (λ o. IsOrdinal y o) at.ordinal_is (subst (λ z. IsOrdinal z (ordinal_at n)) year (stands n).ordinal)
 
--- so there is no day for another calendar date
+-- No day of the range has a calendar date that is out of range.
 pub NoDate-calendar_date : (y : ℤ) (i d : ℕ) → ¬ (IsYear y × IsDayOfMonth y (i + 1) d) → NoDate (HasCalendarDate y (i + 1) d)
 NoDate-calendar_date y i d none n h has = let is = calendar_in_range n y i d h has in none (is.year, is.day)
 
--- no month has more than 31 days
+-- A month has at most 31 days.
 pub day_of_month-most : (n : ℕ) → day_of_month_at n ≤ 31
 unfolding days_in_month
 day_of_month-most n =
@@ -95,7 +95,7 @@ day_of_month-most n =
     let most : days_in_month (year_at n) (at.months + 1) ≤ 31 = grind (arith, nat_tests) in
     omega (arith, at.stands.day.1)
 
--- the day of the month is one that the month has
+-- The month has the day of the month of day n.
 pub day_of_month-range : (n : ℕ) → IsDayOfMonth (year_at n) (month_at n) (day_of_month_at n)
 day_of_month-range n =
     let at = in_month_of n in

@@ -1,4 +1,4 @@
--- The laws for callers, which the crate above states.
+-- Laws for callers, which a higher crate states.
 use Rattle.std.proofs.Common.{◌≡◌, ℕ, zero, suc, ◌+◌, ◌-◌, ◌*◌, ◌%◌, ◌<◌, ◌≤◌, refl, sym, ap, ◌∙◌, arith, ℤ, Option, Some, None, if◌then◌else◌, nat_le, length, inl, inr, true, false}
 use Rattle.std.specs.Prelude.{IsSome}
 use Rattle.std.proofs.lemmas.Bool.{cases_lt}
@@ -20,7 +20,7 @@ weekday_at-is n = weekdays.weekday_at-is n
 pub ordinal_date-one : (y : ℤ) (o m n : ℕ) → IsDate m → IsDate n → HasOrdinalDate y o m → HasOrdinalDate y o n → m ≡ n
 ordinal_date-one y o m n h k e f = (in_range m y o h e).number_is ∙ sym (in_range n y o k f).number_is
 
--- equal days have one number
+-- Equal days have the same number.
 one_number : (m n : ℕ) → IsDate m → IsDate n → day_at m ≡ day_at n → m ≡ n
 one_number m n h k same =
     let at = in_month_of n in
@@ -42,7 +42,7 @@ pub kth-prev_occurrences : (w n k m : ℕ) → 1 ≤ k → k ≤ 7 → w < 7 →
     → kth (suc m) (prev_occurrences w n) ≡ (if nat_le (k + 7 * m) n then Some (n - (k + 7 * m)) else None)
 kth-prev_occurrences w n k m low high below e = occurrences.kth-prev_occurrences w n k m low high below e
 
--- the days to the first occurrence, from 1 to 7
+-- The number of days to the first occurrence, from 1 to 7.
 days_on : ℕ → ℕ → ℕ
 days_on w n = (w + 6 - n % 7) % 7 + 1
 

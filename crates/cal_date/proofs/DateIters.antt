@@ -1,4 +1,4 @@
--- The days of a walk, and what is left of them.
+-- The days of an iterator, and the days that are left.
 use Rattle.std.proofs.Common.{◌≡◌, ℕ, zero, suc, ◌+◌, ◌-◌, ◌<◌, ◌≤◌, refl, sym, ap, ◌∙◌, arith, [], ◌∷◌, ◌++◌, length, get_or, take, drop, reverse, slice_get, Some, None, inl, inr, false, is_lt}
 use Rattle.std.specs.Prelude.{Option, option_map, IfSome, IsSomeAnd}
 use Rattle.std.proofs.Math.ListN.{drop_of_length-le}
@@ -49,7 +49,7 @@ take-days_from (suc i) n zero h = absurd (omega arith)
 take-days_from (suc i) n (suc k) h =
     ap (take (suc i)) (days_from-suc n k) ∙ ap (λ l. n ∷ l) (take-days_from i (n + 1) k (omega arith)) ∙ sym (days_from-suc n i)
 
--- one day more at the end
+-- One more day at the end.
 days_from-last : (n k : ℕ) → days_from n (k + 1) ≡ days_from n k ++ (n + k) ∷ []
 days_from-last n zero =
     let e : n ≡ n + 0 = omega arith in
@@ -71,14 +71,14 @@ slice_get-days_from_back n k i h =
     slice_get-get_or (reverse (days_from n k)) i 0 (omega (arith, len, length-reverse (days_from n k)))
     ∙ ap Some (get_or-reverse (days_from n k) i 0 within ∙ ap (λ m. get_or (days_from n k) (m - 1 - i) 0) len ∙ get_or-days_from n k (k - 1 - i) 0 (omega arith))
 
--- the days of a walk that has a back day
+-- The days of an iterator with a back day.
 days_of-back : (w : Walk) (b : ℕ) → w.back ≡ Some b → days_of w ≡ days_from w.front (b + 1 - w.front)
 days_of-back w b e = rw e refl
 
 pub length-days_of : (w : Walk) (b : ℕ) → w.back ≡ Some b → length (days_of w) ≡ b + 1 - w.front
 length-days_of w b e = ap length (days_of-back w b e) ∙ length-days_from w.front (b + 1 - w.front)
 
--- the day at an index, from the front and from the back
+-- The day at an index, from the front and from the back.
 pub slice_get-days_of : (w : Walk) (b n : ℕ) → w.back ≡ Some b → w.front + n ≤ b → slice_get (days_of w) n ≡ Some (w.front + n)
 slice_get-days_of w b n e h = ap (λ l. slice_get l n) (days_of-back w b e) ∙ slice_get-days_from w.front (b + 1 - w.front) n (omega arith)
 
@@ -86,7 +86,7 @@ pub slice_get-days_of_back : (w : Walk) (b n : ℕ) → w.back ≡ Some b → w.
 slice_get-days_of_back w b n e h =
     ap (λ l. slice_get (reverse l) n) (days_of-back w b e) ∙ slice_get-days_from_back w.front (b + 1 - w.front) n (omega arith) ∙ ap Some (omega arith)
 
--- what is left without the first days: the front day moves, or the back day goes
+-- An iterator without its first days: the front day moves, or the back day goes away.
 pub without_first-some : (k : ℕ) (w : Walk) → k < length (days_of w) → without_first k w ≡ walk (w.front + k) w.back
 without_first-some k w h = grind (arith, nat_tests)
 
@@ -102,7 +102,7 @@ without_last-some k w b e h = without_last-map k w h ∙ ap (λ back. walk w.fro
 pub without_last-none : (k : ℕ) (w : Walk) → length (days_of w) ≤ k → without_last k w ≡ walk w.front None
 without_last-none k w h = grind (arith, nat_tests)
 
--- the days that are left are those of the walk but the first k of them, or the last k
+-- The days that are left are the days without the first k, or without the last k.
 drop-days_between : (k front : ℕ) (back : Option ℕ) → k < length (days_between front back) → days_between (front + k) back ≡ drop k (days_between front back)
 drop-days_between k front None h = absurd (omega arith)
 drop-days_between k front (Some b) h =
@@ -133,7 +133,7 @@ days_of-without_last k w =
           ap days_of (without_last-none k w past) ∙ ap (λ n. take n (days_of w)) none
     ]
 
--- the first day and the others, the last day and the others
+-- The first day and the other days, the last day and the other days.
 pub days_of-first : (w : Walk) (b : ℕ) → w.back ≡ Some b → w.front ≤ b → days_of w ≡ w.front ∷ days_of (without_first 1 w)
 days_of-first w b e h =
     let all : days_of w ≡ w.front ∷ days_from (w.front + 1) (b - w.front) =
@@ -151,7 +151,7 @@ days_of-last w b e h =
     ∙ take-days_from (b - w.front) w.front (b + 1 - w.front) (omega arith) in
     all ∙ ap (λ l. l ++ b ∷ []) (sym others)
 
--- the days of a walk rise
+-- The days ascend.
 is_lt-later : (x y : ℕ) → x ≤ y → is_lt (nat_cmp y x) ≡ false
 is_lt-later x y h = grind (arith, nat_tests)
 
@@ -167,7 +167,7 @@ days_between-sorted front (Some b) i d low h = days_from-sorted front (b + 1 - f
 pub days_of-sorted : (w : Walk) → IsSorted nat_cmp (days_of w)
 days_of-sorted w = days_between-sorted w.front w.back
 
--- the ends of a walk that has a back day
+-- The front day and the back day.
 pub record HasEnds (front back : ℕ) : Type 0 where
   pub in_order : front ≤ back
   pub in_range : IsDate back
@@ -175,7 +175,7 @@ pub record HasEnds (front back : ℕ) : Type 0 where
 pub ends : (w : Walk) (b : ℕ) → IsWalk w → w.back ≡ Some b → HasEnds w.front b
 ends w b h e = let both = rw e at h in record { in_order = both.0; in_range = both.1 }
 
--- the first day and the last day, if there are any
+-- The first day and the last day, if there are any.
 last_between : (front : ℕ) (back : Option ℕ) → IfSome back (λ b. (front ≤ b) × IsDate b) → back ≡ slice_get (reverse (days_between front back)) 0
 last_between front None h = refl
 last_between front (Some b) h = sym (slice_get-days_from_back front (b + 1 - front) 0 (omega arith) ∙ ap Some (omega arith))
@@ -188,7 +188,8 @@ slice_get-first w b h e =
     let within : w.front + 0 ≤ b = omega (arith, (ends w b h e).in_order) in
     sym (slice_get-days_of w b 0 e within ∙ ap Some (omega arith))
 
--- a walk whose days up to one of them are taken, and one whose days from one of them on are taken
+-- An iterator without the days up to one of them, and an iterator without the days from one of them
+-- on.
 pub without_first-upto : (v w : Walk) (b day next : ℕ) → v ≡ w → w.back ≡ Some b → w.front ≤ day → day < b → next ≡ day + 1
     → walk next v.back ≡ without_first (day + 1 - w.front) w
 without_first-upto v w b day next same e h less is =
@@ -208,12 +209,12 @@ without_last-from w b day e less h =
 pub without_last-all : (w : Walk) (b day : ℕ) → w.back ≡ Some b → day ≤ w.front → day ≤ b → walk w.front None ≡ without_last (b + 1 - day) w
 without_last-all w b day e all h = sym (without_last-none (b + 1 - day) w (omega (arith, length-days_of w b e)))
 
--- what `leave_after` takes where no days are left, and `leave_before`
+-- The days that are left after `leave_after` and `leave_before` if the iterator becomes empty.
 pub ruleset days_left_after = (without_first-all, nat_tests)
 
 pub ruleset days_left_before = (without_last-from, without_last-all, nat_tests)
 
--- where an index is one of the walk
+-- The iterator has a day at the index.
 pub record IsPlace (front back n : ℕ) : Type 0 where
   pub within : front + n ≤ back
   pub in_range : IsDate back
@@ -223,13 +224,13 @@ index w b n h e less =
     let at = ends w b h e in
     record { within = omega (arith, at.in_order, length-days_of w b e); in_range = at.in_range }
 
--- the same, by the fields of the walk
+-- The same, from the fields of the iterator.
 pub index_in : (v w : Walk) (b n len : ℕ) → v ≡ w → IsWalk v → v.back ≡ Some b → len ≡ length (days_of w) → n < len → IsPlace v.front b n
 index_in v w b n len same h e count less =
     let total : len ≡ length (days_of v) = count ∙ ap (λ u. length (days_of u)) (sym same) in
     index v b n h e (omega (arith, total))
 
--- walks within one year, by the ordinals of their ends
+-- Iterators within one year, by the ordinals of their front and back days.
 pub length-one_year : (w : Walk) (back len : ℕ) → IsWalk w → IsInOneYear w back → len ≡ length (days_of w) → len + ordinal_at w.front ≡ ordinal_at back + 1
 length-one_year w back len walk h is =
     let at = ends w back walk h.back_is in

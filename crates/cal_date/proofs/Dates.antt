@@ -1,4 +1,4 @@
--- Each number of the count has its ordinal date, and each ordinal date of the range its number.
+-- Each number of the count has an ordinal date, and each ordinal date of the range has a number.
 use Rattle.std.proofs.Common.{◌≡◌, ℕ, suc, refl, sym, ◌+◌, ◌<◌, ◌≤◌, ap, ◌∙◌, arith, ℤ, pos, ◌+ℤ◌, ◌-ℤ◌, ◌≤ℤ◌, unsigned_abs, to_z, of_z, w32, FitsSigned}
 use Rattle.std.proofs.lemmas.Bool.Decides.{nat_tests}
 use Rattle.std.proofs.lemmas.Int.{ints, to_z-of_z}
@@ -8,7 +8,7 @@ use Rattle.cal_date.specs.CountLaws.{days_of_years, in_year, year_start, days_of
 use Rattle.cal_date.specs.PackedDate.{ordinal_number, HasOrdinalDate-ordinal_number}
 use Rattle.cal_date.proofs.Years.{year_of, IsYear-days_before, days_before-IsYear}
 
--- where a number stands
+-- The ordinal date of a number.
 pub record StandsAt (y : ℤ) (o n : ℕ) : Type 0 where
   pub has : HasOrdinalDate y o n
   pub year : first_year ≤ℤ y
@@ -32,7 +32,7 @@ stands n =
     let at = stands_in n found.0 found.1 found.3 found.4 in
     rw (← at.has.0, ← at.has.1) at at
 
--- what a day of the range has: a year of the range, an ordinal of that year, and so one number
+-- A day of the range has a year of the range, an ordinal of this year, and therefore one number.
 pub record IsInRange (y : ℤ) (o n : ℕ) : Type 0 where
   pub year : IsYear y
   pub ordinal : IsOrdinal y o
@@ -47,15 +47,15 @@ in_range n y o h has =
       number_is = at.number_is;
     }
 
--- the number of each ordinal date of the range is in the range, and has it
+-- The number of an ordinal date of the range is in the range.
 pub IsDate-ordinal_number : (y : ℤ) (o : ℕ) → IsYear y → IsOrdinal y o → IsDate (ordinal_number y o)
 IsDate-ordinal_number y o h f = omega (arith, days_before-IsYear y h)
 
--- a year of the range is an i32
+-- A year of the range fits in an i32.
 pub IsYear-i32 : (y : ℤ) → IsYear y → to_z w32 (of_z w32 y) ≡ y
 IsYear-i32 y h = let fits : FitsSigned w32 y = grind (arith, ints) in to_z-of_z w32 y fits
 
--- no year has more than 366 days
+-- A year has at most 366 days.
 pub year-most : (y : ℤ) → days_in_year y ≤ 366
 year-most y = grind (arith, nat_tests)
 
@@ -66,7 +66,7 @@ ordinal-most n =
 
 pub ruleset places_in_years = (stands, year-most, ints, nat_tests)
 
--- each day by its year and its ordinal
+-- The number of a day from its year and its ordinal.
 pub number_of_parts : (n : ℕ) → ordinal_number (year_at n) (ordinal_at n) ≡ n
 number_of_parts n = sym (stands n).number_is
 

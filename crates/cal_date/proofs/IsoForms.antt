@@ -1,4 +1,4 @@
--- The weekday and the ISO week date of each day by their closed forms, and the way back.
+-- The closed forms of the weekday and of the ISO week date, and the date of an ISO week date.
 use Rattle.std.proofs.Common.{◌≡◌, ℕ, ◌+◌, ◌-◌, ◌*◌, ◌/◌, ◌%◌, ◌<◌, ◌≤◌, ◌∙◌, refl, inl, inr, sym, ap, subst, arith, ℤ, pos, ◌+ℤ◌, ◌-ℤ◌, ◌≤ℤ◌, ◌<ℤ◌}
 use Rattle.std.proofs.lemmas.Bool.{cases_lt}
 use Rattle.std.proofs.lemmas.Int.{ints}
@@ -18,22 +18,22 @@ use Rattle.cal_date.proofs.Weekdays.{weekday_at-is, first_weekday-days_before, w
 use Rattle.cal_date.proofs.Years.{days_before-next}
 use Rattle.cal_units.specs.WeekdayCycle.{index-weekday_at}
 
--- the weekday of the first of January, by the years of the range before
+-- The weekday of 1 January, from the number of years of the range before.
 pub first_weekday-years_before : (y : ℤ) (k : ℕ) → first_year ≤ℤ y → k ≡ years_before y → first_weekday y ≡ (k + k / 4 - k / 100 + k / 400) % 7
 first_weekday-years_before y k late e =
     let first = first_weekday-days_before y late in
     let closed = days_of_years-closed (years_before y) in
     omega arith
 
--- the weekday of each day, by that of its year's first
+-- The weekday of a day, from the weekday of 1 January of its year.
 pub weekday_at-first_weekday : (n : ℕ) → weekday_at n ≡ (first_weekday (year_at n) + (ordinal_at n - 1)) % 7
 weekday_at-first_weekday n =
     let at = stands n in
     let first = first_weekday-days_before (year_at n) at.year in
     omega (arith, weekday_at-is n)
 
--- ---- the ISO week date by a quotient: its three cases are those of the Thursday
--- the week before the first of the year is the last of the year before
+-- ---- the ISO week date by a quotient, in three cases of the Thursday
+-- The week before the first week of a year is the last week of the year before.
 last_week : (y : ℤ) (o n : ℕ) → first_year ≤ℤ y → 1 ≤ o → n ≡ ordinal_number y o → o + 3 ≤ n % 7
     → (days_in_year (y -ℤ pos 1) + o + 3 - n % 7 + 6) / 7 ≡ weeks_in_year (y -ℤ pos 1)
 last_week y o n late least number before =
@@ -43,7 +43,7 @@ last_week y o n late least number before =
     let next : days_before y ≡ days_before (y -ℤ pos 1) + days_in_year (y -ℤ pos 1) = ap days_before (sym same) ∙ days_before-next (y -ℤ pos 1) previous in
     omega arith
 
--- week 53 is one of the next year just where the Thursday lies past the year
+-- Week 53 is a week of the next year if and only if the Thursday is past the year.
 week_53 : (y : ℤ) (o n : ℕ) → first_year ≤ℤ y → 1 ≤ o → o ≤ days_in_year y → n ≡ ordinal_number y o → (o + 9 - n % 7) / 7 ≡ 53 → weeks_in_year y ≡ 52
     → days_in_year y < o + 3 - n % 7
 week_53 y o n late least most number last weeks =
@@ -58,7 +58,7 @@ past_year y o n late least most number past =
     let short : days_in_year y ≤ 366 = grind (arith, nat_tests) in
     (omega arith, omega arith)
 
--- what the closed forms give in each case
+-- The results of the closed forms in each case.
 pub record IsIso (y : ℤ) (o w : ℕ) (year : ℤ) (week : ℕ) : Type 0 where
   pub year_is : iso_year_of y o w ≡ year
   pub week_is : iso_week_of y o w ≡ week
@@ -79,7 +79,7 @@ has_iso : (y : ℤ) (o n : ℕ) (year : ℤ) (week : ℕ) → IsIso y o (n % 7 +
     → HasIsoWeekDate (iso_year_of y o (n % 7 + 1)) (iso_week_of y o (n % 7 + 1)) (n % 7) n
 has_iso y o n year week is has = rw (is.year_is, is.week_is) has
 
--- so they give the ISO week date of each day
+-- The closed forms give the ISO week date of each day.
 HasIsoWeekDate-standing : (y : ℤ) (o n : ℕ) → StandsAt y o n → HasIsoWeekDate (iso_year_of y o (n % 7 + 1)) (iso_week_of y o (n % 7 + 1)) (n % 7) n
 HasIsoWeekDate-standing y o n at =
     let least = at.ordinal.0 in
@@ -108,8 +108,8 @@ HasIsoWeekDate-closed n =
     subst (λ d. HasIsoWeekDate (iso_year_of (year_at n) (ordinal_at n) (d + 1)) (iso_week_of (year_at n) (ordinal_at n) (d + 1)) d n) (sym (weekday_at-is n))
     (HasIsoWeekDate-standing (year_at n) (ordinal_at n) n (stands n))
 
--- ---- the way back
--- each year has 52 weeks
+-- ---- the date of an ISO week date
+-- Each year has 52 weeks or more.
 pub weeks_in_year-least : (y : ℤ) → 52 ≤ weeks_in_year y
 weeks_in_year-least y = grind (arith, nat_tests, weeks_in_year-is y)
 
@@ -117,7 +117,7 @@ pub ruleset at_least_52_weeks = (weeks_in_year-least, ints, nat_tests)
 
 pub ruleset years_of_weeks = (IsYear-i32, weeks_in_year-least, weeks_in_year-most, year-most, ints, nat_tests)
 
--- what the closed forms give in each case
+-- The results of the closed forms in each case.
 pub record IsBack (y : ℤ) (w wd : ℕ) (year : ℤ) (ordinal : ℕ) : Type 0 where
   pub year_is : year_of_week y w wd ≡ year
   pub ordinal_is : ordinal_of_week y w wd ≡ ordinal
@@ -134,13 +134,13 @@ pub back-same : (y : ℤ) (w wd : ℕ) → fourth_weekday y + 3 < 7 * w + wd →
 unfolding year_of_week ordinal_of_week
 back-same y w wd h f = record { year_is = grind (arith, nat_tests); ordinal_is = grind (arith, nat_tests) }
 
--- a year and an ordinal of the count, with the number of the week date
+-- A year and an ordinal of the count, with the number of the ISO week date.
 pub record IsDayOfWeek (y : ℤ) (w p : ℕ) (z : ℤ) (o : ℕ) : Type 0 where
   pub late : first_year ≤ℤ z
   pub ordinal : IsOrdinal z o
   pub number_is : ordinal_number z o ≡ iso_number y w p
 
--- the first year begins on a Monday, so no week of it begins in the year before
+-- The first year begins on a Monday, so none of its weeks begins in the year before.
 has_year_before_week : (y : ℤ) (w p : ℕ) → first_year ≤ℤ y → 1 ≤ w → 7 * w + (p + 1) ≤ fourth_weekday y + 3 → first_year ≤ℤ (y -ℤ pos 1)
 has_year_before_week y w p late least before =
     let k = years_before y in
@@ -178,14 +178,14 @@ day_of_week y w p late week below =
           rw (is.year_is, is.ordinal_is) (record { late = previous; ordinal = (omega arith, omega arith); number_is = omega arith })
     ]
 
--- so the day with that ordinal date is the one with the week date
+-- The day with this ordinal date has the ISO week date.
 pub week_date_of_day : (y : ℤ) (w p n : ℕ) → IsYear y → IsWeek y w → p < 7 → HasOrdinalDate (year_of_week y w (p + 1)) (ordinal_of_week y w (p + 1)) n → HasIsoWeekDate y w p n
 week_date_of_day y w p n year week below has =
     let at : StandsAt (year_of_week y w (p + 1)) (ordinal_of_week y w (p + 1)) n = rw (has.0, has.1) at (stands n) in
     let is = day_of_week y w p year.0 week below in
     subst (HasIsoWeekDate y w p) (sym (at.number_is ∙ is.number_is)) (HasIsoWeekDate-iso_number y w p year.0 week below)
 
--- and where its year comes after the last, no day of the range has the week date
+-- If its year is after the last year, no day of the range has the ISO week date.
 pub NoDate-week_date : (y : ℤ) (w p : ℕ) → IsYear y → IsWeek y w → p < 7 → last_year <ℤ year_of_week y w (p + 1) → NoDate (HasIsoWeekDate y w p)
 NoDate-week_date y w p year week below late n h has =
     let is = day_of_week y w p year.0 week below in

@@ -1,4 +1,4 @@
--- Each number of the count has its ISO week date, and each ISO week date of the range its number.
+-- Each number of the count has an ISO week date, and each ISO week date of the range has a number.
 use Rattle.std.proofs.Common.{◌≡◌, ℕ, suc, ◌+◌, ◌-◌, ◌*◌, ◌/◌, ◌%◌, ◌<◌, ◌≤◌, ◌↔◌, refl, sym, ap, subst, ◌∙◌, arith, ℤ, pos, ◌+ℤ◌, ◌-ℤ◌, ◌≤ℤ◌, unsigned_abs, inl, inr, [], ◌∷◌, lit<}
 use Rattle.std.proofs.lemmas.Bool.{cases_lt}
 use Rattle.std.proofs.lemmas.Int.{ints}
@@ -16,18 +16,18 @@ use Rattle.cal_date.proofs.Dates.{stands, in_range}
 use Rattle.cal_date.proofs.Order.{Rises, in_order}
 use Rattle.cal_date.proofs.Weekdays.{weekday_at-is, weekdays_upto-is, weeks_in_year-days_before}
 
--- the whole weeks of the count that come before the first week of a year
+-- The number of whole weeks of the count before the first week of a year.
 abbrev pub weeks_before : ℤ → ℕ
 weeks_before y = (days_before y + 3) / 7
 
--- the number of an ISO week date
+-- The number of an ISO week date.
 abbrev pub iso_number : ℤ → ℕ → ℕ → ℕ
 iso_number y w wd = 7 * (weeks_before y + (w - 1)) + wd
 
 pub thursday_of-is : (n : ℕ) → thursday_of n ≡ n - n % 7 + 3
 thursday_of-is n = ap (λ k. n - k + 3) (weekday_at-is n)
 
--- where a number stands among the weeks
+-- The week of a number.
 pub record StandsInWeek (y : ℤ) (w n : ℕ) : Type 0 where
   pub year : first_year ≤ℤ y
   pub week : IsWeek y w
@@ -52,11 +52,11 @@ stands_in_week n =
       number_is = omega arith;
     }
 
--- its week is one of its ISO year
+-- The week of a day is a week of its ISO year.
 pub iso_week_at-range : (n : ℕ) → IsWeek (iso_year_at n) (iso_week_at n)
 iso_week_at-range n = (stands_in_week n).week
 
--- the number of an ISO week date has it
+-- The number of an ISO week date has this ISO week date.
 pub HasIsoWeekDate-iso_number : (y : ℤ) (w wd : ℕ) → first_year ≤ℤ y → IsWeek y w → wd < 7 → HasIsoWeekDate y w wd (iso_number y w wd)
 unfolding iso_year_at
 HasIsoWeekDate-iso_number y w wd h week below =
@@ -73,13 +73,13 @@ HasIsoWeekDate-iso_number y w wd h week below =
     let at = subst (λ z. StandsInWeek z (iso_week_at n) n) year (stands_in_week n) in
     (year, omega (arith, at.number_is, at.week.0), weekday_at-is n ∙ omega arith)
 
--- each day of the range has a year and a week of the range, and so one number
+-- A day of the range has a year and a week of the range, and therefore one number.
 pub record IsInWeek (y : ℤ) (w wd n : ℕ) : Type 0 where
   pub year : IsYear y
   pub week : IsWeek y w
   pub number_is : n ≡ iso_number y w wd
 
--- no day of the range has an ISO year outside it
+-- The ISO year of a day of the range is in the range.
 pub IsYear-iso_year_at : (n : ℕ) → IsDate n → IsYear (iso_year_at n)
 unfolding iso_year_at
 IsYear-iso_year_at n h =
@@ -98,7 +98,7 @@ in_weeks n y w wd h has =
       number_is = omega (arith, here.number_is);
     }
 
--- the week of a day, by the ordinal of the Thursday
+-- The week of a day, from the ordinal of the Thursday.
 pub HasIsoWeekDate-thursday : (y : ℤ) (o n : ℕ) → first_year ≤ℤ y → 1 ≤ o → o ≤ days_in_year y → n - n % 7 + 4 ≡ days_before y + o
     → HasIsoWeekDate y ((o + 6) / 7) (n % 7) n
 HasIsoWeekDate-thursday y o n h low high e =
@@ -108,7 +108,7 @@ HasIsoWeekDate-thursday y o n h low high e =
     let week : IsWeek y w = (omega arith, omega arith) in
     subst (HasIsoWeekDate y w (n % 7)) (sym number) (HasIsoWeekDate-iso_number y w (n % 7) h week (omega arith))
 
--- the Thursday lies in the year of the day, or in the year before, or in the next year
+-- The Thursday is in the year of the day, in the year before, or in the next year.
 pub HasIsoWeekDate-same_year : (y : ℤ) (o n : ℕ) → first_year ≤ℤ y → 1 ≤ o → n ≡ ordinal_number y o → n % 7 < o + 3 → o + 3 - n % 7 ≤ days_in_year y
     → HasIsoWeekDate y ((o + 3 - n % 7 + 6) / 7) (n % 7) n
 HasIsoWeekDate-same_year y o n h low number more within = HasIsoWeekDate-thursday y (o + 3 - n % 7) n h (omega arith) within (omega arith)
@@ -129,7 +129,7 @@ HasIsoWeekDate-next_year y o n h low high number less =
     let first : (t + 6) / 7 ≡ 1 = omega arith in
     subst (λ w. HasIsoWeekDate (y +ℤ pos 1) w (n % 7) n) first (HasIsoWeekDate-thursday (y +ℤ pos 1) t n (omega (arith, ints)) (omega arith) (omega arith) (omega arith))
 
--- a day whose Thursday lies in the year before is in no first year
+-- A day whose Thursday is in the year before is not in the first year.
 pub has_year_before : (y : ℤ) (o n : ℕ) → first_year ≤ℤ y → 1 ≤ o → n ≡ ordinal_number y o → o + 3 ≤ n % 7 → first_year ≤ℤ (y -ℤ pos 1)
 has_year_before y o n h low number less =
     let k = unsigned_abs (y -ℤ first_year) in
@@ -147,7 +147,7 @@ HasIsoWeekDate-previous_year y o n h low number less =
     let same : y ≡ (y -ℤ pos 1) +ℤ pos 1 = omega (arith, ints) in
     HasIsoWeekDate-year_before (y -ℤ pos 1) o n year low (number ∙ ap (λ z. ordinal_number z o) same) less
 
--- ISO week dates rise from day to day
+-- ISO week dates rise from day to day.
 iso_week_date_at-is : (y : ℤ) (w wd n : ℕ) → HasIsoWeekDate y w wd n → iso_week_date_at n ≡ (y ∷ pos w ∷ pos wd ∷ [])
 iso_week_date_at-is y w wd n has = λ i. has.0 i ∷ pos (has.1 i) ∷ pos (has.2 i) ∷ []
 
@@ -188,7 +188,7 @@ next_week_date n y w wd at has day =
 pub iso_week_dates-rise : Rises iso_week_date_at
 iso_week_dates-rise = record { step = λ n. next_week_date n (iso_year_at n) (iso_week_at n) (weekday_at n) (stands_in_week n) (refl, refl, refl) (sym (weekday_at-is n)) }
 
--- so it is before exactly for earlier days
+-- Days have the order of their ISO week dates.
 pub iso_week_dates-in_order : (y : ℤ) (w wd n m : ℕ) → HasIsoWeekDate y w wd n → (m < n) ↔ IsBefore (iso_week_date_at m) (y ∷ pos w ∷ pos wd ∷ [])
 iso_week_dates-in_order y w wd n m has =
     subst (λ xs. (m < n) ↔ IsBefore (iso_week_date_at m) xs) (iso_week_date_at-is y w wd n has) (in_order iso_week_date_at iso_week_dates-rise m n)

@@ -1,4 +1,4 @@
--- Where a day stands among the years of the range, and its Julian day by the closed form.
+-- The closed form of the Julian day, from the year of a day.
 use Rattle.std.proofs.Common.{◌≡◌, ℕ, suc, ◌+◌, ◌-◌, ◌*◌, ◌/◌, ◌≤◌, ap, arith, ℤ, pos, ◌+ℤ◌, ◌-ℤ◌, unsigned_abs}
 use Rattle.std.proofs.lemmas.Int.{ints}
 use Rattle.cal_units.specs.Lengths.{days_in_year}
@@ -7,7 +7,7 @@ use Rattle.cal_date.specs.CountLaws.{days_of_years, years_before, days_of_years-
 use Rattle.cal_date.specs.ClosedForms.{years_counted, julian_day_of}
 use Rattle.cal_date.proofs.Dates.{stands}
 
--- day n has this ordinal in the year that comes after the first k years, with the days of those and of that year by closed forms
+-- Day n has this ordinal in the year after the first k years. The numbers of days are closed forms.
 pub record IsAfterYears (k o n : ℕ) : Type 0 where
   pub days_before : ℕ
   pub days_of_year : ℕ
@@ -33,7 +33,7 @@ after_years n =
       number_is = at.number_is;
     }
 
--- the Julian day of each day by the closed form
+-- The closed form of the Julian day is the Julian day.
 pub julian_day_of-is : (n : ℕ) → julian_day_of (year_at n) (ordinal_at n) ≡ julian_day_at n
 unfolding julian_day_of
 julian_day_of-is n =
@@ -42,12 +42,12 @@ julian_day_of-is n =
     let late = (stands n).year in
     omega (arith, ints)
 
--- what is taken away in it
+-- The sum before the subtraction.
 pub julian_day_of-sum : (y : ℤ) (o : ℕ)
     → julian_day_of y o +ℤ pos 363521075 ≡ pos (1461 * years_counted y / 4 - years_counted y / 100 + years_counted y / 100 / 4 + o)
 unfolding julian_day_of
 julian_day_of-sum y o = omega (arith, ints)
 
--- the day that has a Julian day
+-- The number of the day with a Julian day.
 abbrev pub number_at : ℤ → ℕ
 number_at j = unsigned_abs (j -ℤ first_julian_day)

@@ -1,4 +1,4 @@
--- The two multiplications of the kernel land in the right century and year, on every day of the range.
+-- The two multiplications of the kernel give the right century and year on each day of the range.
 use Rattle.std.proofs.Common.{◌≡◌, ◌≢◌, ℕ, ◌+◌, ◌-◌, ◌*◌, ◌/◌, ◌%◌, ◌^◌, ◌<◌, ◌≤◌, ◌∙◌, inl, inr, sym, ap, subst, arith, Bool, true, false, ℤ, pos, ◌+ℤ◌, ◌-ℤ◌, unsigned_abs}
 use Rattle.std.specs.Prelude.{if◌then◌else◌, not, ◌||◌, ◌&&◌, ◌==◌}
 use Rattle.std.proofs.lemmas.Bool.{cases_lt}
@@ -14,28 +14,30 @@ use Rattle.cal_date.proofs.Dates.{stands, IsInRange, in_range}
 use Rattle.cal_date.proofs.JulianDays.{IsAfterYears, after_years, number_at}
 
 -- ---- the first multiplication, by a factor that is 20477 / 146097 less than 2 ^ 49 / 146097
--- a day with r quarter days of 146097 past c centuries is in century c; where r is 146097 the quotient would be one more
+-- A day that is r quarter days of 146097 past c centuries is in century c. If r is 146097, the
+-- quotient is one more.
 century_at-rest : (n c r : ℕ) → 0 < r → r ≤ 146097 → 4 * n ≡ 146097 * c + r → n * 20477 < 2 ^ 47 → century_at n ≡ c
 century_at-rest n c r some most day small = omega arith
 
--- its part is below the cut on the first 365 days of a century, which have at most 1459 quarter days, and above it from 1461 on
+-- The part is at most the cut on the first 365 days of a century, which have at most 1459 quarter
+-- days. It is above the cut from 1461 quarter days on.
 part_below_cut : (n c r : ℕ) → 0 < r → r < 1460 → 4 * n ≡ 146097 * c + r → n * 20477 < 2 ^ 47 → century_part_at n ≤ 42920275
 part_below_cut n c r some most day small = omega arith
 
 part_above_cut : (n c r : ℕ) → 1460 < r → r ≤ 146097 → 4 * n ≡ 146097 * c + r → n * 20477 < 2 ^ 47 → 42920275 < century_part_at n
 part_above_cut n c r some most day small = omega arith
 
--- where 146097 does not divide the day, the century is the quotient
+-- If 146097 doesn't divide the day, the century is the quotient.
 pub century_at-is : (n : ℕ) → n * 20477 < 2 ^ 47 → n % 146097 ≢ 0 → century_at n ≡ 4 * n / 146097
 century_at-is n small other = century_at-rest n (4 * n / 146097) (4 * n % 146097) (omega arith) (omega arith) (omega arith) small
 
--- where it does, the century is one below the quotient
+-- If 146097 divides the day, the century is one less than the quotient.
 pub century_at-one_low : (n : ℕ) → 0 < n → n * 20477 < 2 ^ 47 → n % 146097 ≡ 0 → century_at n + 1 ≡ 4 * n / 146097
 century_at-one_low n some small divides =
     let low : century_at n ≡ 4 * n / 146097 - 1 = century_at-rest n (4 * n / 146097 - 1) 146097 (omega arith) (omega arith) (omega arith) small in
     omega arith
 
--- the Julian number is that of the quotient either way
+-- The Julian number is the same in both cases.
 julian_at-is : (n : ℕ) → 0 < n → n * 20477 < 2 ^ 47 → julian_at n ≡ n - 4 * n / 146097 / 4 + 4 * n / 146097
 julian_at-is n some small =
     elim (cases_lt 0 (n % 146097)) [
@@ -44,7 +46,7 @@ julian_at-is n some small =
     ]
 
 -- ---- the second multiplication, by a factor that is 632 / 1461 more than 2 ^ 42 / 1461
--- a day with s quarter days past y years is in year y, and s / 4 days of it have gone by
+-- A day that is s quarter days past y years is in year y, after s / 4 days of it.
 years_at-rest : (j y s : ℕ) → s < 1461 → 4 * j ≡ 1461 * y + s → j * 632 < 2 ^ 40 → years_at j ≡ y
 years_at-rest j y s most day small = omega arith
 
@@ -52,14 +54,14 @@ year_part_at-rest : (j y s : ℕ) → s < 1461 → 4 * j ≡ 1461 * y + s → j 
 year_part_at-rest j y s most day small large = omega arith
 
 -- ---- the days of the range
--- the first year of the range, counted as the kernel counts years, and its first day
+-- The first year of the range in the kernel's count of years, and its first day.
 abbrev first_shifted_year : ℕ
 first_shifted_year = unsigned_abs (first_year +ℤ pos 2379600)
 
 abbrev first_shifted_day : ℕ
 first_shifted_day = shifted_day first_julian_day
 
--- day n of the kernel's count has this ordinal of this year of its count
+-- Day n of the kernel's count has this ordinal in this year of the count.
 record Stands (y o n : ℕ) : Type 0 where
   k : ℕ
   after : IsAfterYears k o (n - first_shifted_day)
@@ -88,14 +90,14 @@ year_part_at-is y o n at =
     let julian = julian_at-is n (omega arith) (omega arith) in
     year_part_at-rest (julian_at n) y (4 * julian_at n - 1461 * y) (omega arith) (omega arith) (omega arith) (omega arith)
 
--- past the first year of a century the part is above the cut
+-- After the first year of a century the part is above the cut.
 later_year : (y o n : ℕ) → Stands y o n → y % 100 ≢ 0 → is_julian_year (kernel_by n) ≡ true
 later_year y o n at later =
     let century = right_century y o n at in
     let above = part_above_cut n (4 * n / 146097) (4 * n % 146097) (omega arith) (omega arith) (omega arith) (omega arith) in
     grind (arith, nat_tests)
 
--- in the first year of a century that 4 does not divide it is below, and 4 does not divide the century
+-- In the first year of a century that 4 doesn't divide, the part is not above the cut.
 first_year_of_century : (y o n : ℕ) → Stands y o n → y % 100 ≡ 0 → y % 400 ≢ 0 → is_julian_year (kernel_by n) ≡ false
 first_year_of_century y o n at first other =
     let century = right_century y o n at in
@@ -104,7 +106,8 @@ first_year_of_century y o n at first other =
     let part : century_at n % 4 ≢ 0 = omega arith in
     grind (arith, nat_tests)
 
--- in a year that 400 divides, 4 divides the century, but for the first day: there the century is one low, and the part above the cut
+-- In a year that 400 divides, 4 divides the century. The exception is the first day: the century is
+-- one too low, and the part is above the cut.
 first_year_of_four_centuries : (y o n : ℕ) → Stands y o n → y % 400 ≡ 0 → is_julian_year (kernel_by n) ≡ true
 first_year_of_four_centuries y o n at first =
     let century = right_century y o n at in
@@ -131,7 +134,8 @@ is_julian_year-is y o n at =
       ]
     ]
 
--- the days of the year that have gone by, and the 1 where it begins on the day that every fourth year begins on
+-- The ordinal is the number of days of the year that have passed, plus 1 in a year that is as long
+-- as in the Julian count.
 ordinal_by_days : (y o n : ℕ) → Stands y o n → (4 * julian_at n - 1461 * y) / 4 + (if is_julian y then 1 else 0) ≡ o
 ordinal_by_days y o n at =
     let century = right_century y o n at in
@@ -142,7 +146,7 @@ ordinal_of_kernel-is : (y o n : ℕ) → Stands y o n → ordinal_of_kernel (ker
 ordinal_of_kernel-is y o n at =
     rw (is_julian_year-is y o n at) (omega (arith, year_part_at-is y o n at, ordinal_by_days y o n at))
 
--- day n of the range stands there in the kernel's count
+-- Day n of the range has this year and this ordinal in the kernel's count.
 stands_in_range : (n : ℕ) → IsDate n → Stands (unsigned_abs (year_at n +ℤ pos 2379600)) (ordinal_at n) (shifted_day (julian_day_at n))
 stands_in_range n h =
     let late = (stands n).year in
@@ -155,7 +159,7 @@ stands_in_range n h =
       early = omega (arith, ints);
     }
 
--- so the kernel of a day gives its year, ordinal and leap mark
+-- The kernel of a day gives its year, ordinal and leap mark.
 pub HasOrdinalDate-kernel : (n : ℕ) → IsDate n → HasOrdinalDate (year_of_kernel (kernel_of (julian_day_at n))) (ordinal_of_kernel (kernel_of (julian_day_at n))) n
 unfolding kernel_of
 HasOrdinalDate-kernel n h =
@@ -164,7 +168,7 @@ HasOrdinalDate-kernel n h =
     let years = years_at-is (unsigned_abs (year_at n +ℤ pos 2379600)) (ordinal_at n) (shifted_day (julian_day_at n)) at in
     (omega (arith, ints), sym (ordinal_of_kernel-is (unsigned_abs (year_at n +ℤ pos 2379600)) (ordinal_at n) (shifted_day (julian_day_at n)) at))
 
--- a year is a leap year just where its count by the kernel says so
+-- A year is a leap year if and only if its count by the kernel says so.
 leap_by_count : (y : ℤ) (c : ℕ) → pos c ≡ y +ℤ pos 2379600 → ((c % 4 == 0) && is_julian c) ≡ is_leap_year y
 leap_by_count y c e = grind (arith, ints, nat_tests)
 
@@ -177,8 +181,8 @@ is_leap_by_kernel-is n h =
     let years = years_at-is c (ordinal_at n) (shifted_day (julian_day_at n)) at in
     rw (is_julian_year-is c (ordinal_at n) (shifted_day (julian_day_at n)) at, years) (leap_by_count (year_at n) c (omega (arith, ints)))
 
--- What the kernel gives on a day that is n in its count, where the century is one low: the Julian number, the year, the ordinal and the leap
--- mark are right all the same.
+-- If the century of day n of the kernel's count is one too low, the Julian number, the year, the
+-- ordinal and the leap mark are right all the same.
 pub record IsOneLow (d n : ℕ) : Type 0 where
   pub century : century_at n + 1 ≡ 4 * n / 146097
   pub julian : julian_at n ≡ n - 4 * n / 146097 / 4 + 4 * n / 146097
@@ -196,17 +200,17 @@ century_one_low d h divides =
       leap = is_leap_by_kernel-is d h;
     }
 
--- each day of the range with a kernel has the year and the ordinal that it gives
+-- A day of the range with a kernel has the year and the ordinal of this kernel.
 pub in_range-kernel : (k : JulianKernel) (n : ℕ) → IsDate n → HasKernel k n → IsInRange (year_of_kernel k) (ordinal_of_kernel k) n
 in_range-kernel k n h has =
     in_range n (year_of_kernel k) (ordinal_of_kernel k) h (subst (λ k. HasOrdinalDate (year_of_kernel k) (ordinal_of_kernel k) n) has (HasOrdinalDate-kernel n h))
 
--- and is in a leap year where that says so
+-- The leap mark of a kernel is right for its year.
 pub leap_by_kernel-is : (k : JulianKernel) (n : ℕ) → IsDate n → HasKernel k n → is_leap_by_kernel k ≡ is_leap_year (year_of_kernel k)
 leap_by_kernel-is k n h has =
     subst (λ k. is_leap_by_kernel k ≡ is_leap_year (year_of_kernel k)) has (is_leap_by_kernel-is n h ∙ ap is_leap_year (HasOrdinalDate-kernel n h).0)
 
--- the day of the range that has a Julian day, and the kernel of that
+-- The day of the range with a Julian day, and its kernel.
 pub record HasJulianKernel (j : ℤ) (k : JulianKernel) (n : ℕ) : Type 0 where
   pub date : IsDate n
   pub has_day : HasJulianDay j n
@@ -219,6 +223,6 @@ has_julian_kernel j k h is =
     let day : HasJulianDay j (number_at j) = omega (arith, ints) in
     record { date = omega (arith, ints); has_day = day; has_kernel = ap kernel_of day ∙ sym is }
 
--- and gives the date of that day
+-- The kernel of a Julian day gives the date of its day.
 pub date_by_kernel : (j : ℤ) (n : ℕ) → IsDate n → HasJulianDay j n → HasOrdinalDate (year_of_kernel (kernel_of j)) (ordinal_of_kernel (kernel_of j)) n
 date_by_kernel j n h day = subst (λ j. HasOrdinalDate (year_of_kernel (kernel_of j)) (ordinal_of_kernel (kernel_of j)) n) day (HasOrdinalDate-kernel n h)

@@ -1,4 +1,4 @@
--- The closed forms of the month and the day of the month equal those of the count.
+-- The closed forms of the month and the day of the month equal the count.
 use Rattle.std.proofs.Common.{◌≡◌, ℕ, ◌+◌, ◌-◌, ◌<◌, ◌≤◌, ◌∙◌, sym, ap, arith, ℤ}
 use Rattle.std.proofs.lemmas.Bool.Decides.{nat_tests}
 use Rattle.cal_units.specs.Lengths.{is_leap_year, days_in_month}
@@ -9,7 +9,7 @@ use Rattle.cal_date.proofs.Dates.{stands, ordinal-most}
 use Rattle.cal_date.proofs.Calendar.{ordinal_in, in_month_of}
 use Rattle.cal_date.proofs.Months.{each_month}
 
--- the closed forms at the ordinal of a calendar date, so many months and days into its year
+-- The closed forms at the ordinal of a day, i months and d days into its year.
 record IsClosed (y : ℤ) (i d : ℕ) : Type 0 where
   month_is : month_of_ordinal (is_leap_year y) (ordinal_in y i d) ≡ i + 1
   day_is : day_of_ordinal (is_leap_year y) (ordinal_in y i d) ≡ d
@@ -32,7 +32,7 @@ closed y i d low =
     (λ h. record { month_is = grind (arith, nat_tests); day_is = grind (arith, nat_tests) })
     i low
 
--- so of every day
+-- The closed forms give the month and the day of each day.
 pub month_of_ordinal-is : (n : ℕ) → month_of_ordinal (is_leap_year (year_at n)) (ordinal_at n) ≡ month_at n
 month_of_ordinal-is n =
     let at = in_month_of n in
@@ -45,7 +45,7 @@ day_of_ordinal-is n =
     let is = closed (year_at n) at.months (day_of_month_at n) at.stands.month at.stands.day in
     ap (day_of_ordinal (is_leap_year (year_at n))) at.stands.ordinal_is ∙ is.day_is
 
--- the index of a day in its part of the year, and the two quotients
+-- The day of a part of the year, and the two quotients.
 pub record IsInPart (n days months : ℕ) : Type 0 where
   pub some : 1 ≤ days
   pub most : days ≤ 366

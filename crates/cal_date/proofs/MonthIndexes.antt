@@ -11,7 +11,8 @@ use Rattle.cal_date.proofs.Calendar.{ordinal_in, stands_at, in_month_of, day_of_
 use Rattle.cal_date.proofs.Dates.{stands, number_of_parts}
 use Rattle.cal_date.proofs.Months.{before_month, before_month-is, days_of_months-next}
 
--- the months of the days of a year with so many in February, and all of them by the leap mark and the ordinal
+-- The months of all days of a year, if February has `february` days. The table has both kinds of
+-- year.
 abbrev pub months_of : ℕ → List ℕ
 months_of february =
     replicate 31 0 ++ (replicate february 1 ++ (replicate 31 2 ++ (replicate 30 3 ++ (replicate 31 4 ++ (replicate 30 5
@@ -20,11 +21,12 @@ months_of february =
 unfoldable pub table : List ℕ
 table = 0 ∷ (months_of 28 ++ (replicate 147 0 ++ months_of 29))
 
--- whether the ordinal is of the month with that index
+-- The ordinal is in the month with index i.
 is_of_month : ℕ → Bool → ℕ → Bool
 is_of_month o leap i = nat_lt i 12 && (nat_lt (before_month i leap) o && nat_le o (before_month (i + 1) leap))
 
--- whether the list begins with the months of so many ordinals from o on, of a leap year or a common one
+-- The list begins with the months of a number of ordinals from o on, in a leap year or a common
+-- year.
 are_months : ℕ → ℕ → Bool → List ℕ → Bool
 are_months zero o leap xs = true
 are_months (suc k) o leap [] = false
@@ -47,7 +49,7 @@ found (suc k) o (suc j) leap (i ∷ xs) e h =
     let rest = found k (o + 1) j leap xs (and_parts (is_of_month o leap i) _ e).1 (omega arith) in
     subst (λ p. is_of_month p leap (slice_index_or xs j 0) ≡ true) (omega arith) rest
 
--- the index of the month of a day
+-- The index of the month of a day.
 pub record IsMonthIndex (n i : ℕ) : Type 0 where
   pub month : i + 1 ≡ month_at n
   pub range : i < 12
@@ -70,7 +72,7 @@ of_month n i leap same e =
     let has : HasCalendarDate y (i + 1) d n = subst (HasCalendarDate y (i + 1) d) number (stands_at y i d (stands n).year below day).has in
     record { month = sym (ap (λ c. c.month) has); range = below }
 
--- the table has that of each day
+-- The table has the index for each day.
 pub in_table : (n low : ℕ) → low ≡ leap_mark (year_at n) + ordinal_at n → IsMonthIndex n (slice_index_or table low 0)
 in_table n low bits =
     let ordinal = (stands n).ordinal in
@@ -91,7 +93,7 @@ in_table n low bits =
           of_month n _ false (sym common) month
     ]
 
--- the day of the month is what is left of the ordinal
+-- The ordinal is the days of the months before, plus the day of the month.
 pub left : (n i : ℕ) → i + 1 ≡ month_at n → ordinal_at n ≡ days_of_months (year_at n) i + day_of_month_at n
 left n i month =
     let at = in_month_of n in

@@ -1,4 +1,4 @@
--- What holds of each of the twelve months holds of every month.
+-- A property of each of the twelve months is a property of every month.
 use Rattle.std.proofs.Common.{◌≡◌, ℕ, List, pos, zero, suc, ◌+◌, ◌<◌, ◌≤◌, [], ◌∷◌, slice_index_or, arith, add-one, refl, lit≤, ℤ, Bool, true, false, sym, subst, inl, inr}
 use Rattle.std.proofs.lemmas.Bool.{cases_lt}
 use Rattle.std.proofs.lemmas.Bool.Decides.{nat_tests}
@@ -7,7 +7,7 @@ use Rattle.cal_units.specs.Lengths.{is_leap_year, days_in_month}
 use Rattle.cal_date.specs.CountLaws.{days_of_months}
 use Rattle.std.proofs.lemmas.Int.{ints}
 
--- by the months before it
+-- The months by their indexes.
 pub each_month : (P : ℕ → Type 0) → P 0 → P 1 → P 2 → P 3 → P 4 → P 5 → P 6 → P 7 → P 8 → P 9 → P 10 → P 11 → (i : ℕ) → i < 12 → P i
 each_month P p0 _ _ _ _ _ _ _ _ _ _ _ zero low = p0
 each_month P _ p1 _ _ _ _ _ _ _ _ _ _ (suc zero) low = p1
@@ -23,7 +23,7 @@ each_month P _ _ _ _ _ _ _ _ _ _ p10 _ (suc (suc (suc (suc (suc (suc (suc (suc (
 each_month P _ _ _ _ _ _ _ _ _ _ _ p11 (suc (suc (suc (suc (suc (suc (suc (suc (suc (suc (suc zero))))))))))) low = p11
 each_month P _ _ _ _ _ _ _ _ _ _ _ _ (suc (suc (suc (suc (suc (suc (suc (suc (suc (suc (suc (suc i)))))))))))) low = absurd (omega arith)
 
--- the days before each month in a common year and in a leap year, and at 12 those of the year
+-- The days before each month in a common year and in a leap year. At 12 they are the whole year.
 abbrev pub before_months : List (List ℕ)
 before_months = ((0 ∷ 0 ∷ []) ∷ (31 ∷ 31 ∷ []) ∷ (59 ∷ 60 ∷ []) ∷ (90 ∷ 91 ∷ []) ∷ (120 ∷ 121 ∷ []) ∷ (151 ∷ 152 ∷ []) ∷ (181 ∷ 182 ∷ []) ∷ (212 ∷ 213 ∷ []) ∷ (243 ∷ 244 ∷ []) ∷ (273 ∷ 274 ∷ []) ∷ (304 ∷ 305 ∷ []) ∷ (334 ∷ 335 ∷ []) ∷ (365 ∷ 366 ∷ []) ∷ [])
 
@@ -69,7 +69,7 @@ pub before_month-most : (i : ℕ) (leap : Bool) → i ≤ 12 → before_month i 
 before_month-most i true low = (start (pos 0) i low).most.1
 before_month-most i false low = (start (pos 0) i low).most.0
 
--- the days before the next month
+-- The days before the next month.
 pub days_of_months-next : (y : ℤ) (i : ℕ) → days_of_months y (i + 1) ≡ days_of_months y i + days_in_month y (i + 1)
 unfolding days_of_months
 days_of_months-next y i = rw add-one refl

@@ -1,4 +1,4 @@
--- What the day nearest to a number is, inside the range and past either end.
+-- The results of `date_nearest` inside the range and outside it.
 use Rattle.std.proofs.Common.{◌≡◌, ◌∙◌, ap, ℕ, ℤ, pos, negsuc, ◌≤ℤ◌, ◌<ℤ◌, arith, Option, Some, None, SomeIff, IfSome}
 use Rattle.std.proofs.lemmas.Int.{ints, clamps, by_lt_z}
 use Rattle.cal_span.specs.SignedDuration.{whole_days}
@@ -23,11 +23,11 @@ date_nearest-after z low outside =
     (λ after. omega (arith, ints, clamps))
     (λ high. absurd (outside (record { not_before = low; not_after = high })))
 
--- the number of a day is the number of that day
+-- The day with the number of day n is day n.
 pub number-date_nearest : (n : ℕ) (z : ℤ) → IsDate n → z ≡ pos n → IsDateNumber z × (n ≡ date_nearest z)
 number-date_nearest n z h e = (record { not_before = omega (arith, ints); not_after = omega (arith, ints) }, omega (arith, ints, clamps))
 
--- the whole days of a duration have its sign
+-- The whole days of a duration don't have its opposite sign.
 pub whole_days-negative : (v : ℤ) → v <ℤ pos 0 → whole_days v ≤ℤ pos 0
 whole_days-negative (pos i) h = absurd (omega (arith, ints))
 whole_days-negative (negsuc i) h = omega (arith, ints)
@@ -36,7 +36,7 @@ pub whole_days-not_negative : (v : ℤ) → pos 0 ≤ℤ v → pos 0 ≤ℤ whol
 whole_days-not_negative (pos i) h = omega (arith, ints)
 whole_days-not_negative (negsuc i) h = absurd (omega (arith, ints))
 
--- a day that is found has the number
+-- A day that is found has the number.
 pub found_number : (z : ℤ) (r : Option ℕ) → SomeIff r (IsDateNumber z) (date_nearest z) → IfSome r (λ n. pos n ≡ z)
 found_number z None h = tt
 found_number z (Some n) h = ap pos h.1 ∙ date_nearest-inside z h.0

@@ -1,4 +1,4 @@
--- The days before and after a date of the range, by their fields.
+-- The days before and after a date of the range, from its fields.
 use Rattle.std.proofs.Common.{◌≡◌, inl, inr, refl, sym, ap, ◌∙◌, ℕ, ◌+◌, ◌-◌, ◌<◌, ◌≤◌, nat_le, arith, ℤ}
 use Rattle.std.proofs.lemmas.Bool.{cases_Bool}
 use Rattle.std.proofs.lemmas.Bool.Decides.{nat_tests}
@@ -11,7 +11,7 @@ use Rattle.cal_date.specs.DateLimits.{MIN-number, MAX-number}
 use Rattle.cal_date.specs.PackedDate.{leap_mark}
 use Rattle.cal_date.proofs.Dates.{stands, in_range, year-most, ordinal-most, number_of_parts, ordinal_of_date, IsDate-ordinal_number}
 
--- no year ends before its day 365, and no day before that is the last of the range
+-- A year has 365 days or more, and no day before its day 365 is the last day of the range.
 pub before_year_end : (n : ℕ) → ordinal_at n < 365 → ordinal_at n < days_in_year (year_at n)
 before_year_end n early = grind (arith, nat_tests)
 
@@ -24,7 +24,7 @@ early_in_year n h early =
 
 pub ruleset next_days = (before_year_end, early_in_year, MAX-number, ints, nat_tests)
 
--- the first day of the range has ordinal 1
+-- The first day of the range has the ordinal 1.
 pub not_first_day : (n : ℕ) → 1 < ordinal_at n → 0 < n
 not_first_day n past = omega (arith, (stands n).number_is)
 
@@ -33,7 +33,7 @@ within_year n h = (in_range n (year_at n) (ordinal_at n) h (refl, refl)).ordinal
 
 pub ruleset previous_days = (not_first_day, within_year, MIN-number, ints, nat_tests)
 
--- the leap mark of a date, by its low ten bits
+-- The leap mark of a date, from its low ten bits.
 pub low_bits-leap : (n low : ℕ) → IsDate n → low ≡ leap_mark (year_at n) + ordinal_at n → nat_le 512 low ≡ is_leap_year (year_at n)
 low_bits-leap n low h bits =
     let most = ordinal-most n in
@@ -43,7 +43,7 @@ low_bits-leap n low h bits =
 pub year_length : (y : ℤ) → 365 + bool_byte (is_leap_year y) ≡ days_in_year y
 year_length y = elim (cases_Bool (is_leap_year y)) [ inl leap ↦ rw leap refl | inr common ↦ rw common refl ]
 
--- days of one year are as far from one another as their ordinals
+-- The distance of two days of one year is the distance of their ordinals.
 pub same_year : (m n : ℕ) → year_at m ≡ year_at n → m + ordinal_at n ≡ n + ordinal_at m
 same_year m n e =
     let before : days_before (year_at m) ≡ days_before (year_at n) = ap days_before e in
@@ -51,7 +51,7 @@ same_year m n e =
     let second = stands n in
     omega (arith, first.number_is, second.number_is, first.ordinal.0, second.ordinal.0)
 
--- so a day that is as far from another as an ordinal of its year has that ordinal
+-- A day at the distance of an ordinal of the year has this ordinal.
 pub as_far : (n k p : ℕ) → 1 ≤ p → p ≤ days_in_year (year_at n) → k + ordinal_at n ≡ n + p → HasOrdinalDate (year_at n) p k
 as_far n k p low high e =
     let at = stands n in

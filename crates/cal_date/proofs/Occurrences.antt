@@ -1,4 +1,4 @@
--- The days with a weekday come every seven days, in both directions.
+-- The days with a weekday come every seven days, forward and backward.
 use Rattle.std.proofs.Common.{◌≡◌, ◌≢◌, ℕ, zero, suc, ◌+◌, ◌-◌, ◌*◌, ◌%◌, ◌<◌, ◌≤◌, refl, ◌∙◌, arith, List, [], ◌∷◌, filter, slice_get, Some, None, true, false, if◌then◌else◌, nat_lt, nat_le, Option, SomeIff, IfSome}
 use Rattle.std.proofs.lemmas.Bool.Decides.{nat_tests}
 use Rattle.cal_date.specs.Date.{last_day, weekday_at}
@@ -7,7 +7,7 @@ use Rattle.cal_date.proofs.Weekdays.{weekday_at-is}
 use Rattle.std.proofs.lemmas.Int.{ints}
 use Rattle.cal_units.specs.WeekdayCycle.{index-below}
 
--- one step of each list
+-- One step of each list.
 days_from-suc : (n count : ℕ) → days_from n (suc count) ≡ n ∷ days_from (n + 1) count
 unfolding days_from
 days_from-suc n count = refl
@@ -30,14 +30,15 @@ is_on-true w n h = rw (weekday_at-is n) (grind (arith, nat_tests))
 is_on-false : (w n : ℕ) → n % 7 ≢ w → is_on w n ≡ false
 is_on-false w n h = rw (weekday_at-is n) (grind (arith, nat_tests))
 
--- the first of some days has the weekday, or not
+-- The first day of a list has the weekday, or not.
 first_is_on : (w n : ℕ) (days : List ℕ) → is_on w n ≡ true → filter (is_on w) (n ∷ days) ≡ n ∷ filter (is_on w) days
 first_is_on w n days h = rw h refl
 
 first_is_not : (w n : ℕ) (days : List ℕ) → is_on w n ≡ false → filter (is_on w) (n ∷ days) ≡ filter (is_on w) days
 first_is_not w n days h = rw h refl
 
--- of days that follow one another, the first with the weekday k days on, and each further one seven days after it
+-- If the first of consecutive days with the weekday is k days later, the next ones follow every
+-- seven days.
 in_days_from : (w n k m count : ℕ) → k < 7 → (n + k) % 7 ≡ w
     → slice_get (filter (is_on w) (days_from n count)) m ≡ (if nat_lt (k + 7 * m) count then Some (n + k + 7 * m) else None)
 in_days_from w n k m zero h e = rw (days_from-none n) (grind (arith, nat_tests))
@@ -50,7 +51,8 @@ in_days_from w n (suc k) m (suc count) h e =
     rw (days_from-suc n count, first_is_not w n (days_from (n + 1) count) (is_on-false w n (omega arith)))
     (in_days_from w (n + 1) k m count (omega arith) (omega arith) ∙ grind (arith, nat_tests))
 
--- of the days before one, from the nearest back, the first with the weekday k days before the nearest, and so on
+-- If the nearest earlier day with the weekday is k days before the day before, the next ones follow
+-- every seven days, backward.
 in_days_before : (w n k m : ℕ) → w < 7 → k < 7 → (w + k + 1) % 7 ≡ n % 7
     → slice_get (filter (is_on w) (days_before_back n)) m ≡ (if nat_lt (k + 7 * m) n then Some (n - 1 - (k + 7 * m)) else None)
 in_days_before w zero k m g h e = rw days_before_back-none (grind (arith, nat_tests))
@@ -63,7 +65,8 @@ in_days_before w (suc n) (suc k) m g h e =
     rw (days_before_back-suc n, first_is_not w n (days_before_back n) (is_on-false w n (omega arith)))
     (in_days_before w n k m g (omega arith) (omega arith) ∙ grind (arith, nat_tests))
 
--- The k-th occurrence, counted from 1, lies as many days on as it takes to the first one, from 1 to 7, and seven more for each further one.
+-- The k-th occurrence, counted from 1, is the days to the first occurrence, from 1 to 7, and seven
+-- days for each further one.
 pub kth-next_occurrences : (w n k m : ℕ) → 1 ≤ k → k ≤ 7 → (weekday_at n + k) % 7 ≡ w
     → kth (suc m) (next_occurrences w n) ≡ (if nat_le (n + (k + 7 * m)) last_day then Some (n + (k + 7 * m)) else None)
 kth-next_occurrences w n k m low high e =
@@ -76,14 +79,15 @@ kth-prev_occurrences w n k m low high below e =
     let there : (w + (k - 1) + 1) % 7 ≡ n % 7 = omega (arith, weekday_at-is n) in
     in_days_before w n (k - 1) m below (omega arith) there ∙ grind (arith, nat_tests)
 
--- the days to the first one after a day, by one remainder, and those back to the first one before it
+-- The days to the first occurrence after a day, and back to the first one before it, by one
+-- remainder.
 pub days_to_next : (w n p : ℕ) → w < 7 → n ≤ last_day → last_day < p → p % 7 ≡ 0 → (weekday_at n + ((w + p - 1 - n) % 7 + 1)) % 7 ≡ w
 days_to_next w n p below h past whole = let is = weekday_at-is n in omega arith
 
 pub days_to_prev : (w n : ℕ) → w < 7 → (w + ((n + 6 - w) % 7 + 1)) % 7 ≡ weekday_at n
 days_to_prev w n below = let is = weekday_at-is n in omega arith
 
--- a day found by these days is the occurrence, and has the weekday
+-- The day at this distance is the occurrence, and has the weekday.
 pub next_found : (w n m k p : ℕ) (r : Option ℕ) → w < 7 → n ≤ last_day → last_day < p → p % 7 ≡ 0 → k ≡ n + ((w + p - 1 - n) % 7 + 1 + 7 * m)
     → SomeIff r (k ≤ last_day) k → r ≡ kth (suc m) (next_occurrences w n)
 next_found w n m k p None below h past whole e none =

@@ -1,4 +1,4 @@
--- What rises from each day to the next one keeps the order of the days.
+-- Components that rise from each day to the next keep the order of the days.
 use Rattle.std.proofs.Common.{◌≡◌, ℕ, zero, suc, ◌+◌, ◌-◌, ◌<◌, ◌↔◌, ◌⊎◌, inl, inr, ◌∙◌, subst, arith, ℤ, ◌<ℤ◌, List, [], ◌∷◌}
 use Rattle.std.proofs.lemmas.Bool.{cases_lt}
 use Rattle.std.proofs.lemmas.Int.{ints}
@@ -21,7 +21,7 @@ IsBefore-irreflexive : (xs : List ℤ) → ¬ IsBefore xs xs
 IsBefore-irreflexive [] h = h
 IsBefore-irreflexive (x ∷ xs) h = elim h as (λ _. ⊥) [ inl less ↦ omega (arith, ints) | inr same ↦ IsBefore-irreflexive xs same.1 ]
 
--- what days have rises from each day to the next one
+-- The components rise from each day to the next.
 pub record Rises (has : ℕ → List ℤ) : Type 0 where
   pub step : (n : ℕ) → IsBefore (has n) (has (suc n))
 
@@ -36,7 +36,7 @@ rises has h m n less =
     let e : m + suc (n - m - 1) ≡ n = omega arith in
     subst (λ k. IsBefore (has m) (has k)) e (rises_by has h m (n - m - 1))
 
--- so it is before exactly for earlier days
+-- Days have the order of their components.
 pub in_order : (has : ℕ → List ℤ) → Rises has → (m n : ℕ) → (m < n) ↔ IsBefore (has m) (has n)
 in_order has h m n = (
   rises has h m n,

@@ -1,4 +1,4 @@
--- What the packed value of an ordinal date is made of.
+-- The parts of the packed value of an ordinal date.
 use Rattle.std.proofs.Common.{◌≡◌, inl, inr, refl, Bool, ℕ, ◌*◌, ◌+◌, ◌%◌, ◌≤◌, ◌∙◌, sym, ap, subst, arith, rules, ℤ, pos, neg_ℤ, ◌+ℤ◌, ◌*ℤ◌, ◌≤ℤ◌, unsigned_abs, to_z, of_z, w32, FitsSigned, bit_and, bit_or, ◌^◌, ◌<◌}
 use Rattle.std.proofs.lemmas.Int.{ints, to_z-of_z}
 use Rattle.std.proofs.lemmas.Bool.Decides.{nat_tests}
@@ -23,7 +23,7 @@ bounded y o h f = record { low = grind (arith, ints, nat_tests); high = grind (a
 pub packed-i32 : (y : ℤ) (o : ℕ) → IsYear y → IsOrdinal y o → FitsSigned w32 (packed y o)
 packed-i32 y o h f = let b = bounded y o h f in grind (arith, ints)
 
--- the year and the ordinal are those that were packed
+-- The year and the ordinal of a packed value are the ones that were packed.
 pub year_of-packed : (y : ℤ) (o : ℕ) → IsYear y → IsOrdinal y o → year_of (packed y o) ≡ y
 unfolding packed year_of
 year_of-packed y o h f = grind (arith, ints, nat_tests)
@@ -48,7 +48,7 @@ IsPackedDate-packed y o h f = fields-IsPacked (packed y o) (IsPacked-packed y o 
 pub number_of-packed : (y : ℤ) (o : ℕ) → IsYear y → IsOrdinal y o → number_of (record { packed = packed y o }) ≡ ordinal_number y o
 number_of-packed y o h f = ap (λ z. ordinal_number z (ordinal_of (packed y o))) (year_of-packed y o h f) ∙ ap (ordinal_number y) (ordinal_of-packed y o h f)
 
--- the fields of a date of that number
+-- The fields of the date with this number.
 pub record IsPackedAt (p : ℤ) (n : ℕ) : Type 0 where
   pub in_range : IsDate n
   pub year : IsYear (year_at n)
@@ -76,7 +76,8 @@ at_number d n h is = subst (IsPackedAt d.packed) is (at_own_number d h)
 pub packed_at-i32 : (p : ℤ) (n : ℕ) → IsPackedAt p n → to_z w32 (of_z w32 p) ≡ p
 packed_at-i32 p n at = to_z-of_z w32 p (subst (FitsSigned w32) (sym at.packed_is) (packed-i32 (year_at n) (ordinal_at n) at.year at.ordinal))
 
--- shifted right by 10 bits it is the year; its lowest nine bits are the ordinal, and its low ten bits the leap mark too
+-- A packed value shifted right by 10 bits is the year. Its lowest nine bits are the ordinal, and
+-- its low ten bits have the leap mark too.
 shifted-of : (z : ℤ) → IsBounded z → to_z w32 (of_z w32 (shr_z (to_z w32 (of_z w32 z)) 1024)) ≡ year_of z
 unfolding year_of
 shifted-of z h = search rules
@@ -102,7 +103,7 @@ next-ordinal_of : (y : ℤ) (o : ℕ) → IsYear y → IsOrdinal y o → ordinal
 unfolding packed ordinal_of
 next-ordinal_of y o h f = grind (arith, ints, nat_tests)
 
--- one more fits too, and its lowest nine bits are one more than the ordinal
+-- The packed value plus 1 fits too, and its lowest nine bits are one more than the ordinal.
 pub next-i32 : (y : ℤ) (o : ℕ) → IsYear y → IsOrdinal y o → FitsSigned w32 (packed y o +ℤ pos 1)
 next-i32 y o h f = let b = next-bounded y o h f in grind (arith, ints)
 
@@ -122,7 +123,7 @@ low_bits-packed y o h f = grind (arith, ints, nat_tests)
 pub low_bits : (y : ℤ) (o : ℕ) → IsYear y → IsOrdinal y o → unsigned_abs (to_z w32 (bit_and (of_z w32 (packed y o)) 1023)) ≡ leap_mark y + o
 low_bits y o h f = low_bits-of (packed y o) (bounded y o h f) ∙ low_bits-packed y o h f
 
--- it rises with the ordinal
+-- The packed value rises with the ordinal.
 pub packed-moved : (y : ℤ) (o p : ℕ) (days : ℤ) → pos o +ℤ days ≡ pos p → packed y o +ℤ days ≡ packed y p
 unfolding packed
 packed-moved y o p days e = omega (arith, ints)
@@ -130,7 +131,7 @@ packed-moved y o p days e = omega (arith, ints)
 pub ordinal_number-moved : (y : ℤ) (o p : ℕ) (days : ℤ) → 1 ≤ o → 1 ≤ p → pos o +ℤ days ≡ pos p → pos (ordinal_number y p) ≡ pos (ordinal_number y o) +ℤ days
 ordinal_number-moved y o p days h f e = omega (arith, ints)
 
--- a packed value moved by days within the year
+-- A packed value moved by days within the year.
 pub record IsMoved (p days : ℤ) (n : ℕ) : Type 0 where
   pub fits : FitsSigned w32 (p +ℤ days)
   pub is_packed : IsPackedDate (record { packed = p +ℤ days })
@@ -150,14 +151,14 @@ moved p days n at low high =
           ∙ ordinal_number-moved y (ordinal_at n) o days at.ordinal.0 ordinal.0 is ∙ ap (λ k. pos k +ℤ days) (sym at.number_is);
     }
 
--- the bits that make a packed value
+-- The bits of a packed value.
 leap_mark-byte : (y : ℤ) → leap_mark y ≡ 512 * bool_byte (is_leap_year y)
 leap_mark-byte y = elim (cases_Bool (is_leap_year y)) [ inl leap ↦ rw leap refl | inr common ↦ rw common refl ]
 
 bool_byte-most : (b : Bool) → bool_byte b ≤ 1
 bool_byte-most b = elim (cases_Bool b) [ inl is ↦ rw is (omega arith) | inr is ↦ rw is (omega arith) ]
 
--- the year above ten bits, as a number of 22 bits
+-- The year above the low ten bits, a number of 22 bits.
 year_bits : (y : ℤ) → of_z w32 y * 1024 % 4294967296 ≡ (of_z w32 y % 4194304) * 2 ^ 10
 year_bits y = omega arith
 
@@ -165,7 +166,7 @@ packed-parts : (y z : ℤ) (m k : ℕ) → IsYear y → k ≤ 366 → m ≤ 1 �
     → to_z w32 ((of_z w32 y % 4194304 * 2 + m) * 2 ^ 9 + k) ≡ z
 packed-parts y z m k h short low e = grind (arith, ints)
 
--- parts that share no bits, put together by `|`
+-- Parts that share no bits, joined by `|`.
 joined : (b m k : ℕ) → k ≤ 366 → m ≤ 1 → bit_or (bit_or (b * 2 ^ 10) (m * 512)) k ≡ (b * 2 + m) * 2 ^ 9 + k
 joined b m k short low =
     let mark : m * 512 < 2 ^ 10 = omega arith in

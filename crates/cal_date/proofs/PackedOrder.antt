@@ -1,4 +1,4 @@
--- To compare the packed values is to compare the numbers.
+-- Comparing the packed values compares the numbers.
 use Rattle.std.proofs.Common.{◌≡◌, ℕ, ◌+◌, ◌<◌, ◌≤◌, ℤ, pos, ◌+ℤ◌, ◌-ℤ◌, ◌<ℤ◌, ◌≤ℤ◌, unsigned_abs, ap, sym, ◌∙◌, subst, arith, inl, inr, Less, Equal, Greater, nat_eq, to_z, of_z, w32, FitsSigned}
 use Rattle.std.specs.Ordering.{int_cmp, nat_cmp}
 use Rattle.std.proofs.lemmas.Int.{ints, by_lt_z, to_z-of_z}
@@ -15,7 +15,7 @@ use Rattle.cal_date.proofs.Years.{days_before-next}
 days_of_years-rises : (i j : ℕ) → i ≤ j → days_of_years i ≤ days_of_years j
 days_of_years-rises i j h = omega (arith, days_of_years-closed i, days_of_years-closed j)
 
--- all of a year comes before a later year
+-- All days of a year come before a later year.
 days_before-less : (y z : ℤ) → first_year ≤ℤ y → y <ℤ z → days_before y + days_in_year y ≤ days_before z
 days_before-less y z first less =
     let later : unsigned_abs ((y +ℤ pos 1) -ℤ first_year) ≤ unsigned_abs (z -ℤ first_year) = omega (arith, ints) in
@@ -27,7 +27,7 @@ earlier_year a b h k less = omega (arith, h.ordinal, k.ordinal, days_before-less
 earlier_ordinal : (a b : Inside) → IsPacked a.packed → year_of a.packed ≡ year_of b.packed → ordinal_of a.packed < ordinal_of b.packed → number_of a < number_of b
 earlier_ordinal a b h e less = omega (arith, h.ordinal, ap days_before e)
 
--- a lesser packed value has an earlier year, or the same year and a lesser ordinal
+-- A smaller packed value has an earlier year, or the same year and a smaller ordinal.
 record IsEarlier (y : ℤ) (o : ℕ) (z : ℤ) (p : ℕ) : Type 0 where
   year : y ≤ℤ z
   ordinal : y ≡ z → o < p
@@ -48,7 +48,7 @@ earlier_packed a b h k less =
     (λ earlier. earlier_year a b h k earlier)
     (λ most. let e : year_of a.packed ≡ year_of b.packed = omega (arith, ints, is.year) in earlier_ordinal a b h e (is.ordinal e))
 
--- what the comparisons answer
+-- The results of the comparisons.
 int_cmp-less : (x y : ℤ) → x <ℤ y → int_cmp x y ≡ Less
 int_cmp-less x y h = grind (arith, ints)
 
@@ -76,14 +76,14 @@ nat_cmp-packed a b h k =
     (λ least. let e : a.packed ≡ b.packed = omega (arith, ints) in
     int_cmp-equal a.packed b.packed e ∙ sym (nat_cmp-equal (number_of a) (number_of b) (ap (λ p. ordinal_number (year_of p) (ordinal_of p)) e))))
 
--- dates of one number have the same packed value
+-- Dates with the same number have the same packed value.
 pub same_packed : (a b : Inside) → IsPackedDate a → IsPackedDate b → number_of a ≡ number_of b → a.packed ≡ b.packed
 same_packed a b h k e = sym (packed_at-number_of a h) ∙ ap packed_at e ∙ packed_at-number_of b k
 
 fits : (d : Inside) → IsPackedDate d → FitsSigned w32 d.packed
 fits d h = let is = IsPacked-fields d h in subst (FitsSigned w32) (sym is.packed_is) (packed-i32 _ _ is.year is.ordinal)
 
--- to test the bits of the packed values for equality is to test the numbers
+-- The bits of two packed values are equal if and only if the numbers are equal.
 pub nat_eq-packed : (a b : Inside) → IsPackedDate a → IsPackedDate b → nat_eq (of_z w32 b.packed) (of_z w32 a.packed) ≡ nat_eq (number_of a) (number_of b)
 nat_eq-packed a b h k =
     elim (cases_eq (number_of a) (number_of b)) [

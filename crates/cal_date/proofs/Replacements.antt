@@ -1,4 +1,4 @@
--- The ordinals of one month and day of the month in two years.
+-- The ordinals of a month and a day of the month in two years.
 use Rattle.std.proofs.Common.{◌≡◌, ◌≢◌, ◌⊎◌, inl, inr, refl, sym, ap, subst, ◌∙◌, ℕ, ◌+◌, ◌-◌, ◌<◌, ◌≤◌, Bool, true, false, not, arith, ℤ, ◌↔◌, to_z, of_z, w32, if◌then◌else◌}
 use Rattle.std.proofs.lemmas.Bool.Decides.{nat_tests}
 use mathlib.Core.Bool.{beq}
@@ -14,7 +14,7 @@ use Rattle.cal_date.proofs.Calendar.{ordinal_in, IsInMonthOf, in_month_of, stand
 use Rattle.cal_date.proofs.Months.{each_month}
 use Rattle.std.proofs.lemmas.Int.{ints}
 
--- what a month has, so many months into a year
+-- The month with index i: the days before it and its length.
 record IsMonthAt (y : ℤ) (i : ℕ) : Type 0 where
   january : i ≡ 0 → (days_of_months y i ≡ 0) × (days_in_month y (i + 1) ≡ 31)
   february : i ≡ 1 → (days_of_months y i ≡ 31) × (days_in_month y (i + 1) ≡ (if is_leap_year y then 29 else 28))
@@ -38,7 +38,7 @@ month_at_index y i low =
     (record { january = λ e. grind (arith, nat_tests); february = λ e. grind (arith, nat_tests); march_on = λ h. grind (arith, nat_tests) })
     i low
 
--- from March on the months of two years differ by the leap days alone
+-- From March on the months of two years differ only by the leap days.
 record IsShifted (y z : ℤ) (i : ℕ) : Type 0 where
   same : is_leap_year y ≡ is_leap_year z → days_of_months z i ≡ days_of_months y i
   later : is_leap_year y ≡ false → is_leap_year z ≡ true → 2 ≤ i → days_of_months z i ≡ days_of_months y i + 1
@@ -62,7 +62,7 @@ shifted y z i low =
     (record { same = λ e. grind (arith, nat_tests); later = λ e f h. grind (arith, nat_tests); length = λ h. grind (arith, nat_tests) })
     i low
 
--- the ordinal p in year z of a month and a day of the month, which is a day of that month there
+-- The month with index i has the day d in year z, and p is the ordinal of this day.
 pub record IsOrdinalIn (z : ℤ) (i d p : ℕ) : Type 0 where
   pub day : IsDayOfMonth z (i + 1) d
   pub ordinal_is : ordinal_in z i d ≡ p
@@ -97,7 +97,7 @@ one_earlier y z i d low h late leap common =
     let other = shifted z y i low in
     record { day = grind (arith, nat_tests); ordinal_is = grind (arith, nat_tests) }
 
--- the 60th day of a leap year has no like in a common year
+-- The 60th day of a leap year has no counterpart in a common year.
 pub leap_day : (y z : ℤ) (i d : ℕ) → i < 12 → IsDayOfMonth y (i + 1) d → ordinal_in y i d ≡ 60 → is_leap_year y ≡ true → is_leap_year z ≡ false
     → ¬ IsDayOfMonth z (i + 1) d
 leap_day y z i d low h e leap common day =
@@ -105,7 +105,7 @@ leap_day y z i d low h e leap common day =
     let there = month_at_index z i low in
     absurd (grind (arith, nat_tests))
 
--- two marks that are alike, and two that are not
+-- Two equal marks, and two different marks.
 pub beq-alike : (a b : Bool) → beq a b ≡ true → a ≡ b
 beq-alike true true e = refl
 beq-alike true false e = sym e
@@ -118,7 +118,7 @@ beq-unlike true false e = refl
 beq-unlike false true e = refl
 beq-unlike false false e = sym e
 
--- the ordinal p that the month and the day of the month of day n have in year z
+-- p is the ordinal in year z of the month and the day of the month of day n.
 pub record IsReplaced (z : ℤ) (n p : ℕ) : Type 0 where
   pub day : IsDayOfMonth z (month_at n) (day_of_month_at n)
   pub ordinal_is : p ≡ days_of_months z (month_at n - 1) + day_of_month_at n
@@ -165,7 +165,7 @@ not_replaced z n e leap common day =
     leap_day (year_at n) z at.months (day_of_month_at n) at.stands.month at.stands.day (sym at.stands.ordinal_is ∙ e) leap common
     (subst (λ m. IsDayOfMonth z m (day_of_month_at n)) at.month_is day)
 
--- that ordinal is one of the year, and its day is the only one with that month and day of the month
+-- The year has this ordinal, and its day is the only day with this month and day of the month.
 pub record IsReplacement (z : ℤ) (n p : ℕ) : Type 0 where
   pub ordinal : IsOrdinal z p
   pub in_range : IsDate (ordinal_number z p)
@@ -189,7 +189,7 @@ replacement z n p h is =
       only = λ k f has. (calendar_in_range k z at.months d f (subst (λ m. HasCalendarDate z m d k) at.month_is has)).number_is ∙ ap (ordinal_number z) (sym there);
     }
 
--- a day with that month and day of the month is of a year of the range, in which the month has that day
+-- A day with this month and day of the month is in a year of the range, and its month has the day.
 pub record IsReplaceable (z : ℤ) (n : ℕ) : Type 0 where
   pub year : IsYear z
   pub day : IsDayOfMonth z (month_at n) (day_of_month_at n)
@@ -201,12 +201,12 @@ replaceable z n k f has =
     let is = calendar_in_range k z at.months d f (subst (λ m. HasCalendarDate z m d k) at.month_is has) in
     record { year = is.year; day = subst (λ m. IsDayOfMonth z m d) (sym at.month_is) is.day }
 
--- of two reasons one is left where the other did not come
+-- If an error has one of two reasons, and not the first, it has the second.
 pub other_reason : {V : Type 0} (r : Result V ComponentRange) (a b : ComponentRange) → IfErr r (λ e. (e ≡ a) ⊎ (e ≡ b)) → ¬ (IsRefused a r) → IfErr r (λ e. e ≡ b)
 other_reason (Ok v) a b h other = h
 other_reason (Err e) a b h other = elim h [ inl one ↦ absurd (other one) | inr is ↦ is ]
 
--- a date keeps its year as an i32
+-- The year of a date fits in an i32.
 pub record IsYearKept (n : ℕ) (y : ℤ) : Type 0 where
   pub year : IsYear (year_at n)
   pub same : to_z w32 (of_z w32 y) ≡ year_at n
@@ -216,7 +216,7 @@ year_kept n y h e =
     let at = in_range n _ _ h (refl, refl) in
     record { year = at.year; same = ap (λ z. to_z w32 (of_z w32 z)) e ∙ IsYear-i32 _ at.year }
 
--- of two causes of a refusal one is left where the other is known
+-- If one of two causes is known, the other decides.
 pub cause_left : {R A B : Type 0} → A → R ↔ A × (¬ B) → R ↔ ¬ B
 cause_left a both = (λ r. (both.0 r).1, λ b. both.1 (a, b))
 

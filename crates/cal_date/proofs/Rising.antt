@@ -1,4 +1,4 @@
--- What a day has rises from each day to the next one.
+-- The components of a day rise from each day to the next.
 use Rattle.std.proofs.Common.{◌≡◌, ℕ, suc, ◌+◌, ◌-◌, inl, inr, refl, sym, ap, ◌∙◌, subst, arith, ℤ, pos, ◌+ℤ◌, ◌≤ℤ◌, List, [], ◌∷◌, Bool, true, false, lit≤}
 use Rattle.std.specs.Prelude.{if◌then◌else◌}
 use Rattle.std.proofs.lemmas.Bool.{cases_lt}
@@ -17,7 +17,7 @@ use Rattle.cal_date.proofs.Years.{days_before-next}
 abbrev parts : CalendarDay → List ℤ
 parts d = d.year ∷ pos d.month ∷ pos d.day ∷ []
 
--- each of the three days that may come after a day
+-- Each of the three days that may come after a day.
 later : (y : ℤ) (m d : ℕ) (in_month in_year : Bool) → IsBefore (parts (calendar_day y m d))
     (parts (if in_month then calendar_day y m (d + 1) else (if in_year then calendar_day y (m + 1) 1 else calendar_day (y +ℤ pos 1) 1 1)))
 later y m d true in_year = inr (refl, inr (refl, inl (omega (arith, ints))))
@@ -33,7 +33,7 @@ Rises-calendar_date = record {
   step = λ n. subst (λ d. IsBefore (parts (day_at n)) (parts d)) (sym (day_at-suc n)) (after (day_at n));
 }
 
--- each ordinal date stands in the count, also after the range
+-- Each ordinal date is in the count, also after the range.
 pub has_ordinal_number : (y : ℤ) (o : ℕ) → first_year ≤ℤ y → IsOrdinal y o → HasOrdinalDate y o (ordinal_number y o)
 has_ordinal_number y o late h =
     let here = in_year (days_before y) y (o - 1) (year_start-days_before y late) (omega (arith, h.0, h.1)) in

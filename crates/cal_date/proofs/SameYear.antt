@@ -1,5 +1,5 @@
--- Moves by days that are taken as a u64, those below zero as 2^64 more: within a year by the days of the year before the day, and
--- else by its number.
+-- Moves by days in a u64, in which negative days become 2^64 more: within a year by the index of
+-- the day, and else by its number.
 use Rattle.std.proofs.Common.{◌≡◌, ◌∙◌, ℕ, ◌+◌, ◌-◌, ◌%◌, ◌<◌, ◌≤◌, refl, sym, ap, subst, arith, ℤ, pos, neg_ℤ, ◌+ℤ◌, ◌-ℤ◌, unsigned_abs, of_z, w64, FitsSigned, Option, Some, None, SomeIff, IfSome, IsSomeAnd}
 use Rattle.std.proofs.lemmas.Int.{ints}
 use Rattle.cal_units.specs.Lengths.{days_in_year}
@@ -9,12 +9,14 @@ use Rattle.cal_date.specs.Move.{IsDateNumber, IsOrdinalNumber, date_nearest}
 use Rattle.cal_date.proofs.Dates.{in_range, IsDate-ordinal_number}
 use Rattle.cal_date.proofs.Moves.{number-date_nearest, found_number}
 
--- a sum that wraps is far above the indexes of a year; one that does not is the index of the moved ordinal
+-- A sum that wraps is far above the indexes of a year. Any other sum is the index of the moved
+-- ordinal.
 pub index-added : (w : ℤ) (o : ℕ) → FitsSigned w64 w → 1 ≤ o → o ≤ 366 → (of_z w64 w + (o - 1)) % 18446744073709551616 < 366
     → pos ((of_z w64 w + (o - 1)) % 18446744073709551616 + 1) ≡ pos o +ℤ w
 index-added w o fits low high near = grind (arith, ints)
 
--- the day d of the year of day n that has the ordinal p + 1, which is z as a whole number; m is the number that day n moves to
+-- d is the day with the ordinal p + 1 of the year of day n. The integer z equals this ordinal, and
+-- m is the number to which day n moves.
 pub record IsNear (n d : ℕ) (m z : ℤ) : Type 0 where
   pub day : IsDateNumber m × (d ≡ date_nearest m)
   pub same_year : (year_at d ≡ year_at n) × (pos (ordinal_at d) ≡ z)
@@ -31,7 +33,7 @@ near n d p m z h within is ordinal move =
       same_year = (ap year_at is ∙ has.0, ap pos (ap ordinal_at is ∙ has.1) ∙ ordinal);
     }
 
--- and so it is of the numbers of the days
+-- The same for the numbers of days.
 pub number-added : (w : ℤ) (n : ℕ) → FitsSigned w64 w → IsDate n → IsDate ((of_z w64 w + n) % 18446744073709551616)
     → pos ((of_z w64 w + n) % 18446744073709551616) ≡ pos n +ℤ w
 number-added w n fits h near = grind (arith, ints)
@@ -39,7 +41,7 @@ number-added w n fits h near = grind (arith, ints)
 pub number-added-in_range : (w : ℤ) (n : ℕ) → FitsSigned w64 w → IsDate n → IsDateNumber (pos n +ℤ w) → IsDate ((of_z w64 w + n) % 18446744073709551616)
 number-added-in_range w n fits h is = let first = is.not_before in let last = is.not_after in grind (arith, ints)
 
--- a day found by its number is the moved one
+-- A day that is found by its number is the moved day.
 pub moved_by_number : (n k : ℕ) (w : ℤ) (r : Option ℕ) → FitsSigned w64 w → IsDate n → k ≡ (of_z w64 w + n) % 18446744073709551616 → SomeIff r (IsDate k) k
     → SomeIff r (IsDateNumber (pos n +ℤ w)) (date_nearest (pos n +ℤ w))
 moved_by_number n k w None fits h e none = λ is. none (subst IsDate (sym e) (number-added-in_range w n fits h is))
@@ -54,7 +56,7 @@ found_in_year n w (Some x) d here some =
     let same : x ≡ d = some.1 ∙ sym here.day.1 in
     (ap year_at same ∙ here.same_year.0, ap pos (ap ordinal_at same) ∙ here.same_year.1)
 
--- where the moved ordinal is one of the year, the moved day has it
+-- If the year has the moved ordinal, the moved day has it too.
 pub moved_in_year : (n : ℕ) (w : ℤ) (r : Option ℕ) → IsDate n → SomeIff r (IsDateNumber (pos n +ℤ w)) (date_nearest (pos n +ℤ w))
     → IsOrdinalNumber (year_at n) (pos (ordinal_at n) +ℤ w) → IsSomeAnd r (λ d. (year_at d ≡ year_at n) × (pos (ordinal_at d) ≡ pos (ordinal_at n) +ℤ w))
 moved_in_year n w r h moves is =
@@ -66,7 +68,7 @@ moved_in_year n w r h moves is =
     let here = near n (ordinal_number (year_at n) (p + 1)) p (pos n +ℤ w) z h (omega (arith, ints)) refl to (omega (arith, ints)) in
     found_in_year n w r (ordinal_number (year_at n) (p + 1)) here moves
 
--- the same for days taken away
+-- The same for days that are subtracted.
 pub moved_back_in_year : (n : ℕ) (w v : ℤ) (r : Option ℕ) → IsDate n → v ≡ neg_ℤ w → SomeIff r (IsDateNumber (pos n +ℤ v)) (date_nearest (pos n +ℤ v))
     → IsOrdinalNumber (year_at n) (pos (ordinal_at n) -ℤ w) → IsSomeAnd r (λ d. (year_at d ≡ year_at n) × (pos (ordinal_at d) ≡ pos (ordinal_at n) -ℤ w))
 moved_back_in_year n w v r h e moves =

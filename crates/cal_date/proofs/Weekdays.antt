@@ -1,4 +1,5 @@
--- The weekday of each day by a remainder, and how often a weekday comes in the first days of a year.
+-- The weekday of a day by a remainder, and the number of days with a weekday at the start of a
+-- year.
 use Rattle.std.proofs.Common.{◌≡◌, ℕ, zero, suc, ◌+◌, ◌-◌, ◌*◌, ◌/◌, ◌%◌, ◌<◌, ◌≤◌, refl, sym, ap, ◌∙◌, arith, ℤ, pos, ◌+ℤ◌, ◌-ℤ◌, ◌≤ℤ◌, unsigned_abs, Bool, false, add-zero, inl, inr, lit<}
 use Rattle.std.specs.Prelude.{if◌then◌else◌, ◌==◌}
 use Rattle.std.specs.Ordering.{int_eq}
@@ -22,7 +23,7 @@ unfolding weekday_at
 weekday_at-is zero = refl
 weekday_at-is (suc n) = let before : weekday_at n ≡ n % 7 = weekday_at-is n in omega arith
 
--- the first of January of each year of the range, by both counts
+-- 1 January of each year of the range, by both counts.
 first_weekday-count : (k : ℕ) → first_weekday (first_year +ℤ pos k) ≡ days_of_years k % 7
 first_weekday-count zero =
     let k = unsigned_abs first_year in
@@ -40,7 +41,7 @@ first_weekday-days_before y h =
     let same : first_year +ℤ pos k ≡ y = omega (arith, ints) in
     ap first_weekday (sym same) ∙ first_weekday-count k
 
--- counts
+-- Counts.
 count_before-suc : (test : ℕ → Bool) (n : ℕ) → count_before test (suc n) ≡ count_before test n + (if test n then 1 else 0)
 unfolding count_before
 count_before-suc test n = refl
@@ -52,7 +53,7 @@ count_before-none test (suc n) none =
     let before : count_before test n ≡ 0 = count_before-none test n (λ k h. none k (omega arith)) in
     rw (none n (omega arith)) (omega arith)
 
--- where no further day passes the test, the count stays
+-- If no further day passes the test, the count stays.
 count_before-same : (test : ℕ → Bool) (n j : ℕ) → ((k : ℕ) → n ≤ k → test k ≡ false) → count_before test (n + j) ≡ count_before test n
 count_before-same test n zero none = simp add-zero
 count_before-same test n (suc j) none =
@@ -60,7 +61,7 @@ count_before-same test n (suc j) none =
     let step : count_before test (suc (n + j)) ≡ count_before test (n + j) + 0 = count_before-suc test (n + j) ∙ rw (none (n + j) (omega arith)) refl in
     ap (count_before test) sums ∙ step ∙ omega (arith, count_before-same test n j none)
 
--- days of other years do not count
+-- Days of other years don't count.
 other_year : (w : ℕ) (y : ℤ) (n : ℕ) → ¬ (year_at n ≡ y) → is_weekday_of_year w y n ≡ false
 other_year w y n other =
     elim (cases_Bool (int_eq (year_at n) y)) [
@@ -80,7 +81,7 @@ after_year w y n h = other_year w y n (λ same. let at : StandsAt y (ordinal_at 
 one_more : (c' c d j w : ℕ) → w < 7 → c' ≡ c + (if (d + j) % 7 == w then 1 else 0) → c + (d + 6 - w) / 7 ≡ (d + j + 6 - w) / 7 → c' + (d + 6 - w) / 7 ≡ (d + suc j + 6 - w) / 7
 one_more c' c d j w below e f = grind (arith, nat_tests)
 
--- the days of the year with the weekday, among its first ones
+-- The number of days with the weekday among the first days of a year.
 pub count_in_year : (y : ℤ) (w j : ℕ) → first_year ≤ℤ y → w < 7 → j ≤ days_in_year y
     → count_before (is_weekday_of_year w y) (days_before y + j) + (days_before y + 6 - w) / 7 ≡ (days_before y + j + 6 - w) / 7
 count_in_year y w zero h below within =
@@ -96,7 +97,7 @@ count_in_year y w (suc j) h below within =
     let sums : d + suc j ≡ suc (d + j) = omega arith in
     ap (λ n. count_before test n + (d + 6 - w) / 7) sums ∙ one_more (count_before test (suc (d + j))) (count_before test (d + j)) d j w below step before
 
--- the days with that weekday up to a day
+-- The number of days with the weekday up to a day of its year.
 pub weekdays_upto-is : (w n : ℕ) → w < 7 → weekdays_upto w n + (days_before (year_at n) + 6 - w) / 7 ≡ (n + 7 - w) / 7
 weekdays_upto-is w n below =
     let at = stands n in
@@ -105,7 +106,7 @@ weekdays_upto-is w n below =
     let sums : d + ordinal_at n ≡ n + 1 = omega (arith, at.number_is, at.ordinal.0) in
     rw sums at count ∙ ap (λ k. k / 7) (omega arith)
 
--- the same by the ordinal, and the days since the last one
+-- The same from the ordinal and the days since the last day with the weekday.
 pub weekdays_upto-ordinal : (w since n : ℕ) → w < 7 → since < 7 → (since + w) % 7 ≡ n % 7 → (ordinal_at n + 6 - since) / 7 ≡ weekdays_upto w n
 weekdays_upto-ordinal w since n below small index =
     let at = stands n in
@@ -123,7 +124,7 @@ days_from_sunday-index Friday = refl
 days_from_sunday-index Saturday = refl
 days_from_sunday-index Sunday = refl
 
--- the weeks of a year, from the days before it
+-- The number of weeks of a year, from the days before the year.
 pub weeks_in_year-days_before : (y : ℤ) → first_year ≤ℤ y → weeks_in_year y + (days_before y + 3) / 7 ≡ (days_before y + days_in_year y + 3) / 7
 weeks_in_year-days_before y h =
     let first = first_weekday-days_before y h in
@@ -131,7 +132,7 @@ weeks_in_year-days_before y h =
     let weeks = weeks_in_year-is y in
     grind (arith, nat_tests)
 
--- they are the Thursdays of the year, in the count of all days
+-- The number of weeks is the number of Thursdays of the year in the count of all days.
 pub weeks_in_year-count : (y : ℤ) → IsYear y → weeks_in_year y ≡ count_before (is_weekday_of_year 3 y) (last_day + 1)
 weeks_in_year-count y h =
     let d = days_before y in

@@ -1,70 +1,74 @@
--- The closed forms: quotients and remainders in place of a count. No other definition uses them; the clauses that cite them
--- say that what the count gives is what they give. All divisions are of numbers that are not negative, rounded down.
+-- Closed forms: quotients and remainders in place of a count. No other definition uses them. The
+-- clauses that cite them say that they give the same results as the count. All divisions are of
+-- natural numbers and round down.
 use Rattle.std.specs.Prelude.{◌≡◌, ℕ, ◌+◌, ◌-◌, ◌*◌, ◌/◌, ◌%◌, ◌^◌, Bool, ◌&&◌, ◌||◌, ◌==◌, nat_lt, nat_le, if◌then◌else◌, ℤ, pos, ◌+ℤ◌, ◌-ℤ◌, unsigned_abs}
 use Rattle.cal_units.specs.Lengths.{days_in_year}
 use Rattle.cal_units.specs.Weeks.{first_weekday, weeks_in_year}
 use Rattle.cal_date.specs.Date.{julian_day_at, HasOrdinalDate}
 use Rattle.cal_date.specs.declared.kernel.JulianKernel.{JulianKernel}
 
--- ---- the month and the day of the month, from the ordinal and from whether the year is a leap year
--- the ordinal of the last day of February
+-- ---- month and day of the month, from the ordinal and from whether the year is a leap year
+-- The ordinal of the last day of February.
 abbrev pub february_end : Bool → ℕ
 february_end leap = if leap then 60 else 59
 
--- the ordinal up to the end of February; from March on the days since then
+-- A year has two parts, up to the end of February and from March on. This is the day of the part.
 abbrev pub days_in_part : Bool → ℕ → ℕ
 days_in_part leap o = if nat_le o (february_end leap) then o else o - february_end leap
 
--- the months before that part of the year
+-- The number of months before the part.
 abbrev pub months_before_part : Bool → ℕ → ℕ
 months_before_part leap o = if nat_le o (february_end leap) then 0 else 2
 
--- so many days into a part of the year stands this month of the part, counted from 1
+-- The month of a part, counted from 1, from the day of the part.
 abbrev pub month_in_part : ℕ → ℕ
 month_in_part days = (days * 268 + 8031) / 8192
 
--- the days of a part of the year before a month of it
+-- The number of days of a part before one of its months.
 abbrev pub days_before_month_in_part : ℕ → ℕ
 days_before_month_in_part month = (month * 3917 - 3866) / 128
 
--- the month, from 1 to 12, and the day of the month
+-- The month, from 1 to 12, and the day of the month.
 unfoldable pub month_of_ordinal : Bool → ℕ → ℕ
 month_of_ordinal leap o = month_in_part (days_in_part leap o) + months_before_part leap o
 
 unfoldable pub day_of_ordinal : Bool → ℕ → ℕ
 day_of_ordinal leap o = days_in_part leap o - days_before_month_in_part (month_in_part (days_in_part leap o))
 
--- ---- the Julian day of a year and an ordinal
--- the years from -999999 on that come before a year
+-- ---- Julian day of a year and an ordinal
+-- The number of years from -999999 to the year before y.
 abbrev pub years_counted : ℤ → ℕ
 years_counted y = unsigned_abs (y +ℤ pos 999999)
 
--- the Julian day of that ordinal after so many years, of which every fourth is a leap year, but of the centuries only every fourth
+-- The Julian day of the ordinal o after a years from -999999 on. Every fourth of them is a leap
+-- year, except three of four centuries.
 abbrev pub julian_day_after : ℕ → ℕ → ℤ
 julian_day_after a o = pos (1461 * a / 4 - a / 100 + a / 100 / 4 + o) -ℤ pos 363521075
 
 unfoldable pub julian_day_of : ℤ → ℕ → ℤ
 julian_day_of y o = julian_day_after (years_counted y) o
 
--- ---- the kernel of a Julian day: five numbers that give its year, ordinal and leap mark
--- the day, counted from 1 January -2379600 on, a year that 400 divides
+-- ---- kernel of a Julian day: five numbers that give its year, ordinal and leap mark
+-- The day is counted from 1 January -2379600. 400 divides this year.
 abbrev pub shifted_day : ℤ → ℕ
 shifted_day j = unsigned_abs (j +ℤ pos 867409993)
 
--- The centuries before the day, and the part of the next one in 2 ^ 32 parts: four times the day by 146097, the days of 400 years,
--- as a product. The factor is a little less than 2 ^ 49 / 146097, so the century is one low at a multiple of 146097.
+-- The centuries before the day, and the fraction of the next century times 2 ^ 32. A product
+-- replaces the division of four times the day by 146097, the days of 400 years. The factor is a
+-- little less than 2 ^ 49 / 146097, so the century is one too low at a multiple of 146097.
 abbrev pub century_at : ℕ → ℕ
 century_at n = n * 3853261555 / 2 ^ 15 / 2 ^ 32
 
 abbrev pub century_part_at : ℕ → ℕ
 century_part_at n = n * 3853261555 / 2 ^ 15 % 2 ^ 32
 
--- the day, had every fourth year been a leap year
+-- The day in the Julian count, in which every fourth year is a leap year.
 abbrev pub julian_at : ℕ → ℕ
 julian_at n = n - century_at n / 4 + century_at n
 
--- The years before that day, and the part of the next one: four times the day by 1461, the days of four years, as a product.
--- The factor is a little more than 2 ^ 42 / 1461.
+-- The years before the day, and the fraction of the next year times 2 ^ 32. A product replaces the
+-- division of four times the day by 1461, the days of four years. The factor is a little more than
+-- 2 ^ 42 / 1461.
 abbrev pub years_at : ℕ → ℕ
 years_at j = j * 3010298776 / 2 ^ 8 / 2 ^ 32
 
@@ -83,16 +87,16 @@ kernel_by n = record {
 unfoldable pub kernel_of : ℤ → JulianKernel
 kernel_of j = kernel_by (shifted_day j)
 
--- day n has this kernel
+-- Day n has this kernel.
 abbrev pub HasKernel : JulianKernel → ℕ → Type 0
 HasKernel k n = kernel_of (julian_day_at n) ≡ k
 
--- Whether the year has the days that it has where every fourth year is a leap year. All years have but the first of a century that 4
--- does not divide: its days make up at most 365 of 36525 parts of the century.
+-- The year is as long as in the Julian count. Only the first year of a century that 4 doesn't
+-- divide is shorter: its days make up the first 365 of 36525 parts of the century.
 abbrev pub is_julian_year : JulianKernel → Bool
 is_julian_year k = nat_lt 42920275 k.century_part || (k.century % 4 == 0)
 
--- the year, the ordinal and the leap mark that the five numbers give
+-- The year, the ordinal and the leap mark that the five numbers give.
 abbrev pub year_of_kernel : JulianKernel → ℤ
 year_of_kernel k = pos k.years -ℤ pos 2379600
 
@@ -102,11 +106,12 @@ ordinal_of_kernel k = k.year_part * 1461 / 2 ^ 34 + (if is_julian_year k then 1 
 abbrev pub is_leap_by_kernel : JulianKernel → Bool
 is_leap_by_kernel k = (k.years % 4 == 0) && is_julian_year k
 
--- ---- the ISO week date of a year, an ordinal and a weekday, numbered from Monday, 1, to Sunday, 7
+-- ---- ISO week date of a year, an ordinal and a weekday, from 1 for Monday to 7 for Sunday
 abbrev pub week_quotient : ℕ → ℕ → ℕ
 week_quotient o w = (o + 10 - w) / 7
 
--- week 0 is the last week of the year before, and week 53 is week 1 of the next year where the year has 52
+-- Week 0 is the last week of the year before. Week 53 is week 1 of the next year if the year has
+-- 52.
 unfoldable pub iso_year_of : ℤ → ℕ → ℕ → ℤ
 iso_year_of y o w =
     if week_quotient o w == 0 then y -ℤ pos 1
@@ -117,17 +122,17 @@ iso_week_of y o w =
     if week_quotient o w == 0 then weeks_in_year (y -ℤ pos 1)
     else (if (week_quotient o w == 53) && (weeks_in_year y == 52) then 1 else week_quotient o w)
 
--- those are the ISO year and the week of that day
+-- The day has the ISO year and the week of these forms.
 unfoldable pub IsWeekByForm : ℤ → ℕ → ℕ → ℤ → ℕ → Type 0
 IsWeekByForm y o w iso_year week = (iso_year ≡ iso_year_of y o w) × (week ≡ iso_week_of y o w)
 
--- ---- and the way back
--- the weekday of 4 January, which always lies in week 1
+-- ---- year and ordinal of an ISO week date
+-- The weekday of 4 January, which is always in week 1.
 abbrev pub fourth_weekday : ℤ → ℕ
 fourth_weekday y = (first_weekday y + 3) % 7 + 1
 
--- The ordinal is 7 * w + wd - fourth_weekday y - 3. Where it is below 1 it is counted back into the year before, and where it is past
--- the length of the year, on into the next year.
+-- The ordinal is 7 * w + wd - fourth_weekday y - 3. If it is below 1, the day is in the year
+-- before. If it is above the length of the year, the day is in the next year.
 unfoldable pub year_of_week : ℤ → ℕ → ℕ → ℤ
 year_of_week y w wd =
     if nat_le (7 * w + wd) (fourth_weekday y + 3) then y -ℤ pos 1
@@ -139,6 +144,6 @@ ordinal_of_week y w wd =
     else (if nat_lt (fourth_weekday y + 3 + days_in_year y) (7 * w + wd) then 7 * w + wd - (fourth_weekday y + 3) - days_in_year y
     else 7 * w + wd - (fourth_weekday y + 3))
 
--- day n has that year and ordinal
+-- Day n has the year and the ordinal of these forms.
 unfoldable pub IsDayByForm : ℤ → ℕ → ℕ → ℕ → Type 0
 IsDayByForm y w wd n = HasOrdinalDate (year_of_week y w wd) (ordinal_of_week y w wd) n

@@ -1,4 +1,4 @@
--- Laws of the count of days: where each month and each year begins, and how many days the first years have.
+-- Laws of the count of days: the first day of each month and year, and the days of the first years.
 use Rattle.std.proofs.Common.{◌≡◌, ℕ, zero, suc, ◌+◌, ◌-◌, ◌*◌, ◌/◌, ◌<◌, ◌≤◌, refl, ap, ◌∙◌, arith, ℤ, pos, ◌+ℤ◌, ◌-ℤ◌, ◌≤ℤ◌, unsigned_abs, true, false, lit<, add-zero, inl, inr, add-one, add_assoc}
 use Rattle.std.proofs.lemmas.Bool.{cases_lt}
 use Rattle.std.proofs.lemmas.Int.{ints}
@@ -7,7 +7,7 @@ use Rattle.cal_units.specs.Lengths.{days_in_year, days_in_month}
 use Rattle.cal_date.specs.CalendarDay.{calendar_day, day_after, is_first_of_january}
 use Rattle.cal_date.specs.Date.{first_year, day_at, year_at, ordinal_at, HasOrdinalDate}
 
--- one step of each count
+-- One step of each count.
 pub day_at-suc : (n : ℕ) → day_at (suc n) ≡ day_after (day_at n)
 unfolding day_at
 day_at-suc n = refl
@@ -20,7 +20,7 @@ ordinal_at-new_year : (n : ℕ) → is_first_of_january (day_at (suc n)) ≡ tru
 unfolding ordinal_at
 ordinal_at-new_year n h = rw h refl
 
--- the three cases of the day after
+-- The three cases of the day after a day.
 day_after-in_month : (y : ℤ) (m d : ℕ) → d < days_in_month y m → day_after (calendar_day y m d) ≡ calendar_day y m (d + 1)
 unfolding day_after
 day_after-in_month y m d h = grind (arith, nat_tests)
@@ -37,12 +37,12 @@ days_in_month-bound : (y : ℤ) (m : ℕ) → 0 < m → m ≤ 12 → 28 ≤ days
 unfolding days_in_month
 days_in_month-bound y m low high = grind (arith, nat_tests)
 
--- day n is this day of the calendar, and has this ordinal
+-- Day n is this day of the calendar, and has this ordinal.
 pub record IsDayAt (n : ℕ) (y : ℤ) (m d o : ℕ) : Type 0 where
   pub day_is : day_at n ≡ calendar_day y m d
   pub ordinal_is : ordinal_at n ≡ o
 
--- the days of one month follow one another
+-- The days of a month follow one another.
 in_month : (n j : ℕ) (y : ℤ) (m o : ℕ) → IsDayAt n y m 1 o → j < days_in_month y m → IsDayAt (n + j) y m (j + 1) (o + j)
 in_month n zero y m o e h = simp add-zero e
 in_month n (suc j) y m o e h =
@@ -56,7 +56,7 @@ in_month n (suc j) y m o e h =
     ordinal_at-same_year (n + j) same ∙ ap (λ k. k + 1) before.ordinal_is ∙ omega arith in
     rw (← sums) (record { day_is = day; ordinal_is = ordinal })
 
--- after a month comes the first of the next month
+-- After a month comes the first day of the next month.
 next_month : (n : ℕ) (y : ℤ) (m o : ℕ) → IsDayAt n y m 1 o → 0 < m → m < 12 → IsDayAt (n + days_in_month y m) y (m + 1) 1 (o + days_in_month y m)
 next_month n y m o e low high =
     let some : 28 ≤ days_in_month y m = days_in_month-bound y m low (omega arith) in
@@ -70,7 +70,7 @@ next_month n y m o e low high =
     ordinal_at-same_year (n + j) same ∙ ap (λ k. k + 1) last.ordinal_is ∙ omega arith in
     rw (← sums) (record { day_is = day; ordinal_is = ordinal })
 
--- the days of the first k months of a year
+-- The number of days of the first k months of a year.
 unfoldable pub days_of_months : ℤ → ℕ → ℕ
 days_of_months y zero = 0
 days_of_months y (suc k) = days_of_months y k + days_in_month y (suc k)
@@ -86,7 +86,7 @@ month_start n y (suc k) e h =
       ordinal_is = ap ordinal_at (simp (add-one, add_assoc)) ∙ after.ordinal_is ∙ simp (add-one, add_assoc);
     }
 
--- the months make up the year
+-- The months make up the year.
 days_of_months-all : (y : ℤ) → days_of_months y 12 ≡ days_in_year y
 unfolding days_of_months days_in_month
 days_of_months-all y = grind (arith, nat_tests)
@@ -99,7 +99,7 @@ days_in_month-december : (y : ℤ) → 30 < days_in_month y 12
 unfolding days_in_month
 days_in_month-december y = lit< tt
 
--- an index in the first k months lies in one of them
+-- An index in the first k months is in one of them.
 month_of : (y : ℤ) (k j : ℕ) → j < days_of_months y k → (i : ℕ) × (d : ℕ) × (i < k) × (d < days_in_month y (i + 1)) × (j ≡ days_of_months y i + d)
 unfolding days_of_months
 month_of y zero j h = absurd (omega arith)
@@ -109,11 +109,11 @@ month_of y (suc k) j h =
       | inr high ↦ (k, j - days_of_months y k, omega arith, (let e : suc k ≡ k + 1 = omega arith in rw (← e) (omega arith)), omega arith)
     ]
 
--- the year begins on this day
+-- The year begins on day n.
 abbrev pub IsYearStart : ℕ → ℤ → Type 0
 IsYearStart n y = IsDayAt n y 1 1 1
 
--- so many months and days into a year stands this day
+-- The day that is i months and d days after the first day of the year.
 pub in_months : (n : ℕ) (y : ℤ) (i d : ℕ) → IsYearStart n y → i < 12 → d < days_in_month y (i + 1)
     → IsDayAt (n + (days_of_months y i + d)) y (i + 1) (d + 1) (days_of_months y i + d + 1)
 in_months n y i d e low h =
@@ -121,7 +121,7 @@ in_months n y i d e low h =
     let sums : n + days_of_months y i + d ≡ n + (days_of_months y i + d) = omega arith in
     rw (← sums) (record { day_is = here.day_is; ordinal_is = here.ordinal_is ∙ omega arith })
 
--- each index in a year is so many months and days into it
+-- An index in a year is a number of months and days.
 pub record IsInMonth (y : ℤ) (j : ℕ) : Type 0 where
   pub months : ℕ
   pub days : ℕ
@@ -134,14 +134,14 @@ index_in_year y j h =
     let found = month_of y 12 j (rw (days_of_months-all y) h) in
     record { months = found.0; days = found.1; months_below = found.2; days_below = found.3; index_is = found.4 }
 
--- the days of one year follow one another
+-- The days of a year follow one another.
 pub in_year : (n : ℕ) (y : ℤ) (j : ℕ) → IsYearStart n y → j < days_in_year y → HasOrdinalDate y (j + 1) (n + j)
 in_year n y j e h =
     let at = index_in_year y j h in
     let here = in_months n y at.months at.days e at.months_below at.days_below in
     (ap year_at (ap (λ k. n + k) at.index_is) ∙ ap (λ d. d.year) here.day_is, ap ordinal_at (ap (λ k. n + k) at.index_is) ∙ here.ordinal_is ∙ omega (arith, at.index_is))
 
--- 31 December is the last day of the year
+-- 31 December is the last day of the year.
 pub year_end : (n : ℕ) (y : ℤ) → IsYearStart n y → IsDayAt (n + (days_in_year y - 1)) y 12 31 (days_in_year y)
 year_end n y e =
     let start = month_start n y 11 e (lit< tt) in
@@ -149,7 +149,7 @@ year_end n y e =
     let sums : n + days_of_months y 11 + 30 ≡ n + (days_in_year y - 1) = omega (arith, days_of_months-december y) in
     rw (← sums) (record { day_is = last.day_is; ordinal_is = last.ordinal_is ∙ omega (arith, days_of_months-december y) })
 
--- after a year comes the first of the next year
+-- After a year comes the first day of the next year.
 next_year : (n : ℕ) (y : ℤ) → IsYearStart n y → IsYearStart (n + days_in_year y) (y +ℤ pos 1)
 next_year n y e =
     let last = year_end n y e in
@@ -160,12 +160,13 @@ next_year n y e =
     let new : is_first_of_january (day_at (suc j)) ≡ true = rw day refl in
     rw (← sums) (record { day_is = day; ordinal_is = ordinal_at-new_year j new })
 
--- the days of the first k years of the range
+-- The number of days of the first k years of the range.
 unfoldable pub days_of_years : ℕ → ℕ
 days_of_years zero = 0
 days_of_years (suc k) = days_of_years k + days_in_year (first_year +ℤ pos k)
 
--- the leap years among the first k years of the range: one in four, but for the centuries of which 400 is no divisor
+-- The leap years among the first k years of the range are every fourth year, except the centuries
+-- that 400 doesn't divide.
 leap_year-step : (k : ℕ) → days_in_year (first_year +ℤ pos k) + (k + 1) / 100 + k / 4 + k / 400 ≡ 365 + k / 100 + (k + 1) / 4 + (k + 1) / 400
 leap_year-step k = grind (arith, ints, nat_tests)
 
@@ -189,7 +190,7 @@ year_start (suc k) =
     let same : (first_year +ℤ pos k) +ℤ pos 1 ≡ first_year +ℤ pos (suc k) = omega (arith, ints) in
     rw same at next
 
--- the years of the range before a year, and their days
+-- The number of years of the range before a year, and the number of their days.
 abbrev pub years_before : ℤ → ℕ
 years_before y = unsigned_abs (y -ℤ first_year)
 

@@ -1,4 +1,5 @@
--- The numbers of `Date::MIN` and `Date::MAX`, for the crates above, where a constant opens as its literal.
+-- The numbers of `Date::MIN` and `Date::MAX`, for higher crates, in which a constant opens as its
+-- literal.
 use Rattle.std.specs.Prelude.{◌≡◌, pos, neg_ℤ}
 use Rattle.std.proofs.Common.{arith, refl}
 use Rattle.cal_date.specs.Date.{last_year, last_day}

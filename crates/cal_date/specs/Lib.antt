@@ -11,5 +11,5 @@ pub mod Move
 pub mod Occurrence
 pub mod Order
 pub mod Refusals
--- what an error says, for the crates above
+-- The errors, for higher crates.
 pub use Rattle.cal_units.specs.Refusal

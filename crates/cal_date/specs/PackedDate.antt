@@ -10,31 +10,31 @@ use Rattle.cal_date.specs.Date.{first_year, last_year, year_at, ordinal_at, IsYe
 use Rattle.cal_date.specs.CountLaws.{days_before, in_year, year_start-days_before}
 use Rattle.cal_date.specs.declared.date.Date.TheInside.{Inside}
 
--- the leap mark: 512 in a leap year, else 0
+-- The leap mark is 512 in a leap year, else 0.
 abbrev pub leap_mark : ℤ → ℕ
 leap_mark y = if is_leap_year y then 512 else 0
 
--- the packed value of an ordinal date: 1024 times the year, the leap mark, and the ordinal
+-- The packed value of an ordinal date is 1024 times the year, plus the leap mark and the ordinal.
 abbrev pub packed_value : ℤ → ℕ → ℤ
 packed_value y o = y *ℤ pos 1024 +ℤ pos (leap_mark y + o)
 
--- so many years up, each year of the range is above zero, and so is its packed value
+-- With this number added, each year of the range is positive, and so is its packed value.
 abbrev pub raised_by : ℕ
 raised_by = unsigned_abs first_year + 1
 
--- the year and the ordinal of a packed value: what is above its low ten bits, and the lowest nine
+-- The year of a packed value is above its low ten bits, and the ordinal is in its lowest nine bits.
 abbrev pub year_part : ℤ → ℤ
 year_part p = pos (unsigned_abs (p +ℤ pos (raised_by * 1024)) / 1024) -ℤ pos raised_by
 
 abbrev pub ordinal_part : ℤ → ℕ
 ordinal_part p = unsigned_abs (p +ℤ pos (raised_by * 1024)) % 512
 
--- whether it is the packed value of this year and ordinal, a year of the range and an ordinal that it has
+-- p is the packed value of y and o, a year of the range and an ordinal of this year.
 abbrev pub packs : ℤ → ℤ → ℕ → Bool
 packs p y o =
     not (int_lt y first_year) && (not (int_lt last_year y) && (nat_lt 0 o && (nat_le o (days_in_year y) && int_eq p (packed_value y o))))
 
--- the same of its own year and ordinal: by cases, so that it computes at numerals alone
+-- p is the packed value of its own year and ordinal. The two cases let it compute only at numerals.
 abbrev pub is_packed : ℤ → Bool
 is_packed (pos n) = packs (pos n) (year_part (pos n)) (ordinal_part (pos n))
 is_packed (negsuc n) = packs (negsuc n) (year_part (negsuc n)) (ordinal_part (negsuc n))
@@ -42,7 +42,7 @@ is_packed (negsuc n) = packs (negsuc n) (year_part (negsuc n)) (ordinal_part (ne
 abbrev pub IsPackedDate : Inside → Type 0
 IsPackedDate d = is_packed d.packed ≡ true
 
--- the same, for proofs that look at none of the bits
+-- The same functions, for proofs that look at no bits.
 unfoldable pub packed : ℤ → ℕ → ℤ
 packed y o = packed_value y o
 
@@ -52,6 +52,7 @@ year_of p = year_part p
 unfoldable pub ordinal_of : ℤ → ℕ
 ordinal_of p = ordinal_part p
 
+-- p is the packed value of a year and an ordinal in their ranges.
 pub record IsPacked (p : ℤ) : Type 0 where
   pub year : IsYear (year_of p)
   pub ordinal : IsOrdinal (year_of p) (ordinal_of p)
@@ -98,24 +99,25 @@ unfolding packed year_of ordinal_of
 fields-IsPacked p h =
     is_packed-packs p ∙ packs-Packs p (year_part p) (ordinal_part p) (record { year = h.year; ordinal = h.ordinal; packed_is = h.packed_is })
 
--- the number of an ordinal date: the days of the years before, and those of the year before the day
+-- The number of an ordinal date: the days of the years before, and the days of the year before it.
 abbrev pub ordinal_number : ℤ → ℕ → ℕ
 ordinal_number y o = days_before y + (o - 1)
 
+-- The number of a date, and the packed value of day n.
 abbrev pub number_of : Inside → ℕ
 number_of d = ordinal_number (year_of d.packed) (ordinal_of d.packed)
 
 abbrev pub packed_at : ℕ → ℤ
 packed_at n = packed (year_at n) (ordinal_at n)
 
--- what a date feeds to a hasher
+-- A date feeds its packed value to a hasher.
 unfoldable pub hash_word : ℕ → ℤ
 hash_word n = packed_at n
 
 abbrev pub fields_at : ℕ → Inside
 fields_at n = record { packed = packed_at n }
 
--- the number of each ordinal date of the range has it
+-- The number of an ordinal date of the range has this ordinal date.
 pub HasOrdinalDate-ordinal_number : (y : ℤ) (o : ℕ) → IsYear y → IsOrdinal y o → HasOrdinalDate y o (ordinal_number y o)
 HasOrdinalDate-ordinal_number y o h f =
     let here = in_year (days_before y) y (o - 1) (year_start-days_before y h.0) (omega arith) in

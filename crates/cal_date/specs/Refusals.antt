@@ -1,4 +1,4 @@
--- Why the constructors of dates refuse: each by the name of its parameter.
+-- The errors of the constructors of dates. Each is named after its parameter.
 use Rattle.cal_units.specs.declared.error.Component.TheVariants as component
 use Rattle.cal_units.specs.declared.error.ComponentRange.{ComponentRange}
 use Rattle.cal_units.specs.Refusal.{unconditional, conditional}

@@ -22,47 +22,46 @@ mod number;
 mod occurrences;
 mod order;
 mod replacement;
-#[cfg(test)]
-mod tests;
 
-/// The days of a common year: no year ends before it has as many.
+/// The number of days of a common year. Every year has this many days or one more.
 const FEWEST_DAYS: u32 = 365;
 
-/// The leap mark of a packed date.
+/// The leap mark of a packed date, in a leap year.
 const LEAP_MARK: i32 = 512;
 
-/// The bits of a packed date that hold the ordinal.
+/// The bits of a packed date with the ordinal.
 const ORDINAL_BITS: i32 = 511;
 
-/// The bits of a packed date that hold the leap mark and the ordinal.
+/// The bits of a packed date with the leap mark and the ordinal.
 const LOW_BITS: i32 = 1023;
 
-/// Whether the year is one of the range.
+/// Returns `true` if the year is in the range.
 fn is_year(year: i32) -> bool
     ensures { IsTrue result ↔ IsYear year }
 {
     year >= MIN_YEAR && year <= MAX_YEAR
 }
 
-/// Whether the year has that ordinal. Up to 365 the year is not asked.
+/// Returns `true` if the year has the ordinal. Only the ordinal 366 depends on the year.
 fn has_ordinal(year: i32, ordinal: u16) -> bool
     ensures { IsTrue result ↔ IsOrdinal year ordinal }
 {
-    // An ordinal of 0 wraps, far above the length of a year.
+    // The ordinal 0 wraps to a number far above the length of a year.
     if u32::from(ordinal).wrapping_sub(1) < FEWEST_DAYS {
         return true;
     }
     ordinal == 366 && is_leap_year(year)
 }
 
-/// A day of the proleptic Gregorian calendar, from -999999-01-01 to 999999-12-31.
+/// A date of the proleptic Gregorian calendar, from -999999-01-01 to 999999-12-31.
 ///
-/// Years are astronomical, as in ISO 8601: the year 0 stands before the year 1, and -1 before that. Contracts see a date
-/// as its number in the count of days, from 0 at -999999-01-01 to 730484633 at 999999-12-31.
+/// Years are numbered as in ISO 8601: the year 0 comes before the year 1, and the year -1 before
+/// that. In contracts a date is its number in the count of days, from 0 for -999999-01-01 to
+/// 730484633 for 999999-12-31.
 #[derive(Clone, Copy)]
 pub struct Date {
-    /// The year times 1024, and [`LEAP_MARK`] in a leap year, and the ordinal. Shifted right by 10 bits it is the
-    /// year, also below zero, and later days have greater values.
+    /// The year times 1024, plus [`LEAP_MARK`] in a leap year, plus the ordinal. A right shift by
+    /// 10 bits gives the year, negative or not, and later dates have larger values.
     packed: i32,
 }
 
@@ -83,31 +82,28 @@ impl Model for Date {
 }
 
 impl Date {
-    /// The first day, -999999-01-01, whose Julian day is -363521074.
+    /// The minimum date, -999999-01-01. Its Julian day is -363521074.
     pub const MIN: Date = Date {
         packed: -1_023_998_975,
     };
 
-    /// The last day, 999999-12-31, whose Julian day is 366963559.
+    /// The maximum date, 999999-12-31. Its Julian day is 366963559.
     pub const MAX: Date = Date {
         packed: 1_023_999_341,
     };
 
-    /// The day of the year that has this ordinal.
+    /// Creates a date from a year and an ordinal day: the ordinal date of ISO 8601.
     ///
-    /// The year is from -999999 to 999999, and the ordinal from 1 to 365, or 366 in a leap year: the ordinal date of
-    /// ISO 8601. The day with ordinal 60 of 1900 is its 1 March, and that of 2000 its 29 February.
-    ///
-    /// # Refusals
-    ///
-    /// For the first component that is out of range: `year`, unconditionally, or `ordinal`, conditionally, as its range
-    /// depends on the year.
+    /// The year is from -999999 to 999999, and the ordinal from 1 to 365, or 366 in a leap year.
+    /// The ordinal 60 is 1 March in 1900, and 29 February in 2000. Returns the unconditional error
+    /// `year` if the year is out of range, else the conditional error `ordinal` if the ordinal is.
     #[tactic(auto, using(crate::proofs::Dates::ordinal_dates))]
     pub fn from_ordinal_date(year: i32, ordinal: u16) -> Result<Self, ComponentRange>
         ensures every { (n : ℕ) → IsDate n → HasOrdinalDate year ordinal n → result ≡ Ok n }
         ensures has { IfOk result (λ n. IsDate n × HasOrdinalDate year ordinal n) }
 
-        // It is refused exactly where no day has it, for the first component that is out of range.
+        // It fails if and only if no day of the range has the ordinal date. The error names the
+        // first component that is out of range.
         ensures refused { IsErr result ↔ NoDate (HasOrdinalDate year ordinal) }
         ensures reason { IfErr result (λ e. (e ≡ year_out_of_range) ⊎ (e ≡ ordinal_out_of_range)) }
         ensures year { IsRefused year_out_of_range result ↔ ¬ IsYear year }
@@ -123,13 +119,10 @@ impl Date {
         Ok(Date::at_ordinal(year, ordinal))
     }
 
-    /// The day that has this Julian day, from -363521074 to 366963559.
+    /// Creates a date from a Julian day, from -363521074 to 366963559.
     ///
-    /// The Julian day is a whole number that rises by one from day to day: 0 is -4713-11-24, and 2451545 is 2000-01-01.
-    ///
-    /// # Refusals
-    ///
-    /// As `julian_day`, unconditionally, where no day of the range has it.
+    /// The Julian day rises by one from day to day: 0 is -4713-11-24, and 2451545 is 2000-01-01.
+    /// Returns the unconditional error `julian_day` if the Julian day is out of range.
     pub fn from_julian_day(julian_day: i32) -> Result<Self, ComponentRange>
         ensures every { (n : ℕ) → IsDate n → HasJulianDay julian_day n → result ≡ Ok n }
         ensures has { IfOk result (λ n. IsDate n × HasJulianDay julian_day n) }
@@ -146,7 +139,7 @@ impl Date {
         }
     }
 
-    /// The year, from -999999 to 999999. That of [`Self::MIN`] is -999999.
+    /// Returns the year, from -999999 to 999999. For [`Self::MIN`] it is -999999.
     pub fn year(self) -> i32
         ensures counted { result ≡ year_at self }
         ensures range { IsYear result }
@@ -155,7 +148,7 @@ impl Date {
         self.packed >> 10
     }
 
-    /// The number of the day in its year, from 1 to 365, or 366 in a leap year. That of 2020-12-31 is 366.
+    /// Returns the day of the year, from 1 to 365, or 366 in a leap year. For 2020-12-31 it is 366.
     pub fn ordinal(self) -> u16
         ensures counted { result ≡ ordinal_at self }
         ensures range { IsOrdinal (year_at self) result }
@@ -165,8 +158,8 @@ impl Date {
         (self.packed & ORDINAL_BITS) as u16
     }
 
-    /// The year and the ordinal, as [`Self::year`] and [`Self::ordinal`] return them: the ordinal date of ISO 8601. That of
-    /// 2020-12-31 is (2020, 366).
+    /// Returns the year and the ordinal day: the ordinal date of ISO 8601. For 2020-12-31 it is
+    /// (2020, 366).
     pub fn to_ordinal_date(self) -> (i32, u16)
         ensures date { HasOrdinalDate result.0 result.1 self }
         ensures order { (n : ℕ) → IsDate n
@@ -177,7 +170,7 @@ impl Date {
         (self.year(), self.ordinal())
     }
 
-    /// The Julian day, from -363521074 to 366963559. That of 2000-01-01 is 2451545.
+    /// Returns the Julian day, from -363521074 to 366963559. For 2000-01-01 it is 2451545.
     pub fn to_julian_day(self) -> i32
         ensures day { result ≡ julian_day_at self }
         ensures order { (n : ℕ) → IsDate n → (n < self) ↔ (julian_day_at n <ℤ result) }
@@ -191,13 +184,13 @@ impl Date {
         days as i32 - 363_521_075
     }
 
-    /// The day after, or `None` after [`Self::MAX`] alone. That of 2019-12-31 is 2020-01-01.
+    /// Returns the next day, or `None` for [`Self::MAX`]. For 2019-12-31 it is 2020-01-01.
     #[tactic(auto, using(crate::proofs::Neighbours::next_days))]
     pub fn next_day(self) -> Option<Self>
         ensures day { SomeIff result (self < last_day) (self + 1) }
         ensures in_range { IsDate self }
     {
-        // The ordinal of the answer is tested: a caller who asks for it then has it.
+        // The test is of the next ordinal, because a caller who needs that ordinal then has it.
         if self.next_ordinal() < FEWEST_DAYS {
             return Some(self.moved_in_year(1));
         }
@@ -207,7 +200,7 @@ impl Date {
         Some(self.after_year_end())
     }
 
-    /// The day before, or `None` before [`Self::MIN`] alone. That of 2020-01-01 is 2019-12-31.
+    /// Returns the previous day, or `None` for [`Self::MIN`]. For 2020-01-01 it is 2019-12-31.
     #[tactic(auto, using(crate::proofs::Neighbours::previous_days))]
     pub fn previous_day(self) -> Option<Self>
         ensures day { SomeIff result (0 < self) (self - 1) }
@@ -222,7 +215,7 @@ impl Date {
         Some(self.before_year_start())
     }
 
-    /// The day after this day, which is not the last of the range.
+    /// Returns the day after a date that isn't the last one.
     #[tactic(auto, using(crate::proofs::Neighbours::next_days))]
     pub(crate) fn day_after(self) -> Self
         requires { self < last_day }
@@ -235,7 +228,7 @@ impl Date {
         }
     }
 
-    /// The day before this day, which is not the first of the range.
+    /// Returns the day before a date that isn't the first one.
     #[tactic(auto, using(crate::proofs::Neighbours::previous_days))]
     pub(crate) fn day_before(self) -> Self
         requires { 0 < self }
@@ -248,7 +241,8 @@ impl Date {
         }
     }
 
-    /// The day after, for the few days that may end their year. It stands apart, so that what each day runs through stays short.
+    /// Returns the next day of a date that may end its year. It isn't inlined, so the code for
+    /// every other date stays short.
     #[cold]
     #[inline(never)]
     fn after_year_end(self) -> Self
@@ -258,7 +252,8 @@ impl Date {
         self.days_later(1)
     }
 
-    /// The day before, for the day that begins its year. It stands apart as [`Self::after_year_end`] does.
+    /// Returns the previous day of a date that begins its year. It isn't inlined, like
+    /// [`Self::after_year_end`].
     #[cold]
     #[inline(never)]
     fn before_year_start(self) -> Self
@@ -268,7 +263,7 @@ impl Date {
         self.days_earlier(1)
     }
 
-    /// The day of that year of the range, with that ordinal of the year.
+    /// Creates a date from a year of the range and an ordinal of this year.
     pub(crate) fn at_ordinal(year: i32, ordinal: u16) -> Self
         requires year { IsYear year }
         requires ordinal { IsOrdinal year ordinal }
@@ -279,7 +274,8 @@ impl Date {
         Date::from_parts(year, is_leap_year(year), ordinal)
     }
 
-    /// The day of that year of the range, a leap year or not, with that ordinal of the year.
+    /// Creates a date from a year of the range, whether it is a leap year, and an ordinal of this
+    /// year.
     pub(crate) fn from_parts(year: i32, leap: bool, ordinal: u16) -> Self
         requires year { IsYear year }
         requires leap { leap ≡ is_leap_year year }
@@ -293,7 +289,7 @@ impl Date {
         }
     }
 
-    /// The leap mark and the ordinal: from 1 to 365, or from 513 to 878 in a leap year.
+    /// Returns the leap mark and the ordinal: from 1 to 365, or from 513 to 878 in a leap year.
     fn low_bits(self) -> u32
         ensures bits { result ≡ leap_mark (year_at self) + ordinal_at self }
         ensures in_range { IsDate self }
@@ -301,7 +297,7 @@ impl Date {
         (self.packed & LOW_BITS) as u32
     }
 
-    /// One more than the ordinal.
+    /// Returns one more than the ordinal.
     fn next_ordinal(self) -> u32
         ensures next { result ≡ ordinal_at self + 1 }
         ensures in_range { IsDate self }
@@ -309,16 +305,16 @@ impl Date {
         ((self.packed + 1) & ORDINAL_BITS) as u32
     }
 
-    /// Whether the year of the day is a leap year, by its mark.
+    /// Returns `true` if the year of the date is a leap year, by its leap mark.
     fn is_in_leap_year(self) -> bool
         ensures leap { result ≡ is_leap_year (year_at self) }
         ensures in_range { IsDate self }
     {
-        // No ordinal is 0, so `>` would say the same. But `>=` is a test of one bit.
+        // An ordinal is never 0, so `>` gives the same result, and `>=` is a test of one bit.
         self.low_bits() >= LEAP_MARK as u32
     }
 
-    /// The day so many days later, or earlier where they are below zero, which is of the same year.
+    /// Returns the date of the same year `days` days later, or earlier if `days` is negative.
     fn moved_in_year(self, days: i32) -> Self
         requires not_before { pos 1 ≤ℤ (pos (ordinal_at self) +ℤ days) }
         requires not_after { (pos (ordinal_at self) +ℤ days) ≤ℤ pos (days_in_year (year_at self)) }
@@ -329,7 +325,8 @@ impl Date {
         }
     }
 
-    /// The day of the same year that has so many days of the year before it, or `None` where the year has no such day.
+    /// Returns the date of the same year by its index from 0 at 1 January, or `None` if the year
+    /// doesn't have the index.
     #[tactic(auto, using(crate::proofs::Neighbours::places))]
     fn of_same_year(self, index: u64) -> Option<Self>
         ensures day { SomeIff result (index < days_in_year (year_at self))

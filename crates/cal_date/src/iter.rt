@@ -1,4 +1,4 @@
-//! Walks over days.
+//! Iterators over days.
 mod date_iter;
 
 pub use date_iter::DateIter;

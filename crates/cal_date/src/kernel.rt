@@ -1,8 +1,10 @@
-//! The kernel of a Julian day: five numbers, by two multiplications, that give its year, ordinal and leap mark.
+//! The kernel of a Julian day: five numbers, from two multiplications, that give its year, ordinal
+//! and leap mark.
 //!
-//! A quotient by a constant is a product with its cut reciprocal, whose low half is the part that has gone by. That is the method of
-//! Cassio Neri and Lorenz Schneider, "Euclidean affine functions and their application to calendar algorithms" (2023); the constants
-//! are those of the crate `time`.
+//! A product with a rounded reciprocal replaces a division by a constant, and its low half is the
+//! fraction that has passed. This is the method of Cassio Neri and Lorenz Schneider, "Euclidean
+//! affine functions and their application to calendar algorithms" (2023). The constants are from
+//! the crate `time`.
 ghost use Rattle.std.specs.Prelude.{◌≡◌, ◌≢◌, ℕ, ◌+◌, ◌*◌, ◌/◌, ◌%◌, ◌^◌, ◌<◌, ◌-ℤ◌, IfSome, None};
 ghost use Rattle.cal_units.specs.Lengths.{is_leap_year};
 ghost use Rattle.cal_date.specs.Date.{first_julian_day, IsDate, IsYear, HasJulianDay, HasOrdinalDate, NoDate};
@@ -12,59 +14,54 @@ ghost use Rattle.cal_date.specs.ClosedForms.{shifted_day, kernel_by, kernel_of, 
 use crate::date::Date;
 use crate::limits::{LAST_DAY, MAX_YEAR, MIN_JULIAN_DAY};
 
-#[cfg(test)]
-mod tests;
-
-/// What is added to a Julian day: with it, day 0 is 1 January -2379600, a year that 400 divides.
+/// The shift of Julian days. With it, day 0 is 1 January -2379600, and 400 divides this year.
 const DAY_SHIFT: i32 = 867_409_993;
 
-/// What is taken from a year that is counted from -2379600 on.
+/// The shift of years. The kernel counts years from -2379600.
 const YEAR_SHIFT: i32 = 2_379_600;
 
 /// The number of the day whose Julian day is 0.
 const DAY_ZERO: u32 = -MIN_JULIAN_DAY as u32;
 
-/// The first day of the range and its last year, both counted from 1 January -2379600 on.
+/// The first day of the range and its last year, both counted from 1 January -2379600.
 const FIRST_DAY: u32 = (MIN_JULIAN_DAY + DAY_SHIFT) as u32;
 
 const LAST_YEAR: u32 = (MAX_YEAR + YEAR_SHIFT) as u32;
 
-/// 2^49 / 146097, rounded down, where 146097 is the days of 400 years: a day times this is its centuries, in parts of
-/// 2^47.
+/// 2^49 / 146097, rounded down. 400 years have 146097 days, so a day times this is its centuries,
+/// with 47 fractional bits.
 const CENTURY_FACTOR: u64 = 3_853_261_555;
 
-/// The part of a century of 36525 days that 365 days make up, in parts of 2^32, rounded down.
+/// The fraction of a century of 36525 days that 365 days make up, times 2^32, rounded down.
 const CENTURY_CUT: u32 = 42_920_275;
 
-/// 2^42 / 1461, rounded up, where 1461 is the days of four years: a day times this is its years, in parts of 2^40.
+/// 2^42 / 1461, rounded up. Four years have 1461 days, so a day times this is its years, with 40
+/// fractional bits.
 const YEAR_FACTOR: u64 = 3_010_298_776;
 
 /// The low 32 bits.
 const LOW_HALF: u64 = 0xffff_ffff;
 
-/// The kernel of a Julian day: its century and year, each with the part of it that has gone by.
+/// The kernel of a Julian day: its century and its year, each with the fraction that has passed.
 ///
-/// Days and years are counted from 1 January -2379600 on. Where 146097, the days of 400 years, divides the day, the
-/// century is one low; the date comes out right.
+/// Days and years are counted from 1 January -2379600. If 146097, the days of 400 years, divides
+/// the day, the century is one too low; the date is right all the same.
 #[derive(Clone, Copy, PartialEq, Eq, Debug)]
 pub struct JulianKernel {
     /// The centuries before the day.
     pub century: u32,
-    /// The part of the century that has gone by, in parts of 2^32.
+    /// The fraction of the century that has passed, times 2^32.
     pub century_part: u32,
-    /// The day as it would be counted if every fourth year were a leap year.
+    /// The day in the Julian count, in which every fourth year is a leap year.
     pub julian: u32,
     /// The years before the day.
     pub years: u32,
-    /// The part of the year that has gone by, in parts of 2^32.
+    /// The fraction of the year that has passed, times 2^32.
     pub year_part: u32,
 }
 
-/// The kernel of a Julian day.
-///
-/// A day of the range must have that Julian day: it is from -363521074 to 366963559.
-///
-/// The kernel of 2451545, 2000-01-01, is 23815, 4294963575, 869879400, 2381600 and 1469893, with the century one low.
+/// Returns the kernel of a Julian day, which must be from -363521074 to 366963559. For 2451545,
+/// 2000-01-01, it is 23815, 4294963575, 869879400, 2381600 and 1469893. The century is one too low.
 pub fn julian_kernel(julian_day: i32) -> JulianKernel
     requires { IsDateNumber (julian_day -ℤ first_julian_day) }
     ensures kernel { result ≡ kernel_of julian_day }
@@ -79,15 +76,16 @@ pub fn julian_kernel(julian_day: i32) -> JulianKernel
     kernel_of_day(shifted_day(julian_day))
 }
 
-/// The date of a Julian day, or `None` where no day of the range has it.
+/// Returns the date of a Julian day, or `None` if it is out of range.
 pub(crate) fn date_of_julian_day(julian_day: i32) -> Option<Date>
     ensures has { IfSome result (λ n. IsDate n × HasJulianDay julian_day n) }
     ensures none { result ≡ None → NoDate (HasJulianDay julian_day) }
     ensures closed_form { let kernel = kernel_of julian_day in
         IfSome result (HasOrdinalDate (year_of_kernel kernel) (ordinal_of_kernel kernel)) }
 {
-    // A number past the last day stands as the day after that, also one below zero, which wraps. So the test comes after the
-    // products, and a compiler can take several Julian days at a time.
+    // A number past the last day becomes the day after the last one, and so does a negative number,
+    // which wraps. Then the test comes after the products, and a compiler can process several
+    // Julian days at a time.
     let number = julian_day
         .cast_unsigned()
         .wrapping_add(DAY_ZERO)
@@ -99,11 +97,8 @@ pub(crate) fn date_of_julian_day(julian_day: i32) -> Option<Date>
     Some(date_of_kernel(kernel))
 }
 
-/// The date of a kernel.
-///
-/// A day of the range must have that kernel, with these five values and no others; the date is this day's.
-///
-/// The date of the kernel of 2451545 is 2000-01-01.
+/// Returns the date of a kernel, which must be the kernel of a date. For the kernel of 2451545 it
+/// is 2000-01-01.
 pub fn date_of_kernel(kernel: JulianKernel) -> Date
     requires { (n : ℕ) × IsDate n × HasKernel kernel n }
     ensures { (n : ℕ) → IsDate n → HasKernel kernel n → result ≡ n }
@@ -111,7 +106,7 @@ pub fn date_of_kernel(kernel: JulianKernel) -> Date
     Date::from_parts(kernel.year(), kernel.is_leap_year(), kernel.ordinal())
 }
 
-/// The day of a Julian day, counted from 1 January -2379600 on.
+/// Returns the day of a Julian day, counted from 1 January -2379600.
 fn shifted_day(julian_day: i32) -> u32
     requires { IsDateNumber (julian_day -ℤ first_julian_day) }
     ensures { result ≡ shifted_day julian_day }
@@ -119,7 +114,7 @@ fn shifted_day(julian_day: i32) -> u32
     (julian_day + DAY_SHIFT) as u32
 }
 
-/// The kernel of a day counted from 1 January -2379600 on.
+/// Returns the kernel of a day that is counted from 1 January -2379600.
 fn kernel_of_day(day: u32) -> JulianKernel
     requires { day < 2 ^ 31 }
     ensures { result ≡ kernel_by day }
@@ -138,7 +133,7 @@ fn kernel_of_day(day: u32) -> JulianKernel
 }
 
 impl JulianKernel {
-    /// The year of a kernel of a year of the range.
+    /// Returns the year, which must be in the range.
     fn year(self) -> i32
         requires { IsYear (year_of_kernel self) }
         ensures { result ≡ year_of_kernel self }
@@ -146,8 +141,8 @@ impl JulianKernel {
         self.years as i32 - YEAR_SHIFT
     }
 
-    /// The ordinal: the days of the year that have gone by, and 1. The first year of most centuries begins a day late in
-    /// the Julian count, and needs no 1.
+    /// Returns the ordinal: the days of the year that have passed, plus 1. The first year of most
+    /// centuries begins a day late in the Julian count, and needs no 1.
     fn ordinal(self) -> u16
         ensures { result ≡ ordinal_of_kernel self }
     {
@@ -155,15 +150,16 @@ impl JulianKernel {
         days + u16::from(self.is_julian_year())
     }
 
-    /// Whether the year is a leap year.
+    /// Returns `true` if the year is a leap year.
     fn is_leap_year(self) -> bool
         ensures { result ≡ is_leap_by_kernel self }
     {
+        // Almost every year is a Julian year. In the other order one day in four takes a branch.
         self.is_julian_year() && self.years % 4 == 0
     }
 
-    /// Whether the year has the days that it has where every fourth year is a leap year: all years but the first of a
-    /// century that 4 does not divide.
+    /// Returns `true` if the year is as long as in the Julian count. Only the first year of a
+    /// century that 4 doesn't divide is shorter.
     fn is_julian_year(self) -> bool
         ensures { result ≡ is_julian_year self }
     {

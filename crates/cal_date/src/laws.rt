@@ -1,4 +1,5 @@
-//! What no clause of a constant or of a derived trait can say: functions that give them back. And the two ways to weeks.
+//! Properties of constants and derived traits, which have no clauses: functions return their
+//! values. And two counts of weeks that agree.
 ghost use Rattle.std.specs.Prelude.{◌≡◌, ◌+◌, ◌↔◌, Ok, IsTrue};
 ghost use Rattle.cal_date.specs.CalendarDay.{calendar_day};
 ghost use Rattle.cal_date.specs.Date.{first_year, last_year, last_day, day_at, IsYear};
@@ -9,7 +10,7 @@ use crate::kernel::JulianKernel;
 use cal_units::util::weeks_in_year;
 use std::alloc::AllocError;
 
-/// The first day of the range is day 0, and that is 1 January of the first year.
+/// Returns the first day of the range: day 0, which is 1 January of the first year.
 pub(crate) fn first_day() -> Date
     ensures number { result ≡ 0 }
     ensures day { day_at 0 ≡ calendar_day first_year 1 1 }
@@ -17,7 +18,7 @@ pub(crate) fn first_day() -> Date
     Date::MIN
 }
 
-/// The last day of the range is 31 December of the last year.
+/// Returns the last day of the range, 31 December of the last year.
 #[tactic(auto, using(crate::proofs::Years::end_of_range))]
 pub(crate) fn final_day() -> Date
     ensures number { result ≡ last_day }
@@ -26,28 +27,29 @@ pub(crate) fn final_day() -> Date
     Date::MAX
 }
 
-/// A clone, which equals what it is made from.
+/// Returns a clone, which equals the original.
 pub(crate) fn cloned(date: Date) -> Result<Date, AllocError>
     ensures { result ≡ Ok date }
 {
     date.clone()
 }
 
-/// A clone of a kernel, which equals what it is made from.
+/// Returns a clone of a kernel, which equals the original.
 pub(crate) fn cloned_kernel(kernel: JulianKernel) -> Result<JulianKernel, AllocError>
     ensures { result ≡ Ok kernel }
 {
     kernel.clone()
 }
 
-/// Whether two kernels are equal, which they are in all five values.
+/// Returns `true` if two kernels are equal: if all five values are.
 pub(crate) fn is_same_kernel(kernel: JulianKernel, other: JulianKernel) -> bool
     ensures { IsTrue result ↔ (kernel ≡ other) }
 {
     kernel == other
 }
 
-/// The weeks of a year, which `cal_units` counts within that year alone, are its Thursdays in the count of all days.
+/// Returns the number of weeks of a year, which `cal_units` counts within the year. It is the
+/// number of Thursdays of the year in the count of all days.
 #[tactic(auto, using(crate::proofs::Weekdays::weeks_of_years))]
 pub(crate) fn weeks_of(year: i32) -> u8
     requires { IsYear year }

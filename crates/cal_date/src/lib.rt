@@ -1,7 +1,7 @@
 //! Dates of the proleptic Gregorian calendar, counted one day at a time.
 //!
-//! Every conversion is proved to equal that count, and every refusal to come exactly where no day of the range has what
-//! was asked for.
+//! Each conversion is proved to equal this count, and to fail if and only if no day of the range
+//! matches.
 #![tactic(auto)]
 
 mod date;
@@ -14,6 +14,3 @@ pub mod limits;
 pub use date::Date;
 pub use iter::DateIter;
 pub use kernel::{JulianKernel, date_of_kernel, julian_kernel};
-
-#[cfg(test)]
-mod tests;

@@ -11,7 +11,7 @@ use Rattle.cal_datetime.specs.DateTimeLaws.{date_at-date_time, time_at-date_time
 
 pub ruleset parts = (date_at-date_time, time_at-date_time, IsDateTime-date_time)
 
--- the order of two date-times is that of their days, and on one day that of their times
+-- Date-times are ordered by their days, and on the same day by their times.
 pub by_days : (m n t u : ℕ) → t < day → u < day → m < n → m * day + t < n * day + u
 by_days m n t u below under h = omega arith
 
@@ -24,7 +24,7 @@ shifted z = z +ℤ first_julian_day *ℤ pos day
 number-is : (n t : ℕ) → pair_number n t ≡ shifted (date_time n t)
 number-is n t = let x = times-day (julian_day_at n) in omega (arith, ints)
 
--- so a moved pair is the moved date-time, and there is none where that is out of the range
+-- A moved pair is the moved date-time. If no pair exists, the moved date-time is out of range.
 pub record Moves (z w : ℤ) : Type 0 where
   pub number_is : z ≡ shifted w
 

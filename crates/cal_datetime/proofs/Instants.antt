@@ -48,7 +48,7 @@ div_euclid-one (pos a) (negsuc b) low high = omega (arith, ints)
 div_euclid-one (negsuc a) (pos b) low high = omega (arith, ints)
 div_euclid-one (negsuc a) (negsuc b) low high = omega (arith, ints)
 
--- the seconds that have passed, from those of the day and the time
+-- The Unix time in seconds, from the seconds of the day, the time and the offset.
 pub unix_seconds-is : (m : Shown) (q : ℤ) (n t : ℕ) → m.local ≡ date_time n t → q ≡ ((pos n -ℤ epoch_day) *ℤ pos 86_400 +ℤ pos (t / second)) -ℤ m.offset
     → q ≡ unix_seconds (instant m)
 unfolding instant
@@ -79,7 +79,7 @@ pub instants-apart : (m k : Shown) → (m.local -ℤ k.local) +ℤ (k.offset *�
 unfolding instant
 instants-apart m k = omega (arith, ints)
 
--- at one offset, a date-time so much later or earlier
+-- A date-time at the same offset is v later if its instant is v later.
 pub later_at : (m to : Shown) (v : ℤ) → to.offset ≡ m.offset → v ≡ instant to -ℤ instant m → m.local +ℤ v ≡ to.local
 unfolding instant
 later_at m to v e f = omega (arith, ints, e, f)
@@ -88,7 +88,7 @@ pub earlier_at : (m to : Shown) (v : ℤ) → to.offset ≡ m.offset → v ≡ i
 unfolding instant
 earlier_at m to v e f = omega (arith, ints, e, f)
 
--- at an offset, the one date-time of an instant
+-- The date-time of an instant at an offset is unique.
 pub shown_at : (m there : Shown) (offset : ℤ) → there.offset ≡ offset → instant there ≡ instant m → local_at (instant m) offset ≡ there.local
 unfolding instant
 shown_at m there offset e f = omega (arith, ints, e, f)

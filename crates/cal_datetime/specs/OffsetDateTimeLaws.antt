@@ -1,4 +1,4 @@
--- The parts of a date-time at an offset are its fields.
+-- The fields of a date-time at an offset are its day, its time of day and its offset.
 use Rattle.std.specs.Prelude.{◌≡◌}
 use Rattle.cal_time.specs.Date.{IsDate}
 use Rattle.cal_time.specs.Time.{IsTime}
@@ -8,12 +8,15 @@ use Rattle.cal_datetime.specs.DateTimeLaws.{date_at-date_time, time_at-date_time
 use Rattle.cal_datetime.specs.OffsetDateTime.{Shown}
 use Rattle.cal_datetime.specs.declared.offset_date_time.OffsetDateTime.TheInside.{Inside}
 
+-- The date-time at an offset that has these fields.
 abbrev pub shown_of : Inside → Shown
 shown_of m = record { local = date_time m.date m.time; offset = m.offset }
 
+-- The fields of a date-time at an offset.
 abbrev pub parts_of : Shown → Inside
 parts_of m = record { date = date_at m.local; offset = m.offset; time = time_at m.local }
 
+-- The date-time of three fields has these fields.
 pub parts_of-shown_of : (m : Inside) → IsDate m.date × IsTime m.time × IsOffset m.offset → parts_of (shown_of m) ≡ m
 parts_of-shown_of m h =
     let dates = date_at-date_time m.date m.time h.1.below_day in

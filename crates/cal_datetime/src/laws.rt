@@ -1,5 +1,5 @@
-//! What callers rest on and no clause of a method says: which numbers the constants are, that a clone is the value itself, and by
-//! which number values are equal, in order and hashed.
+//! Properties that callers need and that no clause of a method states: the constants, clones, and
+//! the numbers by which values compare and hash.
 ghost use Rattle.std.specs.Prelude.{◌≡◌, ◌↔◌, ◌<ℤ◌, Ok, pos, IsTrue, IsSome, IfSome};
 ghost use Rattle.std.specs.Hash as fed;
 ghost use Rattle.std.specs.Hash.DefaultHasher as hasher;
@@ -16,21 +16,21 @@ use std::hash::{DefaultHasher, Hash, Hasher};
 
 pub mod replacement;
 
-/// The first date-time.
+/// Returns the first date-time.
 pub fn first() -> PlainDateTime
     ensures { result ≡ pos 0 }
 {
     PlainDateTime::MIN
 }
 
-/// The last date-time.
+/// Returns the last date-time.
 pub fn last() -> PlainDateTime
     ensures { result ≡ pos last_date_time }
 {
     PlainDateTime::MAX
 }
 
-/// A clone is the value itself, offset and all.
+/// Clones both values. Each clone equals its original, including the offset.
 pub fn clones(
     plain: PlainDateTime,
     moment: OffsetDateTime,
@@ -40,49 +40,50 @@ pub fn clones(
     Ok((plain.clone()?, moment.clone()?))
 }
 
-/// Date-times are equal exactly if they are the same.
+/// Returns `true` if two date-times are the same.
 pub fn is_same(a: PlainDateTime, b: PlainDateTime) -> bool
     ensures { IsTrue result ↔ (a ≡ b) }
 {
     a == b
 }
 
-/// The order of date-times is that of their numbers.
+/// Returns `true` if `a` is earlier than `b`.
 pub fn is_before(a: PlainDateTime, b: PlainDateTime) -> bool
     ensures { IsTrue result ↔ (a <ℤ b) }
 {
     a < b
 }
 
-/// The order's answer on date-times.
+/// Compares two date-times by their numbers.
 pub fn order(a: PlainDateTime, b: PlainDateTime) -> Ordering
     ensures { result ≡ int_cmp a b }
 {
     a.cmp(&b)
 }
 
-/// Date-times at offsets are equal exactly if their instants are.
+/// Returns `true` if two date-times have the same instant.
 pub fn is_same_instant(a: OffsetDateTime, b: OffsetDateTime) -> bool
     ensures { IsTrue result ↔ (instant a ≡ instant b) }
 {
     a == b
 }
 
-/// The order of date-times at offsets is that of their instants.
+/// Returns `true` if the instant of `a` is earlier than the instant of `b`.
 pub fn is_earlier(a: OffsetDateTime, b: OffsetDateTime) -> bool
     ensures { IsTrue result ↔ (instant a <ℤ instant b) }
 {
     a < b
 }
 
-/// The order's answer on date-times at offsets.
+/// Compares two date-times by instant.
 pub fn order_of_instants(a: OffsetDateTime, b: OffsetDateTime) -> Ordering
     ensures { result ≡ int_cmp (instant a) (instant b) }
 {
     a.cmp(&b)
 }
 
-/// There and back is the same value, offset and all, and only the way there can be refused.
+/// Converts to `offset` and back, which gives `moment` again. Only the first conversion can return
+/// `None`.
 pub fn there_and_back(moment: OffsetDateTime, offset: UtcOffset) -> Option<OffsetDateTime>
     ensures there { IsSome result ↔ IsDateTime (local_at (instant moment) offset) }
     ensures back { IfSome result (λ back. back ≡ moment) }
@@ -94,7 +95,7 @@ pub fn there_and_back(moment: OffsetDateTime, offset: UtcOffset) -> Option<Offse
     }
 }
 
-/// What the default hasher makes of a date-time: it depends on the number alone.
+/// Returns the default hash of a date-time, which depends only on its number.
 pub fn hash_of(plain: PlainDateTime) -> u64
     ensures { result ≡ hasher.finish (fold hasher.write hasher.initial (fed.i128 plain)) }
 {
@@ -103,7 +104,7 @@ pub fn hash_of(plain: PlainDateTime) -> u64
     state.finish()
 }
 
-/// What the default hasher makes of a date-time at an offset: it depends on the instant alone.
+/// Returns the default hash of a date-time at an offset, which depends only on its instant.
 pub fn hash_of_instant(moment: OffsetDateTime) -> u64
     ensures { result ≡ hasher.finish
         (fold hasher.write hasher.initial (fed.i128 (instant moment))) }

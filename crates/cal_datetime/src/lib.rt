@@ -1,7 +1,7 @@
-//! Date-times: a date and a time of day together, alone and at an offset from UTC.
+//! Date-times: a date with a time of day, with or without an offset from UTC.
 //!
-//! A [`PlainDateTime`] is what a clock shows, one whole number of nanoseconds. An [`OffsetDateTime`] is that and the offset of the clock
-//! from UTC, and its equality, order and hash go by the instant.
+//! A [`PlainDateTime`] has no offset. An [`OffsetDateTime`] has one; it compares and hashes by
+//! instant.
 #![tactic(auto)]
 
 pub mod laws;

@@ -1,4 +1,5 @@
-//! A date made a date-time: what `time` has as methods of its `Date`, which stands in a crate below.
+//! Constructors of date-times from dates. `time` has them as methods of `Date`, which is in a lower
+//! crate here.
 ghost use Rattle.std.specs.Prelude.{◌≡◌, ◌↔◌, ◌*◌, ◌<◌, ◌≤◌, Ok};
 ghost use Rattle.cal_time.specs.Refusal.{IsRefused};
 ghost use Rattle.cal_time.specs.Time.{millisecond_out_of_range, microsecond_out_of_range, nanosecond_out_of_range, time_of, IsRefusedByClock};
@@ -8,7 +9,7 @@ use crate::PlainDateTime;
 use cal_time::error::ComponentRange;
 use cal_time::{Date, Time};
 
-/// The date-time at the start of that day: that of 2024-02-29 is 2024-02-29 0:00:00.0.
+/// Returns the date-time at the start of a day. For 2024-02-29 it is 2024-02-29 0:00:00.0.
 pub fn midnight(date: Date) -> PlainDateTime
     ensures value { result ≡ date_time date 0 }
     ensures date { date_at result ≡ date }
@@ -17,7 +18,7 @@ pub fn midnight(date: Date) -> PlainDateTime
     PlainDateTime::new(date, Time::MIDNIGHT)
 }
 
-/// The date-time of that date and that time of day, as [`PlainDateTime::new`] makes it.
+/// Creates a date-time from a date and a time of day, like [`PlainDateTime::new`].
 pub fn with_time(date: Date, time: Time) -> PlainDateTime
     ensures value { result ≡ date_time date time }
     ensures date { date_at result ≡ date }
@@ -26,11 +27,8 @@ pub fn with_time(date: Date, time: Time) -> PlainDateTime
     PlainDateTime::new(date, time)
 }
 
-/// The date-time of that date, hour, minute and second.
-///
-/// # Refusals
-///
-/// The first component out of range, unconditionally: `hour` above 23, else `minute` above 59, else `second` above 59.
+/// Creates a date-time from a date, an hour, a minute and a second. Returns the first error that
+/// applies: `hour` above 23, `minute` above 59 or `second` above 59.
 pub fn with_hms(
     date: Date,
     hour: u8,
@@ -47,11 +45,8 @@ pub fn with_hms(
     }
 }
 
-/// The date-time of that date, hour, minute, second and millisecond.
-///
-/// # Refusals
-///
-/// The first component out of range, unconditionally: as [`with_hms`], else `millisecond` above 999.
+/// Creates a date-time from a date, an hour, a minute, a second and a millisecond. Returns the
+/// errors of [`with_hms`] first, then `millisecond` above 999.
 pub fn with_hms_milli(
     date: Date,
     hour: u8,
@@ -71,11 +66,8 @@ pub fn with_hms_milli(
     }
 }
 
-/// The date-time of that date, hour, minute, second and microsecond.
-///
-/// # Refusals
-///
-/// The first component out of range, unconditionally: as [`with_hms`], else `microsecond` above 999999.
+/// Creates a date-time from a date, an hour, a minute, a second and a microsecond. Returns the
+/// errors of [`with_hms`] first, then `microsecond` above 999999.
 pub fn with_hms_micro(
     date: Date,
     hour: u8,
@@ -95,11 +87,8 @@ pub fn with_hms_micro(
     }
 }
 
-/// The date-time of that date, hour, minute, second and nanosecond.
-///
-/// # Refusals
-///
-/// The first component out of range, unconditionally: as [`with_hms`], else `nanosecond` above 999999999.
+/// Creates a date-time from a date, an hour, a minute, a second and a nanosecond. Returns the
+/// errors of [`with_hms`] first, then `nanosecond` above 999999999.
 pub fn with_hms_nano(
     date: Date,
     hour: u8,

@@ -1,4 +1,4 @@
-//! A date and a time of day at an offset from UTC.
+//! Date-times at an offset from UTC.
 ghost use Rattle.std.specs.Prelude.{◌≡◌, ◌↔◌, pos, ◌+ℤ◌, ◌-ℤ◌, ◌*ℤ◌, Some, IfSome, SomeIff};
 ghost use Rattle.cal_time.specs.SignedDuration.{second};
 ghost use Rattle.cal_time.specs.Date.{IsDate};
@@ -18,10 +18,11 @@ mod parts;
 mod replacement;
 mod unix;
 
-/// What a clock shows at an offset from UTC, exact to the nanosecond, from -999999-01-01 0:00:00.0 to
-/// 999999-12-31 23:59:59.999999999 of its own.
+/// A date and a time of day at an offset from UTC. The local date-time ranges from -999999-01-01
+/// 0:00:00.0 to 999999-12-31 23:59:59.999999999 and is exact to the nanosecond.
 ///
-/// Contracts see two numbers, the local date-time and the offset. The instant is the one less the other.
+/// Contracts see two numbers, the local date-time and the offset. The instant is the local
+/// date-time minus the offset.
 #[derive(Clone, Copy)]
 pub struct OffsetDateTime {
     date: Date,
@@ -49,7 +50,7 @@ impl Model for OffsetDateTime {
 }
 
 impl PlainDateTime {
-    /// The same clock at UTC.
+    /// Creates the date-time at UTC with this date and time.
     #[tactic(auto, unfolding(crate::specs::OffsetDateTime::instant))]
     pub fn assume_utc(self) -> OffsetDateTime
         ensures value { result ≡ record { local = self; offset = pos 0 } }
@@ -58,7 +59,7 @@ impl PlainDateTime {
         self.assume_offset(UtcOffset::UTC)
     }
 
-    /// The same clock at that offset.
+    /// Creates the date-time at `offset` with this local date and time.
     #[tactic(auto, unfolding(crate::specs::OffsetDateTime::instant))]
     pub fn assume_offset(self, offset: UtcOffset) -> OffsetDateTime
         ensures value { result ≡ record { local = self; offset = offset } }
@@ -74,7 +75,8 @@ impl PlainDateTime {
 }
 
 impl OffsetDateTime {
-    /// The date-time that a clock at that offset shows as that date and that time.
+    /// Creates a date-time from a local date, a local time of day and an offset. 8:00 at the offset
+    /// +1:00 is the instant 7:00 UTC.
     #[tactic(auto, using(crate::proofs::DateTimes::parts), unfolding(crate::specs::OffsetDateTime::instant))]
     pub fn new_in_offset(date: Date, time: Time, offset: UtcOffset) -> Self
         ensures value { result ≡ record { local = date_time date time; offset = offset } }
@@ -89,7 +91,7 @@ impl OffsetDateTime {
         Self { date, offset, time }
     }
 
-    /// The date-time of that date and that time at UTC.
+    /// Creates a date-time from a date and a time of day at UTC.
     pub fn new_utc(date: Date, time: Time) -> Self
         ensures value { result ≡ record { local = date_time date time; offset = pos 0 } }
         ensures date { date_at result.local ≡ date }
@@ -100,7 +102,7 @@ impl OffsetDateTime {
         Self::new_in_offset(date, time, UtcOffset::UTC)
     }
 
-    /// What the local clock shows.
+    /// Returns the local date-time. For 2024-02-29 8:00 +01:00:00 it is 2024-02-29 8:00.
     #[tactic(auto, using(crate::proofs::DateTimes::parts))]
     pub fn local(self) -> PlainDateTime
         ensures value { result ≡ self.local }
@@ -109,7 +111,7 @@ impl OffsetDateTime {
         PlainDateTime::new(self.date, self.time)
     }
 
-    /// The date that the local clock shows.
+    /// Returns the local date. For 2024-02-29 8:00 +01:00:00 it is 2024-02-29.
     #[tactic(auto, using(crate::proofs::DateTimes::parts))]
     pub fn date(self) -> Date
         ensures value { result ≡ date_at self.local }
@@ -119,7 +121,7 @@ impl OffsetDateTime {
         self.date
     }
 
-    /// The time of day that the local clock shows.
+    /// Returns the local time of day. For 2024-02-29 8:00 +01:00:00 it is 8:00.
     #[tactic(auto, using(crate::proofs::DateTimes::parts))]
     pub fn time(self) -> Time
         ensures value { result ≡ time_at self.local }
@@ -130,7 +132,7 @@ impl OffsetDateTime {
         self.time
     }
 
-    /// How far the local clock is ahead of UTC.
+    /// Returns the offset from UTC, positive if the local clock is ahead of UTC.
     pub fn offset(self) -> UtcOffset
         ensures value { result ≡ self.offset }
         ensures range { IsOffset result }
@@ -138,7 +140,8 @@ impl OffsetDateTime {
         self.offset
     }
 
-    /// The same instant, as a clock at that offset shows it, or `None` where that is out of the range.
+    /// Converts to another offset, at the same instant. Returns `None` if the local date-time is
+    /// out of range there. 2024-02-29 8:00 +01:00:00 converts to 2024-02-29 9:00 +02:00:00.
     #[tactic(auto, unfolding(crate::specs::OffsetDateTime::instant))]
     pub fn checked_to_offset(self, offset: UtcOffset) -> Option<Self>
         ensures value { let local = local_at (instant self) offset
@@ -155,7 +158,8 @@ impl OffsetDateTime {
         }
     }
 
-    /// The same instant at UTC, or `None` where that is out of the range.
+    /// Converts to UTC, at the same instant. Returns `None` if the date-time at UTC is out of
+    /// range.
     pub fn checked_to_utc(self) -> Option<Self>
         ensures value { SomeIff result (IsDateTime (instant self))
             (record { local = instant self; offset = pos 0 }) }
@@ -164,7 +168,7 @@ impl OffsetDateTime {
         self.checked_to_offset(UtcOffset::UTC)
     }
 
-    /// The same instant, as a clock at that offset shows it, for a caller who knows that it is in the range.
+    /// Converts to another offset, at the same instant. The local date-time there must be in range.
     #[tactic(auto, unfolding(crate::specs::OffsetDateTime::instant))]
     pub fn to_offset(self, offset: UtcOffset) -> Self
         requires { IsDateTime (local_at (instant self) offset) }
@@ -175,7 +179,7 @@ impl OffsetDateTime {
         self.checked_to_offset(offset).unwrap()
     }
 
-    /// The same instant at UTC, for a caller who knows that it is in the range.
+    /// Converts to UTC, at the same instant. The date-time at UTC must be in range.
     pub fn to_utc(self) -> Self
         requires { IsDateTime (instant self) }
         ensures value { result ≡ record { local = instant self; offset = pos 0 } }
@@ -185,7 +189,7 @@ impl OffsetDateTime {
     }
 }
 
-/// How much more a clock at the one offset shows than a clock at the other.
+/// Returns the difference of two offsets, `offset` minus `other`.
 fn ahead(offset: UtcOffset, other: UtcOffset) -> SignedDuration
     ensures { result ≡ offset *ℤ pos second -ℤ other *ℤ pos second }
 {

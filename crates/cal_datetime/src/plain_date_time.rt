@@ -1,4 +1,4 @@
-//! A date and a time of day.
+//! Date-times without an offset.
 ghost use Rattle.std.specs.Prelude.{◌≡◌};
 ghost use Rattle.cal_time.specs.Date.{IsDate};
 ghost use Rattle.cal_time.specs.Time.{IsTime};
@@ -13,7 +13,8 @@ mod order;
 mod parts;
 mod replacement;
 
-/// A date and a time of day, exact to the nanosecond, from -999999-01-01 0:00:00.0 to 999999-12-31 23:59:59.999999999.
+/// A date and a time of day, in nanoseconds, from -999999-01-01 0:00:00.0 to 999999-12-31
+/// 23:59:59.999999999. ISO 8601 calls it a local date and time of day.
 #[derive(Clone, Copy)]
 pub struct PlainDateTime {
     date: Date,
@@ -40,19 +41,19 @@ impl Model for PlainDateTime {
 }
 
 impl PlainDateTime {
-    /// The first one, -999999-01-01 0:00:00.0.
+    /// The first date-time, -999999-01-01 0:00:00.0.
     pub const MIN: Self = Self {
         date: Date::MIN,
         time: Time::MIDNIGHT,
     };
 
-    /// The last one, 999999-12-31 23:59:59.999999999.
+    /// The last date-time, 999999-12-31 23:59:59.999999999.
     pub const MAX: Self = Self {
         date: Date::MAX,
         time: Time::MAX,
     };
 
-    /// The date-time of that date and that time of day.
+    /// Creates a date-time from a date and a time of day.
     #[tactic(auto, using(crate::proofs::DateTimes::parts))]
     pub fn new(date: Date, time: Time) -> Self
         ensures value { result ≡ date_time date time }
@@ -60,13 +61,13 @@ impl PlainDateTime {
         ensures time { time_at result ≡ time }
         ensures in_range { IsDateTime result }
     {
-        // That both are in their ranges is known from calls alone. These cost nothing.
+        // These calls state that both values are in their ranges. They cost nothing.
         let _ = date.year();
         let _ = time.hour();
         Self { date, time }
     }
 
-    /// The date: that of 2024-02-29 23:59:59.25 is 2024-02-29.
+    /// Returns the date. For 2024-02-29 23:59:59.25 it is 2024-02-29.
     #[tactic(auto, using(crate::proofs::DateTimes::parts))]
     pub fn date(self) -> Date
         ensures value { result ≡ date_at self }
@@ -76,7 +77,7 @@ impl PlainDateTime {
         self.date
     }
 
-    /// The time of day: that of 2024-02-29 23:59:59.25 is 23:59:59.25.
+    /// Returns the time of day. For 2024-02-29 23:59:59.25 it is 23:59:59.25.
     #[tactic(auto, using(crate::proofs::DateTimes::parts))]
     pub fn time(self) -> Time
         ensures value { result ≡ time_at self }

@@ -12,7 +12,7 @@ use Rattle.cal_time.specs.Parts.{day_of_month_at-rises}
 use Rattle.cal_schedule.specs.Months.{month_number_at}
 use Rattle.cal_schedule.proofs.MonthMoves.{month_numbers-rise, same_month, days_apart, number_from}
 
--- a month has 28 days at least
+-- A month has 28 days or more.
 pub days_in_month-least : (y : ℤ) (m : ℕ) → 28 ≤ days_in_month y m
 unfolding days_in_month
 days_in_month-least y m = grind (arith, nat_tests)
@@ -24,7 +24,8 @@ pub december : (y : ℤ) → days_in_month y 12 ≡ 31
 unfolding days_in_month
 december y = grind (arith, nat_tests)
 
--- the first of a month comes after no day of that month or of a later one, and its last before no day of it or of an earlier one
+-- The first day of a month is not after any day of this month or a later one. Its last day is not
+-- before any day of this month or an earlier one.
 pub first-least : (r n : ℕ) (y : ℤ) (m : ℕ) → HasCalendarDate y m 1 r → (y *ℤ pos 12 +ℤ pos m -ℤ pos 1) ≤ℤ month_number_at n → r ≤ n
 first-least r n y m e h =
     let month = number_from r y m 1 e in
@@ -56,7 +57,7 @@ pub last-apart : (r n : ℕ) → IsDate r → HasCalendarDate (year_at n) (month
     → r + day_of_month_at n ≡ n + days_in_month (year_at n) (month_at n)
 last-apart r n h e = omega (arith, days_apart r n h (number_from r _ _ _ e), ap (λ c. c.day) e)
 
--- days as far apart as their weekdays are of one week
+-- Two days are in the same week if their difference is the difference of their weekdays.
 pub same_week : (r n w : ℕ) → weekday_at r ≡ w → r + weekday_at n ≡ n + w → HasIsoWeekDate (iso_year_at n) (iso_week_at n) w r
 unfolding iso_year_at iso_week_at
 same_week r n w e h =

@@ -12,7 +12,7 @@ use Rattle.cal_time.specs.Lengths.{is_leap_year, days_in_year, days_in_month}
 use Rattle.cal_time.specs.Parts.{ordinals-apart, ordinals-apart_a_year}
 use Rattle.cal_schedule.specs.Money.{in_leap_year, in_other_year}
 
--- one step of the count stays in the year, or leads to 1 January of the next
+-- The next day is in the same year, or is 1 January of the next one.
 in_month : (d : CalendarDay) → d.day < days_in_month d.year d.month → day_after d ≡ calendar_day d.year d.month (d.day + 1)
 unfolding day_after
 in_month d h = grind (arith, nat_tests)
@@ -65,7 +65,7 @@ count_before-suc : (test : ℕ → Bool) (n : ℕ) → count_before test (suc n)
 unfolding count_before
 count_before-suc test n = refl
 
--- of a year and an ordinal in it, where so many days of leap years came before
+-- The closed form for an ordinal of a year, with c days of leap years before it.
 abbrev Closed : ℕ → ℤ → ℕ → Type 0
 Closed c y o =
     let k = unsigned_abs (y +ℤ pos 999999) in

@@ -36,7 +36,7 @@ one_day m n same e =
       ]
     ]
 
--- a day comes so many days after the first of its month
+-- The first of a month comes before a day by the day of the month less 1.
 pub first_before : (f n : ℕ) → HasCalendarDate (year_at n) (month_at n) 1 f → f + day_of_month_at n ≡ n + 1
 first_before f n e =
     let d = day_of_month_at-range n in
@@ -46,7 +46,7 @@ first_before f n e =
     let one = one_day (f + (day_of_month_at n - 1)) n (record { year = ap (λ c. c.year) at; month = ap (λ c. c.month) at }) (ap (λ c. c.day) at) in
     omega (arith, d.0)
 
--- days of one month lie as far apart as their days of the month
+-- Two days of a month differ by the difference of their days of the month.
 pub days_apart : (m n : ℕ) → IsDate m → month_number_at m ≡ month_number_at n → m + day_of_month_at n ≡ n + day_of_month_at m
 days_apart m n h e =
     let same = same_month m n e in
@@ -85,7 +85,7 @@ IsMonthNumber-date n h =
     let month = month_at-range n in
     record { not_before = omega (arith, ints, year.0, month.0); not_after = omega (arith, ints, year.1, month.1) }
 
--- twelve months to the year: the month stays, and the year is in the range where the month is
+-- Twelve months are a year: the month stays, and the year is in range if the month is.
 pub years-kept : (n r : ℕ) (years : ℤ) → IsMonthsLater n (pos 12 *ℤ years) r → (year_at r ≡ year_at n +ℤ years) × (month_at r ≡ month_at n)
 years-kept n r years h =
     let a = month_at-range n in

@@ -1,4 +1,4 @@
--- Where a contract leaves one answer.
+-- Contracts that allow only one result.
 use Rattle.std.proofs.Common.{◌≡◌, ℕ, ◌<◌, ◌≤◌, inl, inr, refl, sym, ap, ◌∙◌, subst, arith, ℤ, pos, ◌+ℤ◌, ◌*ℤ◌, ◌≤ℤ◌, ◌<ℤ◌, Option, Some, None, Result, Ok, Err}
 use Rattle.std.specs.Prelude.{IfSome, IfOk, IfErr}
 use Rattle.std.proofs.lemmas.Bool.{cases_lt}
@@ -10,14 +10,14 @@ use Rattle.cal_schedule.specs.Until.{LeadsTo, IsGreatest, IsLeast, months_of}
 use Rattle.cal_schedule.specs.declared.period.Period.{Period}
 use Rattle.cal_schedule.proofs.MonthMoves.{one_later}
 
--- the day that has what was asked for, or none where there is none
+-- The day with a property, or none if no day has it.
 pub moved-one : (Has : ℕ → Type 0) (r s : Option ℕ) → ((n : ℕ) → IsDate n → Has n → r ≡ Some n) → IfSome r (λ n. IsDate n × Has n)
     → ((n : ℕ) → IsDate n → Has n → s ≡ Some n) → IfSome s (λ n. IsDate n × Has n) → r ≡ s
 moved-one Has r (Some n) every has more having = every n having.0 having.1
 moved-one Has None None every has more having = refl
 moved-one Has (Some m) None every has more having = sym (more m has.0 has.1)
 
--- the same, or one refusal
+-- The same, or the only error.
 pub refused-one : (Has : ℕ → Type 0) (a : ComponentRange) (r s : Result ℕ ComponentRange) → ((n : ℕ) → IsDate n → Has n → r ≡ Ok n) → IfOk r (λ n. IsDate n × Has n) → IfErr r (λ e. e ≡ a)
     → ((n : ℕ) → IsDate n → Has n → s ≡ Ok n) → IfOk s (λ n. IsDate n × Has n) → IfErr s (λ e. e ≡ a) → r ≡ s
 refused-one Has a r (Ok n) every has why more having reason = every n having.0 having.1
@@ -36,7 +36,7 @@ held-one n r s m within before past inside below above =
     (λ most. let is : IsMonthNumber (month_number_at n +ℤ m) = record { not_before = least; not_after = most } in one_later n r s m (within is) (inside is))
     (λ more. past more ∙ sym (above more)))
 
--- the greatest and the least number
+-- The maximum and the minimum.
 greatest-one : (Holds : ℤ → Type 0) (y z : ℤ) → IsGreatest Holds y → IsGreatest Holds z → y ≡ z
 greatest-one Holds y z h k = omega (arith, ints, h.greatest z k.holds, k.greatest y h.holds)
 

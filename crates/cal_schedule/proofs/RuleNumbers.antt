@@ -1,4 +1,4 @@
--- The number of a weekday in a rule is that of a count of days.
+-- The number of a weekday in a rule agrees with a count of days.
 use Rattle.std.proofs.Common.{◌≡◌, ℕ, zero, suc, ◌+◌, ◌-◌, ◌/◌, ◌≤◌, ◌==◌, ◌↔◌, refl, sym, ap, ◌∙◌, arith, ℤ, pos, negsuc, ◌+ℤ◌, inl, inr, Bool, true, false}
 use Rattle.std.proofs.lemmas.Bool.{cases_lt, eq-eqb, eqb-true}
 use Rattle.cal_time.specs.Date.{year_at, month_at, day_of_month_at, ordinal_at, weekday_at, IsDate, HasCalendarDate}
@@ -101,7 +101,7 @@ back_in_year : (n k : ℕ) → is_nth_of true n (negsuc k) ≡ ((days_in_year (y
 unfolding is_nth_of
 back_in_year n k = refl
 
--- is what is counted
+-- The number equals the count.
 same_number : (b : Bool) (a i count k : ℕ) → b ≡ (a == i) → count ≡ a → i ≡ k → (b ≡ true) ↔ (count ≡ k)
 same_number b a i count k e f g = (
   λ on. f ∙ eqb-true a i (sym e ∙ on) ∙ g,

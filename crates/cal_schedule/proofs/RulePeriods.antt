@@ -20,7 +20,7 @@ use Rattle.cal_schedule.specs.Months.{month_number_at}
 use Rattle.cal_schedule.specs.Rule.{allows, is_as_start, is_by, is_empty, is_in_months, is_month_day, is_nth_of, is_on, is_on_days, is_weekday, is_yearly, step, turn_at, turns_past}
 use Rattle.cal_schedule.proofs.MonthMoves.{month_numbers-rise}
 
--- two days that a rule tells apart by nothing but their number and their year
+-- Two days that differ only in number and year, as far as a rule can see.
 pub record IsAlike (m n : ℕ) : Type 0 where
   pub month : month_at m ≡ month_at n
   pub day : day_of_month_at m ≡ day_of_month_at n
@@ -215,7 +215,8 @@ is_on-IsOn : (rule : Rule) (n : ℕ) → IsOn rule n → is_on rule n ≡ true
 unfolding is_on
 is_on-IsOn rule n h = and_from _ _ (le-leb rule.start n h.start) (and_from _ _ h.by (and_from _ _ (eq-eqb _ _ h.turn) (and_from _ _ h.months h.days)))
 
--- a day of the rule has one so many periods before it, if that comes after the start
+-- A day this many periods before a day of the rule is a day of the rule, if it isn't before the
+-- start.
 pub is_on-period : (rule : Rule) (n : ℕ) → rule.start ≤ n → is_on rule (n + 146097 * step rule) ≡ true → is_on rule n ≡ true
 is_on-period rule n h on =
     let is = IsOn-is_on rule (n + 146097 * step rule) on in

@@ -1,4 +1,4 @@
--- The index of a rule's period rises by one where a period begins.
+-- The index of a rule's period rises by 1 when a period begins.
 use Rattle.std.proofs.Common.{◌≡◌, ℕ, ◌+◌, ◌<◌, sym, ap, ◌∙◌, subst, arith, pos, ◌+ℤ◌, ◌⊎◌, inl, inr}
 use Rattle.std.proofs.lemmas.Bool.{cases_lt}
 use Rattle.std.proofs.lemmas.Int.{ints}
@@ -16,7 +16,8 @@ use Rattle.cal_schedule.specs.RuleLaws.{Begins, RisesAtBeginning}
 use Rattle.cal_schedule.proofs.MonthMoves.{first_before}
 use Rattle.cal_schedule.proofs.RulePeriods.{days-is, weeks-is, pos-months, pos-years}
 
--- the day after a day is the next one of its month, the first of the next month, or 1 January of the next year
+-- The day after a day is the next one of its month, the first of the next month, or 1 January of
+-- the next year.
 abbrev IsNextDay : ℕ → Type 0
 IsNextDay n =
     HasCalendarDate (year_at n) (month_at n) (day_of_month_at n + 1) (n + 1)

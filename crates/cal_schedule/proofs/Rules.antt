@@ -1,4 +1,4 @@
--- The next day of a rule: what is skipped, and where the search ends.
+-- The next day of a rule: the days that are skipped, and the end of the search.
 use Rattle.std.proofs.Common.{◌≡◌, ◌≢◌, refl, ℕ, zero, suc, ◌+◌, ◌-◌, ◌*◌, ◌/◌, ◌%◌, ◌<◌, ◌≤◌, min, sym, ap, ◌∙◌, arith, pos, ◌+ℤ◌, Option, Some, None, true, false, inl, inr, [], ◌∷◌, filter, slice_get, length, take}
 use Rattle.std.specs.Prelude.{MatchOption, SomeIff, IfSome, Bool, List, ◌==◌, ◌&&◌, if◌then◌else◌}
 use Rattle.std.specs.List.{list_any}
@@ -57,7 +57,7 @@ first_of_year w t (Some x) h = (
   λ k less. omega (arith, ints, pos-months w k, pos-years w k, (month_at-range k).0, h.2 k less),
 )
 
--- past a multiple there is none before the next
+-- No multiple lies between a number past a multiple and the next multiple.
 none_within : (a b i : ℕ) → 0 < a % i → a ≤ b → b < a + (i - a % i) → b % i ≡ 0 → ⊥
 none_within a b i some h g e =
     let first : i * (a / i) + a % i ≡ a = omega (arith, div-add-mod' a i) in
@@ -167,7 +167,8 @@ none-joined rule l m n a b = λ k low high. elim (cases_lt k m) as (λ _. is_on 
   | inr most ↦ b k most high
 ]
 
--- so many periods with no day of the rule are all that there are: a later one has one so much earlier
+-- If this many periods have no day of the rule, no later day is one: a later day would have one
+-- this many periods earlier.
 none_ever : (rule : Rule) (m n : ℕ) → 1 ≤ step rule → rule.start ≤ m → m + 146097 * step rule ≤ n → NoDayBetween rule m n
     → (fuel k : ℕ) → k < fuel → m ≤ k → is_on rule k ≡ false
 none_ever rule m n some start past none zero k less low = absurd (omega arith)
@@ -244,7 +245,8 @@ left_from_start rule (Some x) h =
       none_before = none-joined rule 0 rule.start x (before_start rule 0) h.3;
     }) ∙ ap (λ c. x ∷ filter (is_on rule) (days_from (x + 1) c)) count)
 
--- as the range has fewer days than a walk may give, so many of them are all
+-- The range has fewer days than an iterator may return, so the first `u32.MAX` days are all of
+-- them.
 length-days_from : (n count : ℕ) → length (days_from n count) ≡ count
 unfolding days_from
 length-days_from n zero = refl

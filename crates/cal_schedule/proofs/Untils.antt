@@ -22,7 +22,7 @@ earlier m n h =
 pub no_months : (a : ℕ) → IsMonthsLater a (pos 0) a
 no_months a = record { month = omega (arith, ints); day = omega (arith, (day_of_month_at-range a).1) }
 
--- the months from one day to another, where they do not lead past it, and where they do
+-- The months from one day to another, if they don't pass it, and if they do.
 pub greatest_same : (a b r : ℕ) (m : ℤ) → IsDate r → IsMonthsLater a m r → month_number_at b ≡ month_number_at a +ℤ m → r ≤ b → IsGreatest (LeadsUpTo a b) m
 greatest_same a b r m h x e in_time = record {
   holds = record { day = r; date = h; later = x; in_time = in_time };
@@ -65,7 +65,7 @@ least_more a b r s m more is h g x y e past =
           absurd (omega (arith, at.in_time))));
     }
 
--- then the months before them are those of a month of the range
+-- One month less is a month of the range.
 pub nearer_on : (a b r : ℕ) (m less : ℤ) → less ≡ m -ℤ pos 1 → IsDate a → IsDate b → IsDate r → IsMonthsLater a m r → month_number_at b ≡ month_number_at a +ℤ m → a ≤ b → b < r
     → IsMonthNumber (month_number_at a +ℤ less)
 nearer_on a b r m less is ha hb hr x e h past =
@@ -88,7 +88,7 @@ nearer_back a b r m more is ha hb hr x e h past =
     let one : r ≡ a = one_later a r a (pos 0) (subst (λ z. IsMonthsLater a z r) zero x) (no_months a) in
     absurd (omega arith))
 
--- each month of the range has a day so many months after a day
+-- Each month of the range has a day m months after a day.
 pub record HasLater (a : ℕ) (m : ℤ) : Type 0 where
   pub day : ℕ
   pub date : IsDate day
@@ -112,7 +112,7 @@ has_later a m h =
       };
     }
 
--- more months lead no less far
+-- More months give a day that isn't earlier.
 later-rises : (a r s : ℕ) (k m : ℤ) → k ≤ℤ m → IsMonthsLater a k r → IsMonthsLater a m s → r ≤ s
 later-rises a r s k m h x y =
     by_lt_z k m (λ less. let before : r < s = earlier r s (omega (arith, ints, x.month, y.month)) in omega arith) (λ most.
@@ -120,7 +120,7 @@ later-rises a r s k m h x y =
     let one : r ≡ s = one_later a r s m (subst (λ z. IsMonthsLater a z r) same x) y in
     omega arith)
 
--- the months on are not below zero, and those back not above it
+-- The months forward are not negative, and the months backward are not positive.
 pub months-on : (a b : ℕ) (m : ℤ) → IsDate a → a ≤ b → IsGreatest (LeadsUpTo a b) m → pos 0 ≤ℤ m
 months-on a b m d h most = most.greatest (pos 0) (record { day = a; date = d; later = no_months a; in_time = h })
 
@@ -154,7 +154,7 @@ years-back a b m y r d h e none least most =
       least = λ k at. omega (arith, ints, h.least (pos 12 *ℤ k) at);
     }
 
--- the months until a day, both ways: their month is in the range, and the day that they lead to
+-- The months until a day, in both directions: their month is in range, and they don't pass the day.
 pub until-month : (a b : ℕ) (m : ℤ) → (a ≤ b → IsGreatest (LeadsUpTo a b) m) → (b < a → IsLeast (LeadsBackTo a b) m) → IsMonthNumber (month_number_at a +ℤ m)
 until-month a b m on back =
     elim (cases_lt b a) as (λ _. IsMonthNumber (month_number_at a +ℤ m)) [
@@ -184,14 +184,14 @@ order-kept a b r s m ha hr h x y =
       | inr most ↦ most
     ]
 
--- and up to the 28th the way back leads to the same day
+-- Up to the 28th, the way back gives the same day.
 pub back-again : (a r b : ℕ) (m less : ℤ) → less ≡ pos 0 -ℤ m → day_of_month_at a ≤ 28 → IsMonthsLater a m r → IsMonthsLater r less b → b ≡ a
 back-again a r b m less e early x y =
     let there = days_in_month-least (year_at r) (month_at r) in
     let zero : IsMonthsLater a (pos 0) b = record { month = omega (arith, ints, e, x.month, y.month); day = omega (arith, there, x.day, y.day) } in
     one_later a b a (pos 0) zero (no_months a)
 
--- what the months until a day lead to, and one month more
+-- The months until a day don't pass it, and one month more does.
 pub leads-up : (a b : ℕ) (m : ℤ) (r : Option ℕ) → a ≤ b → IsGreatest (LeadsUpTo a b) m → IfSome r (λ n. IsDate n × IsMonthsLater a m n)
     → IfNone r (¬ IsMonthNumber (month_number_at a +ℤ m)) → IsSomeAnd r (λ n. n ≤ b)
 leads-up a b m None h most has none = none (subst IsMonthNumber most.holds.later.month (IsMonthNumber-date most.holds.day most.holds.date))

@@ -83,7 +83,8 @@ count_onward test w f l o n span at below weekday date end =
     let whole : n + (last_day + 1 - n) ≡ last_day + 1 = omega arith in
     omega (arith, length-from test n (last_day + 1 - n), ap (count_before test) whole)
 
--- the days from the first of one month of a year to the last of another are those of these months
+-- The days from the first of one month to the last of another, in the same year, are the days of
+-- these months.
 pub record IsInMonths (y : ℤ) (a b k : ℕ) : Type 0 where
   pub year : year_at k ≡ y
   pub least : a ≤ month_at k

@@ -1,4 +1,4 @@
--- The days of a month that have a weekday, by their indexes in the month, and the days next to a day that have one.
+-- The days of a month with a weekday, by their indexes in the month, and the nearest days with one.
 use Rattle.std.proofs.Common.{◌≡◌, ℕ, suc, ◌+◌, ◌-◌, ◌*◌, ◌/◌, ◌%◌, ◌<◌, ◌≤◌, refl, sym, ap, ◌∙◌, subst, arith, ℤ, inl, inr, true, false, if◌then◌else◌, nat_le, filter, slice_get, Option, Some, None}
 use Rattle.std.specs.Prelude.{SomeIff}
 use Rattle.std.proofs.lemmas.Bool.{cases_lt}
@@ -134,7 +134,7 @@ upto-previous w n other =
     let next : n + 1 ≡ suc n = omega arith in
     sym (ap (λ c. filter (is_on w) (days_before_back c)) next ∙ back-off w n off)
 
--- and where it is
+-- And if it is in range.
 iff : (a b x y : ℕ) (r : Option ℕ) → r ≡ (if nat_le a b then Some x else None) → x ≡ y → SomeIff r (a ≤ b) y
 iff a b x y r e same =
     elim (cases_lt b a) as (λ _. SomeIff r (a ≤ b) y) [

@@ -1,4 +1,4 @@
--- What the searches come to.
+-- The results of the searches.
 use Rattle.std.proofs.Common.{◌≡◌, ℕ, zero, suc, ◌+◌, ◌-◌, ◌<◌, ◌≤◌, sym, ap, ◌∙◌, arith, length, get_or, slice_get, Option, Some, None, true, inl, inr}
 use Rattle.std.specs.Prelude.{SomeIff, IfSome}
 use Rattle.std.proofs.lemmas.Bool.{cases_lt, cases_Bool}
@@ -11,7 +11,7 @@ use Rattle.cal_schedule.specs.WorkdaysSplit.{IsSplit, marked_count, IsNthFrom, I
 use Rattle.cal_schedule.specs.Ranks.{count-none, count-yes, count-no, count-rises, count-less, greater-rank, below-rank, nth-from, none-nth_from, nth-back, none-nth_back}
 use Rattle.cal_schedule.proofs.WorkdaysWeeks.{Rises, ranks, free, before-last, workday-unmarked, none-marked}
 
--- the search on: the holidays passed, and those left
+-- The search forward: the holidays passed, and the holidays left.
 pub left-from : (w : WorkWeek) → Rises w.holidays → (i before : ℕ) → before < count_before (is_marked w) (get_or w.holidays i 0)
     → (j : ℕ) → i ≤ j → j < length w.holidays → before < count_before (is_marked w) (get_or w.holidays j 0)
 left-from w r i before h j low high =

@@ -16,7 +16,7 @@ use Rattle.cal_schedule.specs.Workdays.{WorkWeek, is_marked, is_holiday, is_work
 use Rattle.cal_schedule.specs.WorkdaysSplit.{IsSplit, marked_count}
 use Rattle.cal_schedule.specs.Ranks.{count-none, count-yes, count-no, count-rises, count-weeks}
 
--- the mark of a day is that of its index in the week
+-- A day has the mark of its index in the week.
 pub marked-is : (w : WorkWeek) (n : ℕ) → is_marked w n ≡ get_or w.marks (n % 7) false
 unfolding is_marked
 marked-is w n = ap (λ day. get_or w.marks day false) (weekday_at-is n)
@@ -31,7 +31,7 @@ marked-weeks_on w q r =
     let same : (q * 7 + r) % 7 ≡ r % 7 = omega arith in
     marked-is w (q * 7 + r) ∙ ap (λ day. get_or w.marks day false) same ∙ sym (marked-is w r)
 
--- so the marked days before a day are those of the whole weeks, and those of the rest
+-- The marked days before a day are the marked days of the whole weeks and of the rest.
 pub marked-weeks : (w : WorkWeek) (n : ℕ) → count_before (is_marked w) n ≡ n / 7 * count_before (is_marked w) 7 + count_before (is_marked w) (n % 7)
 marked-weeks w n =
     let e : n ≡ n / 7 * 7 + n % 7 = omega arith in
@@ -82,7 +82,7 @@ pub index-most : (days : List ℕ) → Rises days → (i : ℕ) → i < length d
 index-most days r zero h = omega arith
 index-most days r (suc i) h = omega (arith, index-most days r i (omega arith), r i (suc i) (omega arith) h)
 
--- a day is a holiday where one of the list has its number
+-- A day is a holiday if one of the list has its number.
 pub holiday-at : (w : WorkWeek) (n i : ℕ) → i < length w.holidays → get_or w.holidays i 0 ≡ n → is_holiday w n ≡ true
 unfolding is_holiday
 holiday-at w n i h e = list_any_at (λ day. day == n) w.holidays i 0 h (eq-eqb _ _ e)
@@ -126,7 +126,7 @@ more-held w n i h at e =
       | inr miss ↦ omega (arith, off, count-no (is_marked w) n miss, count_by_more_no (is_marked w) w.holidays i 0 h (ap (is_marked w) at ∙ miss))
     ]
 
--- the holidays before a day, where the day before it is none of them, and where it is the last of them
+-- The holidays before a day, if the day before it is not a holiday, and if it is the last of them.
 split-free : (w : WorkWeek) (i n : ℕ) → IsSplit w.holidays i (suc n) → ((j : ℕ) → j < i → get_or w.holidays j 0 < n) → IsSplit w.holidays i n
 split-free w i n s h = record { most = s.most; before = h; after = λ j low high. omega (arith, s.after j low high) }
 
@@ -154,7 +154,7 @@ before-last w r i n low h j less =
       | inr most ↦ let same : j ≡ i = omega arith in omega (arith, ap (λ k. get_or w.holidays k 0) same)
     ]
 
--- Of the marked days before a day, those that are no working days are the marked holidays before it.
+-- The marked days before a day that are not working days are the marked holidays before it.
 pub ranks : (w : WorkWeek) → Rises w.holidays → (i n : ℕ) → IsSplit w.holidays i n → count_before (is_workday w) n + marked_count w i ≡ count_before (is_marked w) n
 ranks w r zero zero s = omega (arith, count-none (is_workday w), count-none (is_marked w))
 ranks w r (suc i) zero s = absurd (omega (arith, s.before 0 (omega arith)))

@@ -1,4 +1,5 @@
--- Laws for callers: the days that pass a test, by how many of them come before, which is their rank in the lists of them.
+-- Laws for callers: the rank of a day is the number of days before it that pass a test. It gives
+-- the index of the day in a list of such days.
 use Rattle.std.proofs.Common.{◌≡◌, ℕ, zero, suc, ◌+◌, ◌*◌, ◌<◌, ◌≤◌, refl, sym, ap, ◌∙◌, arith, ◌∷◌, filter, length, slice_get, Some, None, Bool, true, false, inl, inr, add-one}
 use Rattle.std.proofs.Math.Nat.{suc-mul, zero-mul}
 use Rattle.std.proofs.lemmas.Bool.{cases_lt, cases_Bool, false≢true}
@@ -7,24 +8,27 @@ use Rattle.std.specs.Int.{from_bool}
 use Rattle.cal_time.specs.IsoWeekDate.{count_before}
 use Rattle.cal_time.specs.Occurrence.{days_from, days_before_back}
 
--- one day more
+-- No day comes before day 0.
 pub count-none : (test : ℕ → Bool) → count_before test 0 ≡ 0
 unfolding count_before
 count-none test = refl
 
+-- The count rises by 1 after a day that passes.
 pub count-yes : (test : ℕ → Bool) (n : ℕ) → test n ≡ true → count_before test (suc n) ≡ count_before test n + 1
 unfolding count_before
 count-yes test n h = rw h refl
 
+-- The count stays after a day that doesn't pass.
 pub count-no : (test : ℕ → Bool) (n : ℕ) → test n ≡ false → count_before test (suc n) ≡ count_before test n
 unfolding count_before
 count-no test n h = rw h (omega arith)
 
--- by the number of a `bool`
+-- The count rises by the number of a `bool` that says if the day passes.
 pub count-next : (test : ℕ → Bool) (n : ℕ) (b : Bool) (k : ℕ) → b ≡ test n → k ≡ from_bool b → count_before test (n + 1) ≡ count_before test n + k
 count-next test n true k e f = let one : k ≡ 1 = f in omega (arith, ap (count_before test) (add-one n), count-yes test n (sym e))
 count-next test n false k e f = let none : k ≡ 0 = f in omega (arith, ap (count_before test) (add-one n), count-no test n (sym e))
 
+-- The number of a `bool` is at most 1.
 pub bit-most : (b : Bool) (k : ℕ) → k ≡ from_bool b → k ≤ 1
 bit-most true k f = let one : k ≡ 1 = f in omega arith
 bit-most false k f = let none : k ≡ 0 = f in omega arith
@@ -36,7 +40,7 @@ count-grows test n =
       | inr miss ↦ omega (arith, count-no test n miss)
     ]
 
--- the numbers of them rise
+-- The count never falls.
 pub count-rises : (test : ℕ → Bool) (m n : ℕ) → m ≤ n → count_before test m ≤ count_before test n
 count-rises test m zero h = let e : m ≡ 0 = omega arith in omega (arith, ap (count_before test) e)
 count-rises test m (suc n) h =
@@ -45,10 +49,11 @@ count-rises test m (suc n) h =
       | inr within ↦ omega (arith, count-rises test m n within, count-grows test n)
     ]
 
+-- The count is higher after a day that passes.
 pub count-less : (test : ℕ → Bool) (m n : ℕ) → test m ≡ true → m < n → count_before test m < count_before test n
 count-less test m n on h = omega (arith, count-yes test m on, count-rises test (suc m) n (omega arith))
 
--- and are at most as many as the days
+-- At most n days before day n pass.
 pub count-most : (test : ℕ → Bool) (n : ℕ) → count_before test n ≤ n
 count-most test zero = omega (arith, count-none test)
 count-most test (suc n) =
@@ -57,7 +62,7 @@ count-most test (suc n) =
       | inr miss ↦ omega (arith, count-no test n miss, count-most test n)
     ]
 
--- whole weeks, where the test has their period
+-- One week more, if the test repeats every 7 days.
 count-week : (test : ℕ → Bool) → ((n : ℕ) → test (n + 7) ≡ test n) → (n : ℕ) → count_before test (n + 7) ≡ count_before test n + count_before test 7
 count-week test same zero =
     let e : zero + 7 ≡ 7 = omega arith in
@@ -69,6 +74,7 @@ count-week test same (suc n) =
       | inr miss ↦ omega (arith, ap (count_before test) e, count-no test (n + 7) (same n ∙ miss), count-no test n miss, count-week test same n)
     ]
 
+-- Each whole week has the same count, if the test repeats every 7 days.
 pub count-weeks : (test : ℕ → Bool) → ((n : ℕ) → test (n + 7) ≡ test n) → (q n : ℕ) → count_before test (q * 7 + n) ≡ q * count_before test 7 + count_before test n
 count-weeks test same zero n =
     let e : zero * 7 + n ≡ n = omega arith in
@@ -77,7 +83,7 @@ count-weeks test same (suc q) n =
     let e : suc q * 7 + n ≡ (q * 7 + n) + 7 = omega arith in
     omega (arith, ap (count_before test) e, count-week test same (q * 7 + n), count-weeks test same q n, suc-mul q (count_before test 7))
 
--- one step of the lists
+-- One step of a list.
 from-yes : (test : ℕ → Bool) (n count : ℕ) → test n ≡ true → filter test (days_from n (suc count)) ≡ n ∷ filter test (days_from (n + 1) count)
 unfolding days_from
 from-yes test n count h = rw h refl
@@ -94,7 +100,7 @@ back-no : (test : ℕ → Bool) (n : ℕ) → test n ≡ false → filter test (
 unfolding days_before_back
 back-no test n h = rw h refl
 
--- how long they are
+-- The lengths of the lists.
 none-from : (test : ℕ → Bool) (n : ℕ) → length (filter test (days_from n 0)) ≡ 0
 unfolding days_from
 none-from test n = refl
@@ -123,11 +129,11 @@ length-back test (suc n) =
       | inr miss ↦ omega (arith, count-no test n miss, ap length (back-no test n miss), length-back test n)
     ]
 
--- a day that passes is not one that does not
+-- A day that passes is different from a day that doesn't.
 apart : (test : ℕ → Bool) (m n : ℕ) → test m ≡ false → test n ≡ true → m ≡ n → ⊥
 apart test m n miss on e = false≢true (sym miss ∙ ap test e ∙ on)
 
--- and stands apart from it
+-- So `≤` means `<` for two such days.
 after-no : (test : ℕ → Bool) (n x : ℕ) → test n ≡ false → test x ≡ true → n ≤ x → n < x
 after-no test n x miss on h =
     elim (cases_lt n x) as (λ _. n < x) [ inl less ↦ less | inr most ↦ absurd (apart test n x miss on (omega arith)) ]
@@ -136,16 +142,18 @@ before-no : (test : ℕ → Bool) (n x : ℕ) → test n ≡ false → test x �
 before-no test n x miss on h =
     elim (cases_lt x n) as (λ _. x < n) [ inl less ↦ less | inr most ↦ absurd (apart test n x miss on (omega arith)) ]
 
--- days of one rank are one day, and a day of a greater rank comes later
+-- Two days that pass are the same if they have the same rank.
 same-rank : (test : ℕ → Bool) (n x : ℕ) → test n ≡ true → n ≤ x → count_before test x ≡ count_before test n → n ≡ x
 same-rank test n x hit h e =
     elim (cases_lt n x) as (λ _. n ≡ x) [ inl less ↦ absurd (omega (arith, count-less test n x hit less)) | inr most ↦ omega arith ]
 
+-- A day with a higher rank comes later.
 pub greater-rank : (test : ℕ → Bool) (m n : ℕ) → count_before test m < count_before test n → m < n
 greater-rank test m n h =
     elim (cases_lt m n) as (λ _. m < n) [ inl less ↦ less | inr most ↦ absurd (omega (arith, count-rises test n m most)) ]
 
--- The day that passes with k more before it than before day n is at index k of those from day n on.
+-- A day that passes, whose rank is k more than the rank of day n, is at index k of the days from
+-- day n on.
 pub nth-from : (test : ℕ → Bool) (n count k x : ℕ) → n ≤ x → x < n + count → test x ≡ true → count_before test x ≡ count_before test n + k
     → slice_get (filter test (days_from n count)) k ≡ Some x
 nth-from test n zero k x low high on e = absurd (omega arith)
@@ -171,10 +179,12 @@ nth-from test n (suc count) (suc k) x low high on e =
           ∙ nth-from test (n + 1) count (suc k) x (omega arith) (omega arith) on (omega (arith, ap (count_before test) f, count-no test n miss))
     ]
 
+-- A list has no day at index k if it has at most k days.
 pub none-nth_from : (test : ℕ → Bool) (n count k : ℕ) → count_before test (n + count) ≤ count_before test n + k → slice_get (filter test (days_from n count)) k ≡ None
 none-nth_from test n count k h = slice_get_past (filter test (days_from n count)) k (omega (arith, length-from test n count))
 
--- The day that passes with k fewer before it, and itself, than before day n is at place k of those before day n, from the nearest.
+-- A day that passes, whose rank is k + 1 less than the rank of day n, is at index k of the days
+-- before day n, from the nearest.
 pub nth-back : (test : ℕ → Bool) (n k x : ℕ) → x < n → test x ≡ true → count_before test x + (k + 1) ≡ count_before test n
     → slice_get (filter test (days_before_back n)) k ≡ Some x
 nth-back test zero k x h on e = absurd (omega arith)
@@ -198,10 +208,12 @@ nth-back test (suc n) (suc k) x h on e =
           ∙ nth-back test n (suc k) x (before-no test n x miss on (omega arith)) on (omega (arith, count-no test n miss))
     ]
 
+-- The days before day n have none at index k if at most k of them pass.
 pub none-nth_back : (test : ℕ → Bool) (n k : ℕ) → count_before test n ≤ k → slice_get (filter test (days_before_back n)) k ≡ None
 none-nth_back test n k h = slice_get_past (filter test (days_before_back n)) k (omega (arith, length-back test n))
 
--- a day comes before one that passes, where no more days pass up to it
+-- A day that passes comes after day m if its rank is not less than the number of such days up to
+-- day m.
 pub below-rank : (test : ℕ → Bool) (m x : ℕ) → test x ≡ true → count_before test (m + 1) ≤ count_before test x → m < x
 below-rank test m x on h =
     elim (cases_lt m x) as (λ _. m < x) [ inl less ↦ less | inr most ↦ absurd (omega (arith, count-less test x (m + 1) on (omega arith))) ]

@@ -9,22 +9,23 @@ use Rattle.cal_schedule.specs.Weekdays.{IsNthWeekday, IsLastWeekday, IsNthWeekda
 use Rattle.cal_schedule.specs.declared.rule.kinds.Frequency.{Frequency}
 use Rattle.cal_schedule.specs.declared.rule.kinds.Frequency.TheVariants.{Daily, Weekly, Monthly, Yearly}
 
--- Day n begins a period: each day does, each day with the weekday that weeks begin with, each first
--- of a month, each 1 January.
+-- Day n begins a period: a day, a week on the weekday `first`, a month on its first day, or a year
+-- on 1 January.
 abbrev pub Begins : Frequency → Weekday → ℕ → Type 0
 Begins Daily first n = ⊤
 Begins Weekly first n = weekday_at n ≡ index first
 Begins Monthly first n = day_of_month_at n ≡ 1
 Begins Yearly first n = (month_at n ≡ 1) × (day_of_month_at n ≡ 1)
 
--- From day n to the next one the index of the period rises by one exactly if that day begins a
--- period, and else stays.
+-- From day n to the next day, the index of the period rises by 1 exactly if the next day begins a
+-- period, else it stays.
 pub record RisesAtBeginning (f : Frequency) (first : Weekday) (n : ℕ) : Type 0 where
   pub rises : (turn_at f first (n + 1) ≡ turn_at f first n + 1) ↔ Begins f first (n + 1)
   pub stays : (turn_at f first (n + 1) ≡ turn_at f first n) ↔ ¬ Begins f first (n + 1)
 
--- Day n is the k-th of its weekday in its month or year exactly if there are k such days up to it;
--- from the end, from it on. negsuc k is the (k + 1)-th from the end, so negsuc 0 is the last.
+-- Day n is the k-th of its weekday in its month or year exactly if there are k such days up to it,
+-- or from it on if counted from the end. `negsuc k` is the (k + 1)-th from the end, so `negsuc 0`
+-- is the last.
 pub record NumbersByCount (n : ℕ) : Type 0 where
   pub of_month : (k : ℕ) → (is_nth_of false n (pos k) ≡ true) ↔ IsNthWeekday (year_at n) (month_at n) (weekday_at n) k n
   pub of_month_from_end : (k : ℕ)

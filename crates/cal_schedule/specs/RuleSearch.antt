@@ -1,4 +1,4 @@
--- What the search for a rule's next day answers, step by step.
+-- The steps of the search for the next day of a rule.
 use Rattle.std.specs.Prelude.{◌≡◌, ℕ, ◌+◌, ◌<◌, ◌≤◌, ◌==◌, Bool, true, false, Option, MatchOption}
 use Rattle.cal_time.specs.Date.{last_day, IsDate}
 use Rattle.cal_time.specs.Weekday.{index}
@@ -9,28 +9,30 @@ use Rattle.cal_schedule.specs.declared.rule.kinds.ByDay.TheVariants.{Every, Nth}
 use Rattle.cal_schedule.specs.declared.rule.kinds.Rule.{Rule}
 use Rattle.cal_schedule.specs.Rule.{allows, is_on, turn_at}
 
--- no day from day m to the one before day n is one of the rule's
+-- No day of the rule is from day m on and before day n.
 abbrev pub NoDayBetween : Rule → ℕ → ℕ → Type 0
 NoDayBetween rule m n = (k : ℕ) → m ≤ k → k < n → is_on rule k ≡ false
 
--- the rule takes days of the weekday at that index of the week, with whatever number; an empty part excludes nothing
+-- The weekday of a part, without its number.
 abbrev pub weekday_of : ByDay → Weekday
 weekday_of (Every w) = w
 weekday_of (Nth k w) = w
 
+-- The rule allows days with the weekday at this index, with any number.
 abbrev pub takes_weekday : Rule → ℕ → Bool
 takes_weekday rule at = allows (λ by. at == index (weekday_of by)) rule.weekdays.now
 
--- r is the first day of the range that is in that turn or a later one
+-- r is the first day of the range in period t or a later one.
 abbrev pub IsFirstOf : Frequency → Weekday → ℕ → Option ℕ → Type 0
 IsFirstOf f w t r =
     MatchOption r ((k : ℕ) → IsDate k → turn_at f w k < t) (λ x. IsDate x × (t ≤ turn_at f w x) × ((k : ℕ) → k < x → turn_at f w k < t))
 
--- r is a later day than day n, and the rule has none from day n to the one before it; where there is none, it has none at all
+-- r is a day after day n to go on with: no day of the rule is from day n on and before r. If r is
+-- `None`, the rule has no day from day n on.
 abbrev pub IsSkip : Rule → ℕ → Option ℕ → Type 0
 IsSkip rule n r = MatchOption r (NoDayBetween rule n (last_day + 1)) (λ x. (n < x) × IsDate x × NoDayBetween rule n x)
 
--- r is the first day of the rule from day n on
+-- r is the first day of the rule from day n on.
 abbrev pub IsNextFrom : Rule → ℕ → Option ℕ → Type 0
 IsNextFrom rule n r =
     MatchOption r (NoDayBetween rule n (last_day + 1)) (λ x. (n ≤ x) × IsDate x × (is_on rule x ≡ true) × NoDayBetween rule n x)

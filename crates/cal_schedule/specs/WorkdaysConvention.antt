@@ -1,4 +1,4 @@
--- A day moved to a working day, by the conventions of financial contracts (the names are those of the ISDA Definitions).
+-- Days moved to working days, by the business day conventions of the ISDA Definitions.
 use Rattle.std.specs.Prelude.{◌≡◌, ℕ, ◌+◌, ◌==◌, ◌&&◌, ◌≤◌, Bool, true, Option, Some, None, slice_get, if◌then◌else◌}
 use Rattle.std.specs.Ordering.{int_eq}
 use Rattle.cal_time.specs.Date.{year_at, month_at}
@@ -6,22 +6,24 @@ use Rattle.cal_schedule.specs.Workdays.{WorkWeek, is_workday, workdays_from, wor
 use Rattle.cal_schedule.specs.declared.workdays.convention.Convention.{Convention}
 use Rattle.cal_schedule.specs.declared.workdays.convention.Convention.TheVariants.{Unadjusted, Following, ModifiedFollowing, Preceding, ModifiedPreceding}
 
--- the first working day from day n on, and the last one up to it
+-- The first working day from day n on.
 abbrev pub following : WorkWeek → ℕ → Option ℕ
 following w n = slice_get (workdays_from w n) 0
 
+-- The last working day up to day n.
 abbrev pub preceding : WorkWeek → ℕ → Option ℕ
 preceding w n = slice_get (workdays_back w (n + 1)) 0
 
+-- Day r is in the month of day n.
 abbrev pub is_in_month_of : ℕ → ℕ → Bool
 is_in_month_of n r = int_eq (year_at r) (year_at n) && (month_at r == month_at n)
 
--- the first, where it is in the month of day n, or else the second
+-- The first day if it is in the month of day n, else the second.
 abbrev pub first_in_month_of : ℕ → Option ℕ → Option ℕ → Option ℕ
 first_in_month_of n None second = second
 first_in_month_of n (Some r) second = if is_in_month_of n r then Some r else second
 
--- the day that day n is moved to
+-- The day to which a convention moves day n.
 abbrev pub adjusted : WorkWeek → Convention → ℕ → Option ℕ
 adjusted w Unadjusted n = Some n
 adjusted w Following n = following w n
@@ -29,7 +31,7 @@ adjusted w ModifiedFollowing n = first_in_month_of n (following w n) (preceding 
 adjusted w Preceding n = preceding w n
 adjusted w ModifiedPreceding n = first_in_month_of n (preceding w n) (following w n)
 
--- what it always is
+-- A property of each day to which a convention moves day n.
 abbrev pub IsAdjusted : WorkWeek → Convention → ℕ → ℕ → Type 0
 IsAdjusted w Unadjusted n r = r ≡ n
 IsAdjusted w Following n r = (is_workday w r ≡ true) × (n ≤ r)

@@ -1,4 +1,4 @@
-//! The first and the last day of the month, the quarter, the year and the week of a day.
+//! The first and the last day of a month, a quarter, a year and a week.
 ghost use Rattle.std.specs.Prelude.{◌≡◌, ◌+◌, ◌-◌, ◌*◌, ◌≤◌, IfSome, SomeIff};
 ghost use Rattle.cal_time.specs.Date.{last_day, year_at, month_at, day_of_month_at, weekday_at, IsDate, IsYear, HasCalendarDate};
 ghost use Rattle.cal_time.specs.IsoWeekDate.{iso_year_at, iso_week_at, HasIsoWeekDate};
@@ -9,7 +9,7 @@ ghost use Rattle.cal_schedule.specs.Months.{quarter_at};
 use cal_time::util::days_in_month;
 use cal_time::{Cycle, Date, Month};
 
-/// The first day of a month of the range.
+/// Returns the first day of a month. The year must be in range.
 #[tactic(auto, using(crate::proofs::Ends::lengths))]
 pub(crate) fn first_in(year: i32, month: Month) -> Date
     requires { IsYear year }
@@ -22,7 +22,7 @@ pub(crate) fn first_in(year: i32, month: Month) -> Date
     }
 }
 
-/// The last day of a month of the range.
+/// Returns the last day of a month. The year must be in range.
 #[tactic(auto, using(crate::proofs::Ends::lengths))]
 pub(crate) fn last_in(year: i32, month: Month) -> Date
     requires { IsYear year }
@@ -35,7 +35,7 @@ pub(crate) fn last_in(year: i32, month: Month) -> Date
     }
 }
 
-/// The first day of the month: of 29 February 2024 it is 1 February 2024.
+/// Returns the first day of the month. For 29 February 2024 it is 1 February 2024.
 pub fn first_of_month(date: Date) -> Date
     ensures date { HasCalendarDate (year_at date) (month_at date) 1 result }
     ensures days { result + day_of_month_at date ≡ date + 1 }
@@ -44,7 +44,7 @@ pub fn first_of_month(date: Date) -> Date
     first_in(date.year(), date.month())
 }
 
-/// The last day of the month: of 1 February 2024 it is 29 February 2024.
+/// Returns the last day of the month. For 1 February 2024 it is 29 February 2024.
 pub fn last_of_month(date: Date) -> Date
     ensures date { HasCalendarDate (year_at date) (month_at date)
         (days_in_month (year_at date) (month_at date)) result }
@@ -55,7 +55,7 @@ pub fn last_of_month(date: Date) -> Date
     last_in(date.year(), date.month())
 }
 
-/// The quarter of the year, from 1 to 4: that of 31 March is 1, and that of 1 April is 2.
+/// Returns the quarter of the year, from 1 to 4. For 31 March it is 1, and for 1 April it is 2.
 pub fn quarter(date: Date) -> u8
     ensures counted { result ≡ quarter_at date }
     ensures range { (1 ≤ result) × (result ≤ 4) }
@@ -64,7 +64,7 @@ pub fn quarter(date: Date) -> u8
     date.month().place() / 3 + 1
 }
 
-/// The first day of the quarter: of 29 February 2024 it is 1 January 2024.
+/// Returns the first day of the quarter. For 29 February 2024 it is 1 January 2024.
 pub fn first_of_quarter(date: Date) -> Date
     ensures date { HasCalendarDate (year_at date) (3 * quarter_at date - 2) 1 result }
     ensures not_after { result ≤ date }
@@ -74,7 +74,7 @@ pub fn first_of_quarter(date: Date) -> Date
     first_in(date.year(), Month::at(index - index % 3))
 }
 
-/// The last day of the quarter: of 29 February 2024 it is 31 March 2024.
+/// Returns the last day of the quarter. For 29 February 2024 it is 31 March 2024.
 pub fn last_of_quarter(date: Date) -> Date
     ensures date { HasCalendarDate (year_at date) (3 * quarter_at date)
         (days_in_month (year_at date) (3 * quarter_at date)) result }
@@ -85,7 +85,7 @@ pub fn last_of_quarter(date: Date) -> Date
     last_in(date.year(), Month::at(index - index % 3 + 2))
 }
 
-/// The first day of the year: of 29 February 2024 it is 1 January 2024.
+/// Returns the first day of the year. For 29 February 2024 it is 1 January 2024.
 pub fn first_of_year(date: Date) -> Date
     ensures date { HasCalendarDate (year_at date) 1 1 result }
     ensures not_after { result ≤ date }
@@ -94,7 +94,7 @@ pub fn first_of_year(date: Date) -> Date
     first_in(date.year(), Month::January)
 }
 
-/// The last day of the year: of 29 February 2024 it is 31 December 2024.
+/// Returns the last day of the year. For 29 February 2024 it is 31 December 2024.
 pub fn last_of_year(date: Date) -> Date
     ensures date { HasCalendarDate (year_at date) 12 31 result }
     ensures not_before { date ≤ result }
@@ -103,7 +103,8 @@ pub fn last_of_year(date: Date) -> Date
     last_in(date.year(), Month::December)
 }
 
-/// The Monday of the ISO week: of 1 January 2021, a Friday, it is 28 December 2020. The range begins on a Monday, so each day has one.
+/// Returns the Monday of the ISO week. For Friday 1 January 2021 it is 28 December 2020. Every date
+/// has one, because the range begins on a Monday.
 pub fn first_of_iso_week(date: Date) -> Date
     ensures date { HasIsoWeekDate (iso_year_at date) (iso_week_at date) 0 result }
     ensures days { result + weekday_at date ≡ date }
@@ -116,9 +117,8 @@ pub fn first_of_iso_week(date: Date) -> Date
     }
 }
 
-/// The Sunday of the ISO week: of 1 January 2021, a Friday, it is 3 January 2021.
-///
-/// `None` exactly where the range ends before that Sunday, which is so of its last five days alone: it ends on a Friday.
+/// Returns the Sunday of the ISO week, or `None` for the last five days of the range, which ends on
+/// a Friday. For Friday 1 January 2021 it is 3 January 2021.
 pub fn last_of_iso_week(date: Date) -> Option<Date>
     ensures day { SomeIff result (date + 6 ≤ last_day + weekday_at date)
         (date + 6 - weekday_at date) }

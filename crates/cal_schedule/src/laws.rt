@@ -1,5 +1,4 @@
-//! Laws that no clause of a single call states: those of months here, and of rules and working days
-//! in modules of their own.
+//! Laws of several calls: of months here, and of rules and working days in their own modules.
 ghost use Rattle.std.specs.Prelude.{◌≡◌, ◌<◌, ◌≤◌, pos, ◌+ℤ◌, Some, IfSome, IsSomeAnd};
 ghost use Rattle.cal_time.specs.Date.{day_of_month_at};
 ghost use Rattle.cal_schedule.specs.Months.{month_number_at};
@@ -10,21 +9,21 @@ use cal_time::Date;
 pub mod rules;
 pub mod workdays;
 
-/// Adds no months, which gives the day itself.
+/// Adds no months, which gives the same date.
 pub fn no_months(date: Date) -> Option<Date>
     ensures { result ≡ Some date }
 {
     checked_add_months(date, 0)
 }
 
-/// Adds a month, which gives a day of the next month.
+/// Adds a month, which gives a date in the next month.
 pub fn next_month(date: Date) -> Option<Date>
     ensures { IfSome result (λ later. month_number_at later ≡ month_number_at date +ℤ pos 1) }
 {
     checked_add_months(date, 1)
 }
 
-/// Adds the same months to two days, which keep their order.
+/// Adds the same months to two dates, which keep their order.
 pub fn in_order(one: Date, other: Date, months: i32) -> Option<(Date, Date)>
     requires { one ≤ other }
     ensures { IfSome result (λ later. later.0 ≤ later.1) }
@@ -34,7 +33,7 @@ pub fn in_order(one: Date, other: Date, months: i32) -> Option<(Date, Date)>
     Some((first, second))
 }
 
-/// Adds the months until a day, which gives no later day than that.
+/// Adds the months until a date, which gives a date that is not after it.
 pub fn not_past(from: Date, to: Date) -> Option<Date>
     requires { from ≤ to }
     ensures { IsSomeAnd result (λ later. later ≤ to) }
@@ -42,7 +41,7 @@ pub fn not_past(from: Date, to: Date) -> Option<Date>
     checked_add_months(from, months_until(from, to))
 }
 
-/// Adds one month more than that, which gives a later day than `to`.
+/// Adds one month more than the months until a date, which gives a later date.
 pub fn one_more(from: Date, to: Date) -> Option<Date>
     requires { from ≤ to }
     ensures { IfSome result (λ later. to < later) }
@@ -51,7 +50,7 @@ pub fn one_more(from: Date, to: Date) -> Option<Date>
     checked_add_months(from, months)
 }
 
-/// Adds months and subtracts them again, which gives the same day for each day up to the 28th.
+/// Adds months and subtracts them again, which gives the same date if its day is 28 or less.
 pub fn there_and_back(date: Date, months: i32) -> Option<Date>
     requires { day_of_month_at date ≤ 28 }
     ensures { IfSome result (λ back. back ≡ date) }

@@ -1,7 +1,8 @@
-//! Schedules over the calendar: months and years added and counted, the ends of periods, weekdays of a month, working days, days that
-//! come back by a rule, and the days that interest is counted by.
+//! Schedules: arithmetic with months and years, ends of periods, weekdays of a month, working days,
+//! recurrence rules and day counts for interest.
 //!
-//! Every call is exact on every day of the calendar, and refuses exactly where the range of years has no answer.
+//! Each call is exact for every date of the range. It returns `None` or an error exactly if the
+//! result is out of range or doesn't exist.
 #![tactic(auto)]
 
 mod bounds;

@@ -1,4 +1,4 @@
-//! The fraction of a year that interest is counted by.
+//! Fractions of a year for interest.
 ghost use Rattle.std.specs.Prelude.{◌≡◌, ◌<◌, ◌^◌, pos, neg_ℤ, ◌+ℤ◌, ◌*ℤ◌, ◌≤ℤ◌};
 ghost use Rattle.cal_time.specs.Date.{year_at, IsDate};
 ghost use Rattle.cal_time.specs.IsoWeekDate.{count_before};
@@ -9,34 +9,33 @@ use cal_time::Date;
 use cal_time::limits::MIN_YEAR;
 use cal_time::util::is_leap_year;
 
-/// A convention by which the days of interest are counted, under the names of the 2006 ISDA Definitions.
-///
-/// The first day counts and the last one does not.
+/// A day count convention for interest, under its name in the 2006 ISDA Definitions. The first day
+/// counts and the last one doesn't.
 #[derive(Clone, Copy, Debug, PartialEq, Eq)]
 pub enum DayCount {
     /// Actual/360: the days, over 360.
     Actual360,
     /// Actual/365 (Fixed): the days, over 365.
     Actual365Fixed,
-    /// 30/360, bond basis: each month has 30 days. The 31st counts as the 30th, but as the end only where the beginning is the 30th
-    /// or the 31st.
+    /// 30/360, bond basis: each month has 30 days, and day 31 counts as 30. At the end it does so
+    /// only if the first day is 30 or 31.
     Thirty360,
-    /// 30E/360, Eurobond basis: each month has 30 days, and the 31st counts as the 30th.
+    /// 30E/360, Eurobond basis: each month has 30 days, and day 31 counts as 30.
     ThirtyE360,
-    /// Actual/Actual (ISDA): the days in leap years over 366, and the others over 365.
+    /// Actual/Actual (ISDA): the days in leap years over 366, and the other days over 365.
     ActualActual,
 }
 
-/// A fraction of a year, as two whole numbers.
+/// A fraction of a year.
 #[derive(Clone, Copy, Debug, PartialEq, Eq)]
 pub struct YearFraction {
-    /// What was counted.
+    /// The number of days, by the convention.
     pub numerator: i64,
-    /// What a year counts.
+    /// The number of days in a year, by the convention.
     pub denominator: u32,
 }
 
-/// Returns the days from one day to the day before another; negative if `to` comes before `from`.
+/// Returns the days from one date to another, negative if `to` comes before `from`.
 fn actual_days(from: Date, to: Date) -> i64
     ensures days { result ≡ actual_days from to }
     ensures least { neg_ℤ (pos (2 ^ 40)) ≤ℤ result }
@@ -45,21 +44,21 @@ fn actual_days(from: Date, to: Date) -> i64
     i64::from(to.to_julian_day()) - i64::from(from.to_julian_day())
 }
 
-/// Returns the days between at 30 days a month, by the days of the month that are given.
+/// Returns the days between two dates with 30 days a month and these days of the month.
 fn thirty_days(from: Date, to: Date, first: u8, last: u8) -> i64
     ensures { result ≡ thirty_days from to first last }
 {
     i64::from(months_apart(from, to)) * 30 + i64::from(last) - i64::from(first)
 }
 
-/// The day of the month that the bond basis ends with.
+/// Returns the last day of the month for the bond basis.
 fn bond_end(first: u8, last: u8) -> u8
     ensures { result ≡ bond_end first last }
 {
     if last == 31 && first > 29 { 30 } else { last }
 }
 
-/// The years of the range that come before the year of a day.
+/// Returns the number of years of the range before the year of a date.
 fn years_before(date: Date) -> u32
     ensures years { pos result ≡ year_at date +ℤ pos 999_999 }
     ensures most { result < 2_000_000 }
@@ -68,7 +67,7 @@ fn years_before(date: Date) -> u32
     (date.year() - MIN_YEAR) as u32
 }
 
-/// The days of leap years that come before a day, from the first of the range on.
+/// Returns the number of days in leap years before a date, from the first day of the range.
 fn leap_days_before(date: Date) -> u32
     ensures { result ≡ count_before in_leap_year date }
 {
@@ -81,7 +80,7 @@ fn leap_days_before(date: Date) -> u32
     }
 }
 
-/// The days from one day to the day before another that are in leap years.
+/// Returns the number of days in leap years from one date to another.
 fn leap_days(from: Date, to: Date) -> i64
     ensures days { result ≡ days_that in_leap_year from to }
     ensures least { neg_ℤ (pos (2 ^ 40)) ≤ℤ result }
@@ -90,7 +89,7 @@ fn leap_days(from: Date, to: Date) -> i64
     i64::from(leap_days_before(to)) - i64::from(leap_days_before(from))
 }
 
-/// Those that are in other years.
+/// Returns the number of days in common years from one date to another.
 fn other_days(from: Date, to: Date) -> i64
     ensures days { result ≡ days_that in_other_year from to }
     ensures least { neg_ℤ (pos (2 ^ 42)) ≤ℤ result }
@@ -99,7 +98,7 @@ fn other_days(from: Date, to: Date) -> i64
     actual_days(from, to) - leap_days(from, to)
 }
 
-/// The days in leap years over 366 and the others over 365, over the denominator of both.
+/// Returns the numerator of actual/actual, over 366 times 365.
 fn by_years(from: Date, to: Date) -> i64
     ensures { result ≡ days_that in_leap_year from to *ℤ pos 365 +ℤ days_that in_other_year from to
         *ℤ pos 366 }
@@ -107,15 +106,13 @@ fn by_years(from: Date, to: Date) -> i64
     leap_days(from, to) * 365 + other_days(from, to) * 366
 }
 
-/// Returns the fraction of a year from one day to another by a convention: the days that it counts,
-/// over the days of its year.
+/// Returns the fraction of a year from one date to another by a convention. The denominator of
+/// actual/actual is 366 times 365. From 1 November 2003 to 1 May 2004 it gives 66491/133590, for 61
+/// days over 365 and 121 over 366.
 ///
 /// If `to` comes before `from`, the numerator is negative, or 0 by two conventions: 30/360 and
 /// 30E/360 give 0 from 31 to 30 January 2024, and 30/360 gives 0 from 1 February to 31 January
 /// 2024.
-///
-/// For actual/actual the denominator is 366 times 365, so that both kinds of year fit. From 1 November 2003 to 1 May 2004 it gives 61
-/// days of 365 and 121 of 366, that is 66491/133590.
 pub fn day_count(from: Date, to: Date, convention: DayCount) -> YearFraction
     ensures numerator { result.numerator ≡ counted_days convention from to }
     ensures denominator { result.denominator ≡ year_counts convention }

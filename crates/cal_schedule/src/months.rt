@@ -1,4 +1,4 @@
-//! Days moved by months and years.
+//! Arithmetic with months and years.
 ghost use Rattle.std.specs.Prelude.{◌≡◌, ℕ, ◌+◌, ◌<◌, ◌≤◌, ◌^◌, min, pos, neg_ℤ, ◌+ℤ◌, ◌-ℤ◌, ◌*ℤ◌, ◌<ℤ◌, ◌≤ℤ◌, Some, IfSome, IfNone};
 ghost use Rattle.cal_time.specs.Date.{first_year, last_year, last_day, IsDate, IsYear, year_at, month_at, day_of_month_at};
 ghost use Rattle.cal_time.specs.Lengths.{days_in_month};
@@ -7,10 +7,10 @@ ghost use Rattle.cal_schedule.specs.Months.{month_number_at, IsMonthNumber, IsMo
 use cal_time::Date;
 use cal_time::limits::{MAX_YEAR, MIN_YEAR};
 
-/// The months of the range of years.
+/// The number of months in the range.
 const MONTHS: i64 = 12 * (MAX_YEAR - MIN_YEAR + 1) as i64;
 
-/// The months of the range that come before the month of the day, and its day of the month.
+/// Returns the index of the month, from 0 for the first one of the range, and the day of the month.
 pub(crate) fn index_and_day(date: Date) -> (u32, u8)
     ensures index { pos result.0 ≡ month_number_at date +ℤ pos 11_999_988 }
     ensures bound { result.0 < 23_999_988 }
@@ -22,7 +22,7 @@ pub(crate) fn index_and_day(date: Date) -> (u32, u8)
     ((date.year() - MIN_YEAR) as u32 * 12 + u32::from(month), day)
 }
 
-/// The year, and the index of the month in it, that have so many months of the range before them.
+/// Returns the year and the month, from 0 for January, of the month with this index.
 fn year_and_month(index: u32) -> (i32, u8)
     requires { index < 23_999_988 }
     ensures index { result.0 *ℤ pos 12 +ℤ pos result.1 ≡ pos index -ℤ pos 11_999_988 }
@@ -32,7 +32,7 @@ fn year_and_month(index: u32) -> (i32, u8)
     ((index / 12) as i32 + MIN_YEAR, (index % 12) as u8)
 }
 
-/// The day of that month that has this day of the month, or the last day of the month where it has no such day.
+/// Returns the date in a month with this day, or the last day of the month if it is shorter.
 pub(crate) fn day_in_month(index: u32, day: u8) -> Date
     requires month { index < 23_999_988 }
     requires day { 1 ≤ day }
@@ -45,7 +45,7 @@ pub(crate) fn day_in_month(index: u32, day: u8) -> Date
     Date::at_month_index(year, month, day)
 }
 
-/// The day so many months later, or `None` where that month is not in the range.
+/// Adds months, or returns `None` if the resulting month is out of range.
 fn moved(date: Date, months: i64) -> Option<Date>
     requires least { neg_ℤ (pos (2 ^ 40)) ≤ℤ months }
     requires most { months ≤ℤ pos (2 ^ 40) }
@@ -63,11 +63,10 @@ fn moved(date: Date, months: i64) -> Option<Date>
     Some(day_in_month(index as u32, day))
 }
 
-/// The day so many months later, or earlier where they are below zero: in that month the same day of the month, or the last
-/// day where the month has no such day.
+/// Adds months, or subtracts them if the number is negative. The day of the month stays, or becomes
+/// the last day if the month is shorter. One month after 31 January 2023 is 28 February 2023.
 ///
-/// `None` exactly where that month is not in the range of years. One month after 31 January 2023 is 28 February 2023, and
-/// from December of the last year no month is left.
+/// Returns `None` if the resulting month is out of range.
 pub fn checked_add_months(date: Date, months: i32) -> Option<Date>
     ensures every { (n : ℕ) → IsDate n → IsMonthsLater date months n → result ≡ Some n }
     ensures has { IfSome result (λ n. IsDate n × IsMonthsLater date months n) }
@@ -78,9 +77,8 @@ pub fn checked_add_months(date: Date, months: i32) -> Option<Date>
     moved(date, i64::from(months))
 }
 
-/// The same, but the first or the last day of the range where that month comes before or after it.
-///
-/// One month after 31 January 2023 is 28 February 2023, and a month after [`Date::MAX`] is `Date::MAX`.
+/// Adds months like [`checked_add_months`], but returns the first or the last date of the range if
+/// the resulting month is out of range. A month after [`Date::MAX`] is `Date::MAX`.
 pub fn saturating_add_months(date: Date, months: i32) -> Date
     ensures within { IsMonthNumber (month_number_at date +ℤ months)
         → IsMonthsLater date months result }
@@ -96,11 +94,11 @@ pub fn saturating_add_months(date: Date, months: i32) -> Date
     }
 }
 
-/// The day so many years later, or earlier where they are below zero: the same month and day of the month, but 28 February
-/// for the 29th in a year that has none. These are twelve times as many months.
+/// Adds years, or subtracts them if the number is negative. The month and the day stay, except that
+/// 29 February becomes the 28th in a common year. One year after 29 February 2024 is 28 February
+/// 2025, and four years after it is 29 February 2028.
 ///
-/// `None` exactly where that year is not in the range. One year after 29 February 2024 is 28 February 2025, and four years
-/// after it are 29 February 2028.
+/// Returns `None` if the resulting year is out of range.
 pub fn checked_add_years(date: Date, years: i32) -> Option<Date>
     ensures every { (n : ℕ) → IsDate n → IsMonthsLater date (pos 12 *ℤ years) n → result ≡ Some n }
     ensures has { IfSome result (λ n. IsDate n × IsMonthsLater date (pos 12 *ℤ years) n) }

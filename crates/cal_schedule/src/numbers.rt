@@ -1,11 +1,11 @@
-//! Days by their numbers.
+//! Dates by their numbers.
 ghost use Rattle.std.specs.Prelude.{◌≡◌, SomeIff};
 ghost use Rattle.cal_time.specs.Date.{IsDate};
 
 use cal_time::Date;
 use cal_time::limits::{LAST_DAY, MIN_JULIAN_DAY};
 
-/// The number of the day.
+/// Returns the number of a date, from 0 for the first date of the range.
 pub(crate) fn number(date: Date) -> u32
     ensures number { result ≡ date }
     ensures in_range { IsDate date }
@@ -13,7 +13,7 @@ pub(crate) fn number(date: Date) -> u32
     (date.to_julian_day() - MIN_JULIAN_DAY) as u32
 }
 
-/// The day of that number, or `None` past the last one.
+/// Returns the date with this number, or `None` after the last date of the range.
 pub(crate) fn at_number(number: u64) -> Option<Date>
     ensures { SomeIff result (IsDate number) number }
 {

@@ -1,11 +1,11 @@
-//! A period of years, months and days.
+//! Periods of years, months and days.
 
-/// A number of years, of months and of days, which are all of one sign.
+/// A number of years, months and days, all positive or 0, or all negative or 0.
 #[derive(Clone, Copy, Debug, PartialEq, Eq)]
 pub struct Period {
-    /// The whole years.
+    /// The years.
     pub years: i32,
-    /// The months past the years, fewer than 12.
+    /// The months past the years, from -11 to 11.
     pub months: i32,
     /// The days past the months.
     pub days: i32,

@@ -1,4 +1,4 @@
-//! Rules of days that come back, in a subset of RFC 5545, by days.
+//! Recurrence rules of days, a subset of RFC 5545.
 mod kinds;
 mod passes;
 mod search;

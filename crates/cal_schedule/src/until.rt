@@ -1,4 +1,4 @@
-//! The months, the years and the period from one day to another.
+//! The months, the years and the period between two dates.
 ghost use Rattle.std.specs.Prelude.{◌≡◌, ◌<◌, ◌≤◌, ◌^◌, pos, neg_ℤ, ◌+ℤ◌, ◌-ℤ◌, ◌*ℤ◌, ◌<ℤ◌, ◌≤ℤ◌};
 ghost use Rattle.cal_time.specs.Date.{IsDate};
 ghost use Rattle.cal_schedule.specs.Months.{month_number_at, IsMonthNumber, IsMonthsLater};
@@ -8,7 +8,7 @@ use crate::months::{checked_add_months, index_and_day};
 use crate::period::Period;
 use cal_time::Date;
 
-/// The months from the month of the one day to that of the other.
+/// Returns the months from the month of one date to the month of another.
 pub(crate) fn months_apart(from: Date, to: Date) -> i32
     ensures number { month_number_at to ≡ month_number_at from +ℤ result }
     ensures month { IsMonthNumber (month_number_at from +ℤ result) }
@@ -21,7 +21,7 @@ pub(crate) fn months_apart(from: Date, to: Date) -> i32
     end as i32 - start as i32
 }
 
-/// The day so many months later, which is known to be in the range.
+/// Adds months. The resulting month must be in range.
 fn add_months(date: Date, months: i32) -> Date
     requires { IsMonthNumber (month_number_at date +ℤ months) }
     ensures later { IsMonthsLater date months result }
@@ -33,7 +33,7 @@ fn add_months(date: Date, months: i32) -> Date
     }
 }
 
-/// The months on to a day that does not come before the first.
+/// Returns the months to a date that is not before the first.
 fn months_on(from: Date, to: Date) -> i32
     requires { from ≤ to }
     ensures greatest { IsGreatest (LeadsUpTo from to) result }
@@ -47,7 +47,7 @@ fn months_on(from: Date, to: Date) -> i32
     months - 1
 }
 
-/// The months back to a day that does not come after the first.
+/// Returns the months to a date that is not after the first.
 fn months_back(from: Date, to: Date) -> i32
     requires { to ≤ from }
     ensures least { IsLeast (LeadsBackTo from to) result }
@@ -61,10 +61,10 @@ fn months_back(from: Date, to: Date) -> i32
     months + 1
 }
 
-/// The whole months from one day to another: the greatest number of months that does not lead past `to`, or where `to` comes
-/// before `from` the least that does not lead before it. So both ways are cut toward zero.
+/// Returns the whole months from one date to another, truncated toward zero: as many as possible
+/// without passing `to`, negative if `to` comes before `from`.
 ///
-/// From 31 January 2023 to 28 February 2023 it is 1, to 27 February 0, and to 30 December 2022 it is -1.
+/// From 31 January 2023 it is 1 to 28 February, 0 to 27 February, and -1 to 30 December 2022.
 pub fn months_until(from: Date, to: Date) -> i32
     ensures on { from ≤ to → IsGreatest (LeadsUpTo from to) result }
     ensures back { to < from → IsLeast (LeadsBackTo from to) result }
@@ -79,7 +79,7 @@ pub fn months_until(from: Date, to: Date) -> i32
     }
 }
 
-/// The years and the months past them that are so many months.
+/// Splits months into years and months.
 fn years_and_months(months: i32) -> (i32, i32)
     ensures sum { months ≡ pos 12 *ℤ result.0 +ℤ result.1 }
     ensures on { pos 0 ≤ℤ months → (pos 0 ≤ℤ result.0) × (pos 0 ≤ℤ result.1)
@@ -90,11 +90,10 @@ fn years_and_months(months: i32) -> (i32, i32)
     (months / 12, months % 12)
 }
 
-/// The whole years from one day to another, as an age is counted: the greatest number of years that does not lead past `to`, or
-/// where `to` comes before `from` the least that does not lead before it.
+/// Returns the whole years from one date to another, such as an age, truncated toward zero.
 ///
-/// From 1 June 1980 to 31 May 2024 it is 43, and to 1 June 2024 it is 44. Who was born on 29 February is a year older on the
-/// 28th in a year that has no 29th.
+/// From 1 June 1980 it is 43 to 31 May 2024, and 44 to 1 June 2024. A birthday on 29 February
+/// counts on the 28th in common years.
 pub fn years_until(from: Date, to: Date) -> i32
     ensures on { from ≤ to → IsGreatest (λ years. LeadsUpTo from to (pos 12 *ℤ years)) result }
     ensures back { to < from → IsLeast (λ years. LeadsBackTo from to (pos 12 *ℤ years)) result }
@@ -106,11 +105,12 @@ pub fn years_until(from: Date, to: Date) -> i32
     years
 }
 
-/// The years, months and days that lead from one day to another: as many months as [`months_until`] says, twelve of them a year,
-/// and then the days that are left. They are added in this order, the years and the months at once. All three are of one sign,
-/// and the months fewer than 12.
+/// Returns the years, months and days from one date to another: as many whole months as
+/// [`months_until`] returns, then the remaining days. Adding the years and months at once, and then
+/// the days, gives `to`. All three are positive or 0, or negative or 0.
 ///
-/// From 31 January 2023 to 2 March 2024 it is a year, a month and 2 days, as 13 months lead to 29 February 2024.
+/// From 31 January 2023 to 2 March 2024 it is a year, a month and 2 days, because 13 months later
+/// is 29 February 2024.
 pub fn period_until(from: Date, to: Date) -> Period
     ensures leads { LeadsTo from to result }
     ensures on { from ≤ to → IsGreatest (LeadsUpTo from to) (months_of result) }

@@ -1,4 +1,4 @@
-//! The weekdays of a month, and those next to a day.
+//! The weekdays of a month, and weekdays near a date.
 ghost use Rattle.std.specs.Prelude.{◌≡◌, ℕ, ◌+◌, ◌-◌, ◌*◌, ◌%◌, ◌<◌, ◌≤◌, ◌⊎◌, ◌↔◌, Ok, Some, IsTrue, IfOk, IfErr, IsErr, IfSome, SomeIff, slice_get};
 ghost use Rattle.cal_time.specs.Date.{last_day, weekday_at, IsDate, IsYear, NoDate};
 ghost use Rattle.cal_time.specs.Month.{number};
@@ -13,14 +13,14 @@ use cal_time::limits::{MAX_YEAR, MIN_YEAR};
 use cal_time::util::days_in_month;
 use cal_time::{Cycle, Date, Month, Weekday};
 
-/// The days from one weekday on to the next day with another, from 0 to 6.
+/// Returns the days from one weekday to the next day with another, from 0 to 6.
 fn days_on(from: Weekday, to: Weekday) -> u8
     ensures { result ≡ (index to + 7 - index from) % 7 }
 {
     (to.place() + 7 - from.place()) % 7
 }
 
-/// The n-th day with the weekday in a month of the range, if it has one.
+/// Returns the n-th day with a weekday in a month, or `None` if there is none.
 fn nth_of_month(year: i32, month: Month, weekday: Weekday, n: u8) -> Option<Date>
     requires { IsYear year }
     ensures every { (k : ℕ) → IsDate k → IsNthWeekday year (number month) (index weekday) n k
@@ -39,7 +39,7 @@ fn nth_of_month(year: i32, month: Month, weekday: Weekday, n: u8) -> Option<Date
     }
 }
 
-/// The last day with the weekday in a month of the range.
+/// Returns the last day with a weekday in a month.
 fn last_of_month(year: i32, month: Month, weekday: Weekday) -> Date
     requires { IsYear year }
     ensures last { IsLastWeekday year (number month) (index weekday) result }
@@ -53,17 +53,16 @@ fn last_of_month(year: i32, month: Month, weekday: Weekday) -> Date
     }
 }
 
-/// Whether the year is one of the range.
+/// Returns `true` if the year is in range.
 fn is_year(year: i32) -> bool
     ensures { IsTrue result ↔ IsYear year }
 {
     year >= MIN_YEAR && year <= MAX_YEAR
 }
 
-/// The n-th day of a month that has the weekday, counted from 1: the fourth Thursday of November 2024 is 28 November 2024.
-///
-/// It is refused as `year` where the year is out of the range, and else as `weekday` where the month has no such day: it has four
-/// or five days with a weekday.
+/// Returns the n-th day with a weekday in a month, counted from 1. The fourth Thursday of November
+/// 2024 is the 28th. Returns the error `year` if it is out of range, and the conditional error
+/// `weekday` if no day is the n-th: a month has four or five.
 pub fn nth_weekday_of_month(
     year: i32,
     month: Month,
@@ -89,9 +88,8 @@ pub fn nth_weekday_of_month(
     }
 }
 
-/// The last day of a month that has the weekday: the last Friday of May 2024 is 31 May 2024.
-///
-/// It is refused as `year` where the year is out of the range, as each month has each weekday.
+/// Returns the last day with a weekday in a month. The last Friday of May 2024 is the 31st. Returns
+/// the error `year` if it is out of range.
 pub fn last_weekday_of_month(
     year: i32,
     month: Month,
@@ -110,9 +108,8 @@ pub fn last_weekday_of_month(
     Ok(last_of_month(year, month, weekday))
 }
 
-/// The first day from this one on that has the weekday: the Monday on or after Friday 1 March 2024 is 4 March 2024.
-///
-/// `None` exactly where the range ends before it.
+/// Returns the first day with a weekday on or after a date, or `None` if the range ends before it.
+/// The Monday on or after Friday 1 March 2024 is 4 March.
 pub fn on_or_after(date: Date, weekday: Weekday) -> Option<Date>
     ensures day { result ≡ slice_get (occurrences_from (index weekday) date) 0 }
     ensures index { let days = (index weekday + 7 - weekday_at date) % 7 in
@@ -127,9 +124,8 @@ pub fn on_or_after(date: Date, weekday: Weekday) -> Option<Date>
     }
 }
 
-/// The last day up to this one that has the weekday: the Monday on or before Friday 1 March 2024 is 26 February 2024.
-///
-/// `None` exactly where the range begins after it.
+/// Returns the last day with a weekday on or before a date, or `None` if the range begins after it.
+/// The Monday on or before Friday 1 March 2024 is 26 February.
 pub fn on_or_before(date: Date, weekday: Weekday) -> Option<Date>
     ensures day { result ≡ slice_get (occurrences_upto (index weekday) date) 0 }
     ensures index { let days = (weekday_at date + 7 - index weekday) % 7 in

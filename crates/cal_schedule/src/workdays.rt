@@ -1,4 +1,4 @@
-//! Working days: those of the days of the week that are marked, but for the holidays.
+//! Working days: the days with a marked weekday, except the holidays.
 ghost use Rattle.std.specs.Prelude.{◌≡◌, ◌+◌, ◌-◌, ◌<◌, pos, ◌-ℤ◌, length, slice_get, IfSome, true};
 ghost use Rattle.cal_time.specs.Date.{IsDate};
 ghost use Rattle.cal_schedule.specs.Workdays.{is_workday, workdays_from, workdays_back, workdays_within, nth_workday};
@@ -15,7 +15,7 @@ pub use calendar::Workdays;
 pub use convention::Convention;
 
 impl Workdays<'_> {
-    /// Whether the day is a working day: its day of the week is marked, and it is no holiday.
+    /// Returns `true` for a working day: its weekday is marked, and it is not a holiday.
     pub fn is_workday(&self, date: Date) -> bool
         ensures value { result ≡ is_workday self.now date }
         ensures in_range { IsDate date }
@@ -24,9 +24,8 @@ impl Workdays<'_> {
         self.is_marked(day) && !self.is_holiday(day)
     }
 
-    /// The first working day after the day, or `None` where the range has none.
-    ///
-    /// Where Monday to Friday are marked, that after a Friday is the Monday, if it is no holiday.
+    /// Returns the first working day after a date, or `None` if the range has none. For Monday to
+    /// Friday without holidays, a Friday gives the Monday after it.
     pub fn next_workday(&self, date: Date) -> Option<Date>
         ensures day { result ≡ slice_get (workdays_from self.now (date + 1)) 0 }
         ensures found { IfSome result (λ n.
@@ -36,9 +35,8 @@ impl Workdays<'_> {
         self.nth_from(number(date) + 1, 0)
     }
 
-    /// The last working day before the day, or `None` where the range has none.
-    ///
-    /// That before a Monday is the Friday, if it is no holiday.
+    /// Returns the last working day before a date, or `None` if the range has none. For Monday to
+    /// Friday without holidays, a Monday gives the Friday before it.
     pub fn previous_workday(&self, date: Date) -> Option<Date>
         ensures day { result ≡ slice_get (workdays_back self.now date) 0 }
         ensures found { IfSome result (λ n.
@@ -48,11 +46,12 @@ impl Workdays<'_> {
         self.nth_before(number(date), 0)
     }
 
-    /// The working day so many working days after the day, or before it where they are below zero: the first one after the day
-    /// has 1, and the last one before it -1. For 0 it is the day itself, or where it is no working day, the first one after it.
+    /// Adds working days, or subtracts them if the number is negative. 1 is the first working day
+    /// after the date, and -1 the last one before it. 0 is the date itself, or the first working
+    /// day after it.
     ///
-    /// `None` exactly where the range has no such working day. Where Monday to Friday are marked, and with no holidays, 1 leads
-    /// from a Saturday to the Monday, 0 there too, and -1 to the Friday.
+    /// Returns `None` if the range has no such day. For Monday to Friday without holidays, 1 and 0
+    /// from a Saturday give the Monday, and -1 gives the Friday.
     pub fn checked_add_workdays(&self, date: Date, days: i32) -> Option<Date>
         ensures day { result ≡ nth_workday self.now days date }
         ensures found { IfSome result (λ n. (is_workday self.now n ≡ true) × IsDate n) }
@@ -68,12 +67,11 @@ impl Workdays<'_> {
         }
     }
 
-    /// Counts the working days from the earlier day on, without the later day. The number is
-    /// negative if `to` comes before `from`: then `to` is counted, and `from` is not.
+    /// Counts the working days from the earlier date on, without the later date. If `to` comes
+    /// before `from`, `to` counts, `from` doesn't, and the number is negative or 0.
     ///
-    /// If Monday to Friday are marked and there are no holidays, from Friday 2024-01-05 to Monday
-    /// 2024-01-08 it is 1, and back it is -1, both for the Friday. From 2024-01-01 to 2025-01-01 it
-    /// is 262.
+    /// For Monday to Friday without holidays, it is 1 from Friday 2024-01-05 to Monday 2024-01-08,
+    /// and -1 back, both for the Friday.
     pub fn workdays_between(&self, from: Date, to: Date) -> i32
         ensures number { result ≡ pos (length (workdays_within self.now from to))
             -ℤ pos (length (workdays_within self.now to from)) }

@@ -1,4 +1,4 @@
--- Seconds and nanoseconds with a carry between them: when they are a duration, and which.
+-- Seconds and nanoseconds with a carry between them: when they are a duration, and which one.
 use Rattle.std.proofs.Common.{◌≡◌, true, false, ℤ, pos, negsuc, neg_ℤ, ◌+ℤ◌, ◌-ℤ◌, ◌*ℤ◌, ◌≤ℤ◌, ◌<ℤ◌, Option, SomeIff, FitsSigned, ap, ◌∙◌, subst, arith}
 use Rattle.std.specs.Int.{w64, from_bool}
 use Rattle.std.specs.Int.Signed.{lt_z}
@@ -8,7 +8,7 @@ use Rattle.cal_span.specs.Fields.{nanoseconds_in, IsNormal, CanCarry, IsCarry}
 use Rattle.cal_span.specs.FieldsLaws.{times-second}
 use Rattle.cal_span.specs.declared.signed_duration.SignedDuration.TheInside.{Inside}
 
--- what a comparison counts
+-- The comparison a < b counts as 1 if it is true, else as 0.
 pub record Counts (a b x : ℤ) : Type 0 where
   pub one : a <ℤ b → x ≡ pos 1
   pub none : b ≤ℤ a → x ≡ pos 0
@@ -19,7 +19,7 @@ counted a b x e = record {
   none = λ ge. let test : lt_z a b ≡ false = grind (arith, ints) in e ∙ ap (λ t. pos (from_bool t)) test;
 }
 
--- the most and the least nanoseconds that stay where they are
+-- The bounds of nanoseconds that need no carry.
 pub record AreBounds (s most least : ℤ) : Type 0 where
   pub against_after : s <ℤ pos 0 → most ≡ pos 0
   pub along_after : pos 0 ≤ℤ s → most ≡ pos 999_999_999
@@ -34,7 +34,7 @@ IsCarry-down : (s n : ℤ) → CanCarry s n → n <ℤ pos 0 → (s ≤ℤ pos 0
 IsCarry-down s n can side enough =
     record { at_least = omega (arith, ints); at_most = omega (arith, ints); normal = record { above = omega (arith, ints, can.above); below = omega (arith, ints); positive = λ h. grind (arith, ints, can.under); negative = λ h. omega (arith, ints) } }
 
--- the carry is the difference of the two counts
+-- The carry is the difference of two counts.
 pub IsCarry-counted : (s n most least x y : ℤ) → CanCarry s n → AreBounds s most least → Counts most n x → Counts n least y → IsCarry s n (x -ℤ y)
 IsCarry-counted s n most least x y can bounds above below =
     let P : ℤ → Type 0 = λ carry. IsCarry s n carry in
@@ -58,13 +58,13 @@ IsCarry-counted s n most least x y can bounds above below =
       };
     })))
 
--- seconds that are an i64 and less than a second more are a duration
+-- Seconds in an i64 and less than a second more are a duration.
 pub IsDuration-sum : (s n : ℤ) → FitsSigned w64 s → IsWithin 999_999_999 n → IsDuration (s *ℤ pos second +ℤ n)
 IsDuration-sum s n fits within =
     let t = times-second s in
     record { at_least = omega (arith, ints); at_most = omega (arith, ints) }
 
--- where the fields are not of opposite signs, the seconds of a duration fit
+-- The seconds of a duration fit in an i64 if the fields don't have opposite signs.
 pub seconds-fit : (s n : ℤ) → (pos 0 <ℤ s → pos 0 ≤ℤ n) → (s <ℤ pos 0 → n ≤ℤ pos 0) → IsDuration (s *ℤ pos second +ℤ n) → FitsSigned w64 s
 seconds-fit s n p q d =
     let t = times-second s in
@@ -72,17 +72,17 @@ seconds-fit s n p q d =
     let high = d.at_most in
     grind (arith, ints)
 
--- an answer that is exact for a number is exact for an equal one
+-- A result that is exact for v is exact for an equal number w.
 pub exact-along : (r : Option ℤ) (v w : ℤ) → v ≡ w → SomeIff r (IsDuration v) v → SomeIff r (IsDuration w) w
 exact-along r v w e = subst (λ u. SomeIff r (IsDuration u) u) e
 
--- the number of fields is a duration
+-- The number of normal fields is a duration if the seconds fit in an i64.
 pub IsDuration-fields : (a : Inside) → IsNormal a → FitsSigned w64 a.seconds → IsDuration (nanoseconds_in a)
 IsDuration-fields a h f =
     let t = times-second a.seconds in
     record { at_least = omega (arith, ints); at_most = omega (arith, ints) }
 
--- what is carried is not lost
+-- A carry doesn't change the number.
 pub carry-whole : (s n carry : ℤ) → (s +ℤ carry) *ℤ pos second +ℤ (n -ℤ carry *ℤ pos second) ≡ s *ℤ pos second +ℤ n
 carry-whole s n carry =
     let a = times-second s in
@@ -90,12 +90,12 @@ carry-whole s n carry =
     let c = times-second (s +ℤ carry) in
     omega (arith, ints)
 
--- seconds that hold the carry are those of a duration, and the other way round
+-- The number is a duration if the seconds with the carry fit in an i64.
 pub IsDuration-carried : (s n carry : ℤ) → IsCarry s n carry → FitsSigned w64 (s +ℤ carry) → IsDuration (s *ℤ pos second +ℤ n)
 IsDuration-carried s n carry is fits =
     subst IsDuration (carry-whole s n carry) (IsDuration-fields (record { seconds = s +ℤ carry; nanoseconds = n -ℤ carry *ℤ pos second }) is.normal fits)
 
--- the seconds of a sum that is a duration fit
+-- The seconds of a sum fit in an i64 if the sum is a duration.
 pub add-fits : (a b : Inside) (v w : ℤ) → IsNormal a → IsNormal b → FitsSigned w64 a.seconds → FitsSigned w64 b.seconds → nanoseconds_in a ≡ v → nanoseconds_in b ≡ w → IsDuration (v +ℤ w) → FitsSigned w64 (a.seconds +ℤ b.seconds)
 add-fits a b v w h k f g is_v is_w d =
     let p = times-second a.seconds in
@@ -104,7 +104,8 @@ add-fits a b v w h k f g is_v is_w d =
     let high = d.at_most in
     grind (arith, ints)
 
--- the seconds of a difference that is a duration fit, unless they are one too many at a left side of less than a second
+-- If a difference is a duration, its seconds fit in an i64, except if the seconds of the left side
+-- are 0 and the nanoseconds are negative.
 pub sub-fits-apart : (a b : Inside) (v w : ℤ) → IsNormal a → IsNormal b → FitsSigned w64 a.seconds → FitsSigned w64 b.seconds → nanoseconds_in a ≡ v → nanoseconds_in b ≡ w → IsDuration (v -ℤ w) → ¬ (a.seconds ≡ pos 0) → FitsSigned w64 (a.seconds -ℤ b.seconds)
 sub-fits-apart a b v w h k f g is_v is_w d apart =
     let p = times-second a.seconds in
@@ -121,14 +122,16 @@ sub-fits-over a b v w h k f g is_v is_w d over =
     let high = d.at_most in
     grind (arith, ints)
 
--- where a left side of less than a second has a difference whose seconds do not fit, the right side is the least i64 of seconds
+-- If the seconds of the left side are 0 and the seconds of the difference don't fit, the seconds of
+-- the right side are `i64::MIN`.
 pub sub-overflow : (s t : ℤ) → FitsSigned w64 t → s ≡ pos 0 → ¬ FitsSigned w64 (s -ℤ t) → t ≡ negsuc 9_223_372_036_854_775_807
 sub-overflow s t f is_zero not_fits =
     by_lt_z (negsuc 9_223_372_036_854_775_807) t
     (λ above. absurd (not_fits (omega (arith, ints))))
     (λ at_most. omega (arith, ints))
 
--- sums and differences of fields can carry: nanoseconds of a second or more come of two that are along their seconds
+-- Sums and differences of normal fields need a carry of at most one second: if the nanoseconds are
+-- a second or more, they don't have the opposite sign of the seconds.
 pub CanCarry-sum : (a b : Inside) → IsNormal a → IsNormal b → CanCarry (a.seconds +ℤ b.seconds) (a.nanoseconds +ℤ b.nanoseconds)
 CanCarry-sum a b h k = record {
   above = omega (arith, ints, h.above, k.above);
@@ -157,7 +160,7 @@ CanCarry-difference a b h k = record {
       omega (arith, ints);
 }
 
--- the sum and the difference of two numbers, from those of their fields
+-- The sum and the difference of two numbers, from the sums and differences of their fields.
 pub sum-fields : (a b : Inside) (v w : ℤ) → nanoseconds_in a ≡ v → nanoseconds_in b ≡ w → (a.seconds +ℤ b.seconds) *ℤ pos second +ℤ (a.nanoseconds +ℤ b.nanoseconds) ≡ v +ℤ w
 sum-fields a b v w is_v is_w = omega (arith, ints)
 

@@ -1,4 +1,4 @@
--- What the clamp of a number is, inside the range and past either end.
+-- The result of `clamp` inside the range and outside it.
 use Rattle.std.proofs.Common.{◌≡◌, ℤ, pos, neg_ℤ, ◌+ℤ◌, ◌≤ℤ◌, ◌<ℤ◌, FitsSigned, arith}
 use Rattle.std.specs.Int.{int_min, w64}
 use Rattle.std.proofs.lemmas.Int.{ints, clamps, by_lt_z}
@@ -25,7 +25,8 @@ clamp-above v low outside =
     (λ above. omega (arith, ints, clamps))
     (λ high. absurd (outside (record { at_least = low; at_most = high })))
 
--- a sum with a side below 0 is not past the greatest duration, and one with no side below 0 not before the least
+-- A sum is not above the maximum if the seconds of one side are negative, and not below the minimum
+-- if the seconds of no side are.
 module _ (a b : Inside) (v w : ℤ) (h : IsNormal a) (k : IsNormal b) (f : FitsSigned w64 a.seconds) (g : FitsSigned w64 b.seconds) (is_v : nanoseconds_in a ≡ v) (is_w : nanoseconds_in b ≡ w) where
   pub sum-at_most : int_min a.seconds b.seconds <ℤ pos 0 → (v +ℤ w) ≤ℤ greatest
   sum-at_most side =

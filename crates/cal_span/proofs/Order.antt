@@ -1,4 +1,4 @@
--- To compare the seconds, and then the nanoseconds, is to compare the numbers.
+-- Comparing the seconds, and then the nanoseconds, compares the numbers.
 use Rattle.std.proofs.Common.{◌≡◌, ℤ, ◌<ℤ◌, arith, sym, Less, Equal, Greater}
 use Rattle.std.specs.Ordering.{int_cmp, ordering_then}
 use Rattle.std.proofs.lemmas.Int.{ints, by_lt_z}
@@ -6,7 +6,7 @@ use Rattle.cal_span.specs.Fields.{nanoseconds_in, IsNormal}
 use Rattle.cal_span.specs.FieldsLaws.{times-second}
 use Rattle.cal_span.specs.declared.signed_duration.SignedDuration.TheInside.{Inside}
 
--- what `int_cmp` answers
+-- The results of `int_cmp`.
 int_cmp-less : (x y : ℤ) → x <ℤ y → int_cmp x y ≡ Less
 int_cmp-less x y h = grind (arith, ints)
 
@@ -16,14 +16,14 @@ int_cmp-greater x y h = grind (arith, ints)
 int_cmp-equal : (x y : ℤ) → x ≡ y → int_cmp x y ≡ Equal
 int_cmp-equal x y h = grind (arith, ints)
 
--- fewer seconds are fewer nanoseconds
+-- Fewer seconds are fewer nanoseconds.
 fewer : (a b : Inside) → IsNormal a → IsNormal b → a.seconds <ℤ b.seconds → nanoseconds_in a <ℤ nanoseconds_in b
 fewer a b h k lt =
     let p = times-second a.seconds in
     let q = times-second b.seconds in
     grind (arith, ints)
 
--- where the seconds are equal, the nanoseconds decide
+-- If the seconds are equal, the nanoseconds decide.
 then_fewer : (a b : Inside) → a.seconds ≡ b.seconds → a.nanoseconds <ℤ b.nanoseconds → nanoseconds_in a <ℤ nanoseconds_in b
 then_fewer a b e lt =
     let p = times-second a.seconds in

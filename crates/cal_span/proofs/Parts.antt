@@ -1,4 +1,4 @@
--- The positive and the negative part of a duration's number are those of its fields.
+-- The positive and the negative part of a duration's number, from its fields.
 use Rattle.std.proofs.Common.{◌≡◌, zero, suc, ℤ, pos, negsuc, ◌+ℤ◌, ◌*ℤ◌, ◌≤ℤ◌, ◌<ℤ◌, ◌+◌, ◌*◌, arith}
 use borrow.Author.Differences.{up, down}
 use Rattle.std.proofs.lemmas.Int.{ints}
@@ -7,7 +7,7 @@ use Rattle.cal_span.specs.Fields.{nanoseconds_in, IsNormal}
 use Rattle.cal_span.specs.FieldsLaws.{times-second}
 use Rattle.cal_span.specs.declared.signed_duration.SignedDuration.TheInside.{Inside}
 
--- numbers that are not of opposite signs add up part by part
+-- Numbers that don't have opposite signs add up part by part.
 pub sum-parts : (x y : ℤ) → (pos 0 <ℤ x → pos 0 ≤ℤ y) → (x <ℤ pos 0 → y ≤ℤ pos 0) → (up (x +ℤ y) ≡ up x + up y) × (down (x +ℤ y) ≡ down x + down y)
 sum-parts (pos m) (pos n) p q = (omega (arith, ints), omega (arith, ints))
 sum-parts (pos zero) (negsuc n) p q =

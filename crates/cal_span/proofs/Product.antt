@@ -1,4 +1,4 @@
--- The product of a duration and a number, from the products of its fields.
+-- The product of a duration and a factor, from the products of its fields.
 use Rattle.std.proofs.Common.{◌≡◌, zero, suc, ◌*◌, ◌≤◌, ◌<◌, lit<, ℤ, pos, negsuc, ◌+ℤ◌, ◌*ℤ◌, ◌≤ℤ◌, ◌<ℤ◌, unsigned_abs, int_rem, FitsSigned, sym, ap, ◌∙◌, arith}
 use Rattle.std.specs.Int.{w64}
 use borrow.Author.Differences.{up, down, same_in, sum_is_lem, product_is}
@@ -10,7 +10,7 @@ use Rattle.cal_span.specs.Fields.{nanoseconds_in, IsNormal}
 use Rattle.cal_span.specs.FieldsLaws.{times-second, fields_of-nanoseconds_in}
 use Rattle.cal_span.specs.declared.signed_duration.SignedDuration.TheInside.{Inside}
 
--- a product is the sum of the products of the parts
+-- The product of a sum is the sum of the products.
 product-sum : (x y k : ℤ) → (x +ℤ y) *ℤ k ≡ x *ℤ k +ℤ y *ℤ k
 product-sum x y k =
     let sum = sum_is_lem x y in
@@ -33,7 +33,7 @@ product-fields a v k is_v =
     ∙ product-sum (a.seconds *ℤ pos second) a.nanoseconds k
     ∙ ap (λ x. x +ℤ a.nanoseconds *ℤ k) (product-second a.seconds k)
 
--- numbers that are not of opposite signs have products by one factor that are not
+-- If two numbers don't have opposite signs, their products with the same factor don't either.
 pub product-positive : (s n k : ℤ) → (pos 0 <ℤ s → pos 0 ≤ℤ n) → (s <ℤ pos 0 → n ≤ℤ pos 0) → pos 0 <ℤ (s *ℤ k) → pos 0 ≤ℤ (n *ℤ k)
 product-positive (pos s) (pos n) (pos k) p q h = omega (arith, ints)
 product-positive (pos s) (pos n) (negsuc k) p q h = absurd (omega (arith, ints))
@@ -54,7 +54,7 @@ product-negative (negsuc s) (pos (suc n)) k p q h = absurd (omega (arith, ints, 
 product-negative (negsuc s) (negsuc n) (pos k) p q h = omega (arith, ints)
 product-negative (negsuc s) (negsuc n) (negsuc k) p q h = absurd (omega (arith, ints))
 
--- what is past the seconds times a factor of 33 bits fits
+-- The nanoseconds past the seconds, times a factor of 33 bits, fit in an i64.
 pub past-fits : (v k : ℤ) → IsWithin 4_294_967_295 k → FitsSigned w64 (past_second v *ℤ k)
 past-fits v k within =
     let parts = quot-rem v (pos second) in
@@ -67,7 +67,7 @@ past_second-fields a v h is_v =
     let rest : int_rem v (pos second) ≡ a.nanoseconds = ap (λ x. int_rem x (pos second)) (sym is_v) ∙ ap (λ fields. fields.nanoseconds) (fields_of-nanoseconds_in a h) in
     omega (arith, ints)
 
--- the fields of a number have its sign
+-- The fields of a number have its sign.
 above-fields : (a : Inside) → IsNormal a → pos 0 ≤ℤ nanoseconds_in a → (pos 0 ≤ℤ a.seconds) × (pos 0 ≤ℤ a.nanoseconds)
 above-fields a h from =
     let t = times-second a.seconds in
@@ -78,7 +78,7 @@ below-fields a h to =
     let t = times-second a.seconds in
     (grind (arith, ints), grind (arith, ints))
 
--- the seconds of a small number times k are not more than k
+-- If n is less than a second, the seconds of n * k are not more than k.
 seconds-small : (a : Inside) (n k : ℤ) → IsNormal a → nanoseconds_in a ≡ n *ℤ k → unsigned_abs n ≤ 999_999_999 → unsigned_abs a.seconds ≤ unsigned_abs k
 seconds-small a n k h is small =
     let size = unsigned_abs-mul n k in
@@ -86,7 +86,8 @@ seconds-small a n k h is small =
     let t = times-second a.seconds in
     grind (arith, ints)
 
--- b, the product of what a has past its seconds and a factor k, carries its seconds over into the product of a and k
+-- b is the product of k and the nanoseconds of a past its seconds. Its seconds carry over into the
+-- product of a and k.
 pub record IsProduct (a b : Inside) (v k : ℤ) : Type 0 where
   pub small : unsigned_abs b.seconds ≤ unsigned_abs k
   pub positive : pos 0 <ℤ (a.seconds *ℤ k) → pos 0 ≤ℤ b.seconds
@@ -116,7 +117,7 @@ IsProduct-of a b v k h g is_v is_past =
           omega (arith, ints, product-fields a v k is_v);
     }
 
--- two factors of 32 bits, and a carry that is not above the second one, cannot overflow
+-- Two factors of 32 bits and a carry that is not above the second factor cannot overflow.
 pub small-fits : (s k c : ℤ) → unsigned_abs s < 4_294_967_295 → unsigned_abs k ≤ 2_147_483_648 → unsigned_abs c ≤ unsigned_abs k
     → FitsSigned w64 (s *ℤ k) × FitsSigned w64 (s *ℤ k +ℤ c)
 small-fits s k c s_small k_small c_small =

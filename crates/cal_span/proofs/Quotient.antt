@@ -1,4 +1,4 @@
--- The quotient of a number by a number, from the magnitudes and the signs.
+-- The quotient of two numbers, from their magnitudes and signs.
 use Rattle.std.proofs.Common.{◌≡◌, ◌≢◌, ◌↔◌, ℕ, zero, suc, ◌+◌, ◌*◌, ◌/◌, ◌%◌, ◌<◌, Bool, true, false, not, ℤ, pos, negsuc, ◌<ℤ◌, unsigned_abs, IsTrue, Option, Some, None, SomeIff, refl, sym, ap, subst, ◌∙◌, arith}
 use mathlib.Core.Bool.{beq}
 use Rattle.std.specs.Int.Signed.{lt_z}
@@ -6,7 +6,7 @@ use Rattle.std.proofs.lemmas.Int.{ints}
 use Rattle.std.proofs.lemmas.Nat.{div_below, mod_below, div-add-mod', div-mul-add}
 use Rattle.cal_span.specs.SignedDuration.{second, IsDuration, HasQuotient, cut, with_sign}
 
--- whole seconds divided, and then what is left of them with the nanoseconds
+-- Long division: first the whole seconds, then their remainder with the nanoseconds.
 pub long-division : (n k : ℕ) → 0 < k → n / second / k * second + (n / second % k * second + n % second) / k ≡ n / k
 long-division n k h =
     let s = n / second in
@@ -16,7 +16,7 @@ long-division n k h =
     let whole : (s / k * second + rest / k) * k + rest % k ≡ n = omega arith in
     sym (div-mul-add (s / k * second + rest / k) k (rest % k) (mod_below rest k h)) ∙ ap (λ x. x / k) whole
 
--- the second of these quotients is less than a second
+-- The second of these quotients is less than a second.
 pub rest-below : (n k : ℕ) → 0 < k → (n / second % k * second + n % second) / k < second
 rest-below n k h =
     let s = n / second in
@@ -24,7 +24,7 @@ rest-below n k h =
     let below : s % k * second + n % second < second * k = omega arith in
     div_below (s % k * second + n % second) k second h below
 
--- the quotient cut toward zero, where b says that v is below 0
+-- The quotient is truncated toward zero. b says whether v is negative.
 pub cut-signs : (v k : ℤ) (b : Bool) → IsTrue b ↔ (v <ℤ pos 0) → k ≢ pos 0 → with_sign (not (beq b (lt_z k (pos 0)))) (unsigned_abs v / unsigned_abs k) ≡ cut v k
 cut-signs (pos n) (pos k) b is_below apart =
     let left : b ≡ false = grind (arith, ints, is_below) in
@@ -46,7 +46,7 @@ size-above (pos zero) apart = absurd (apart refl)
 size-above (pos (suc n)) apart = omega arith
 size-above (negsuc n) apart = omega arith
 
--- an answer that is exact for a number is exact for a quotient that equals it
+-- A result that is exact for n is exact for a quotient that equals n.
 pub quotient-along : (r : Option ℤ) (n v k : ℤ) → k ≢ pos 0 → n ≡ cut v k → SomeIff r (IsDuration n) n → SomeIff r (HasQuotient v k) (cut v k)
 quotient-along None n v k apart e h = λ q. h (subst IsDuration (sym e) q.quotient)
 quotient-along (Some x) n v k apart e h = (record { divisor = apart; quotient = subst IsDuration e h.0 }, h.1 ∙ e)

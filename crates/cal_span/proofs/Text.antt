@@ -32,7 +32,7 @@ parts_text-fields s n below =
     ++ (part (microseconds i) (0xc2 ∷ 0xb5 ∷ codes "s")
     ++ part (nanoseconds i) (codes "ns")))))))
 
--- the same, appended one after another
+-- The parts, appended one after another.
 pub parts-appended : (a b c d e f g h : List ℕ) (s n : ℕ) → n < second → b ≡ a ++ part (s / 86_400) (codes "d") → c ≡ b ++ part (s % 86_400 / 3_600) (codes "h")
     → d ≡ c ++ part (s % 86_400 / 60 % 60) (codes "m") → e ≡ d ++ part (s % 86_400 % 60) (codes "s") → f ≡ e ++ part (n / 1_000_000) (codes "ms")
     → g ≡ f ++ part (n / 1_000 % 1_000) (0xc2 ∷ 0xb5 ∷ codes "s") → h ≡ g ++ part (n % 1_000) (codes "ns") → h ≡ a ++ parts_text (s * second + n)
@@ -45,7 +45,7 @@ parts-appended a b c d e f g h s n below p q r t u v w =
     regrouped : (a d h m s x y z : List ℕ) → a ++ d ++ h ++ m ++ s ++ x ++ y ++ z ≡ a ++ (d ++ (h ++ (m ++ (s ++ (x ++ (y ++ z))))))
     regrouped a d h m s x y z = simp append_assoc
 
--- the length of a number and its unit
+-- The length of a number and its unit.
 some-part : (n : ℕ) (unit : List ℕ) → 0 < n → part n unit ≡ decimal n ++ unit
 some-part n unit some = grind (arith, nat_tests)
 
@@ -62,7 +62,7 @@ length-below_100 n unit below = length-part 2 n unit (omega arith) (omega (arith
 pub length-below_1000 : (n : ℕ) (unit : List ℕ) → n < 1_000 → length (part n unit) ≤ 3 + length unit
 length-below_1000 n unit below = length-part 3 n unit (omega arith) (omega (arith, below)) (omega (arith, below))
 
--- the text of a number below 0, and of one above
+-- The text of a negative number and of a positive number.
 pub text-negative : (v : ℤ) (s n : ℕ) → v <ℤ pos 0 → s ≡ unsigned_abs v / second → n ≡ unsigned_abs v % second → codes "-" ++ parts_text (s * second + n) ≡ text v
 text-negative (pos k) s n below e f = absurd (omega (arith, ints))
 text-negative (negsuc k) s n below e f =

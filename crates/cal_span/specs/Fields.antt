@@ -1,32 +1,33 @@
--- How a duration is kept: whole seconds, and nanoseconds of the same sign.
+-- A duration is stored as whole seconds and nanoseconds that don't have opposite signs.
 use Rattle.std.specs.Prelude.{ℤ, pos, neg_ℤ, ◌+ℤ◌, ◌-ℤ◌, ◌*ℤ◌, ◌≤ℤ◌, ◌<ℤ◌, int_div, int_rem}
 use Rattle.cal_span.specs.SignedDuration.{second}
 use Rattle.cal_span.specs.declared.signed_duration.SignedDuration.TheInside.{Inside}
 
--- the number of nanoseconds
+-- The number of nanoseconds of the fields.
 abbrev pub nanoseconds_in : Inside → ℤ
 nanoseconds_in fields = fields.seconds *ℤ pos second +ℤ fields.nanoseconds
 
--- the nanoseconds are less than a second, and the fields are not of opposite signs
+-- The nanoseconds are less than a second, and the fields don't have opposite signs.
 pub record IsNormal (fields : Inside) : Type 0 where
   pub above : neg_ℤ (pos second) <ℤ fields.nanoseconds
   pub below : fields.nanoseconds <ℤ pos second
   pub positive : pos 0 <ℤ fields.seconds → pos 0 ≤ℤ fields.nanoseconds
   pub negative : fields.seconds <ℤ pos 0 → fields.nanoseconds ≤ℤ pos 0
 
--- the fields of a number
+-- The fields of a number of nanoseconds.
 abbrev pub fields_of : ℤ → Inside
 fields_of v = record { seconds = int_div v (pos second); nanoseconds = int_rem v (pos second) }
 
--- one second at most is carried between seconds and nanoseconds: these are less than two seconds, and not against the seconds
--- where they are a second or more
+-- A carry of one second is enough if the nanoseconds are less than two seconds, or less than one
+-- second if they and the seconds have opposite signs.
 pub record CanCarry (seconds nanoseconds : ℤ) : Type 0 where
   pub above : neg_ℤ (pos 2_000_000_000) <ℤ nanoseconds
   pub below : nanoseconds <ℤ pos 2_000_000_000
   pub over : pos second ≤ℤ nanoseconds → pos 0 ≤ℤ seconds
   pub under : nanoseconds ≤ℤ neg_ℤ (pos second) → seconds ≤ℤ pos 0
 
--- so many seconds go over from the nanoseconds to the seconds
+-- The carry is -1, 0 or 1 second. It moves from the nanoseconds to the seconds, and makes the
+-- fields normal.
 pub record IsCarry (seconds nanoseconds carry : ℤ) : Type 0 where
   pub at_least : neg_ℤ (pos 1) ≤ℤ carry
   pub at_most : carry ≤ℤ pos 1

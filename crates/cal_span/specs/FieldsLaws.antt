@@ -1,4 +1,4 @@
--- The laws that the model of a duration cites: a number and its fields give each other back.
+-- Laws of the model of a duration: numbers and normal fields correspond to each other.
 use Rattle.std.specs.Prelude.{◌≡◌, ℤ, pos, negsuc, ◌*ℤ◌, ◌≤ℤ◌, ◌*◌, int_rem}
 use Rattle.std.proofs.Common.{arith}
 use borrow.Author.Differences.{up, down}
@@ -7,12 +7,12 @@ use Rattle.cal_span.specs.SignedDuration.{second}
 use Rattle.cal_span.specs.Fields.{nanoseconds_in, IsNormal, fields_of}
 use Rattle.cal_span.specs.declared.signed_duration.SignedDuration.TheInside.{Inside}
 
--- a remainder has the sign of what was divided
+-- A remainder and its dividend don't have opposite signs.
 pub rem-sign : (v : ℤ) → (pos 0 ≤ℤ v → pos 0 ≤ℤ int_rem v (pos second)) × (v ≤ℤ pos 0 → int_rem v (pos second) ≤ℤ pos 0)
 rem-sign (pos n) = (λ h. omega (arith, ints), λ h. omega (arith, ints))
 rem-sign (negsuc n) = (λ h. omega (arith, ints), λ h. omega (arith, ints))
 
--- the fields of any number are normal
+-- The fields of a number are normal.
 pub IsNormal-fields_of : (v : ℤ) → IsNormal (fields_of v)
 IsNormal-fields_of v =
     let parts = quot-rem v (pos second) in
@@ -20,22 +20,23 @@ IsNormal-fields_of v =
     let sign = rem-sign v in
     record { above = omega (arith, ints); below = omega (arith, ints); positive = λ h. omega (arith, ints); negative = λ h. omega (arith, ints) }
 
--- a second times a number
+-- The positive part and the negative part of a number of seconds in nanoseconds.
 pub times-second : (s : ℤ) → (up (s *ℤ pos second) ≡ second * up s) × (down (s *ℤ pos second) ≡ second * down s)
 times-second (pos n) = (omega (arith, ints), omega (arith, ints))
 times-second (negsuc n) = (omega (arith, ints), omega (arith, ints))
 
--- a number has one pair of normal fields
+-- A number has only one pair of normal fields.
 one-pair : (a b : Inside) → IsNormal a → IsNormal b → nanoseconds_in a ≡ nanoseconds_in b → (a.seconds ≡ b.seconds) × (a.nanoseconds ≡ b.nanoseconds)
 one-pair a b h k e =
     let p = times-second a.seconds in
     let q = times-second b.seconds in
     (grind (arith, ints), grind (arith, ints))
 
--- the fields give the number, and the number the fields
+-- The number of the fields of v is v.
 pub nanoseconds_in-fields_of : (v : ℤ) → nanoseconds_in (fields_of v) ≡ v
 nanoseconds_in-fields_of v = quot-rem v (pos second)
 
+-- Normal fields are the fields of their number.
 pub fields_of-nanoseconds_in : (fields : Inside) → IsNormal fields → fields_of (nanoseconds_in fields) ≡ fields
 fields_of-nanoseconds_in fields h =
     let v = nanoseconds_in fields in

@@ -1,12 +1,12 @@
-//! What no clause of a constant or of a derived trait can say: functions that give them back. And a caller that knows no more
-//! than the condition of a call, so a wrong body with a stronger one is refused without the tests.
+//! Properties of constants and derived traits, which have no clauses: functions return their
+//! values.
 ghost use Rattle.std.specs.Prelude.{◌≡◌, pos, ◌*ℤ◌, Some, Ok, slice_get};
 ghost use Rattle.cal_span.specs.SignedDuration.{microsecond, millisecond, second, minute, hour, day, week, least, greatest, IsDuration};
 
 use crate::signed_duration::SignedDuration;
 use std::alloc::AllocError;
 
-/// The units, from the nanosecond to the week, each by its number.
+/// Returns the units from the nanosecond to the week.
 pub(crate) fn units() -> [SignedDuration; 8]
     ensures nanosecond_is { slice_get result 0 ≡ Some (pos 1) }
     ensures microsecond_is { slice_get result 1 ≡ Some (pos microsecond) }
@@ -29,7 +29,7 @@ pub(crate) fn units() -> [SignedDuration; 8]
     ]
 }
 
-/// Zero and the two limits, each by its number.
+/// Returns zero, the minimum and the maximum.
 pub(crate) fn limits() -> [SignedDuration; 3]
     ensures zero_is { slice_get result 0 ≡ Some (pos 0) }
     ensures min_is { slice_get result 1 ≡ Some least }
@@ -42,14 +42,15 @@ pub(crate) fn limits() -> [SignedDuration; 3]
     ]
 }
 
-/// A clone, which equals what it is made from.
+/// Returns a clone, which equals the original.
 pub(crate) fn cloned(duration: SignedDuration) -> Result<SignedDuration, AllocError>
     ensures { result ≡ Ok duration }
 {
     duration.clone()
 }
 
-/// So many weeks, for a caller that knows no more than that they are a duration.
+/// Creates a duration of `weeks` weeks. The caller knows only that it is in the range, so the check
+/// rejects a stronger condition of `weeks`.
 pub(crate) fn of_weeks(weeks: i64) -> SignedDuration
     requires { IsDuration (weeks *ℤ pos week) }
 {

@@ -1,4 +1,4 @@
-//! Signed lengths of time, to the nanosecond.
+//! Signed durations with nanosecond precision.
 #![tactic(auto)]
 
 mod laws;

@@ -1,4 +1,4 @@
-//! Durations: their making and their parts.
+//! Durations: constructors and parts.
 ghost use Rattle.std.specs.Prelude.{◌≡◌, ◌↔◌, pos, ◌+ℤ◌, ◌*ℤ◌, ◌<ℤ◌, ◌/◌, ◌%◌, unsigned_abs, FitsSigned, IsTrue};
 ghost use Rattle.std.specs.Int.{w64};
 ghost use Rattle.cal_span.specs.SignedDuration.{microsecond, millisecond, second, minute, hour, day, week, IsDuration, clamp, cut, past_second};
@@ -28,16 +28,16 @@ const SECONDS_PER_DAY: i64 = 86_400;
 
 const SECONDS_PER_WEEK: i64 = 604_800;
 
-/// A signed length of time, exact to the nanosecond.
+/// A signed duration with nanosecond precision.
 ///
-/// It is one whole number of nanoseconds, from those of [`Self::MIN`] to those of [`Self::MAX`], and
-/// each number between them is a duration. Order, equality and hash are those of the number. It is
-/// kept as whole seconds and the nanoseconds past them, which are never of opposite signs. A day has
-/// 24 hours, and a week 7 days.
+/// It is a whole number of nanoseconds from [`Self::MIN`] to [`Self::MAX`], and each number between
+/// them is a duration. Durations compare and hash by this number. A day has 24 hours, and a week 7
+/// days. The fields are whole seconds and the nanoseconds past them, which never have opposite
+/// signs.
 ///
-/// The operators `+`, `-`, `*` and `/` give the exact result, a quotient cut toward zero:
-/// `SECOND * 200u8` is 200 s, and `nanoseconds(-7) / 2i8` is -3 ns. Their condition is that the result
-/// is a duration, and the divisor not zero.
+/// The operators `+`, `-`, `*` and `/` return the exact result; `/` truncates toward zero. For
+/// example, `SECOND * 200u8` is 200 s, and `nanoseconds(-7) / 2i8` is -3 ns. The result must be in
+/// the range, and the divisor must not be zero.
 #[derive(Clone, Copy, Debug)]
 pub struct SignedDuration {
     seconds: i64,
@@ -62,7 +62,7 @@ impl Model for SignedDuration {
 }
 
 impl SignedDuration {
-    /// No time.
+    /// Zero.
     pub const ZERO: Self = Self {
         seconds: 0,
         nanoseconds: 0,
@@ -86,7 +86,7 @@ impl SignedDuration {
         nanoseconds: 1_000_000,
     };
 
-    /// One second.
+    /// One second, 1000 milliseconds.
     pub const SECOND: Self = Self {
         seconds: 1,
         nanoseconds: 0,
@@ -116,26 +116,23 @@ impl SignedDuration {
         nanoseconds: 0,
     };
 
-    /// The least duration, -9223372036854775808.999999999 seconds.
+    /// The minimum duration, -9223372036854775808.999999999 seconds.
     pub const MIN: Self = Self {
         seconds: -9_223_372_036_854_775_808,
         nanoseconds: -999_999_999,
     };
 
-    /// The greatest duration, 9223372036854775807.999999999 seconds.
+    /// The maximum duration, 9223372036854775807.999999999 seconds.
     pub const MAX: Self = Self {
         seconds: 9_223_372_036_854_775_807,
         nanoseconds: 999_999_999,
     };
 
-    /// That many seconds and nanoseconds, which may be of opposite signs, and of which the
+    /// Creates a duration from seconds and nanoseconds, which may have opposite signs. The
     /// nanoseconds may be more than a second.
     ///
-    /// `new(-1, 1)` is 0 s and -999999999 ns, and `new(1, 2_000_000_000)` is 3 s.
-    ///
-    /// # Condition
-    ///
-    /// The seconds and the whole seconds among the nanoseconds, cut toward zero, are together an `i64`.
+    /// `new(-1, 1)` is -999999999 ns, and `new(1, 2_000_000_000)` is 3 s. The sum of `seconds` and
+    /// the whole seconds of `nanoseconds`, truncated toward zero, must fit in an `i64`.
     pub fn new(seconds: i64, nanoseconds: i32) -> Self
         requires { FitsSigned w64 (seconds +ℤ cut nanoseconds (pos second)) }
         ensures { result ≡ seconds *ℤ pos second +ℤ nanoseconds }
@@ -144,7 +141,8 @@ impl SignedDuration {
         Self::checked_new(seconds + carry, nanoseconds % NANOSECONDS_PER_SECOND).unwrap()
     }
 
-    /// That many weeks of 7 days, from -15250284452471 to 15250284452471: `weeks(2)` is 1209600 s.
+    /// Creates a duration from weeks of 7 days, from -15250284452471 to 15250284452471. `weeks(2)`
+    /// is 1209600 s.
     pub fn weeks(weeks: i64) -> Self
         requires { IsDuration (weeks *ℤ pos week) }
         ensures { result ≡ weeks *ℤ pos week }
@@ -152,7 +150,8 @@ impl SignedDuration {
         Self::seconds(weeks * SECONDS_PER_WEEK)
     }
 
-    /// That many days of 24 hours, from -106751991167300 to 106751991167300: `days(-3)` is -259200 s.
+    /// Creates a duration from days of 24 hours, from -106751991167300 to 106751991167300.
+    /// `days(-3)` is -259200 s.
     pub fn days(days: i64) -> Self
         requires { IsDuration (days *ℤ pos day) }
         ensures { result ≡ days *ℤ pos day }
@@ -160,7 +159,8 @@ impl SignedDuration {
         Self::seconds(days * SECONDS_PER_DAY)
     }
 
-    /// That many hours, from -2562047788015215 to 2562047788015215: `hours(36)` is 129600 s.
+    /// Creates a duration from hours, from -2562047788015215 to 2562047788015215. `hours(36)` is
+    /// 129600 s.
     pub fn hours(hours: i64) -> Self
         requires { IsDuration (hours *ℤ pos hour) }
         ensures { result ≡ hours *ℤ pos hour }
@@ -168,7 +168,8 @@ impl SignedDuration {
         Self::seconds(hours * SECONDS_PER_HOUR)
     }
 
-    /// That many minutes, from -153722867280912930 to 153722867280912930: `minutes(90)` is 5400 s.
+    /// Creates a duration from minutes, from -153722867280912930 to 153722867280912930.
+    /// `minutes(90)` is 5400 s.
     pub fn minutes(minutes: i64) -> Self
         requires { IsDuration (minutes *ℤ pos minute) }
         ensures { result ≡ minutes *ℤ pos minute }
@@ -176,7 +177,7 @@ impl SignedDuration {
         Self::seconds(minutes * SECONDS_PER_MINUTE)
     }
 
-    /// That many seconds, of which every `i64` is a duration: `seconds(-5)` is -5000000000 ns.
+    /// Creates a duration from any number of seconds. `seconds(-5)` is -5000000000 ns.
     pub fn seconds(seconds: i64) -> Self
         ensures { result ≡ seconds *ℤ pos second }
     {
@@ -186,9 +187,7 @@ impl SignedDuration {
         }
     }
 
-    /// That many milliseconds, of which every `i64` is a duration.
-    ///
-    /// `milliseconds(-1_500)` is -1 s and -500000000 ns.
+    /// Creates a duration from any number of milliseconds. `milliseconds(-1_500)` is -1.5 s.
     pub fn milliseconds(milliseconds: i64) -> Self
         ensures { result ≡ milliseconds *ℤ pos millisecond }
     {
@@ -199,9 +198,7 @@ impl SignedDuration {
         }
     }
 
-    /// That many microseconds, of which every `i64` is a duration.
-    ///
-    /// `microseconds(1_500_000)` is 1 s and 500000000 ns.
+    /// Creates a duration from any number of microseconds. `microseconds(1_500_000)` is 1.5 s.
     pub fn microseconds(microseconds: i64) -> Self
         ensures { result ≡ microseconds *ℤ pos microsecond }
     {
@@ -212,7 +209,7 @@ impl SignedDuration {
         }
     }
 
-    /// That many nanoseconds, of which every `i64` is a duration: `nanoseconds(-1)` is 0 s and -1 ns.
+    /// Creates a duration from any number of nanoseconds. `nanoseconds(-1)` is -1 ns.
     pub fn nanoseconds(nanoseconds: i64) -> Self
         ensures { result ≡ nanoseconds }
     {
@@ -222,9 +219,8 @@ impl SignedDuration {
         }
     }
 
-    /// That many nanoseconds, from those of [`Self::MIN`] to those of [`Self::MAX`].
-    ///
-    /// `nanoseconds_i128(1_000_000_001)` is 1 s and 1 ns.
+    /// Creates a duration from nanoseconds, which must be in the range from [`Self::MIN`] to
+    /// [`Self::MAX`]. `nanoseconds_i128(1_000_000_001)` is 1 s and 1 ns.
     pub fn nanoseconds_i128(nanoseconds: i128) -> Self
         requires { IsDuration nanoseconds }
         ensures { result ≡ nanoseconds }
@@ -235,28 +231,28 @@ impl SignedDuration {
         }
     }
 
-    /// Whether the duration is zero, as [`Self::ZERO`] is, and 1 ns is not.
+    /// Returns `true` if the duration is zero.
     pub fn is_zero(self) -> bool
         ensures { IsTrue result ↔ (self ≡ pos 0) }
     {
         self.seconds == 0 && self.nanoseconds == 0
     }
 
-    /// Whether the duration is below zero, as -1 ns is, and zero is not.
+    /// Returns `true` if the duration is negative. -1 ns is negative, and zero isn't.
     pub fn is_negative(self) -> bool
         ensures { IsTrue result ↔ (self <ℤ pos 0) }
     {
         self.seconds < 0 || self.nanoseconds < 0
     }
 
-    /// Whether the duration is above zero, as 1 ns is, and zero is not.
+    /// Returns `true` if the duration is positive. 1 ns is positive, and zero isn't.
     pub fn is_positive(self) -> bool
         ensures { IsTrue result ↔ (pos 0 <ℤ self) }
     {
         self.seconds > 0 || self.nanoseconds > 0
     }
 
-    /// The magnitude, or [`Self::MAX`] where it is past that: `MIN.abs()` is `MAX`.
+    /// Returns the absolute value, clamped to [`Self::MAX`]. `MIN.abs()` is `MAX`.
     pub fn abs(self) -> Self
         ensures { result ≡ clamp (pos (unsigned_abs self)) }
     {
@@ -269,8 +265,8 @@ impl SignedDuration {
         }
     }
 
-    /// The magnitude, as its whole seconds and the nanoseconds past them: for [`Self::MIN`]
-    /// 9223372036854775808 and 999999999.
+    /// Returns the absolute value as whole seconds and the nanoseconds past them. For [`Self::MIN`]
+    /// they are 9223372036854775808 and 999999999.
     pub fn unsigned_abs(self) -> (u64, u32)
         ensures seconds { result.0 ≡ unsigned_abs self / second }
         ensures nanoseconds { result.1 ≡ unsigned_abs self % second }
@@ -278,42 +274,42 @@ impl SignedDuration {
         (self.seconds.unsigned_abs(), self.nanoseconds.unsigned_abs())
     }
 
-    /// The whole weeks, cut toward zero: those of -6 days are 0.
+    /// Returns the number of whole weeks, truncated toward zero. For -6 days it is 0.
     pub fn whole_weeks(self) -> i64
         ensures { result ≡ cut self (pos week) }
     {
         self.seconds / SECONDS_PER_WEEK
     }
 
-    /// The whole days, cut toward zero: those of 47 hours are 1, those of -47 hours -1.
+    /// Returns the number of whole days, truncated toward zero. For -47 hours it is -1.
     pub fn whole_days(self) -> i64
         ensures { result ≡ cut self (pos day) }
     {
         self.seconds / SECONDS_PER_DAY
     }
 
-    /// The whole hours, cut toward zero: those of -90 minutes are -1.
+    /// Returns the number of whole hours, truncated toward zero. For -90 minutes it is -1.
     pub fn whole_hours(self) -> i64
         ensures { result ≡ cut self (pos hour) }
     {
         self.seconds / SECONDS_PER_HOUR
     }
 
-    /// The whole minutes, cut toward zero: those of 90 s are 1.
+    /// Returns the number of whole minutes, truncated toward zero. For 90 s it is 1.
     pub fn whole_minutes(self) -> i64
         ensures { result ≡ cut self (pos minute) }
     {
         self.seconds / SECONDS_PER_MINUTE
     }
 
-    /// The whole seconds, cut toward zero: those of -1.5 s are -1.
+    /// Returns the number of whole seconds, truncated toward zero. For -1.5 s it is -1.
     pub fn whole_seconds(self) -> i64
         ensures { result ≡ cut self (pos second) }
     {
         self.seconds
     }
 
-    /// The whole milliseconds, cut toward zero: those of -1.5 s are -1500.
+    /// Returns the number of whole milliseconds, truncated toward zero. For -1.5 s it is -1500.
     pub fn whole_milliseconds(self) -> i128
         ensures { result ≡ cut self (pos millisecond) }
     {
@@ -321,7 +317,7 @@ impl SignedDuration {
         i128::from(self.seconds) * MILLISECONDS_PER_SECOND as i128 + i128::from(past)
     }
 
-    /// The whole microseconds, cut toward zero: those of 2500 ns are 2.
+    /// Returns the number of whole microseconds, truncated toward zero. For 2500 ns it is 2.
     pub fn whole_microseconds(self) -> i128
         ensures { result ≡ cut self (pos microsecond) }
     {
@@ -329,7 +325,7 @@ impl SignedDuration {
         i128::from(self.seconds) * MICROSECONDS_PER_SECOND as i128 + i128::from(past)
     }
 
-    /// The duration in nanoseconds: that of -1.5 s is -1500000000.
+    /// Returns the number of nanoseconds. For -1.5 s it is -1500000000.
     pub fn whole_nanoseconds(self) -> i128
         ensures value { result ≡ self }
         ensures range { IsDuration self }
@@ -337,27 +333,24 @@ impl SignedDuration {
         i128::from(self.seconds) * NANOSECONDS_PER_SECOND as i128 + i128::from(self.nanoseconds)
     }
 
-    /// The milliseconds past the whole seconds, cut toward zero: from -999 to 999.
-    ///
-    /// Those of -1.5 s are -500.
+    /// Returns the milliseconds past the whole seconds, truncated toward zero, from -999 to 999.
+    /// For -1.5 s they are -500.
     pub fn subsec_milliseconds(self) -> i16
         ensures { result ≡ cut (past_second self) (pos millisecond) }
     {
         (self.nanoseconds / NANOSECONDS_PER_MILLISECOND) as i16
     }
 
-    /// The microseconds past the whole seconds, cut toward zero: from -999999 to 999999.
-    ///
-    /// Those of 1 s and 2500 ns are 2.
+    /// Returns the microseconds past the whole seconds, truncated toward zero, from -999999 to
+    /// 999999. For 1 s and 2500 ns they are 2.
     pub fn subsec_microseconds(self) -> i32
         ensures { result ≡ cut (past_second self) (pos microsecond) }
     {
         self.nanoseconds / NANOSECONDS_PER_MICROSECOND
     }
 
-    /// The nanoseconds past the whole seconds: from -999999999 to 999999999.
-    ///
-    /// Those of -1.5 s are -500000000.
+    /// Returns the nanoseconds past the whole seconds, from -999999999 to 999999999. For -1.5 s
+    /// they are -500000000.
     pub fn subsec_nanoseconds(self) -> i32
         ensures { result ≡ past_second self }
     {
@@ -368,7 +361,7 @@ impl SignedDuration {
 impl Default for SignedDuration {
     ghost is_default = { λ duration. duration ≡ pos 0 };
 
-    /// [`Self::ZERO`], 0 ns.
+    /// Returns [`Self::ZERO`].
     fn default() -> Self {
         Self::ZERO
     }

@@ -1,4 +1,4 @@
--- What a text of one shape is, and why it is refused: only the form of this shape is left.
+-- The value and the error of a text of one shape: only the form of this shape is left.
 use Rattle.std.proofs.Common.{◌≡◌, ◌⊎◌, ℕ, ℤ, List, get_or, ap, inl, inr, arith}
 use Rattle.cal_time.specs.Date.{IsDate}
 use Rattle.cal_time.specs.declared.error.ComponentRange.{ComponentRange}

@@ -1,4 +1,4 @@
--- Where a text stops being of any of the forms.
+-- The position at which a text stops matching all forms.
 use Rattle.std.proofs.Common.{◌≡◌, ◌≢◌, ◌⊎◌, ℕ, ◌+◌, ◌<◌, ◌≤◌, pos, max, List, [], ◌∷◌, ◌++◌, length, get_or, take, drop, sym, ap, subst, ◌∙◌, arith, inl, inr}
 use Rattle.std.proofs.lemmas.Bool.{cases_lt}
 use Rattle.std.proofs.lemmas.List.{append_assoc, get_or_append_left, length-take-le, take-append-drop, take-append-le, take_at}
@@ -18,13 +18,14 @@ use Rattle.cal_text.proofs.Positions.{begins_less, carried}
 use Rattle.cal_text.proofs.Shapes.{moment-shape, julian-first, unix-first, date_digits-long}
 use Rattle.cal_text.proofs.YearTexts.{year-plain}
 
--- what is at a position is there in each beginning that goes past it
+-- Each longer beginning of the text has the same byte at i.
 at_same : (text more : List ℕ) (i q : ℕ) → i < q → q ≤ length text → get_or (take q text ++ more) i 0 ≡ get_or text i 0
 at_same text more i q before within =
     let long : i < length (take q text) = omega (arith, length-take-le q text within) in
     get_or_append_left (take q text) more 0 i long ∙ sym (get_or_append_left (take q text) (drop q text) 0 i long) ∙ ap (λ all. get_or all i 0) (take-append-drop q text)
 
--- a position in one form is one in all of them, where what begins one of them there begins that form
+-- A position in one form is a position in all forms, if every beginning of some form there begins
+-- this form.
 widened : (IsText : List ℕ → Type 0) (text : List ℕ) (e : Unreadable) → ((bytes : List ℕ) → IsText bytes → HasAnyForm bytes)
     → ((q : ℕ) → 0 < q → q ≤ length text → Begins HasAnyForm (take q text) → Begins IsText (take q text)) → IsAtStop IsText text e → IsAtStop HasAnyForm text e
 widened IsText text e into back = carried IsText HasAnyForm text e (λ p h. record {
@@ -65,7 +66,7 @@ moment-begins bytes m q h few =
 abbrev IsOther : List ℕ → Type 0
 IsOther text = (get_or text 0 0 ≢ 74) × (get_or text 0 0 ≢ 64)
 
--- what begins any form begins that of a date or that of a moment
+-- The beginning of any form begins a date or a moment.
 abbrev BeginsEither : List ℕ → Type 0
 BeginsEither bytes = Begins (HasSome HasForm) bytes ⊎ Begins (HasSome HasMomentForm) bytes
 

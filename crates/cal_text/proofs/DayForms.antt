@@ -1,4 +1,4 @@
--- A text is one of a day exactly where its form is one that the day has.
+-- A text is a text of a day exactly if the day has the numbers of its form.
 use Rattle.std.proofs.Common.{◌≡◌, ℕ, ◌+◌, Some, refl, sym, ap, ◌∙◌, arith, inl, inr, List}
 use Rattle.std.proofs.lemmas.List.{append_assoc}
 use Rattle.cal_time.specs.CalendarDay.{CalendarDay}

@@ -1,4 +1,4 @@
--- Digits after a point, of which each counts a tenth of the one before.
+-- Digits after a point. Each counts a tenth of the digit before it.
 use Rattle.std.proofs.Common.{◌≡◌, ◌≢◌, ℕ, zero, suc, ◌+◌, ◌-◌, ◌*◌, ◌/◌, ◌<◌, ◌≤◌, ◌^◌, pow-add, List, [], ◌∷◌, ◌++◌, append-nil, length, take, refl, sym, ap, ◌∙◌, arith, inl, inr, lit<}
 use Rattle.std.specs.Char.{digit_value}
 use Rattle.std.specs.Str.Parse.{AllDigits, digits_value}
@@ -26,7 +26,7 @@ nothing : (ds : List ℕ) → decimals_value 0 ds ≡ 0
 nothing [] = refl
 nothing (x ∷ xs) = omega (arith, nothing xs)
 
--- the front and what is missing make the power of ten of the first digit
+-- The digits in front and the missing digits make the power of ten of the first digit.
 front-power : (n : ℕ) (xs : List ℕ) → 10 ^ length (take n xs) * 10 ^ (n - length xs) ≡ 10 ^ n
 front-power n xs =
     elim (cases_lt n (length xs)) as (λ _. 10 ^ length (take n xs) * 10 ^ (n - length xs) ≡ 10 ^ n) [
@@ -92,7 +92,7 @@ value-some ds few some =
     ]
 
 -- ---- read one by one
--- what is read so far, and what the next digits will count
+-- The digits parsed so far, and the value of the next digits.
 pub record AreRead (old mid : List ℕ) (count unit next before now : ℕ) : Type 0 where
   pub digits : List ℕ
   pub all : AllDigits 10 digits

@@ -23,7 +23,7 @@ has_value x h = digit_value_digit x (h.0, h.1)
 pub digit_is : (x : ℕ) → IsIn 48 9 x → digit_value x < 10
 digit_is x h = omega (arith, has_value x h, h.1)
 
--- ---- so many digits
+-- ---- k digits
 abbrev pub IsExact : ℕ → List ℕ → Type 0
 IsExact k ds = AllDigits 10 ds × (length ds ≡ k)
 
@@ -89,7 +89,7 @@ number_part k some few = renamed _ _ _ (λ n. (n < 10 ^ k) × (n < 10 ^ 9)) (dig
     below : (ds : List ℕ) → IsExact k ds → digits_value 10 ds < 10 ^ 9
     below ds h = below-nine ds (digits_value 10 ds) (omega (arith, h.1)) (digits_value-lt 10 ds h.0)
 
--- ---- so many digits and more
+-- ---- k digits or more
 abbrev pub IsCount : ℕ → ℕ → List ℕ → Type 0
 IsCount k more ds = AllDigits 10 ds × (k ≤ length ds) × (length ds ≤ k + more)
 

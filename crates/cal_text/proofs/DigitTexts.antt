@@ -70,7 +70,7 @@ digits-printed (c ∷ d ∷ ds) h some few =
       | inr other ↦ other-first (c ∷ d ∷ ds) (decimal-digits_value own (c ∷ d ∷ ds) h some (λ e. absurd (other e)) (omega arith))
     ]
 
--- the digits of a number that are at least four: as many of five to nine digits do not begin with a zero
+-- Four digits or more of a number. If there are five to nine, the first is not 0.
 length-digits_at_least : (width n : ℕ) → length (digits_at_least width n) ≡ width - length (decimal n) + length (decimal n)
 length-digits_at_least width n =
     length-append (replicate (width - length (decimal n)) 48) (decimal n) ∙ ap (λ k. k + length (decimal n)) (length-replicate {A = ℕ} (width - length (decimal n)) 48)

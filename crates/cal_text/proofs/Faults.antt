@@ -1,4 +1,5 @@
--- What a reader is refused for: from one clause for each component to one for all of them, and from the form to its text.
+-- The errors of parsers: from a clause for each component to one clause for all, and from a form to
+-- its text.
 use Rattle.std.proofs.Common.{◌≡◌, ◌⊎◌, ◌↔◌, Some, None, List, ℕ, Result, Ok, Err, IfErr, sym, ap, subst, ◌∙◌, inl, inr}
 use Rattle.std.proofs.lemmas.Option.{none-some}
 use Rattle.cal_time.specs.Refusal.{IsRefused}
@@ -11,7 +12,8 @@ use Rattle.cal_text.proofs.Results.{one, not_ok}
 abbrev For : ComponentRange → Type 0 → ComponentRange → Type 0
 For a A why = (why ≡ a) × A
 
--- what is refused for one of these is refused for a fault, and the other way round
+-- An error of the result for one of these reasons is a fault, and each fault is an error of the
+-- result.
 pub record AreFaults {V : Type 0} (r : Result V ComponentRange) (Reason Fault : ComponentRange → Type 0) : Type 0 where
   pub found : (why : ComponentRange) → IsRefused why r → Reason why → Fault why
   pub back : (why : ComponentRange) → Fault why → IsRefused why r
@@ -33,7 +35,7 @@ pub all : {V : Type 0} {R P : ComponentRange → Type 0} (r : Result V Component
 all (Ok v) faults reason why = (λ h. absurd h, λ fault. faults.back why fault)
 all {V} {R} (Err e) faults reason why = (λ h. faults.found why h (subst R h reason), λ fault. faults.back why fault)
 
--- ---- a text has one form at most, so its fault is that of the one
+-- ---- a text has at most one form, so it has the errors of this form only
 abbrev pub IsOnly : {F : Type 0} → (List ℕ → F → Type 0) → List ℕ → F → Type 0
 IsOnly {F} Has text form = (other : F) → Has text other → ◌≡◌ {A = Result F ℕ} (Ok form) (Ok other)
 

@@ -34,7 +34,7 @@ first-digit k n x xs rest some h e =
     at [] all size e = absurd (omega arith)
     at (y ∷ ys) all size e = let first : y ≡ x = cc in subst (IsIn 48 9) first (is_digit y all.0)
 
--- ---- what comes after the year
+-- ---- the text after the year
 abbrev WeekParts : Type 0
 WeekParts = ℕ × (Unit {0} × ℕ)
 

@@ -10,6 +10,6 @@ use Rattle.cal_text.proofs.Results.{one}
 pub only : (text : List ℕ) (numbers : Numbers) → HasMomentForm text numbers → IsOnly HasMomentForm text numbers
 only text numbers has other h = ap Ok (moment_shapes.one text numbers other has h)
 
--- the moment of a text has what is at it
+-- The moment of a text has the numbers of the text.
 pub at_only : (text : List ℕ) (moment : Numbers) (at : Shown) → IsOnly HasMomentForm text moment → IsMomentText text at → IsAt moment at
 at_only text moment at every h = subst (λ m. IsAt m at) (sym (one moment h.0 (every h.0 h.1))) h.2

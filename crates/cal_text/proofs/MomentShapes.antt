@@ -198,13 +198,13 @@ front_part : IsPart IsFront front_text ToSeconds
 front_part =
     both _ _ _ _ _ _ (number_part 4 (lit≤ tt) (lit≤ tt)) (both _ _ _ _ _ _ (two_part 45) (both _ _ _ _ _ _ separator_part (both _ _ _ _ _ _ two_digits (two_part 58))))
 
--- the text of these parts, as the form has it
+-- The text of these parts, grouped like the form.
 joined : (ys ms ds hs ns ss rest : List ℕ) (s : ℕ)
     → (ys ++ ((45 ∷ [] ++ (ms ++ (45 ∷ [] ++ ds))) ++ (s ∷ [] ++ (hs ++ (58 ∷ [] ++ (ns ++ (58 ∷ [] ++ ss))))))) ++ rest
     ≡ (ys ++ 45 ∷ [] ++ ms ++ 45 ∷ [] ++ ds) ++ s ∷ ((hs ++ 58 ∷ [] ++ ns ++ 58 ∷ [] ++ ss) ++ rest)
 joined ys ms ds hs ns ss rest s = simp append_assoc
 
--- ---- the whole, with a fraction of so many digits more than one at most
+-- ---- the whole, with a fraction of at most more + 1 digits
 pub record HasMomentUpTo (more : ℕ) (bytes : List ℕ) (m : Numbers) : Type 0 where
   pub form : HasMomentForm bytes m
   pub short : length form.fraction ≤ more + 2

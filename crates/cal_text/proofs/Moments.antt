@@ -1,4 +1,4 @@
--- A moment is that of its day, its time of day and its offset.
+-- A moment has one day, one time of day and one offset.
 use Rattle.std.proofs.Common.{◌≡◌, ℕ, ℤ, ap, ◌∙◌}
 use Rattle.cal_datetime.specs.DateTime.{IsDateTime, date_time, date_at, time_at}
 use Rattle.cal_datetime.specs.DateTimeLaws.{date_time-parts, IsDate-date_at, IsTime-time_at}

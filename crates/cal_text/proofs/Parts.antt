@@ -6,7 +6,7 @@ use Rattle.cal_text.specs.Position.{HasSome}
 use Rattle.cal_text.proofs.Positions.{IsShapeOf}
 use Rattle.cal_text.proofs.Stops.{IsIn, left-in, left-out, left-end, left-branch_in, left-branch_out, left-branch_end, left-done, left-more, in_or_out}
 
--- ---- a part, that more may follow: its texts, each of one value, go to the front of those of any shape
+-- ---- a part, which more may follow: its texts, each with one value, go before the texts of any shape
 pub record Splits {V : Type 0} (Valid : V → Type 0) (text : V → List ℕ) (f : Shape) (bytes : List ℕ) : Type 0 where
   pub value : V
   pub rest : List ℕ
@@ -106,7 +106,8 @@ pub byte_part : (b : ℕ) → IsPart {V = Unit {0}} (λ _. Unit {0}) (λ _. b �
 byte_part b = renamed (λ d. d ≤ 0) (λ d. (b + d) ∷ []) (From b 0) (λ _. Unit {0}) (λ _. b ∷ []) (from_part b 0) (λ (d : ℕ). tt)
     (λ d h. (tt, plus_none b d h)) (λ (u : Unit {0}) h. record { value = 0; valid = lit≤ tt; text_is = sym (plus_none b 0 (lit≤ tt)); same = refl })
 
--- a branch: a byte of the range and then the one part, or the other, which does not begin with such a byte
+-- A branch: a byte of the range and the first part, or the second part, which doesn't begin with
+-- such a byte.
 abbrev pub IsOther : {V W : Type 0} → ℕ → (V → Type 0) → (W → Type 0) → (ℕ × V) ⊎ W → Type 0
 IsOther above Valid Valid' (inl v) = (v.0 ≤ above) × Valid v.1
 IsOther above Valid Valid' (inr w) = Valid' w
@@ -215,7 +216,8 @@ after {V} {W} Valid text part Has f p q = record {
       same_pair V W v w front.0 (q.one b.rest v.1 w.1 (subst (λ rest. Has rest v.1) front.1 a.has) b.has);
 }
 
--- a branch: a byte of the range and a text of the one form, or a text of the other, none of which begins with such a byte
+-- A branch: a byte of the range and a text of the first form, or a text of the second form, which
+-- doesn't begin with such a byte.
 abbrev pub HasEither : {V W : Type 0} → ℕ → ℕ → (List ℕ → V → Type 0) → (List ℕ → W → Type 0) → List ℕ → (ℕ × V) ⊎ W → Type 0
 HasEither low above Has Has' bytes (inl v) = HasAfter (λ d. d ≤ above) (λ d. (low + d) ∷ []) Has bytes v
 HasEither low above Has Has' bytes (inr w) = Has' bytes w

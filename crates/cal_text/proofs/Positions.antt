@@ -1,4 +1,5 @@
--- What a reader that stopped has shown; and that a text stops being of a form at one position.
+-- A parser that stopped has shown a position, and a text stops matching a form at one position
+-- only.
 use Rattle.std.proofs.Common.{◌≡◌, ℕ, suc, ◌+◌, ◌-◌, ◌<◌, ◌≤◌, List, ◌++◌, length, refl, take, drop, sym, ap, subst, ◌∙◌, arith, inl, inr}
 use Rattle.std.proofs.lemmas.Bool.{cases_lt}
 use Rattle.std.proofs.lemmas.List.{length-drop, take-append-drop, append_assoc, take-take}
@@ -8,7 +9,7 @@ use Rattle.cal_text.specs.declared.error.Unreadable.{Unreadable}
 use Rattle.cal_text.specs.declared.error.Unreadable.TheVariants.{UnexpectedByte, UnexpectedEnd, OutOfRange}
 use Rattle.cal_text.proofs.Stops.{gone_over, completed, left-most}
 
--- the texts of the form are those of the shape, and each has one value
+-- The form and the shape have the same texts, and each text has one value.
 pub record IsShapeOf {V : Type 0} (Has : List ℕ → V → Type 0) (f : Shape) : Type 0 where
   pub each : (bytes : List ℕ) → HasSome Has bytes → left f bytes ≡ 0
   pub only : (bytes : List ℕ) → left f bytes ≡ 0 → HasSome Has bytes
@@ -65,7 +66,7 @@ one_position IsText text p q a b =
       ]
     ]
 
--- ---- a reader that stopped: it has shown that the text has no value, and where it stops being of the form
+-- ---- a parser that stopped: the text has no value, and it stops matching the form at the rest
 pub record Stopped {V : Type 0} (Has : List ℕ → V → Type 0) (text rest : List ℕ) : Type 0 where
   pub none : (v : V) → ¬ Has text v
   pub within : length rest ≤ length text
@@ -95,7 +96,7 @@ named IsText text p e at byte end = elim (cases_lt p (length text)) as (λ _. Is
       rw (end whole) (subst (IsPosition IsText text) whole at, refl)
 ]
 
--- and that of another form, where a text stops being of that too
+-- The same error for another form, if the text stops matching both forms at the same position.
 pub carried : (IsText IsOther : List ℕ → Type 0) (text : List ℕ) (e : Unreadable) → ((p : ℕ) → IsPosition IsText text p → IsPosition IsOther text p)
     → IsAtStop IsText text e → IsAtStop IsOther text e
 carried IsText IsOther text (UnexpectedByte p) same h = (same p h.0, h.1)

@@ -1,4 +1,4 @@
--- The decimals that are printed say so many nanoseconds.
+-- The decimals that are printed have the value of the nanoseconds.
 use Rattle.std.proofs.Common.{◌≡◌, ℕ, ◌+◌, ◌*◌, ◌/◌, ◌%◌, ◌<◌, List, [], ◌∷◌, ap, sym, ◌∙◌, refl, arith, inl, inr}
 use Rattle.std.specs.Char.{digit_value}
 use Rattle.std.specs.Str.Parse.{AllDigits}

@@ -1,4 +1,5 @@
--- What each day of the range has lies within the widths of its texts. Each by induction on the number of the day.
+-- The numbers of each day of the range fit their texts. The proofs are inductions on the number of
+-- the day.
 use Rattle.std.proofs.Common.{◌≡◌, ℕ, zero, suc, ◌+◌, ◌*◌, ◌%◌, ◌<◌, ◌≤◌, ℤ, pos, ◌+ℤ◌, ◌≤ℤ◌, Bool, true, false, refl, sym, ap, ◌∙◌, subst, arith, inl, inr, lit≤, ◌⊎◌}
 use Rattle.std.specs.Prelude.{nat_lt, ◌==◌, ◌&&◌, if◌then◌else◌}
 use Rattle.std.specs.Ordering.{int_eq}
@@ -188,7 +189,7 @@ pub weekday_at-below : (n : ℕ) → weekday_at n < 7
 weekday_at-below zero = omega (arith, weekday_at-first)
 weekday_at-below (suc n) = omega (arith, weekday_at-suc n)
 
--- weeks: the Thursdays of a year are seven days apart
+-- Weeks: in a year, each Thursday comes seven days after the previous one.
 abbrev Thursdays : ℕ → ℕ
 Thursdays n = weekdays_upto 3 n
 

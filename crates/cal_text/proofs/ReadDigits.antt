@@ -31,7 +31,7 @@ one_more m d i old mid new h low e = record {
   bytes_are = h.bytes_are ∙ ap (λ rest. h.digits ++ rest) e ∙ sym (append_assoc h.digits ((48 + d) ∷ []) new);
 }
 
--- the first two bytes, where they are digits
+-- The first two bytes, if both are digits.
 pub at_once : (n : ℕ) (old : List ℕ) → 2 ≤ length old → AllDigits 10 (get_or old 0 0 ∷ get_or old 1 0 ∷ []) × (n ≡ digits_value 10 (get_or old 0 0 ∷ get_or old 1 0 ∷ []))
     → ReadsDigits old (take (length old - 2) (drop 2 old)) 2 n
 at_once n [] two h = absurd (omega arith)

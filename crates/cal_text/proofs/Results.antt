@@ -1,7 +1,7 @@
--- What equal results have in common.
+-- Equal results have equal values.
 use Rattle.std.proofs.Common.{◌≡◌, Result, Ok, Err, ap}
 
--- an error is no value
+-- An error is different from a value.
 pub not_ok : {A E : Type 0} (e : E) (a : A) → ◌≡◌ {A = Result A E} (Err e) (Ok a) → ⊥
 not_ok e a h = cc
 

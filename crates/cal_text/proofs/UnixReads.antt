@@ -1,4 +1,4 @@
--- A Unix time in text is that of one moment at UTC, or of none.
+-- A Unix time in text has one moment at UTC, or none.
 use Rattle.std.proofs.Common.{◌≡◌, ℕ, ◌<◌, ◌^◌, ℤ, pos, negsuc, ◌+ℤ◌, ◌*ℤ◌, unsigned_abs, FitsSigned, to_z, of_z, Result, Ok, List, refl, sym, subst, ap, ◌∙◌, arith, inl, inr}
 use Rattle.std.proofs.lemmas.Bool.{cases_lt}
 use Rattle.std.specs.Int.{w128}
@@ -25,7 +25,7 @@ local-is m e = let none = ap (λ o. o *ℤ pos second) e in omega (arith, ints, 
 is-at_utc : (m : Shown) → m.offset ≡ pos 0 → m ≡ at_utc (unix_nanoseconds (instant m))
 is-at_utc m e = let local = local-is m e in λ i. record { local = local i; offset = e i }
 
--- a number is that of a date-time, or of none
+-- A number is a date-time if it isn't out of range.
 pub in_range : (z : ℤ) → ¬ ¬ IsDateTime z → IsDateTime z
 in_range (pos n) h = elim (cases_lt last_date_time n) as (λ _. IsDateTime (pos n)) [
   | inl more ↦ absurd (h (λ k. omega (arith, ints, k.not_after, more)))

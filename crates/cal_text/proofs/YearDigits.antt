@@ -47,7 +47,7 @@ spelled-some ds n h first =
           absurd (first (ap (λ all. get_or all 0 0) (spelled-printed ds n h ∙ ap (λ v. digits_at_least 4 v) zero_is) ∙ four_zeros))
     ]
 
--- ---- what a scanner read: a digit that is not 0, so many digits, and more
+-- ---- the digits that were parsed: a digit that is not 0, k digits, and more
 pub value-after : (n : ℕ) (ds : List ℕ) → digits_value_after 10 n ds ≡ n * 10 ^ length ds + digits_value 10 ds
 value-after n [] = omega arith
 value-after n (x ∷ xs) =

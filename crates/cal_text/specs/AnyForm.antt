@@ -1,4 +1,4 @@
--- A date or a moment in text, in any of the four forms of a date and the two of a moment.
+-- Dates and moments in text, in the four forms of a date and the two forms of a moment.
 use Rattle.std.specs.Prelude.{◌≡◌, ◌⊎◌, ℕ, ℤ, List}
 use Rattle.cal_time.specs.Date.{IsDate}
 use Rattle.cal_time.specs.DateText.{text}
@@ -19,35 +19,35 @@ use Rattle.cal_text.specs.Reading.{HasFault, IsFaultOf}
 use Rattle.cal_text.specs.Rfc3339Form.{IsMomentText, HasMomentForm, IsMomentFault}
 use Rattle.cal_text.specs.UnixText.{IsUnixText, HasUnixForm, IsUnixFault}
 
--- the text of a date in each form
+-- The text of day n in a form.
 abbrev pub date_text : DateForm → ℕ → List ℕ
 date_text date_form.Calendar n = text n
 date_text date_form.Ordinal n = ordinal_text n
 date_text date_form.Week n = week_text n
 date_text date_form.JulianDay n = julian_text n
 
--- the bytes are a text of this moment, in this form
+-- The bytes are a text of the moment m in this form.
 abbrev pub IsTextOfMoment : List ℕ → MomentForm → Shown → Type 0
 IsTextOfMoment bytes Rfc3339 m = IsMomentText bytes m
 IsTextOfMoment bytes Unix m = IsUnixText bytes m
 
--- the bytes are a text of this date or this moment, in the form that is named
+-- The bytes are a text of this date or moment in its form.
 abbrev pub IsTextOf : List ℕ → DateOrMoment → Type 0
 IsTextOf bytes (Date form n) = IsDate n × (bytes ≡ date_text form n)
 IsTextOf bytes (Moment form m) = IsTextOfMoment bytes form m
 
--- the name of a form of ISO 8601, whatever its numbers
+-- The name of a form of ISO 8601.
 abbrev pub name_of : DateNumbers → DateForm
 name_of (numbers.Calendar y m d) = date_form.Calendar
 name_of (numbers.Ordinal y o) = date_form.Ordinal
 name_of (numbers.Week y w d) = date_form.Week
 
--- the bytes have one of the forms, whatever its numbers
+-- The bytes have one of the six forms, with any numbers.
 abbrev pub HasAnyForm : List ℕ → Type 0
 HasAnyForm bytes =
     ((f : DateNumbers) × HasForm bytes f) ⊎ ((j : ℤ) × IsJulianForm bytes j) ⊎ ((m : Numbers) × HasMomentForm bytes m) ⊎ ((v : ℤ) × HasUnixForm bytes v)
 
--- the component at fault of bytes that have one
+-- The bytes have a form whose first component out of range has this error.
 abbrev pub IsFault : List ℕ → ComponentRange → Type 0
 IsFault bytes why =
     HasFault HasForm IsFaultOf bytes why ⊎ HasFault IsJulianForm IsJulianFault bytes why

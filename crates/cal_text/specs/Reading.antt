@@ -1,4 +1,4 @@
--- What a text of a form reads as: the day that has its numbers, or why there is none.
+-- The value of a text with a form: the day with its numbers, or the first component out of range.
 use Rattle.std.specs.Prelude.{◌≡◌, ◌⊎◌, ℕ, ◌-◌, ◌≤◌, List, Option, Some, None, Result, IsErrAnd}
 use Rattle.cal_time.specs.Date.{IsYear, IsDayOfMonth, IsOrdinal, HasCalendarDate, HasOrdinalDate, NoDate}
 use Rattle.cal_time.specs.IsoWeekDate.{IsWeek, HasIsoWeekDate}
@@ -11,36 +11,38 @@ use Rattle.cal_text.specs.declared.date_numbers.DateNumbers.{DateNumbers}
 use Rattle.cal_text.specs.declared.date_numbers.DateNumbers.TheVariants.{Calendar, Ordinal, Week}
 
 -- ---- errors
--- the refusal of a component, or nothing where the text has no form
+-- The component of an error. An error of the form has none.
 abbrev pub component_of : Unreadable → Option ComponentRange
 component_of (UnexpectedByte at) = None
 component_of (UnexpectedEnd at) = None
 component_of (OutOfRange e) = Some e
 
--- the text was refused for just this component
+-- The text was rejected for this component.
 abbrev pub IsRefusedFor : {V : Type 0} → ComponentRange → Result V Unreadable → Type 0
 IsRefusedFor why r = IsErrAnd r (λ e. component_of e ≡ Some why)
 
--- the text was refused for its form
+-- The text was rejected for its form.
 abbrev pub IsRefusedForForm : {V : Type 0} → Result V Unreadable → Type 0
 IsRefusedForForm r = IsErrAnd r (λ e. component_of e ≡ None)
 
--- ---- faults: of a form whose numbers need not be those of a value
--- the bytes have a form that is refused for this component
+-- ---- forms whose numbers need not be in range
+-- The bytes have a form with this error.
 abbrev pub HasFault : {F : Type 0} → (List ℕ → F → Type 0) → (F → ComponentRange → Type 0) → List ℕ → ComponentRange → Type 0
 HasFault {F} Has IsFaultOf bytes why = (form : F) × Has bytes form × IsFaultOf form why
 
 -- ---- days
--- day n has the numbers of the form; the weekday of the form is 1 on Monday
+-- Day n has the numbers of the form. Weekday 1 of a form is Monday.
 abbrev pub IsOnDay : DateNumbers → ℕ → Type 0
 IsOnDay (Calendar y m d) n = HasCalendarDate y m d n
 IsOnDay (Ordinal y o) n = HasOrdinalDate y o n
 IsOnDay (Week y w d) n = HasIsoWeekDate y w (d - 1) n
 
+-- m is the number of a month.
 abbrev pub IsMonth : ℕ → Type 0
 IsMonth m = (1 ≤ m) × (m ≤ 12)
 
--- the first component at fault: the month, the year, and then what depends on them
+-- The first component out of range: the month, then the year, then the components that depend on
+-- them.
 abbrev pub IsFaultOf : DateNumbers → ComponentRange → Type 0
 IsFaultOf (Calendar y m d) why =
     ((why ≡ month_out_of_range) × ¬ IsMonth m) ⊎ ((why ≡ year_out_of_range) × (IsMonth m × ¬ IsYear y))

@@ -1,4 +1,5 @@
--- Unix time in text: an @, a minus sign before a number below 0, the whole seconds, and what is past them as a fraction.
+-- Unix times in text: an @, a minus sign if the time is negative, the whole seconds, and a
+-- fraction.
 use Rattle.std.specs.Prelude.{◌≡◌, ℕ, ◌/◌, ◌%◌, ◌≤◌, ◌<◌, ◌^◌, ℤ, pos, negsuc, ◌+ℤ◌, List, [], ◌++◌, codes, length, decimal, unsigned_abs}
 use Rattle.cal_time.specs.SignedDuration.{second}
 use Rattle.cal_time.specs.declared.error.ComponentRange.{ComponentRange}
@@ -12,11 +13,12 @@ abbrev pub minus_text : ℤ → List ℕ
 minus_text (pos _) = []
 minus_text (negsuc _) = codes "-"
 
--- the text of so many nanoseconds
+-- The text of v nanoseconds.
 abbrev pub unix_text : ℤ → List ℕ
 unix_text v = codes "@" ++ minus_text v ++ decimal (unsigned_abs v / second) ++ fraction_text (unsigned_abs v % second)
 
--- the bytes say so many nanoseconds: at most 18 digits of the seconds, and nine of the fraction
+-- The bytes have the form of v nanoseconds: at most 18 digits of seconds and nine digits of a
+-- fraction.
 pub record HasUnixForm (bytes : List ℕ) (v : ℤ) : Type 0 where
   pub seconds : unsigned_abs v / second < 10 ^ 18
   pub fraction : List ℕ
@@ -24,7 +26,7 @@ pub record HasUnixForm (bytes : List ℕ) (v : ℤ) : Type 0 where
   pub short : length fraction ≤ 10
   pub bytes_are : bytes ≡ codes "@" ++ minus_text v ++ decimal (unsigned_abs v / second) ++ fraction
 
--- the bytes are so many seconds, of at most 18 digits, and nanoseconds, of at most nine
+-- The bytes are s seconds, of at most 18 digits, and n nanoseconds, of at most nine digits.
 pub record HasSeconds (bytes : List ℕ) (s n : ℕ) : Type 0 where
   pub seconds : s < 10 ^ 18
   pub fraction : List ℕ
@@ -32,12 +34,12 @@ pub record HasSeconds (bytes : List ℕ) (s n : ℕ) : Type 0 where
   pub short : length fraction ≤ 10
   pub bytes_are : bytes ≡ decimal s ++ fraction
 
--- the bytes are the Unix time of this moment, which is one at UTC
+-- The bytes are the Unix time of the moment m, which is at UTC.
 pub record IsUnixText (bytes : List ℕ) (m : Shown) : Type 0 where
   pub in_range : IsDateTime m.local
   pub at_utc : m.offset ≡ pos 0
   pub form : HasUnixForm bytes (unix_nanoseconds (instant m))
 
--- no moment at UTC has it
+-- The error of a Unix time that no moment at UTC has.
 abbrev pub IsUnixFault : ℤ → ComponentRange → Type 0
 IsUnixFault v why = (why ≡ timestamp_out_of_range) × ¬ IsDateTime (unix_epoch +ℤ v)

@@ -1,4 +1,4 @@
-//! Dates and moments in text, in whichever form they come.
+//! Dates and moments in any form.
 ghost use Rattle.std.specs.Prelude.{◌≡◌, ◌↔◌, ◌<◌, length, get_or, IsTrue, IfOk, IfErr, Ok};
 ghost use Rattle.cal_time.specs.declared.error.ComponentRange.{ComponentRange};
 ghost use Rattle.cal_text.specs.declared.any.DateOrMoment.{DateOrMoment};
@@ -15,31 +15,29 @@ use cal_time::Date;
 
 mod dates;
 
-/// A form in which a date is written.
+/// A form of a date in text.
 #[derive(Clone, Copy, Debug, PartialEq, Eq)]
 pub enum DateForm {
-    /// A calendar date, as `2024-02-29`.
+    /// A calendar date, such as `2024-02-29`.
     Calendar,
-    /// An ordinal date, as `2024-060`.
+    /// An ordinal date, such as `2024-060`.
     Ordinal,
-    /// A week date, as `2024-W09-4`.
+    /// A week date, such as `2024-W09-4`.
     Week,
-    /// A date by its Julian day, as `J2460370`.
+    /// A Julian day, such as `J2460370`.
     JulianDay,
 }
 
-/// A form in which a moment is written.
+/// A form of a moment in text.
 #[derive(Clone, Copy, Debug, PartialEq, Eq)]
 pub enum MomentForm {
-    /// A moment of RFC 3339, as `2024-02-29T23:59:59.25+01:00`.
+    /// A moment of RFC 3339, such as `2024-02-29T23:59:59.25+01:00`.
     Rfc3339,
-    /// A Unix time, as `@1709164800.5`, which is a moment at UTC.
+    /// A Unix time, such as `@1709164800.5`, which is a moment at UTC.
     Unix,
 }
 
-/// A date or a moment, and the form of the text that it was read from.
-///
-/// Moments of one form are equal where they are the same instant.
+/// A date or a moment with the form of its text. Moments of one form are equal by instant.
 #[derive(Clone, Copy, Debug, PartialEq, Eq)]
 pub enum DateOrMoment {
     /// A date, in one of four forms.
@@ -48,14 +46,13 @@ pub enum DateOrMoment {
     Moment(MomentForm, OffsetDateTime),
 }
 
-/// The date or the moment that the text is, and the form in which it is written.
+/// Parses a text that [`date::read`](crate::date::read),
+/// [`julian_day::read`](crate::julian_day::read), [`rfc3339::read`](crate::rfc3339::read) or
+/// [`unix::read`](crate::unix::read) accepts. Returns the date or the moment with its form; no text
+/// has two forms. `2024-060` is an ordinal date.
 ///
-/// The text is one that [`date::read`](crate::date::read), [`julian_day::read`](crate::julian_day::read),
-/// [`rfc3339::read`](crate::rfc3339::read) or [`unix::read`](crate::unix::read) reads. No text is in two forms, so `2024-060` is
-/// the ordinal date and nothing else.
-///
-/// A text of another form is refused with the position of the first byte that no text of these forms has there, or with its length
-/// where it ends too early. A text that has one of the forms is refused for the component that the reader of this form refuses.
+/// Returns `UnexpectedByte` or `UnexpectedEnd` if the text has none of the forms. If it has a form,
+/// the errors are the errors of the parser of this form.
 pub fn read_any(text: &[u8]) -> Result<DateOrMoment, Unreadable>
     ensures every { (found : DateOrMoment) → IsTextOf text.now found → result ≡ Ok found }
     ensures has { IfOk result (IsTextOf text.now) }

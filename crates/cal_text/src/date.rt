@@ -1,4 +1,4 @@
-//! Dates in text: the three forms of ISO 8601.
+//! Dates in the three forms of ISO 8601.
 ghost use Rattle.std.specs.Prelude.{◌≡◌, ℕ, ◌↔◌, IfOk, IfErr, Ok};
 ghost use Rattle.cal_time.specs.Date.{IsDate};
 ghost use Rattle.cal_time.specs.declared.error.ComponentRange.{ComponentRange};
@@ -17,20 +17,22 @@ pub(crate) mod of_form;
 
 pub use display::{CalendarText, OrdinalText, WeekText};
 
-/// The day whose calendar date, ordinal date or week date the text is, as `2024-02-29`, `2024-060` or `2024-W09-4`.
+/// Parses a calendar date, an ordinal date or a week date of ISO 8601, such as `2024-02-29`,
+/// `2024-060` or `2024-W09-4`. Accepts exactly the texts that dates print.
 ///
-/// Years are written as [`Date`] prints them: four digits from 0 to 9999, a plus sign and more digits above, a minus sign
-/// and four digits or more below. The weekday is from 1, Monday, to 7. Each text reads as the day that prints it, and no
-/// other text is read: no spaces, no zeros before a year of more than four digits, nothing after the date.
+/// A year from 0 to 9999 has four digits. A year above 9999 has a plus sign, and a negative year
+/// has a minus sign and four digits or more. More than four digits have no leading zeros. The
+/// weekday is from 1, Monday, to 7, Sunday.
 ///
-/// A text of another form is refused with the position of the first byte that no text of these forms has there, or with its length
-/// where it ends too early. Years may have up to nine digits. Otherwise the first component at fault is the reason: `month`, `year` outside -999999 to 999999,
-/// `day`, `ordinal`, `week`, or `weekday` after the last day of the range.
+/// Returns `UnexpectedByte` or `UnexpectedEnd` for any other form; a year has at most nine digits.
+/// Otherwise returns `OutOfRange` with the first component out of range: `month`, `year` outside
+/// -999999 to 999999, `day`, `ordinal`, `week`, or `weekday` after the last day of the range.
 pub fn read(text: &[u8]) -> Result<Date, Unreadable>
     ensures every { (n : ℕ) → IsDate n → IsDateText text.now n → result ≡ Ok n }
     ensures has { IfOk result (λ n. IsDate n × IsDateText text.now n) }
 
-    // It is refused for its form exactly where it has none, and else for the first component at fault.
+    // The error is about the form exactly if the text has none, else about the first component out
+    // of range.
     ensures form { IsRefusedForForm result ↔ ((form : DateNumbers) → ¬ HasForm text.now form) }
     ensures position { IfErr result (IsAtStop (HasSome HasForm) text.now) }
     ensures component { (why : ComponentRange)

@@ -1,16 +1,16 @@
-//! The numbers of a date in text, by its form.
+//! The numbers of a date in text.
 
 mod reading;
 
 pub(crate) use reading::form_of;
 
-/// The numbers of a date in text, which need not be those of a day.
+/// The numbers of a date in text, by its form. They need not be in range.
 #[derive(Clone, Copy)]
 pub(crate) enum DateNumbers {
-    /// The year, the month and the day of the month.
+    /// A year, a month and a day of the month.
     Calendar(i32, u8, u8),
-    /// The year and the ordinal.
+    /// A year and an ordinal.
     Ordinal(i32, u16),
-    /// The ISO year, the week and the number of the weekday.
+    /// An ISO year, a week and the number of a weekday.
     Week(i32, u8, u8),
 }

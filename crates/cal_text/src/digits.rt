@@ -6,7 +6,7 @@ ghost use Rattle.cal_text.specs.Shape.{Shape, left, Scans, ReadsMore, UpTo, Numb
 
 use crate::scanner::Scanner;
 
-/// The number that two digits spell.
+/// Returns the number that two digits spell, or `None` if a byte is not a digit.
 #[inline(always)]
 pub(crate) fn number_of_two(tens: u8, ones: u8) -> Option<u32>
     ensures { SomeIff result (AllDigits 10 (tens ∷ ones ∷ []))
@@ -17,12 +17,12 @@ pub(crate) fn number_of_two(tens: u8, ones: u8) -> Option<u32>
     Some(tens * 10 + ones)
 }
 
-/// The number of a digit. It is found in 32 bits, in which the numbers of two digits need no more casts.
+/// Returns the value of a digit, in 32 bits because `number_of_two` then needs no casts.
 #[inline(always)]
 fn number_of_digit(byte: u8) -> Option<u32>
     ensures { SomeIff result (digit_value byte < 10) (digit_value byte) }
 {
-    // A byte below the digits wraps, far above 9.
+    // A byte below the digits wraps to a number far above 9.
     let number = u32::from(byte).wrapping_sub(48);
     if number > 9 {
         return None;
@@ -30,7 +30,7 @@ fn number_of_digit(byte: u8) -> Option<u32>
     Some(number)
 }
 
-/// A number above 0 without zeros before it, of one digit and so many more at most.
+/// Parses a number above 0 without leading zeros, of up to `more + 1` digits.
 pub(crate) fn number_above_0(scanner: &mut Scanner, more: usize) -> Option<u64>
     requires { more ≤ 17 }
     ensures scans { Scans (Number more) scanner.old.rest.now scanner.new.rest.now result }
@@ -43,7 +43,7 @@ pub(crate) fn number_above_0(scanner: &mut Scanner, more: usize) -> Option<u64>
     Some(number)
 }
 
-/// The number that the next digits make of one that is read, of which so many are read at most.
+/// Parses up to `most` digits after the digits of `number`, and returns the new number.
 pub(crate) fn more_digits(scanner: &mut Scanner, number: u64, most: usize) -> u64
     requires { (number + 1) * 10 ^ most ≤ 10 ^ 18 }
     ensures scans { (f : Shape) → left (UpTo most f) scanner.old.rest.now

@@ -1,4 +1,4 @@
-//! Why a text is not read.
+//! The error of a parser.
 ghost use Rattle.std.specs.Prelude.{◌≡◌, ◌<◌, ◌≤◌, None, Some};
 ghost use Rattle.cal_text.specs.ErrorText.{error_text};
 ghost use Rattle.cal_text.specs.Reading.{component_of};
@@ -7,24 +7,21 @@ ghost use Rattle.cal_text.specs.declared.error.Unreadable.TheVariants.{Unexpecte
 use cal_time::error::ComponentRange;
 use std::fmt;
 
-/// A text is not one of those that a call reads.
-///
-/// It prints `unexpected byte at 4` where a byte is wrong, `unexpected end at 9` where the text ends too early, and as the
-/// error of the component where a component is out of range: `day was not in range`.
+/// An error: a text has the wrong form, or a component is out of range. It prints
+/// `unexpected byte at 4`, `unexpected end at 9` or, for example, `day was not in range`.
 #[derive(Clone, Copy, Debug, PartialEq, Eq)]
 pub enum Unreadable {
-    /// The text has no form that is read. This is the position, from 0, of the first byte that no text of the forms has
-    /// there.
+    /// The position, from 0, of the first byte that no text of the form has there.
     UnexpectedByte(usize),
-    /// The text ends too early: some more bytes make a text of the forms. This is its length.
+    /// The length of a text that ends too early: more bytes could complete it.
     UnexpectedEnd(usize),
-    /// The text has a form that is read, and this component of it is out of range.
+    /// A component is out of range in a text that has the form.
     OutOfRange(ComponentRange),
 }
 
 impl Unreadable {
-    /// The error of a text of so many bytes that stops being of a form at this position: at 4 of 4 bytes the text ends too early,
-    /// at 4 of 5 the byte is wrong.
+    /// Creates the error of a text of `len` bytes that stops matching a form at `position`, which
+    /// is `len` or less. `at(4, 4)` is `UnexpectedEnd(4)`, and `at(4, 5)` is `UnexpectedByte(4)`.
     pub fn at(position: usize, len: usize) -> Self
         requires { position ≤ len }
         ensures byte { position < len → result ≡ UnexpectedByte position }

@@ -1,4 +1,4 @@
-//! Fractions of a second, as a point and digits.
+//! Fractions of a second: a point and digits.
 ghost use Rattle.std.specs.Prelude.{◌≡◌, ◌+◌, ◌*◌, IfSome, ◌<◌, ◌≤◌, ◌++◌, length};
 ghost use Rattle.cal_time.specs.ShortText.{HasRoom};
 ghost use Rattle.cal_text.specs.Rfc3339.{fraction_text};
@@ -8,7 +8,7 @@ ghost use Rattle.cal_text.specs.Rfc3339Form.{HasFractionBefore};
 use crate::scanner::Scanner;
 use cal_time::ShortText;
 
-/// Appends a fraction of a second, by its nanoseconds.
+/// Appends a fraction of a second, given in nanoseconds, or nothing for 0.
 #[tactic(auto, using(cal_time::proofs::TextLengths::text_lengths))]
 pub(crate) fn push_fraction(text: &mut ShortText, nanosecond: u32)
     requires room { HasRoom 10 text.old }
@@ -23,7 +23,8 @@ pub(crate) fn push_fraction(text: &mut ShortText, nanosecond: u32)
     text.push_decimals(nanosecond);
 }
 
-/// A fraction of a second: none, or a point, a digit and so many more at most, of which eight count.
+/// Parses a fraction of a second of up to `more + 1` digits, and returns its nanoseconds. Without a
+/// point it is 0. Digits after the ninth are ignored.
 #[inline(always)]
 pub(crate) fn fraction(scanner: &mut Scanner, more: usize) -> Option<u32>
     ensures scans { Scans (Fraction more) scanner.old.rest.now scanner.new.rest.now result }
@@ -39,7 +40,8 @@ pub(crate) fn fraction(scanner: &mut Scanner, more: usize) -> Option<u32>
     }
 }
 
-/// The nanoseconds of digits after a point, one and so many more at most, of which one is not 0. The first counts so many.
+/// Parses up to `more + 1` digits of a fraction that are not all 0, and returns their nanoseconds.
+/// The first digit counts `unit` nanoseconds.
 pub(crate) fn decimals_above_0(scanner: &mut Scanner, unit: u32, more: usize) -> Option<u32>
     requires { unit ≤ 100_000_000 }
     ensures scans { Scans (SomeUpTo more) scanner.old.rest.now scanner.new.rest.now result }
@@ -61,8 +63,8 @@ pub(crate) fn decimals_above_0(scanner: &mut Scanner, unit: u32, more: usize) ->
     }
 }
 
-/// The nanoseconds that the next digits make of those that are read. The first counts so many, each further one a tenth of the one
-/// before it, and so many are read at most.
+/// Parses up to `most` further digits of a fraction and adds them to `nanosecond`. The first digit
+/// counts `unit` nanoseconds, each later digit a tenth of the digit before it.
 fn more_decimals(scanner: &mut Scanner, nanosecond: u32, unit: u32, most: usize) -> u32
     requires { nanosecond + 10 * unit ≤ 1_000_000_000 }
     ensures scans { (f : Shape) → left (UpTo most f) scanner.old.rest.now

@@ -1,4 +1,4 @@
-//! Dates in text by their Julian day.
+//! Dates as Julian days.
 ghost use Rattle.std.specs.Prelude.{◌≡◌, ℕ, ℤ, ◌≤◌, ◌↔◌, length, IfOk, IfErr, IfSome, Ok, Some};
 ghost use Rattle.std.specs.Fmt.{padded};
 ghost use Rattle.cal_time.specs.Date.{IsDate};
@@ -14,12 +14,12 @@ use crate::scanner::Scanner;
 use cal_time::{Date, ShortText};
 use std::fmt;
 
-/// A date that prints its Julian day after a letter J, as `J2460370`. Under a width the whole text is padded.
+/// A date that prints as its Julian day, such as `J2460370`. A width pads the whole text.
 #[derive(Clone, Copy, Debug, PartialEq, Eq)]
 pub struct JulianText(pub Date);
 
 impl JulianText {
-    /// The text in place, of at most 12 bytes.
+    /// Returns the text, at most 12 bytes.
     #[tactic(auto, using(cal_time::proofs::TextLengths::text_lengths))]
     pub fn text(self) -> ShortText
         ensures text { result ≡ julian_text self.0 }
@@ -42,11 +42,12 @@ impl fmt::Display for JulianText {
     }
 }
 
-/// The day whose Julian day the text is, after a letter J, as `J2460370`.
+/// Parses the letter J and a Julian day, such as `J2460370`, and returns its date. Accepts exactly
+/// the texts that dates print: a minus sign if the number is negative, no plus sign and no leading
+/// zeros.
 ///
-/// The number has a minus sign below 0, no plus sign and no zeros before its digits. Each text reads as the day that prints it.
-/// Another text is refused with the position of the first byte that no such text has there, or with its length where it ends too
-/// early. A number of at most nine digits that no day of the range has is refused as `julian_day`.
+/// Returns `UnexpectedByte` or `UnexpectedEnd` for any other form, and the error `julian_day` if a
+/// number of at most nine digits is out of range.
 pub fn read(text: &[u8]) -> Result<Date, Unreadable>
     ensures every { (n : ℕ) → IsDate n → text.now ≡ julian_text n → result ≡ Ok n }
     ensures has { IfOk result (λ n. IsDate n × (text.now ≡ julian_text n)) }
@@ -68,7 +69,7 @@ pub fn read(text: &[u8]) -> Result<Date, Unreadable>
     }
 }
 
-/// A Julian day of at most nine digits after a letter J, and the end.
+/// Parses the letter J, a number of at most nine digits and the end of the text.
 fn julian_day(scanner: &mut Scanner) -> Option<i32>
     ensures scans { ScansWhole julian_day scanner.old.rest.now scanner.new.rest.now result }
     ensures has { IfSome result (IsJulianForm scanner.old.rest.now) }

@@ -1,4 +1,4 @@
-//! What follows from reading: a text belongs to one day, has one form, and belongs to one moment.
+//! Consequences of the parsers: a text has at most one date, one form and one moment.
 ghost use Rattle.std.specs.Prelude.{◌≡◌, ℕ};
 ghost use Rattle.cal_time.specs.Date.{IsDate};
 ghost use Rattle.cal_datetime.specs.OffsetDateTime.{Shown};
@@ -16,7 +16,7 @@ use crate::rfc3339;
 use cal_datetime::OffsetDateTime;
 use cal_time::Date;
 
-/// No two days share a text, be it of one form or of two.
+/// Parses a date. No two days have the same text.
 pub(crate) fn one_day(text: &[u8]) -> Result<Date, Unreadable>
     ensures { (m n : ℕ) → IsDate m → IsDate n → IsDateText text.now m → IsDateText text.now n
         → m ≡ n }
@@ -24,7 +24,7 @@ pub(crate) fn one_day(text: &[u8]) -> Result<Date, Unreadable>
     read(text)
 }
 
-/// No text is in two forms, nor in one form with two sets of numbers.
+/// Returns the form of a date. A text has at most one form, with one set of numbers.
 #[tactic(auto, using(crate::proofs::DayForms::same_form))]
 pub(crate) fn one_form(text: &[u8]) -> Result<DateNumbers, usize>
     ensures { (f g : DateNumbers) → HasForm text.now f → HasForm text.now g → f ≡ g }
@@ -32,14 +32,14 @@ pub(crate) fn one_form(text: &[u8]) -> Result<DateNumbers, usize>
     form_of(text)
 }
 
-/// No text is in two of the six forms, nor is it that of two dates or moments.
+/// Parses a date or a moment. A text has at most one of the six forms, and one date or moment.
 pub(crate) fn one_reading(text: &[u8]) -> Result<DateOrMoment, Unreadable>
     ensures { (a b : DateOrMoment) → IsTextOf text.now a → IsTextOf text.now b → a ≡ b }
 {
     read_any(text)
 }
 
-/// No two moments share a text.
+/// Parses a moment. No two moments have the same text.
 pub(crate) fn one_moment(text: &[u8]) -> Result<OffsetDateTime, Unreadable>
     ensures { (m n : Shown) → IsMomentText text.now m → IsMomentText text.now n → m ≡ n }
 {

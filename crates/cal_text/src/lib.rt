@@ -1,6 +1,6 @@
-//! Dates in text, by the forms of ISO 8601 and by the Julian day, read and printed; and Unix times.
+//! Dates and moments in text: ISO 8601, Julian days, RFC 3339 and Unix times.
 //!
-//! A text reads as a day exactly where it is one of the texts that the day prints.
+//! A text parses as a date exactly if the date prints it in one of the forms.
 #![tactic(auto)]
 
 mod any;

@@ -1,4 +1,4 @@
-//! Moments in text: RFC 3339.
+//! Moments of RFC 3339.
 ghost use Rattle.std.specs.Prelude.{◌≡◌, ◌↔◌, IfOk, IfErr, Ok};
 ghost use Rattle.cal_time.specs.declared.error.ComponentRange.{ComponentRange};
 ghost use Rattle.cal_datetime.specs.OffsetDateTime.{Shown};
@@ -21,20 +21,21 @@ mod text;
 pub(crate) use form::is_separator;
 pub use text::Text;
 
-/// The moment that a text of RFC 3339 is, as `2024-02-29T23:59:59.25+01:00`.
+/// Parses a moment of RFC 3339, such as `2024-02-29T23:59:59.25+01:00`.
 ///
-/// The year has four digits, from 0000 to 9999. A `T`, a `t` or one space is between the date and the time. The second may have a
-/// fraction of any number of digits, of which the first nine count. The offset is `Z`, `z`, or a sign, hours and minutes;
-/// that of `-00:00` is UTC. Nothing may come before or after.
+/// The year has four digits. `T`, `t` or one space separates the date from the time. The second may
+/// have a fraction of any length; digits after the ninth are ignored. The offset is `Z`, `z`, or a
+/// sign, hours and minutes; `-00:00` is UTC.
 ///
-/// A text of another form is refused with the position of the first byte that no such text has there, or with its length where it
-/// ends too early. Otherwise the first component at fault is the reason: `month`, `day`, `hour`, `minute`, `second` (60 too, as no leap second is counted), `offset hour` above
-/// 23, or `offset minute`.
+/// Returns `UnexpectedByte` or `UnexpectedEnd` for any other form. Otherwise returns `OutOfRange`
+/// with the first component out of range: `month`, `day`, `hour`, `minute`, `second` (also 60,
+/// because there are no leap seconds), `offset hour` above 23, or `offset minute`.
 pub fn read(text: &[u8]) -> Result<OffsetDateTime, Unreadable>
     ensures every { (m : Shown) → IsMomentText text.now m → result ≡ Ok m }
     ensures has { IfOk result (IsMomentText text.now) }
 
-    // It is refused for its form exactly where it has none, and else for the first component at fault.
+    // The error is about the form exactly if the text doesn't have it, else about the first
+    // component out of range.
     ensures form { IsRefusedForForm result ↔ ((m : Numbers) → ¬ HasMomentForm text.now m) }
     ensures position { IfErr result (IsAtStop (HasSome HasMomentForm) text.now) }
     ensures component { (why : ComponentRange)

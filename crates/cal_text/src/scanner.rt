@@ -1,4 +1,4 @@
-//! A text read byte by byte.
+//! Parsing a text byte by byte.
 ghost use Rattle.std.specs.Prelude.{◌≡◌, ◌+◌, ◌<◌, ◌≤◌, ◌∷◌, ◌++◌, [], IfSome, IfNone};
 ghost use Rattle.cal_time.specs.DateText.{digits_at_least};
 ghost use Rattle.cal_text.specs.Rfc3339Form.{sign_byte};
@@ -6,16 +6,14 @@ ghost use Rattle.cal_text.specs.Shape.{Scans, Branches, ScansWhole, ReadsDigits,
 
 use crate::digits::number_of_two;
 
-/// What is left of a text.
-///
-/// A call that answers `None` leaves the scanner in front of the byte that is wrong, or at the end.
+/// The rest of a text. A call that returns `None` leaves it at the wrong byte, or at the end.
 #[derive(Drop)]
 pub(crate) struct Scanner<'a> {
     pub(crate) rest: &'a [u8],
 }
 
 impl Scanner<'_> {
-    /// A byte from one to another.
+    /// Parses a byte from `low` to `low + above`.
     #[inline(always)]
     pub(crate) fn byte_from(&mut self, low: u8, above: u8) -> Option<u8>
         requires { low + above < 256 }
@@ -44,7 +42,7 @@ impl Scanner<'_> {
         Some(())
     }
 
-    /// A digit that is not 0.
+    /// Parses a digit from 1 to 9.
     #[inline(always)]
     pub(crate) fn digit_from_1(&mut self) -> Option<u32>
         ensures scans { Scans (From 49 8) self.old.rest.now self.new.rest.now result }
@@ -69,7 +67,7 @@ impl Scanner<'_> {
         Some(u32::from(byte - b'0'))
     }
 
-    /// A plus or a minus sign, and whether it is the minus. Which of them it is costs no jump.
+    /// Parses a sign, and returns `true` for minus. The choice between them needs no branch.
     #[inline(always)]
     pub(crate) fn sign(&mut self) -> Option<bool>
         ensures scans { Scans Sign self.old.rest.now self.new.rest.now result }
@@ -84,7 +82,7 @@ impl Scanner<'_> {
         Some(*first == b'-')
     }
 
-    /// Two digits at once, or else one after the other, which finds the byte that is wrong.
+    /// Parses two digits at once, or one after the other if that fails, which finds the wrong byte.
     #[inline(always)]
     pub(crate) fn two_digits(&mut self) -> Option<u32>
         ensures scans { Scans (Digits 2) self.old.rest.now self.new.rest.now result }
@@ -124,7 +122,7 @@ impl Scanner<'_> {
         Some(front * 100 + back)
     }
 
-    /// Two numbers of two digits, each after that byte.
+    /// Parses two numbers of two digits, each after `byte`.
     #[inline(always)]
     pub(crate) fn two_numbers(&mut self, byte: u8) -> Option<(u8, u8)>
         ensures scans { Scans (TwoNumbers byte) self.old.rest.now self.new.rest.now result }
@@ -140,7 +138,7 @@ impl Scanner<'_> {
         Some((first as u8, second as u8))
     }
 
-    /// The end of the text.
+    /// Returns `Some(())` at the end of the text.
     #[inline(always)]
     pub(crate) fn end(&mut self) -> Option<()>
         ensures scans { ScansWhole Done self.old.rest.now self.new.rest.now result }

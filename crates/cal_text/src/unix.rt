@@ -1,4 +1,4 @@
-//! Unix times in text.
+//! Moments as Unix times.
 ghost use Rattle.std.specs.Prelude.{◌≡◌, ℤ, ◌↔◌, IfOk, IfErr, Ok};
 ghost use Rattle.cal_time.specs.declared.error.ComponentRange.{ComponentRange};
 ghost use Rattle.cal_datetime.specs.OffsetDateTime.{Shown};
@@ -16,13 +16,14 @@ mod text;
 
 pub use text::Text;
 
-/// The moment, at UTC, whose Unix time the text is, as `@1709164800.5`.
+/// Parses a Unix time, such as `@1709164800.5`, and returns the moment at UTC, here 2024-02-29
+/// 0:00:00.5.
 ///
-/// After the `@` come the whole seconds, with a minus sign before a time before 1970, no plus sign and no zeros before their
-/// digits, of which there are at most 18. A fraction of one to nine digits may follow. `@1709164800.5` is 0:00:00.5 on 2024-02-29.
+/// After the `@` come at most 18 digits of whole seconds, with a minus sign for a time before 1970,
+/// and optionally a point and one to nine digits. A plus sign and leading zeros are not allowed.
 ///
-/// Another text is refused with the position of the first byte that no such text has there, or with its length where it ends too
-/// early. A number that no moment at UTC has is refused as `timestamp`.
+/// Returns `UnexpectedByte` or `UnexpectedEnd` for any other form, and the error `timestamp` if no
+/// moment at UTC has this time.
 pub fn read(text: &[u8]) -> Result<OffsetDateTime, Unreadable>
     ensures every { (m : Shown) → IsUnixText text.now m → result ≡ Ok m }
     ensures has { IfOk result (IsUnixText text.now) }

@@ -7,7 +7,7 @@ ghost use Rattle.cal_text.specs.Shape.{Scans, ReadsDigits, Digits, SomeDigits, Z
 use crate::digits::more_digits;
 use crate::scanner::Scanner;
 
-/// A year, and the hyphen after it.
+/// Parses a year and the hyphen after it.
 pub(crate) fn year(scanner: &mut Scanner) -> Option<i32>
     ensures scans { Scans Year scanner.old.rest.now scanner.new.rest.now result }
     ensures year { IfSome result (λ y.
@@ -30,7 +30,7 @@ pub(crate) fn year(scanner: &mut Scanner) -> Option<i32>
     }
 }
 
-/// A number of five to nine digits that does not begin with a zero, and the hyphen after it.
+/// Parses a number of five to nine digits without leading zeros, and the hyphen after it.
 fn above_9999(scanner: &mut Scanner) -> Option<u32>
     ensures scans { Scans Above scanner.old.rest.now scanner.new.rest.now result }
     ensures number { IfSome result (λ n. (9999 < n) × (n < 10 ^ 9)
@@ -43,7 +43,7 @@ fn above_9999(scanner: &mut Scanner) -> Option<u32>
     Some(number as u32)
 }
 
-/// A number above 0 of four digits, or of five to nine that do not begin with a zero, and the hyphen after it.
+/// Parses a number above 0 of four digits, or like `above_9999`, and the hyphen after it.
 fn above_0(scanner: &mut Scanner) -> Option<u32>
     ensures scans { Scans Below scanner.old.rest.now scanner.new.rest.now result }
     ensures number { IfSome result (λ n. (0 < n) × (n < 10 ^ 9)
@@ -64,7 +64,7 @@ fn above_0(scanner: &mut Scanner) -> Option<u32>
     }
 }
 
-/// A zero and three digits, of which one is not 0.
+/// Parses a zero and three digits that are not all 0.
 fn zero_and_three(scanner: &mut Scanner) -> Option<u32>
     ensures scans { Scans ZeroAndThree scanner.old.rest.now scanner.new.rest.now result }
     ensures number { IfSome result (λ n.
@@ -76,7 +76,7 @@ fn zero_and_three(scanner: &mut Scanner) -> Option<u32>
     Some(number)
 }
 
-/// Three digits, of which one is not 0.
+/// Parses three digits that are not all 0.
 fn some_of_three(scanner: &mut Scanner) -> Option<u32>
     ensures scans { Scans (SomeDigits 2) scanner.old.rest.now scanner.new.rest.now result }
     ensures number { IfSome result (λ n.
@@ -97,7 +97,7 @@ fn some_of_three(scanner: &mut Scanner) -> Option<u32>
     }
 }
 
-/// Two digits, of which one is not 0.
+/// Parses two digits that are not both 0.
 fn some_of_two(scanner: &mut Scanner) -> Option<u32>
     ensures scans { Scans (SomeDigits 1) scanner.old.rest.now scanner.new.rest.now result }
     ensures number { IfSome result (λ n.

@@ -17,6 +17,7 @@ mod dates;
 mod durations;
 mod ends;
 mod hidden;
+mod laws;
 mod moves;
 mod offsets;
 mod one_answer;

@@ -1,4 +1,4 @@
--- Decimals without the zeros that they end in, the first two of them at a time.
+-- Decimals without trailing zeros, two digits at a time.
 use Rattle.std.proofs.Common.{◌≡◌, ◌≢◌, ◌⊎◌, ℕ, zero, suc, ◌+◌, ◌*◌, ◌/◌, ◌%◌, ◌<◌, ◌≤◌, List, [], ◌∷◌, ◌++◌, append-nil, length, ap, sym, subst, ◌∙◌, refl, arith, inl, inr}
 use Rattle.std.specs.Str.{IsAscii}
 use Rattle.std.proofs.lemmas.Bool.{cases_eq, cases_lt}
@@ -8,7 +8,7 @@ use Rattle.std.proofs.lemmas.Str.Ascii.{IsAscii-nil, IsAscii-cons}
 use Rattle.cal_units.specs.Digits.{digit, two_digits, nine_digits, digit_before, without_last_zeros, decimals}
 use Rattle.cal_units.proofs.Digits.{nine_digits-ascii}
 
--- ---- a digit before others
+-- ---- a digit before other digits
 pub is-before-other : (d : ℕ) (ds : List ℕ) → d ≢ 48 → digit_before d ds ≡ d ∷ ds
 is-before-other d [] other = grind (arith, nat_tests)
 is-before-other d (e ∷ es) other = refl
@@ -45,7 +45,7 @@ before-ascii d [] low h = elim (cases_eq d 48) as (λ _. IsAscii (digit_before d
 ]
 before-ascii d (e ∷ es) low h = IsAscii-cons d (e ∷ es) low h
 
--- ---- digits without the zeros that they end in
+-- ---- digits without trailing zeros
 zero-last : (ds : List ℕ) → without_last_zeros (ds ++ 48 ∷ []) ≡ without_last_zeros ds
 unfolding without_last_zeros
 zero-last [] = refl
@@ -55,7 +55,7 @@ none-left : (d : ℕ) (ds : List ℕ) → length (without_last_zeros (d ∷ ds))
 unfolding without_last_zeros
 none-left d ds = none-before d (without_last_zeros ds)
 
--- they are all zeros where none is left
+-- If no digit is left, all digits are zeros.
 total : List ℕ → ℕ
 total [] = 0
 total (d ∷ ds) = d + total ds
@@ -97,7 +97,7 @@ some-left n more =
       | inr none ↦ absurd (omega (arith, more, all-zeros (after_one n) (omega (arith, none))))
     ]
 
--- the first two come before those of a hundred times what they leave
+-- The decimals after the first two are the decimals of 100 times the rest of n.
 hundredfold : (n : ℕ) → n < 1000000000 → decimals_of (n % 10000000 * 100) ≡ without_last_zeros (after_two n)
 hundredfold n below =
     let a : n % 10000000 * 100 / 100000000 ≡ n / 1000000 % 10 = omega arith in
@@ -120,7 +120,7 @@ two-decimals n below more =
     ∙ ap (λ k. digit k ∷ digit (n / 10000000 % 10) ∷ without_last_zeros (after_two n)) tens
     ∙ ap (λ ds. two_digits (n / 10000000) ++ ds) (sym (hundredfold n below))
 
--- the last of them, or none
+-- Only the first digit is left if the other eight are zeros.
 no-zeros : (n : ℕ) → n % 100000000 ≡ 0 → without_last_zeros (after_one n) ≡ []
 unfolding without_last_zeros
 no-zeros n none =
@@ -147,7 +147,7 @@ pub one-zero : decimals 0 ≡ 48 ∷ []
 unfolding without_last_zeros
 one-zero = refl
 
--- of more than 0 there is one anyway
+-- For n above 0, the first digit needs no exception.
 pub decimals-some : (n : ℕ) → 0 < n → decimals n ≡ decimals_of n
 unfolding without_last_zeros
 decimals-some n more =
@@ -161,12 +161,12 @@ decimals-ascii n below =
     let h = nine_digits-ascii n below in
     IsAscii-cons (digit (n / 100000000)) (without_last_zeros (after_one n)) (h 0) (ascii-left (after_one n) (λ i. h (suc i)))
 
--- ---- their text, of which k are still to come
+-- ---- the text, if the decimals of k are still to be appended
 some-too : (n k : ℕ) → (n ≡ 0 → k ≡ 0) → 0 < k → 0 < n
 some-too zero k zero_too some = absurd (omega (arith, some, zero_too refl))
 some-too (suc n) k zero_too some = omega arith
 
--- two of them are to come, so there is room for these
+-- Two decimals follow, so there is room for them.
 pub two-more : (n k : ℕ) (old text : List ℕ) → k < 1000000000 → (n ≡ 0 → k ≡ 0) → 0 < k % 100000000 → text ++ decimals_of k ≡ old ++ decimals_of n
     → (length text + 2 ≤ length old + length (decimals n)) × (length (decimals_of (k % 10000000 * 100)) < length (decimals_of k))
 two-more n k old text below zero_too more all =

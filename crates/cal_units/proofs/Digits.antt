@@ -10,7 +10,7 @@ use Rattle.std.proofs.lemmas.Str.Ascii.{IsAscii-nil, IsAscii-cons, IsAscii-from_
 use Rattle.std.proofs.lemmas.List.Elements.{All-from_recursion}
 use Rattle.cal_units.specs.Digits.{digit, two_digits, digits_at_least, nine_digits}
 
--- a number of two digits or more
+-- A number with two digits or more.
 step_of_many : (w n : ℕ) → 10 ≤ n → n < 2 ^ 64
     → digits_at_least w n ≡ digits_at_least (w - 1) (n / 10) ++ digit (n % 10) ∷ []
 step_of_many w n low high =
@@ -20,7 +20,7 @@ step_of_many w n low high =
     ∙ ap (λ l. replicate (w - 1 - length (decimal (n / 10))) 48 ++ l) step
     ∙ sym (append_assoc (replicate (w - 1 - length (decimal (n / 10))) 48) (decimal (n / 10)) (digit (n % 10) ∷ []))
 
--- a digit with zeros before it
+-- A digit after zeros.
 step_of_one : (w n : ℕ) → n < 10 → 1 < w
     → digits_at_least w n ≡ digits_at_least (w - 1) (n / 10) ++ digit (n % 10) ∷ []
 step_of_one w n low wide =
@@ -33,7 +33,7 @@ step_of_one w n low wide =
     ∙ ap (λ l. (replicate (w - 1 - length (decimal (n / 10))) 48 ++ 48 ∷ []) ++ l) (last ∙ same)
     ∙ ap (λ l. (replicate (w - 1 - length (decimal (n / 10))) 48 ++ l) ++ digit (n % 10) ∷ []) (sym zero_digit)
 
--- the last digit comes after the digits of a tenth, of which one fewer are asked for
+-- The last digit comes after the digits of n / 10, with a width that is 1 less.
 digits_step : (w n : ℕ) → n < 2 ^ 64 → (1 < w) ⊎ (9 < n)
     → digits_at_least w n ≡ digits_at_least (w - 1) (n / 10) ++ digit (n % 10) ∷ []
 digits_step w n high more = elim (cases_lt n 10) [
@@ -41,7 +41,7 @@ digits_step w n high more = elim (cases_lt n 10) [
   | inr low ↦ step_of_many w n low high
 ]
 
--- the last two digits come after the others, of which two fewer are asked for
+-- The last two digits come after the digits of n / 100, with a width that is 2 less.
 pub pair_step : (w n : ℕ) → n < 2 ^ 64 → (2 < w) ⊎ (99 < n)
     → digits_at_least w n ≡ digits_at_least (w - 2) (n / 100) ++ two_digits (n % 100)
 pair_step w n high more =
@@ -55,14 +55,14 @@ pair_step w n high more =
     ∙ append_assoc (digits_at_least (w - 1 - 1) (n / 10 / 10)) (digit (n / 10 % 10) ∷ []) (digit (n % 10) ∷ [])
     ∙ (λ i. digits_at_least (width i) (hundredth i) ++ digit (tens i) ∷ digit (units i) ∷ [])
 
--- one digit, where no more are asked for
+-- A number below 10 is one digit if the width is 0 or 1.
 pub digits_at_least-one : (w n : ℕ) → w ≤ 1 → n < 10 → digits_at_least w n ≡ digit n ∷ []
 digits_at_least-one w n few low =
     let last : decimal n ≡ digit n ∷ [] = decimal_digit n low in
     let none : w - length (decimal n) ≡ 0 = omega (arith, ap length last) in
     ap (λ k. replicate k 48 ++ decimal n) none ∙ last
 
--- two digits and three
+-- Numbers of two digits and of three digits.
 pub digits_at_least-two : (n : ℕ) → n < 100 → digits_at_least 2 n ≡ two_digits n
 digits_at_least-two n high =
     digits_step 2 n (omega arith) (inl (omega arith)) ∙ ap (λ l. l ++ digit (n % 10) ∷ []) (digits_at_least-one 1 (n / 10) (omega arith) (omega arith))
@@ -71,7 +71,7 @@ pub digits_at_least-three : (n : ℕ) → n < 1000 → digits_at_least 3 n ≡ d
 digits_at_least-three n high =
     pair_step 3 n (omega arith) (inl (omega arith)) ∙ ap (λ l. l ++ two_digits (n % 100)) (digits_at_least-one 1 (n / 100) (omega arith) (omega arith))
 
--- and those of a number with no zeros before them
+-- Numbers without leading zeros.
 pub decimal-one : (n : ℕ) → n < 10 → decimal n ≡ digit n ∷ []
 decimal-one n low = decimal_digit n low
 
@@ -84,7 +84,7 @@ digits_at_least-none n = let none : 0 - length (decimal n) ≡ 0 = omega arith i
 pub decimal-more : (n : ℕ) → 100 ≤ n → n < 2 ^ 64 → decimal n ≡ decimal (n / 100) ++ two_digits (n % 100)
 decimal-more n low high = sym (digits_at_least-none n) ∙ pair_step 0 n high (inr (omega arith)) ∙ ap (λ l. l ++ two_digits (n % 100)) (digits_at_least-none (n / 100))
 
--- how many they are
+-- The lengths of numbers.
 pub length-one : (n : ℕ) → n < 10 → length (decimal n) ≡ 1
 length-one n low = ap length (decimal-one n low)
 
@@ -100,7 +100,8 @@ length-32_bits n small = length-decimal-le 10 n (omega arith) (omega (arith, sma
 pub length-64_bits : (n : ℕ) → n < 2 ^ 64 → length (decimal n) ≤ 20
 length-64_bits n small = length-decimal-le 20 n (omega arith) (omega (arith, small)) small
 
--- a number of 128 bits: the last digit comes after those of a tenth, and there are at most 39
+-- The last digit of a 128-bit number comes after the digits of n / 10. There are 39 digits or
+-- fewer.
 pub decimal-wide : (n : ℕ) → 10 ≤ n → n < 2 ^ 128 → decimal n ≡ decimal (n / 10) ++ digit (n % 10) ∷ []
 decimal-wide n low high = decimal_step_wide n low (omega arith)
 
@@ -110,7 +111,7 @@ length-wide n low high = ap length (decimal-wide n low high) ∙ length-append (
 pub length-128_bits : (n : ℕ) → n < 2 ^ 128 → length (decimal n) ≤ 39
 length-128_bits n high = length-decimal-le_wide 39 n (omega arith) (omega arith) (omega arith)
 
--- digits are ASCII
+-- Digits are ASCII.
 pub two_digits-ascii : (n : ℕ) → n < 100 → IsAscii (two_digits n)
 two_digits-ascii n high = IsAscii-from_all (two_digits n) (All-from_recursion (λ byte. byte < 128) (two_digits n) (omega arith, (omega arith, tt)))
 

@@ -9,11 +9,11 @@ table =
     codes "00010203040506070809101112131415161718192021222324252627282930313233343536373839404142434445464748"
     ++ codes "495051525354555657585960616263646566676869707172737475767778798081828384858687888990919293949596979899"
 
--- the table has the two digits of a number
+-- The table has the two digits of n.
 HasDigits : ℕ → Type 0
 HasDigits n = (get_or table (2 * n) 0 ≡ digit (n / 10)) × (get_or table (2 * n + 1) 0 ≡ digit (n % 10))
 
--- whether the table has the digits of each number below n
+-- The table has the digits of each number below n.
 are_digits : ℕ → Bool
 are_digits zero = true
 are_digits (suc n) =

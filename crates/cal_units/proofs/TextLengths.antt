@@ -1,4 +1,4 @@
--- How many bytes the texts of numbers have at most: what a caller shows of the room that appending them asks for.
+-- The maximum lengths of the texts of numbers, for callers that show that a text has room.
 use Rattle.std.proofs.Common.{◌≡◌, ℕ, ℤ, pos, negsuc, suc, ◌+◌, ◌<◌, ◌≤◌, ◌^◌, length, arith}
 use Rattle.std.specs.Prelude.{unsigned_abs, decimal}
 use Rattle.std.specs.Fmt.{signed_decimal}

@@ -5,7 +5,7 @@ use Rattle.cal_units.specs.Digits.{digit, two_digits, digits_at_least}
 use Rattle.cal_units.specs.YearText.{sign_text, year_text}
 use Rattle.cal_units.proofs.Digits.{pair_step, digits_at_least-none, digits_at_least-one, digits_at_least-two, decimal-two}
 
--- those of the hundreds, and the last two
+-- The digits of the hundreds, and the last two digits.
 halves : (n : ℕ) → n < 1_000_000 → digits_at_least 4 n ≡ digits_at_least 2 (n / 100) ++ two_digits (n % 100)
 halves n high = pair_step 4 n (omega arith) (inl (omega arith))
 
@@ -14,7 +14,7 @@ four_digits n high =
     let same : n / 100 ≡ n / 100 % 100 = omega arith in
     halves n (omega arith) ∙ ap (λ l. l ++ two_digits (n % 100)) (digits_at_least-two (n / 100) (omega arith) ∙ ap two_digits same)
 
--- with one digit before them, or two
+-- One or two digits come before them.
 more_digits : (n : ℕ) (front : List ℕ) → 10_000 ≤ n → n < 1_000_000 → digits_at_least 0 (n / 10_000) ≡ front
     → digits_at_least 4 n ≡ (front ++ two_digits (n / 100 % 100)) ++ two_digits (n % 100)
 more_digits n front low high e =
@@ -27,7 +27,7 @@ five_digits n low high = more_digits n (digit (n / 10_000) ∷ []) low (omega ar
 pub six_digits : (n : ℕ) → 100_000 ≤ n → n < 1_000_000 → digits_at_least 4 n ≡ (two_digits (n / 10_000) ++ two_digits (n / 100 % 100)) ++ two_digits (n % 100)
 six_digits n low high = more_digits n (two_digits (n / 10_000)) (omega arith) high (digits_at_least-none (n / 10_000) ∙ decimal-two (n / 10_000) (omega arith) (omega arith))
 
--- how many they are
+-- The lengths of years.
 pub length-four : (n : ℕ) → n < 10_000 → length (digits_at_least 4 n) ≡ 4
 length-four n high = ap length (four_digits n high)
 

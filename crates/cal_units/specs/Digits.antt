@@ -1,35 +1,35 @@
 -- Decimal digits in ASCII.
 use Rattle.std.specs.Prelude.{ℕ, ◌+◌, ◌-◌, ◌/◌, ◌%◌, ◌==◌, List, [], ◌∷◌, ◌++◌, take, drop, length, decimal, replicate, if◌then◌else◌}
 
--- the digit of a number below 10
+-- The digit of a number below 10 is its ASCII code.
 abbrev pub digit : ℕ → ℕ
 digit n = 48 + n
 
--- the two digits of a number below 100
+-- A number below 100 has two digits, for its tens and its ones.
 abbrev pub two_digits : ℕ → List ℕ
 two_digits n = digit (n / 10) ∷ digit (n % 10) ∷ []
 
--- the digits of a number, filled up with zeros to a width, that is at least so many
+-- A number is written with `width` or more digits: zeros come before its own digits.
 abbrev pub digits_at_least : ℕ → ℕ → List ℕ
 digits_at_least width n = replicate (width - length (decimal n)) 48 ++ decimal n
 
--- the nine digits of a number below 1000000000
+-- A number below 1000000000 has nine digits.
 abbrev pub nine_digits : ℕ → List ℕ
 nine_digits n =
     digit (n / 100_000_000) ∷ digit (n / 10_000_000 % 10) ∷ digit (n / 1_000_000 % 10)
     ∷ digit (n / 100_000 % 10) ∷ digit (n / 10_000 % 10) ∷ digit (n / 1_000 % 10)
     ∷ digit (n / 100 % 10) ∷ digit (n / 10 % 10) ∷ digit (n % 10) ∷ []
 
--- a digit before those that stay after it; a zero stays only where one after it does
+-- A digit comes before the digits that are kept. A zero is dropped if no digit after it is kept.
 abbrev pub digit_before : ℕ → List ℕ → List ℕ
 digit_before d [] = if d == digit 0 then [] else d ∷ []
 digit_before d (e ∷ es) = d ∷ e ∷ es
 
--- digits without the zeros that they end in
+-- The trailing zeros of a list of digits are dropped.
 unfoldable pub without_last_zeros : List ℕ → List ℕ
 without_last_zeros [] = []
 without_last_zeros (d ∷ ds) = digit_before d (without_last_zeros ds)
 
--- the nine decimals of so many nanoseconds without the zeros that they end in, but at least one
+-- The decimals of n nanoseconds are its first digit, and its other digits without trailing zeros.
 abbrev pub decimals : ℕ → List ℕ
 decimals n = take 1 (nine_digits n) ++ without_last_zeros (drop 1 (nine_digits n))

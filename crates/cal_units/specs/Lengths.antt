@@ -1,14 +1,17 @@
--- The lengths of years and months of the proleptic Gregorian calendar, for every whole year (ISO 8601: year 0 stands before year 1).
+-- Lengths of years and months of the proleptic Gregorian calendar, for every whole year. ISO 8601:
+-- year 0 comes before year 1.
 use Rattle.std.specs.Prelude.{ℕ, ◌%◌, Bool, not, ◌&&◌, ◌||◌, ◌==◌, if◌then◌else◌, ℤ, unsigned_abs}
 
--- every fourth year is a leap year, but of the centuries only every fourth
+-- A year is a leap year if 4 divides it, and 100 doesn't or 400 does.
 abbrev pub is_leap_year : ℤ → Bool
 is_leap_year y = (unsigned_abs y % 4 == 0) && (not (unsigned_abs y % 100 == 0) || (unsigned_abs y % 400 == 0))
 
+-- A leap year has 366 days, any other year 365.
 abbrev pub days_in_year : ℤ → ℕ
 days_in_year y = if is_leap_year y then 366 else 365
 
--- thirty days have September, April, June and November; February has 28, or 29 in a leap year; the rest have 31
+-- April, June, September and November have 30 days. February has 28, or 29 in a leap year. The
+-- other months have 31.
 unfoldable pub days_in_month : ℤ → ℕ → ℕ
 days_in_month y m =
     if m == 2 then (if is_leap_year y then 29 else 28)

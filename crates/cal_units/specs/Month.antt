@@ -1,4 +1,4 @@
--- The months by their indexes, numbers and names.
+-- Months by index, number and name.
 use Rattle.std.specs.Prelude.{◌≡◌, ◌<◌, ◌+◌, ◌⊎◌, ℕ, List, [], ◌∷◌, codes, Result, MatchResult, slice_index_or}
 use Rattle.cal_units.specs.declared.error.Component.TheVariants as component
 use Rattle.cal_units.specs.declared.error.ComponentRange.{ComponentRange}
@@ -6,7 +6,7 @@ use Rattle.cal_units.specs.declared.month.Month.{Month}
 use Rattle.cal_units.specs.declared.month.Month.TheVariants.{January, February, March, April, May, June, July, August, September, October, November, December}
 use Rattle.cal_units.specs.Refusal.{unconditional}
 
--- the index on the cycle of the months
+-- The index of a month on the cycle of months is counted from 0 at January.
 abbrev pub index : Month → ℕ
 index January = 0
 index February = 1
@@ -21,15 +21,15 @@ index October = 9
 index November = 10
 index December = 11
 
--- the number of the month: January is 1
+-- The number of a month is counted from 1 at January.
 abbrev pub number : Month → ℕ
 number m = index m + 1
 
--- the month at an index below 12, and December at each place past them
+-- The month at index i is the month with this index, or December if i is 12 or more.
 abbrev pub month_at : ℕ → Month
 month_at i = slice_index_or (January ∷ February ∷ March ∷ April ∷ May ∷ June ∷ July ∷ August ∷ September ∷ October ∷ November ∷ December ∷ []) i December
 
--- the English name
+-- The name of a month is its English name.
 abbrev pub name : Month → List ℕ
 name January = codes "January"
 name February = codes "February"
@@ -44,9 +44,10 @@ name October = codes "October"
 name November = codes "November"
 name December = codes "December"
 
+-- The error of a number that is not the number of a month.
 abbrev pub month_out_of_range : ComponentRange
 month_out_of_range = unconditional component.Month
 
--- r is what a number gives: the month that has it, or the refusal of 0 and of each number above 12
+-- r is the result for the number n: the month with this number, or the error if n is 0 or above 12.
 abbrev pub FromNumber : ℕ → Result Month ComponentRange → Type 0
 FromNumber n r = MatchResult r (λ m. number m ≡ n) (λ e. (e ≡ month_out_of_range) × ((n ≡ 0) ⊎ (12 < n)))

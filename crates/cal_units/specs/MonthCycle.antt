@@ -1,4 +1,4 @@
--- The months stand on a cycle of 12.
+-- The months form a cycle of length 12.
 use Rattle.std.specs.Prelude.{◌≡◌, ◌<◌, ℕ, refl}
 use Rattle.std.proofs.Common.{lit<}
 use Rattle.cal_units.specs.declared.month.Month.{Month}
@@ -6,6 +6,7 @@ use Rattle.cal_units.specs.declared.month.Month.TheVariants.{January, February, 
 use Rattle.cal_units.specs.Month.{index, month_at}
 use Rattle.cal_units.specs.Indices.{each_index_below}
 
+-- The index of a month is below 12.
 pub index-below : (m : Month) → index m < 12
 index-below January = lit< tt
 index-below February = lit< tt
@@ -20,6 +21,7 @@ index-below October = lit< tt
 index-below November = lit< tt
 index-below December = lit< tt
 
+-- The month at the index of m is m.
 pub month_at-index : (m : Month) → month_at (index m) ≡ m
 month_at-index January = refl
 month_at-index February = refl
@@ -34,5 +36,6 @@ month_at-index October = refl
 month_at-index November = refl
 month_at-index December = refl
 
+-- The index of the month at i is i, if i is below 12.
 pub index-month_at : (i : ℕ) → i < 12 → index (month_at i) ≡ i
 index-month_at = each_index_below (λ i. index (month_at i)) 12 refl

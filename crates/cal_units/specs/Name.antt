@@ -1,6 +1,7 @@
--- Reading a value by its name.
+-- Parsing a value from its name.
 use Rattle.std.specs.Prelude.{◌≡◌, ◌≢◌, ℕ, List, Result, MatchResult}
 
--- r is what reading the text gives: the value of just that name, or an error where no value has it
+-- r is the result of parsing the text: the value with exactly this name, or an error if no value
+-- has it.
 abbrev pub Reads : {C E : Type 0} → (C → List ℕ) → List ℕ → Result C E → Type 0
 Reads {C} name text r = MatchResult r (λ x. text ≡ name x) (λ _. (x : C) → text ≢ name x)

@@ -1,10 +1,10 @@
--- Why a constructor refuses: the component at fault, and whether its range depends on other components.
+-- The errors of constructors: a component, and whether its range depends on other components.
 use Rattle.std.specs.Prelude.{◌≡◌, ℕ, List, true, false, codes, Result, IsErrAnd}
 use Rattle.cal_units.specs.declared.error.Component.{Component}
 use Rattle.cal_units.specs.declared.error.Component.TheVariants.{Year, Month, Day, Ordinal, Week, Weekday, JulianDay, Hour, Minute, Second, Millisecond, Microsecond, Nanosecond, OffsetHour, OffsetMinute, OffsetSecond, Seconds, Timestamp}
 use Rattle.cal_units.specs.declared.error.ComponentRange.{ComponentRange}
 
--- the name of a component
+-- The name of a component, which the error prints.
 abbrev pub component_name : Component → List ℕ
 component_name Year = codes "year"
 component_name Month = codes "month"
@@ -25,14 +25,14 @@ component_name OffsetSecond = codes "offset second"
 component_name Seconds = codes "seconds"
 component_name Timestamp = codes "timestamp"
 
--- the range is the same whatever the other components are
+-- The error of a component whose range is always the same.
 abbrev pub unconditional : Component → ComponentRange
 unconditional c = record { component = c; is_conditional = false }
 
--- the range depends on the other components
+-- The error of a component whose range depends on other components.
 abbrev pub conditional : Component → ComponentRange
 conditional c = record { component = c; is_conditional = true }
 
--- the call was refused for just this reason
+-- The result is exactly this error.
 abbrev pub IsRefused : {V : Type 0} → ComponentRange → Result V ComponentRange → Type 0
 IsRefused why r = IsErrAnd r (λ e. e ≡ why)

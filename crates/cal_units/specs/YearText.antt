@@ -1,11 +1,11 @@
--- The text of a year (ISO 8601, with its signs of years outside 0 to 9999).
+-- The text of a year (ISO 8601, with a sign if the year is not from 0 to 9999).
 use Rattle.std.specs.Prelude.{ℤ, pos, ◌++◌, unsigned_abs, List, [], codes, ℕ, if◌then◌else◌, int_lt}
 use Rattle.cal_units.specs.Digits.{digits_at_least}
 
--- a minus sign before a negative year, and a plus sign before a year of more than four digits
+-- A negative year has a minus sign, and a year above 9999 has a plus sign.
 abbrev pub sign_text : ℤ → List ℕ
 sign_text y = if int_lt y (pos 0) then codes "-" else (if int_lt (pos 9999) y then codes "+" else [])
 
--- at least four digits after the sign
+-- A year is written with its sign and four or more digits.
 abbrev pub year_text : ℤ → List ℕ
 year_text y = sign_text y ++ digits_at_least 4 (unsigned_abs y)

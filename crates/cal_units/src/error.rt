@@ -4,49 +4,50 @@ ghost use Rattle.cal_units.specs.Refusal.{component_name, unconditional, conditi
 
 use std::fmt;
 
-/// A component of a date, of a time or of an offset from UTC: what an error names.
+/// A component of a date, a time of day or an offset from UTC, as an error names it.
 #[derive(Clone, Copy, Debug, PartialEq, Eq, Hash)]
 pub enum Component {
-    /// The year of a date, or the ISO year of a week.
+    /// The calendar year, or the year of an ISO week.
     Year,
-    /// The number of a month.
+    /// The number of the month.
     Month,
     /// The day of the month.
     Day,
-    /// The number of the day in its year.
+    /// The day of the year.
     Ordinal,
     /// The ISO week.
     Week,
-    /// The weekday of a week that leaves the range.
+    /// The weekday of an ISO week date.
     Weekday,
     /// The Julian day.
     JulianDay,
-    /// The hour of a time.
+    /// The hour of the day.
     Hour,
-    /// The minute of a time.
+    /// The minute of the hour.
     Minute,
-    /// The second of a time.
+    /// The second of the minute.
     Second,
-    /// The milliseconds of a second.
+    /// The millisecond of the second.
     Millisecond,
-    /// The microseconds of a second.
+    /// The microsecond of the second.
     Microsecond,
-    /// The nanoseconds of a second.
+    /// The nanosecond of the second.
     Nanosecond,
     /// The hours of an offset.
     OffsetHour,
-    /// The minutes of an offset.
+    /// The minutes of an offset, past its hours.
     OffsetMinute,
     /// The seconds of an offset, past its minutes.
     OffsetSecond,
-    /// The whole seconds of an offset.
+    /// The total seconds of an offset.
     Seconds,
-    /// The seconds of a Unix time.
+    /// The seconds of a Unix timestamp.
     Timestamp,
 }
 
 impl Component {
-    /// The name, in lower case and of at most 13 bytes: that of `Component::JulianDay` is `julian_day`, that of `Component::OffsetHour` is `offset hour`.
+    /// Returns the name in lower case, such as `julian_day` or `offset hour`. It has at most 13
+    /// bytes.
     pub fn name(self) -> &'static str
         ensures name { result.now ≡ component_name self }
         ensures short { length result.now ≤ 13 }
@@ -74,12 +75,11 @@ impl Component {
     }
 }
 
-/// A component, such as a month or an hour, was outside its range.
+/// An error: a component, such as a month or an hour, was out of range.
 ///
-/// It carries the component, and whether its range depends on other components: that of a day depends on the month
-/// and the year, that of an hour on nothing. It prints `<name> was not in range`, such as `hour was not in range`.
-///
-/// It is a plain value, which `?` hands on.
+/// The error is conditional if the range depends on other components. The range of a day depends on
+/// the month and the year; the range of an hour is always the same. It prints
+/// `<name> was not in range`, for example `hour was not in range`.
 #[derive(Clone, Copy, Debug, PartialEq, Eq, Hash)]
 pub struct ComponentRange {
     component: Component,
@@ -87,8 +87,7 @@ pub struct ComponentRange {
 }
 
 impl ComponentRange {
-    /// The error of a component that has the same range whatever the other components are.
-    ///
+    /// Creates the error of a component whose range is always the same.
     /// `ComponentRange::unconditional(Component::Hour)` prints `hour was not in range`.
     pub fn unconditional(component: Component) -> Self
         ensures { result ≡ unconditional component }
@@ -99,8 +98,7 @@ impl ComponentRange {
         }
     }
 
-    /// The error of a component whose range depends on other components.
-    ///
+    /// Creates the error of a component whose range depends on other components.
     /// `ComponentRange::conditional(Component::Day)` prints `day was not in range`.
     pub fn conditional(component: Component) -> Self
         ensures { result ≡ conditional component }
@@ -111,14 +109,15 @@ impl ComponentRange {
         }
     }
 
-    /// The component: that of `ComponentRange::conditional(Component::Day)` is `Component::Day`.
+    /// Returns the component: `Component::Day` for `ComponentRange::conditional(Component::Day)`.
     pub fn component(self) -> Component
         ensures { result ≡ self.component }
     {
         self.component
     }
 
-    /// The name of the component: that of `ComponentRange::conditional(Component::Day)` is `day`.
+    /// Returns the name of the component: `day` for `ComponentRange::conditional(Component::Day)`.
+    /// It has at most 13 bytes.
     pub fn name(self) -> &'static str
         ensures name { result.now ≡ component_name self.component }
         ensures short { length result.now ≤ 13 }
@@ -126,9 +125,10 @@ impl ComponentRange {
         self.component.name()
     }
 
-    /// Whether the range of the component depends on other components.
+    /// Returns `true` if the range of the component depends on other components.
     ///
-    /// It is true of `ComponentRange::conditional(Component::Day)`, and false of `ComponentRange::unconditional(Component::Hour)`.
+    /// It is `true` for `ComponentRange::conditional(Component::Day)` and `false` for
+    /// `ComponentRange::unconditional(Component::Hour)`.
     pub fn is_conditional(self) -> bool
         ensures { result ≡ self.is_conditional }
     {
@@ -144,9 +144,8 @@ impl fmt::Display for ComponentRange {
     }
 }
 
-/// A value was outside the range of the type that it was to be converted to.
-///
-/// It prints `Source value is out of range for the target type`.
+/// An error: a value was out of range for the target type of a conversion. It prints
+/// `Source value is out of range for the target type`.
 #[derive(Clone, Copy, Debug, PartialEq, Eq)]
 pub struct ConversionRange;
 
@@ -158,9 +157,8 @@ impl fmt::Display for ConversionRange {
     }
 }
 
-/// A text was not the exact English name of a month or a weekday.
-///
-/// It prints `value was not a valid variant`.
+/// An error: a text was not the exact English name of a month or a weekday. It prints
+/// `value was not a valid variant`.
 #[derive(Clone, Copy, Debug, PartialEq, Eq)]
 pub struct InvalidVariant;
 

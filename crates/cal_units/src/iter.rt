@@ -1,4 +1,4 @@
-//! Endless walks over the months and the weekdays, forwards and backwards.
+//! Endless iterators over the months and the weekdays, forward and backward.
 use crate::month::Month;
 use crate::weekday::Weekday;
 
@@ -8,8 +8,8 @@ mod forward;
 pub use backward::Rev;
 pub use forward::CycleIter;
 
-/// An endless walk over the months.
+/// An endless iterator over the months.
 pub type MonthIter = CycleIter<Month>;
 
-/// An endless walk over the weekdays.
+/// An endless iterator over the weekdays.
 pub type WeekdayIter = CycleIter<Weekday>;

@@ -1,7 +1,6 @@
-//! What callers rest on and no clause of a call says: a clone is the value itself, `as u8` gives the number, and a walk asks of a
-//! closure no more than that it may always be called.
+//! Properties that callers need and that no clause of a call states.
 //!
-//! Derives and discriminants have no clauses, so a function that clones or casts says what comes of it.
+//! Derives and discriminants have no clauses, so functions that clone and cast state their results.
 ghost use Rattle.std.specs.Prelude.{◌≡◌, ℤ, pos, ◌+ℤ◌, Ok};
 ghost use Rattle.cal_units.specs.Lengths.{days_in_year};
 ghost use Rattle.cal_units.specs.Month.{number};
@@ -16,7 +15,7 @@ use crate::util::DateAdjustment;
 use crate::weekday::Weekday;
 use std::alloc::AllocError;
 
-/// A clone of a month, a weekday or a step into another day is the value itself.
+/// Clones the values. Each clone equals its original.
 pub(crate) fn clones_of_units(
     month: Month,
     weekday: Weekday,
@@ -27,7 +26,7 @@ pub(crate) fn clones_of_units(
     Ok((month.clone()?, weekday.clone()?, adjustment.clone()?))
 }
 
-/// A clone of an error is the error itself.
+/// Clones the errors. Each clone equals its original.
 pub(crate) fn clones_of_errors(
     component: ComponentRange,
     conversion: ConversionRange,
@@ -38,7 +37,8 @@ pub(crate) fn clones_of_errors(
     Ok((component.clone()?, conversion.clone()?, variant.clone()?))
 }
 
-/// A year and the year 400 years later begin on the same weekday and have as many days and as many weeks.
+/// States that a year and the year 400 years later begin on the same weekday, and have as many days
+/// and as many weeks.
 #[tactic(auto, using(crate::proofs::Weeks::periods))]
 pub(crate) fn years_repeat()
     ensures weekday { (y : ℤ) → first_weekday (y +ℤ pos 400) ≡ first_weekday y }
@@ -46,21 +46,22 @@ pub(crate) fn years_repeat()
     ensures weeks { (y : ℤ) → weeks_in_year (y +ℤ pos 400) ≡ weeks_in_year y }
 {}
 
-/// A month as a number is its number in the year: January is 1.
+/// Returns the number of the month, from 1 for January to 12 for December.
 pub(crate) fn month_as_number(month: Month) -> u8
     ensures { result ≡ number month }
 {
     month as u8
 }
 
-/// A weekday as a number is the number of days since Monday.
+/// Returns the number of days since Monday, from 0 for Monday to 6 for Sunday.
 pub(crate) fn weekday_as_number(weekday: Weekday) -> u8
     ensures { result ≡ index weekday }
 {
     weekday as u8
 }
 
-/// What all and any answer, forwards and backwards, for a caller that knows no more than that `f` may always be called.
+/// Calls `all_once` and `any_once` in both directions. The caller knows only that `f` may always be
+/// called, so the check rejects a stronger condition.
 pub(crate) fn questions<C: Cycle, F: FnMut(C) -> bool + Copy>(start: C, f: F) -> [bool; 4]
     requires { F.IsAlwaysCallable f }
 {

@@ -1,7 +1,8 @@
-//! The lowest layer of the calendar: its errors, the lengths of years and months, the months and weekdays, and endless walks over them.
+//! The lowest layer of the calendar: errors, lengths of years and months, months and weekdays, and
+//! endless iterators over them.
 //!
-//! Years are those of the proleptic Gregorian calendar, counted as astronomers do: year 0 stands before year 1.
-//! Weeks are those of ISO 8601.
+//! Years are years of the proleptic Gregorian calendar, with a year 0 before the year 1. Weeks are
+//! weeks of ISO 8601.
 #![tactic(auto)]
 
 mod counted;

@@ -20,9 +20,8 @@ use std::cmp::Ordering;
 use std::fmt;
 use std::str::FromStr;
 
-/// A month of the year.
-///
-/// `Month::May as u8` is its number, 5; months are ordered by their numbers. A month prints its English name, as `May`.
+/// A month of the year. `Month::May as u8` is its number, 5. Months are ordered by their numbers. A
+/// month prints its English name, such as `May`.
 #[derive(Clone, Copy, Debug, Hash)]
 pub enum Month {
     January = 1,
@@ -40,9 +39,8 @@ pub enum Month {
 }
 
 impl Month {
-    /// The number of days of the month in this year, from 28 to 31.
-    ///
-    /// `Month::February.length(2020)` is 29, `Month::February.length(1900)` is 28.
+    /// Returns the number of days of the month in `year`, from 28 to 31.
+    /// `Month::February.length(2020)` is 29, and `Month::February.length(1900)` is 28.
     pub fn length(self, year: i32) -> u8
         ensures value { result ≡ days_in_month year (number self) }
         ensures range { (28 ≤ result) × (result ≤ 31) }
@@ -50,48 +48,45 @@ impl Month {
         days_in_month(self, year)
     }
 
-    /// The month before. That of January is December.
+    /// Returns the month before this one. The month before January is December.
     pub fn previous(self) -> Self
         ensures { (index result + 1) % 12 ≡ index self }
     {
         nth_back_in(self, 1)
     }
 
-    /// The month after. That of December is January.
+    /// Returns the month after this one. The month after December is January.
     pub fn next(self) -> Self
         ensures { index result ≡ (index self + 1) % 12 }
     {
         nth_in(self, 1)
     }
 
-    /// The month `n` months after, round the year as often as it takes.
-    ///
-    /// `Month::January.nth_next(4)` is May, `Month::July.nth_next(9)` is April.
+    /// Returns the month `n` months later. January comes after December.
+    /// `Month::January.nth_next(4)` is May, and `Month::July.nth_next(9)` is April.
     pub fn nth_next(self, n: u8) -> Self
         ensures { index result ≡ (index self + n) % 12 }
     {
         nth_in(self, n as usize)
     }
 
-    /// The month `n` months before, round the year as often as it takes.
-    ///
-    /// `Month::January.nth_prev(4)` is September, `Month::July.nth_prev(9)` is October.
+    /// Returns the month `n` months earlier. December comes before January.
+    /// `Month::January.nth_prev(4)` is September, and `Month::July.nth_prev(9)` is October.
     pub fn nth_prev(self, n: u8) -> Self
         ensures { (index result + n) % 12 ≡ index self }
     {
         nth_back_in(self, n as usize)
     }
 
-    /// An endless walk over the months from `start` on.
-    ///
-    /// From November on it gives November, December, January, and so on.
+    /// Creates an endless iterator over the months that starts at `start`. From November it returns
+    /// November, December, January and so on.
     pub fn iter_from(start: Month) -> MonthIter
         ensures { result ≡ start }
     {
         MonthIter::new(start)
     }
 
-    /// The English name, as the month prints it: `Month::May.name()` is `May`.
+    /// Returns the English name, which the month prints: `May`. It is ASCII, with at most 9 bytes.
     pub fn name(self) -> &'static str
         ensures text { result.now ≡ name self }
         ensures short { length result.now ≤ 9 }
@@ -205,7 +200,8 @@ impl FromStr for Month {
 
     ghost from_str_gives = { Reads name };
 
-    /// The month of exactly this English name, as `March`; `InvalidVariant` for every other text, as `march` or `Mar`.
+    /// Parses the exact English name of a month, such as `March`. Returns the error
+    /// `InvalidVariant` for any other text, such as `march` or `Mar`.
     fn from_str(s: &str) -> Result<Self, InvalidVariant> {
         match s {
             "January" => Ok(Month::January),
@@ -228,7 +224,8 @@ impl FromStr for Month {
 impl From<Month> for u8 {
     ghost from_gives = { λ m n. n ≡ number m };
 
-    /// The number of the month, from January, 1, to December, 12: `u8::from(Month::May)` is 5.
+    /// Returns the number of the month, from 1 for January to 12 for December.
+    /// `u8::from(Month::May)` is 5.
     fn from(month: Month) -> u8 {
         month as u8
     }
@@ -239,9 +236,9 @@ impl TryFrom<u8> for Month {
 
     ghost try_from_gives = { FromNumber };
 
-    /// The month with this number, from January, 1, to December, 12: `Month::try_from(5)` is May.
-    ///
-    /// Every other number, as 0 and 13, is refused with `month`, unconditional.
+    /// Returns the month with this number, from 1 for January to 12 for December.
+    /// `Month::try_from(5)` is May. Returns the unconditional error `month` for any other number,
+    /// such as 0 or 13.
     fn try_from(number: u8) -> Result<Self, ComponentRange> {
         match number {
             1 => Ok(Month::January),

@@ -1,12 +1,11 @@
-//! Steps and questions along a cycle, for every type that has one.
+//! Steps along a cycle, and tests of all its values.
 ghost use Rattle.std.specs.Prelude.{true, false};
 ghost use Rattle.cal_units.specs.Walk.{Asked, IsAhead, IsBack};
 
 use crate::cycle::Cycle;
 
-/// The value `n` places on from `start`, round the cycle as often as it takes.
-///
-/// `nth_in(Month::November, 3)` is February.
+/// Returns the value `n` places after `start` on the cycle. `nth_in(Month::November, 3)` is
+/// February.
 pub fn nth_in<C: Cycle>(start: C, n: usize) -> C
     ensures { IsAhead C.Cycle n start result }
 {
@@ -15,7 +14,7 @@ pub fn nth_in<C: Cycle>(start: C, n: usize) -> C
     C::at(place as u8)
 }
 
-/// The value `n` places back from `start`, round the cycle as often as it takes.
+/// Returns the value `n` places before `start` on the cycle.
 pub(crate) fn nth_back_in<C: Cycle>(start: C, n: usize) -> C
     ensures { IsBack C.Cycle n start result }
 {
@@ -24,7 +23,8 @@ pub(crate) fn nth_back_in<C: Cycle>(start: C, n: usize) -> C
     C::at(place as u8)
 }
 
-/// Whether `f` answers true at each value, asked in the order of the indexes up to the first false.
+/// Returns `true` if `f` returns `true` for every value. Calls `f` for the values in the order of
+/// their indexes, until it returns `false`.
 pub(crate) fn all_in<C: Cycle, F: FnMut(C) -> bool>(mut f: F) -> bool
     requires { F.IsAlwaysCallable f }
     ensures { Asked C.Cycle F.step true 0 f result }
@@ -37,7 +37,8 @@ pub(crate) fn all_in<C: Cycle, F: FnMut(C) -> bool>(mut f: F) -> bool
     true
 }
 
-/// Whether `f` answers true at some value, asked in the order of the indexes up to the first true.
+/// Returns `true` if `f` returns `true` for some value. Calls `f` for the values in the order of
+/// their indexes, until it returns `true`.
 pub(crate) fn any_in<C: Cycle, F: FnMut(C) -> bool>(mut f: F) -> bool
     requires { F.IsAlwaysCallable f }
     ensures { Asked C.Cycle F.step false 0 f result }

@@ -1,4 +1,4 @@
-//! Short texts in place, and the digits of the numbers in them.
+//! Short texts that need no allocation, and the digits of numbers in them.
 ghost use Rattle.std.specs.Prelude.{◌≡◌, ◌+◌, ◌<◌, ◌≤◌, ◌++◌, [], ◌∷◌, length, decimal, unsigned_abs};
 ghost use Rattle.std.specs.Fmt.{debug_str, signed_decimal};
 ghost use Rattle.std.specs.Str.{IsAscii};
@@ -10,17 +10,19 @@ use std::fmt;
 use std::marker::Model;
 use std::str::from_utf8_unchecked;
 
-/// The most bytes that a text has. The longest durations and date-times with an offset have as many.
+/// The maximum length of a text in bytes. The longest durations and the longest date-times with an
+/// offset have this length.
 const CAPACITY: usize = 42;
 
-/// The two ASCII digits of each number below 100, one pair after another.
+/// The two ASCII digits of each number below 100, in ascending order.
 const DIGIT_PAIRS: [u8; 200] =
     *b"0001020304050607080910111213141516171819202122232425262728293031323334353637383940414243444546474849\
     5051525354555657585960616263646566676869707172737475767778798081828384858687888990919293949596979899";
 
-/// What a value prints, in place and without a formatter: a text of at most 42 bytes.
+/// A text of at most 42 bytes that needs no allocation and no formatter.
 ///
-/// Each type that prints gives it by its call `text`: that of 29 February 2024 is `2024-02-29`. What is appended has to fit.
+/// Each type that prints returns one from its method `text`: for 29 February 2024 it is
+/// `2024-02-29`. A text that is appended must fit.
 #[derive(Drop)]
 pub struct ShortText {
     bytes: [u8; CAPACITY],
@@ -39,7 +41,7 @@ impl Model for ShortText {
 }
 
 impl ShortText {
-    /// No bytes.
+    /// Creates an empty text.
     pub fn new() -> Self
         ensures { result ≡ [] }
     {
@@ -49,16 +51,16 @@ impl ShortText {
         }
     }
 
-    /// The text.
+    /// Returns the text as a `str` of at most 42 bytes.
     pub fn as_str(&self) -> &str
         ensures text { result.now ≡ self.now }
         ensures short { length result.now ≤ capacity }
     {
-        // Only text was appended, as the invariant says.
+        // By the invariant the bytes are UTF-8.
         unsafe { from_utf8_unchecked(&self.bytes[..self.filled]) }
     }
 
-    /// The bytes of the text, which is UTF-8.
+    /// Returns the bytes of the text in UTF-8, at most 42.
     pub fn as_bytes(&self) -> &[u8]
         ensures bytes { result.now ≡ self.now }
         ensures short { length result.now ≤ capacity }
@@ -66,7 +68,7 @@ impl ShortText {
         &self.bytes[..self.filled]
     }
 
-    /// The number of bytes, at most 42.
+    /// Returns the length in bytes, at most 42.
     pub fn len(&self) -> usize
         ensures bytes { result ≡ length self.now }
         ensures short { result ≤ capacity }
@@ -74,7 +76,7 @@ impl ShortText {
         self.filled
     }
 
-    /// Appends the text.
+    /// Appends a text, which must fit.
     pub fn push(&mut self, text: &str)
         requires { HasRoom (length text.now) self.old }
         ensures appended { self.new ≡ self.old ++ text.now }
@@ -92,7 +94,7 @@ impl ShortText {
         ensures appended { self.new ≡ self.old ++ bytes.now }
         ensures longer { length self.new ≡ length self.old + length bytes.now }
     {
-        // ASCII is UTF-8, which is all that the call asks.
+        // ASCII is valid UTF-8.
         self.push(unsafe { from_utf8_unchecked(bytes) });
     }
 
@@ -106,7 +108,7 @@ impl ShortText {
         self.push_ascii(&[digit(number)]);
     }
 
-    /// Appends the two digits of a number below 100: those of 7 are `07`.
+    /// Appends the two digits of a number below 100. For 7 they are `07`.
     #[tactic(auto, using(crate::proofs::Digits::pairs))]
     pub fn push_two_digits(&mut self, number: u32)
         requires room { HasRoom 2 self.old }
@@ -118,7 +120,7 @@ impl ShortText {
         self.push_ascii(&two_digits(number));
     }
 
-    /// Appends the three digits of a number below 1000: those of 60 are `060`.
+    /// Appends the three digits of a number below 1000. For 60 they are `060`.
     #[tactic(auto, using(crate::proofs::Digits::threes))]
     pub fn push_three_digits(&mut self, number: u32)
         requires room { HasRoom 3 self.old }
@@ -130,7 +132,7 @@ impl ShortText {
         self.push_two_digits(number % 100);
     }
 
-    /// Appends the digits of a number, without zeros before them.
+    /// Appends a number in decimal, without leading zeros.
     #[tactic(auto, using(crate::proofs::Digits::numbers))]
     pub fn push_number(&mut self, number: u64)
         requires { HasRoom (length (decimal number)) self.old }
@@ -147,7 +149,7 @@ impl ShortText {
         self.push_two_digits((number % 100) as u32);
     }
 
-    /// Appends the digits of a number, after a minus sign if it is negative: `-7`.
+    /// Appends a number in decimal, with a minus sign if it is negative, such as `-7`.
     #[tactic(auto, using(crate::proofs::Digits::short_numbers))]
     pub fn push_signed(&mut self, number: i32)
         requires { HasRoom (length (signed_decimal number)) self.old }
@@ -161,7 +163,7 @@ impl ShortText {
         self.push_number(u64::from(number.unsigned_abs()));
     }
 
-    /// Appends the digits of a number of 128 bits, after a minus sign if it is negative.
+    /// Appends a 128-bit number in decimal, with a minus sign if it is negative.
     #[tactic(auto, using(crate::proofs::Digits::wide_numbers))]
     pub fn push_signed_wide(&mut self, number: i128)
         requires { HasRoom (length (signed_decimal number)) self.old }
@@ -175,7 +177,7 @@ impl ShortText {
         self.push_wide(number.unsigned_abs());
     }
 
-    /// Appends the digits of a number of 128 bits, without zeros before them.
+    /// Appends a 128-bit number in decimal, without leading zeros.
     #[tactic(auto, using(crate::proofs::Digits::last_digits))]
     fn push_wide(&mut self, number: u128)
         requires { HasRoom (length (decimal number)) self.old }
@@ -190,7 +192,8 @@ impl ShortText {
         self.push_digit((number % 10) as u32);
     }
 
-    /// Appends a year: at least four digits, after a minus sign below 0, and after a plus sign from the year 10000 on.
+    /// Appends a year from -999999 to 999999 with four or more digits, as in ISO 8601. A negative
+    /// year has a minus sign, and a year above 9999 a plus sign: `0033`, `-0044`, `+12024`.
     #[tactic(auto, using(crate::proofs::YearTexts::year_lengths))]
     pub fn push_year(&mut self, year: i32)
         requires room { HasRoom (length (year_text year)) self.old }
@@ -207,7 +210,7 @@ impl ShortText {
         self.push_four_digits(year.unsigned_abs());
     }
 
-    /// Appends the digits of a number below 1000000, of which there are at least four.
+    /// Appends a number below 1000000 with four or more digits.
     #[tactic(auto, using(crate::proofs::YearTexts::years))]
     fn push_four_digits(&mut self, number: u32)
         requires room { HasRoom (length (digits_at_least 4 number)) self.old }
@@ -225,8 +228,8 @@ impl ShortText {
         self.push_two_digits(number % 100);
     }
 
-    /// Appends the nine decimals of so many nanoseconds without the zeros that they end in, but at least one: those of half a second
-    /// are `5`.
+    /// Appends the decimals of a second, without trailing zeros. For half a second they are `5`,
+    /// and for no nanoseconds `0`. The nanoseconds must be below 1000000000.
     pub fn push_decimals(&mut self, nanoseconds: u32)
         requires room { HasRoom (length (decimals nanoseconds)) self.old }
         requires below { nanoseconds < 1_000_000_000 }
@@ -254,7 +257,7 @@ impl fmt::Debug for ShortText {
     }
 }
 
-/// The two ASCII digits of a number below 100: those of 7 are `*b"07"`.
+/// Returns the two ASCII digits of a number below 100. For 7 they are `*b"07"`.
 fn two_digits(n: u32) -> [u8; 2]
     requires { n < 100 }
     ensures { result ≡ two_digits n }
@@ -263,7 +266,7 @@ fn two_digits(n: u32) -> [u8; 2]
     [DIGIT_PAIRS[index], DIGIT_PAIRS[index + 1]]
 }
 
-/// The ASCII digit of a number below 10: that of 7 is `b'7'`.
+/// Returns the ASCII digit of a number below 10. For 7 it is `b'7'`.
 fn digit(n: u32) -> u8
     requires { n < 10 }
     ensures { result ≡ digit n }

@@ -1,4 +1,4 @@
-//! Lengths of years and months in days and weeks, for every year, and the carry of a clock into the day.
+//! Lengths of years and months in days and weeks, and `DateAdjustment`.
 ghost use Rattle.std.specs.Prelude.{◌≡◌, ◌^◌, ◌≤◌, ◌≤ℤ◌, neg_ℤ, pos};
 ghost use Rattle.cal_units.specs.Lengths.{is_leap_year, days_in_year, days_in_month};
 ghost use Rattle.cal_units.specs.Month.{number};
@@ -10,20 +10,21 @@ mod date_adjustment;
 
 pub use date_adjustment::DateAdjustment;
 
-/// The index of Thursday, from Monday, 0.
+/// The index of Thursday, counted from 0 at Monday.
 const THURSDAY: i64 = 3;
 
-/// The index of Friday.
+/// The index of Friday, counted from 0 at Monday.
 const FRIDAY: i64 = 4;
 
-/// Whether the year is a leap year of the proleptic Gregorian calendar: every fourth year is one, but of the centuries only every
-/// fourth. Year 0 stands before year 1.
+/// Returns `true` if `year` is a leap year of the proleptic Gregorian calendar: 4 divides it, and
+/// 100 doesn't or 400 does. There is a year 0.
 ///
-/// It is true of 2000 and 2020, and false of 1900 and 2019.
+/// The years 2000 and 2020 are leap years; 1900 and 2019 aren't.
 pub fn is_leap_year(year: i32) -> bool
     ensures { result ≡ is_leap_year year }
 {
-    // Of the multiples of 100, those of 16 are the multiples of 400. Both tests are masks, so the choice needs no branch.
+    // A multiple of 100 is a multiple of 400 if 16 divides it. Both tests are masks, so the choice
+    // needs no branch.
     if year % 100 == 0 {
         year % 16 == 0
     } else {
@@ -31,9 +32,8 @@ pub fn is_leap_year(year: i32) -> bool
     }
 }
 
-/// The number of days of the year: 366 in a leap year, else 365.
-///
-/// It is 366 for 2020 and 365 for 1900.
+/// Returns the number of days of the year: 366 in a leap year, else 365. For 2020 it is 366, and
+/// for 1900 it is 365.
 pub fn days_in_year(year: i32) -> u16
     ensures value { result ≡ days_in_year year }
     ensures range { (365 ≤ result) × (result ≤ 366) }
@@ -41,9 +41,10 @@ pub fn days_in_year(year: i32) -> u16
     if is_leap_year(year) { 366 } else { 365 }
 }
 
-/// The number of weeks of the year, 52 or 53.
+/// Returns the number of ISO 8601 weeks of the year, 52 or 53.
 ///
-/// ISO 8601 gives each week to the year that holds its Thursday, so these are the Thursdays of the year: 53 for 2020, 52 for 2019.
+/// A week belongs to the year of its Thursday, so this is the number of Thursdays of the year. For
+/// 2020 it is 53, and for 2019 it is 52.
 #[tactic(auto, using(crate::proofs::Weeks::weeks))]
 pub fn weeks_in_year(year: i32) -> u8
     ensures value { result ≡ weeks_in_year year }
@@ -53,7 +54,8 @@ pub fn weeks_in_year(year: i32) -> u8
     let begins_on = first_weekday(year);
     let next_begins_on = first_weekday(year + 1);
 
-    // A year has 53 Thursdays where it begins on one or ends on one. It ends on one where the next year begins on a Friday.
+    // A year has 53 Thursdays where it begins on one or ends on one. It ends on one if the next
+    // year begins on a Friday.
     if begins_on == THURSDAY || next_begins_on == FRIDAY {
         53
     } else {
@@ -61,9 +63,8 @@ pub fn weeks_in_year(year: i32) -> u8
     }
 }
 
-/// The number of days of the month in this year, from 28 to 31.
-///
-/// For February it is 29 in 2000 and 28 in 1900.
+/// Returns the number of days of the month in `year`, from 28 to 31. February has 29 days in 2000
+/// and 28 in 1900.
 #[tactic(auto, unfolding(crate::specs::Lengths::days_in_month))]
 pub fn days_in_month(month: Month, year: i32) -> u8
     ensures value { result ≡ days_in_month year (number month) }
@@ -77,8 +78,7 @@ pub fn days_in_month(month: Month, year: i32) -> u8
     }
 }
 
-/// The number of days of the month in this year, from 28 to 31, as `days_in_month` gives it.
-///
+/// Returns the number of days of the month in `year`, from 28 to 31, like `days_in_month`.
 /// `days_in_year_month(2000, Month::February)` is 29.
 pub fn days_in_year_month(year: i32, month: Month) -> u8
     ensures value { result ≡ days_in_month year (number month) }
@@ -87,8 +87,9 @@ pub fn days_in_year_month(year: i32, month: Month) -> u8
     days_in_month(month, year)
 }
 
-// The weekday of January 1, as its index from Monday, 0. Year 1 begins on a Monday; each year of 365 days moves that by one, and each
-// leap day by one more. The quotients are rounded down, so this holds of years before year 1 too.
+// The index of the weekday of 1 January, from 0 for Monday to 6 for Sunday. Year 1 begins on a
+// Monday. Each year of 365 days moves the weekday by one, and each leap day by one more. The
+// quotients are rounded down, so the result is right before year 1 too.
 fn first_weekday(year: i64) -> i64
     requires low { neg_ℤ (pos (2 ^ 32)) ≤ℤ year }
     requires high { year ≤ℤ pos (2 ^ 32) }

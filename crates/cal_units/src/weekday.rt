@@ -18,8 +18,8 @@ use std::str::FromStr;
 
 /// A day of the week.
 ///
-/// `Weekday::Friday as u8` is the number of days since Monday, 4. As a week may be taken to begin on Monday or on Sunday, weekdays
-/// have no order. A weekday prints its English name, as `Friday`.
+/// `Weekday::Friday as u8` is the number of days since Monday, 4. Weekdays have no order, because a
+/// week can begin on Monday or on Sunday. A weekday prints its English name, such as `Friday`.
 #[derive(Clone, Copy, Debug, Hash)]
 pub enum Weekday {
     Monday,
@@ -32,60 +32,57 @@ pub enum Weekday {
 }
 
 impl Weekday {
-    /// The weekday before. That of Monday is Sunday.
+    /// Returns the weekday before this one. The weekday before Monday is Sunday.
     pub fn previous(self) -> Self
         ensures { (index result + 1) % 7 ≡ index self }
     {
         nth_back_in(self, 1)
     }
 
-    /// The weekday after. That of Sunday is Monday.
+    /// Returns the weekday after this one. The weekday after Sunday is Monday.
     pub fn next(self) -> Self
         ensures { index result ≡ (index self + 1) % 7 }
     {
         nth_in(self, 1)
     }
 
-    /// The weekday `n` days after, round the week as often as it takes.
-    ///
-    /// `Weekday::Sunday.nth_next(10)` is Wednesday.
+    /// Returns the weekday `n` days later. `Weekday::Sunday.nth_next(10)` is Wednesday.
     pub fn nth_next(self, n: u8) -> Self
         ensures { index result ≡ (index self + n) % 7 }
     {
         nth_in(self, n as usize)
     }
 
-    /// The weekday `n` days before, round the week as often as it takes.
-    ///
-    /// `Weekday::Sunday.nth_prev(10)` is Thursday.
+    /// Returns the weekday `n` days earlier. `Weekday::Sunday.nth_prev(10)` is Thursday.
     pub fn nth_prev(self, n: u8) -> Self
         ensures { (index result + n) % 7 ≡ index self }
     {
         nth_back_in(self, n as usize)
     }
 
-    /// The number of the weekday from Monday, 1, to Sunday, 7, as in ISO 8601. That of Friday is 5.
+    /// Returns the number of the weekday, from 1 for Monday to 7 for Sunday, as in ISO 8601. Friday
+    /// is 5.
     pub fn number_from_monday(self) -> u8
         ensures { result ≡ index self + 1 }
     {
         self.number_days_from_monday() + 1
     }
 
-    /// The number of the weekday from Sunday, 1, to Saturday, 7. That of Friday is 6.
+    /// Returns the number of the weekday, from 1 for Sunday to 7 for Saturday. Friday is 6.
     pub fn number_from_sunday(self) -> u8
         ensures { result ≡ days_from_sunday self + 1 }
     {
         self.number_days_from_sunday() + 1
     }
 
-    /// The number of days since Monday, from Monday, 0, to Sunday, 6. On Friday it is 4.
+    /// Returns the number of days since Monday, from 0 for Monday to 6 for Sunday. Friday is 4.
     pub fn number_days_from_monday(self) -> u8
         ensures { result ≡ index self }
     {
         self.place()
     }
 
-    /// The number of days since Sunday, from Sunday, 0, to Saturday, 6. On Friday it is 5.
+    /// Returns the number of days since Sunday, from 0 for Sunday to 6 for Saturday. Friday is 5.
     pub fn number_days_from_sunday(self) -> u8
         ensures { result ≡ days_from_sunday self }
     {
@@ -95,16 +92,16 @@ impl Weekday {
         }
     }
 
-    /// An endless walk over the weekdays from `start` on.
-    ///
-    /// From Saturday on it gives Saturday, Sunday, Monday, and so on.
+    /// Creates an endless iterator over the weekdays that starts at `start`. From Saturday it
+    /// returns Saturday, Sunday, Monday and so on.
     pub fn iter_from(start: Weekday) -> WeekdayIter
         ensures { result ≡ start }
     {
         WeekdayIter::new(start)
     }
 
-    /// The English name, as the weekday prints it: `Weekday::Friday.name()` is `Friday`.
+    /// Returns the English name, which the weekday prints: `Friday`. It is ASCII, with at most 9
+    /// bytes.
     pub fn name(self) -> &'static str
         ensures text { result.now ≡ name self }
         ensures short { length result.now ≤ 9 }
@@ -183,7 +180,8 @@ impl FromStr for Weekday {
 
     ghost from_str_gives = { Reads name };
 
-    /// The weekday of exactly this English name, as `Friday`; `InvalidVariant` for every other text, as `friday` or `Fri`.
+    /// Parses the exact English name of a weekday, such as `Friday`. Returns the error
+    /// `InvalidVariant` for any other text, such as `friday` or `Fri`.
     fn from_str(s: &str) -> Result<Self, InvalidVariant> {
         match s {
             "Monday" => Ok(Weekday::Monday),

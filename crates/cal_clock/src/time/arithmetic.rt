@@ -1,4 +1,4 @@
-//! Times moved on and back by durations, and the durations between times.
+//! Times moved by durations, and the durations between times.
 
 ghost use Rattle.std.specs.Prelude.{◌≡◌, ◌*◌, ◌<◌, pos, negsuc, neg_ℤ, ◌+ℤ◌, ◌-ℤ◌, ◌*ℤ◌, ◌<ℤ◌, ◌≤ℤ◌, unsigned_abs};
 ghost use Rattle.cal_span.specs.SignedDuration.{day, whole_days};
@@ -11,7 +11,8 @@ use cal_units::util::DateAdjustment;
 use std::ops::{Add, AddAssign, Sub, SubAssign};
 
 impl Time {
-    /// The way forward to the other time, from zero to below a day: from 23:00 until 1:00 it is two hours.
+    /// Returns the duration from this time forward to `other`, from zero to less than a day. From
+    /// 23:00 until 1:00 it is two hours.
     pub fn duration_until(self, other: Self) -> SignedDuration
         ensures { result ≡ pos (modulo_day (pos other -ℤ pos self)) }
     {
@@ -23,17 +24,19 @@ impl Time {
         SignedDuration::nanoseconds(nanoseconds as i64)
     }
 
-    /// The way forward from the other time, from zero to below a day: since 23:00 it is two hours at 1:00.
+    /// Returns the duration from `other` forward to this time, from zero to less than a day. At
+    /// 1:00 it is two hours since 23:00.
     pub fn duration_since(self, other: Self) -> SignedDuration
         ensures { result ≡ pos (modulo_day (pos self -ℤ pos other)) }
     {
         other.duration_until(self)
     }
 
-    /// The new time, and the carry in days beyond the whole days of the duration, which are cut toward zero.
+    /// Adds the duration. Returns the adjustment past the duration's whole days and the time.
     ///
-    /// 23:00 and 26 hours more are 1:00, two days on: a whole day of the duration, and a carry to the `Next` day. The
-    /// carry never goes against the sign of the duration.
+    /// 23:00 plus 26 hours is 1:00, two days later: one whole day in the duration, and the
+    /// adjustment `Next`. The whole days are truncated toward zero. The adjustment is not
+    /// `Previous` for a positive duration, and not `Next` for a negative one.
     pub fn adjusting_add(self, duration: SignedDuration) -> (DateAdjustment, Self)
         ensures equation { pos self +ℤ duration
             ≡ (whole_days duration +ℤ carry result.0) *ℤ pos day +ℤ pos result.1 }
@@ -44,10 +47,11 @@ impl Time {
         carried(self.nanoseconds as i64 + past_days(duration))
     }
 
-    /// The new time, and the carry in days beyond the whole days of the duration, which are cut toward zero.
+    /// Subtracts the duration. Returns the adjustment past the duration's whole days and the time.
     ///
-    /// 1:00 less 26 hours is 23:00, two days back: a whole day of the duration, and a carry to the `Previous` day. The
-    /// carry never goes along with the sign of the duration.
+    /// 1:00 minus 26 hours is 23:00, two days earlier: one whole day in the duration, and the
+    /// adjustment `Previous`. The whole days are truncated toward zero. The adjustment is not
+    /// `Next` for a positive duration, and not `Previous` for a negative one.
     pub fn adjusting_sub(self, duration: SignedDuration) -> (DateAdjustment, Self)
         ensures equation { pos self -ℤ duration
             ≡ (carry result.0 -ℤ whole_days duration) *ℤ pos day +ℤ pos result.1 }
@@ -59,7 +63,7 @@ impl Time {
     }
 }
 
-/// The nanoseconds of the duration past its whole days, with its sign.
+/// Returns the nanoseconds of the duration past its whole days, with its sign.
 fn past_days(duration: SignedDuration) -> i64
     ensures { IsPastDays duration result }
 {
@@ -67,9 +71,8 @@ fn past_days(duration: SignedDuration) -> i64
     seconds * NANOSECONDS_PER_SECOND as i64 + i64::from(duration.subsec_nanoseconds())
 }
 
-/// The days from today to the day that the nanoseconds since midnight lie in: -1, 0 or 1.
-///
-/// As the sign of a step is often random, the tests are added up and not branched on.
+/// Returns the day of nanoseconds since midnight, relative to today: -1, 0 or 1. The sign of a step
+/// is often random, so the comparisons are subtracted, which needs no branch.
 fn days_past(nanoseconds: i64) -> i64
     ensures before { nanoseconds <ℤ pos 0 → result ≡ negsuc 0 }
     ensures same { pos 0 ≤ℤ nanoseconds → nanoseconds <ℤ pos day → result ≡ pos 0 }
@@ -78,7 +81,7 @@ fn days_past(nanoseconds: i64) -> i64
     i64::from(nanoseconds >= NANOSECONDS_PER_DAY as i64) - i64::from(nanoseconds < 0)
 }
 
-/// The carry of that many days, of which there are -1, 0 or 1.
+/// Returns the adjustment of -1, 0 or 1 days.
 fn adjustment_of(days: i64) -> DateAdjustment
     requires low { negsuc 0 ≤ℤ days }
     requires high { days ≤ℤ pos 1 }
@@ -91,7 +94,8 @@ fn adjustment_of(days: i64) -> DateAdjustment
     }
 }
 
-/// The time of nanoseconds since midnight that may lie in the day before or the day after, and which day it is.
+/// Splits nanoseconds since midnight, which may be in the day before or the day after, into the
+/// adjustment and the time.
 fn carried(nanoseconds: i64) -> (DateAdjustment, Time)
     requires low { neg_ℤ (pos day) <ℤ nanoseconds }
     requires high { nanoseconds <ℤ pos (2 * day) }
@@ -99,6 +103,8 @@ fn carried(nanoseconds: i64) -> (DateAdjustment, Time)
     ensures below_day { result.1 < day }
 {
     let days = days_past(nanoseconds);
+
+    // Midnight comes from the number of days: from a `match` it would be a branch on a random sign.
     let nanoseconds = (nanoseconds - days * NANOSECONDS_PER_DAY as i64) as u64;
     (adjustment_of(days), Time { nanoseconds })
 }
@@ -108,7 +114,7 @@ impl Add<SignedDuration> for Time {
 
     ghost add_gives = { λ t v u. u ≡ modulo_day (pos t +ℤ v) };
 
-    /// The time that much later, round the clock as often as it takes: 23:00 and 26 hours are 1:00.
+    /// Adds the duration, modulo a day. 23:00 plus 26 hours is 1:00.
     fn add(self, duration: SignedDuration) -> Self {
         self.adjusting_add(duration).1
     }
@@ -127,7 +133,7 @@ impl Sub<SignedDuration> for Time {
 
     ghost sub_gives = { λ t v u. u ≡ modulo_day (pos t -ℤ v) };
 
-    /// The time that much earlier, round the clock as often as it takes: 1:00 less 26 hours is 23:00.
+    /// Subtracts the duration, modulo a day. 1:00 minus 26 hours is 23:00.
     fn sub(self, duration: SignedDuration) -> Self {
         self.adjusting_sub(duration).1
     }
@@ -146,7 +152,7 @@ impl Sub for Time {
 
     ghost sub_gives = { λ t u v. v ≡ pos t -ℤ pos u };
 
-    /// The plain difference, below zero where the other time is later: 0:00 less 23:00 is -23 hours.
+    /// Returns the difference, negative if `other` is later: -23 hours for 0:00 minus 23:00.
     fn sub(self, other: Self) -> SignedDuration {
         SignedDuration::nanoseconds(self.nanoseconds as i64 - other.nanoseconds as i64)
     }

@@ -10,10 +10,11 @@ use cal_units::ShortText;
 use std::fmt;
 
 impl Time {
-    /// The text, as the time prints it: that of half a second past eight is `8:00:00.5`.
+    /// Returns the text that the time prints, such as `8:00:00.5`.
     ///
-    /// It has the hour without padding, two digits each of the minute and the second, and up to nine decimals of the second without
-    /// the zeros that they end in, but at least one. It has at most 18 bytes, all of them ASCII.
+    /// It has the hour without padding, two digits each for the minute and the second, and up to
+    /// nine decimals without trailing zeros, `.0` for a whole second. It has at most 18 bytes, all
+    /// ASCII.
     #[tactic(auto, using(crate::proofs::Text::hours))]
     pub fn text(self) -> ShortText
         ensures text { result ≡ text self }

@@ -18,7 +18,7 @@ impl Counted for Time {
 
     ghost hashed = { λ x y e. ap fed.u64 (same-pos x y e) };
 
-    /// The nanoseconds since midnight: those of 1:00 are 3600000000000.
+    /// Returns the nanoseconds since midnight. For 1:00 they are 3600000000000.
     fn number(self) -> i128 {
         i128::from(self.nanoseconds)
     }

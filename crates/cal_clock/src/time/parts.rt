@@ -1,4 +1,4 @@
-//! The parts of times, read, replaced and cut off.
+//! The parts of times: returned, replaced and truncated.
 
 ghost use Rattle.std.specs.Prelude.{◌≡◌, ◌↔◌, ◌*◌, ◌/◌, ◌<◌, ◌≤◌};
 ghost use Rattle.cal_units.specs.Refusal.{IsRefused};
@@ -13,14 +13,14 @@ use crate::units::{
 use cal_units::error::{Component, ComponentRange};
 
 impl Time {
-    /// The hour, minute and second: those of 1:02:03.004005006 are 1, 2 and 3.
+    /// Returns the hour, minute and second: 1, 2 and 3 for 1:02:03.004005006.
     pub fn as_hms(self) -> (u8, u8, u8)
         ensures { result ≡ (hour_of self, minute_of self, second_of self) }
     {
         (self.hour(), self.minute(), self.second())
     }
 
-    /// The hour, minute, second and millisecond: those of 1:02:03.004005006 are 1, 2, 3 and 4.
+    /// Returns the hour, minute, second and millisecond: 1, 2, 3 and 4 for 1:02:03.0049.
     pub fn as_hms_milli(self) -> (u8, u8, u8, u16)
         ensures { result ≡ (hour_of self, minute_of self, second_of self, millisecond_of self) }
     {
@@ -32,7 +32,7 @@ impl Time {
         )
     }
 
-    /// The hour, minute, second and microsecond: those of 1:02:03.004005006 are 1, 2, 3 and 4005.
+    /// Returns the hour, minute, second and microsecond: 1, 2, 3 and 4005 for 1:02:03.004005.
     pub fn as_hms_micro(self) -> (u8, u8, u8, u32)
         ensures { result ≡ (hour_of self, minute_of self, second_of self, microsecond_of self) }
     {
@@ -44,21 +44,21 @@ impl Time {
         )
     }
 
-    /// The hour, minute, second and nanosecond: those of 1:02:03.004005006 are 1, 2, 3 and 4005006.
+    /// Returns the hour, minute, second and nanosecond: 1, 2, 3 and 4005006 for 1:02:03.004005006.
     pub fn as_hms_nano(self) -> (u8, u8, u8, u32)
         ensures { result ≡ (hour_of self, minute_of self, second_of self, nanosecond_of self) }
     {
         (self.hour(), self.minute(), self.second(), self.nanosecond())
     }
 
-    /// The whole seconds since midnight, from which the hour, the minute and the second come in 32 bits.
+    /// Returns the whole seconds since midnight in 32 bits, which makes the next divisions cheap.
     fn seconds_since_midnight(self) -> u32
         ensures { result ≡ self / second }
     {
         (self.nanoseconds / NANOSECONDS_PER_SECOND) as u32
     }
 
-    /// The hour, from 0 to 23. That of 1:02:03.004005006 is 1.
+    /// Returns the hour, from 0 to 23. For 1:02:03.004005006 it is 1.
     pub fn hour(self) -> u8
         ensures value { result ≡ hour_of self }
         ensures range { IsTime self }
@@ -66,44 +66,43 @@ impl Time {
         (self.seconds_since_midnight() / 3_600) as u8
     }
 
-    /// The minute of the hour, from 0 to 59. That of 1:02:03.004005006 is 2.
+    /// Returns the minute of the hour, from 0 to 59. For 1:02:03.004005006 it is 2.
     pub fn minute(self) -> u8
         ensures { result ≡ minute_of self }
     {
         (self.seconds_since_midnight() / 60 % 60) as u8
     }
 
-    /// The second of the minute, from 0 to 59. That of 1:02:03.004005006 is 3.
+    /// Returns the second of the minute, from 0 to 59. For 1:02:03.004005006 it is 3.
     pub fn second(self) -> u8
         ensures { result ≡ second_of self }
     {
         (self.seconds_since_midnight() % 60) as u8
     }
 
-    /// The whole milliseconds of the second, from 0 to 999. Those of 1:02:03.004005006 are 4.
+    /// Returns the whole milliseconds of the second, from 0 to 999. For 1:02:03.0049 they are 4.
     pub fn millisecond(self) -> u16
         ensures { result ≡ millisecond_of self }
     {
         (self.nanoseconds / NANOSECONDS_PER_MILLISECOND % 1_000) as u16
     }
 
-    /// The whole microseconds of the second, from 0 to 999999. Those of 1:02:03.004005006 are 4005.
+    /// Returns the whole microseconds of the second, from 0 to 999999: 500000 for 1:02:03.5.
     pub fn microsecond(self) -> u32
         ensures { result ≡ microsecond_of self }
     {
         (self.nanoseconds / NANOSECONDS_PER_MICROSECOND % 1_000_000) as u32
     }
 
-    /// The nanoseconds of the second, from 0 to 999999999. Those of 1:02:03.004005006 are 4005006.
+    /// Returns the nanoseconds of the second, from 0 to 999999999: 500000000 for 1:02:03.5.
     pub fn nanosecond(self) -> u32
         ensures { result ≡ nanosecond_of self }
     {
         (self.nanoseconds % NANOSECONDS_PER_SECOND) as u32
     }
 
-    /// The time with another hour and everything else the same: 1:02:03.5 with hour 7 is 7:02:03.5.
-    ///
-    /// Refused with `hour`, unconditional, above 23.
+    /// Replaces the hour. 1:02:03.5 with the hour 7 is 7:02:03.5. Returns the unconditional error
+    /// `hour` if it is above 23.
     pub fn replace_hour(self, hour: u8) -> Result<Self, ComponentRange>
         ensures refused { IsRefused hour_out_of_range result ↔ (23 < hour) }
         ensures value { hour ≤ 23 → result
@@ -118,9 +117,8 @@ impl Time {
         })
     }
 
-    /// The time with another minute and everything else the same: 1:02:03.5 with minute 7 is 1:07:03.5.
-    ///
-    /// Refused with `minute`, unconditional, above 59.
+    /// Replaces the minute. 1:02:03.5 with the minute 7 is 1:07:03.5. Returns the unconditional
+    /// error `minute` if it is above 59.
     pub fn replace_minute(self, minute: u8) -> Result<Self, ComponentRange>
         ensures refused { IsRefused minute_out_of_range result ↔ (59 < minute) }
         ensures value { minute ≤ 59
@@ -136,9 +134,8 @@ impl Time {
         })
     }
 
-    /// The time with another second and everything else the same: 1:02:03.5 with second 7 is 1:02:07.5.
-    ///
-    /// Refused with `second`, unconditional, above 59.
+    /// Replaces the second. 1:02:03.5 with the second 7 is 1:02:07.5. Returns the unconditional
+    /// error `second` if it is above 59.
     pub fn replace_second(self, second: u8) -> Result<Self, ComponentRange>
         ensures refused { IsRefused second_out_of_range result ↔ (59 < second) }
         ensures value { second ≤ 59
@@ -154,10 +151,8 @@ impl Time {
         })
     }
 
-    /// The time with all that lies below its second replaced by that many milliseconds:
-    /// 1:02:03.004005006 with 7 of them is 1:02:03.007.
-    ///
-    /// Refused with `millisecond`, unconditional, above 999.
+    /// Replaces the decimals of the second by milliseconds. 1:02:03.5 with 7 milliseconds is
+    /// 1:02:03.007. Returns the unconditional error `millisecond` if it is above 999.
     pub fn replace_millisecond(self, millisecond: u16) -> Result<Self, ComponentRange>
         ensures refused { IsRefused millisecond_out_of_range result ↔ (999 < millisecond) }
         ensures value { millisecond ≤ 999
@@ -173,10 +168,8 @@ impl Time {
         })
     }
 
-    /// The time with all that lies below its second replaced by that many microseconds:
-    /// 1:02:03.004005006 with 7008 of them is 1:02:03.007008.
-    ///
-    /// Refused with `microsecond`, unconditional, above 999999.
+    /// Replaces the decimals of the second by microseconds. 1:02:03.5 with 7008 microseconds is
+    /// 1:02:03.007008. Returns the unconditional error `microsecond` if it is above 999999.
     pub fn replace_microsecond(self, microsecond: u32) -> Result<Self, ComponentRange>
         ensures refused { IsRefused microsecond_out_of_range result ↔ (999_999 < microsecond) }
         ensures value { microsecond ≤ 999_999
@@ -192,10 +185,8 @@ impl Time {
         })
     }
 
-    /// The time with all that lies below its second replaced by that many nanoseconds:
-    /// 1:02:03.004005006 with 7 of them is 1:02:03.000000007.
-    ///
-    /// Refused with `nanosecond`, unconditional, above 999999999.
+    /// Replaces the decimals of the second by nanoseconds. 1:02:03.5 with 7 nanoseconds is
+    /// 1:02:03.000000007. Returns the unconditional error `nanosecond` if it is above 999999999.
     pub fn replace_nanosecond(self, nanosecond: u32) -> Result<Self, ComponentRange>
         ensures refused { IsRefused nanosecond_out_of_range result ↔ (999_999_999 < nanosecond) }
         ensures value { nanosecond ≤ 999_999_999
@@ -210,7 +201,7 @@ impl Time {
         })
     }
 
-    /// The whole hours of the time, with all that lies below them zero: 1:02:03.004005006 becomes 1:00:00.0.
+    /// Truncates the time to the hour. 1:02:03.004005006 becomes 1:00:00.0.
     pub fn truncate_to_hour(self) -> Self
         ensures { result ≡ time_of (hour_of self) 0 0 0 }
     {
@@ -219,7 +210,7 @@ impl Time {
         }
     }
 
-    /// The whole minutes of the time, with all that lies below them zero: 1:02:03.004005006 becomes 1:02:00.0.
+    /// Truncates the time to the minute. 1:02:03.004005006 becomes 1:02:00.0.
     pub fn truncate_to_minute(self) -> Self
         ensures { result ≡ time_of (hour_of self) (minute_of self) 0 0 }
     {
@@ -228,7 +219,7 @@ impl Time {
         }
     }
 
-    /// The whole seconds of the time, with all that lies below them zero: 1:02:03.004005006 becomes 1:02:03.0.
+    /// Truncates the time to the second. 1:02:03.004005006 becomes 1:02:03.0.
     pub fn truncate_to_second(self) -> Self
         ensures { result ≡ time_of (hour_of self) (minute_of self) (second_of self) 0 }
     {
@@ -237,7 +228,7 @@ impl Time {
         }
     }
 
-    /// The whole milliseconds of the time, with all that lies below them zero: 1:02:03.004005006 becomes 1:02:03.004.
+    /// Truncates the time to the millisecond. 1:02:03.004005006 becomes 1:02:03.004.
     pub fn truncate_to_millisecond(self) -> Self
         ensures { result ≡ time_of (hour_of self) (minute_of self) (second_of self)
             (millisecond_of self * 1_000_000) }
@@ -247,7 +238,7 @@ impl Time {
         }
     }
 
-    /// The whole microseconds of the time, with all that lies below them zero: 1:02:03.004005006 becomes 1:02:03.004005.
+    /// Truncates the time to the microsecond. 1:02:03.004005006 becomes 1:02:03.004005.
     pub fn truncate_to_microsecond(self) -> Self
         ensures { result ≡ time_of (hour_of self) (minute_of self) (second_of self)
             (microsecond_of self * 1_000) }

@@ -1,4 +1,4 @@
-//! Dates moved on and back by durations, and the durations between dates.
+//! Dates moved by durations, and the durations between dates.
 ghost use Rattle.std.specs.Prelude.{◌≡◌, pos, ◌+ℤ◌, ◌-ℤ◌, ◌*ℤ◌, SomeIff, IfSome, IsSomeAnd};
 ghost use Rattle.cal_span.specs.SignedDuration.{day, whole_days};
 ghost use Rattle.cal_date.specs.Date.{year_at, ordinal_at, IsDate};
@@ -9,10 +9,10 @@ use cal_span::SignedDuration;
 use std::ops::{Add, AddAssign, Sub, SubAssign};
 
 impl Date {
-    /// The day that many whole days later, or `None` where it is no day of the range.
+    /// Adds the whole days of the duration, truncated toward zero. Returns `None` if the date is
+    /// out of range.
     ///
-    /// Only the whole days of the duration count, cut toward zero: 2020-12-31 and 47 hours more are 2021-01-01, and
-    /// [`Self::MIN`] less 23 hours is still [`Self::MIN`].
+    /// 2020-12-31 plus 47 hours is 2021-01-01. [`Self::MIN`] plus -23 hours is [`Self::MIN`].
     pub fn checked_add(self, duration: SignedDuration) -> Option<Self>
         ensures day { SomeIff result (IsDateNumber (pos self +ℤ whole_days duration))
             (date_nearest (pos self +ℤ whole_days duration)) }
@@ -26,9 +26,8 @@ impl Date {
         self.moved(duration.whole_days())
     }
 
-    /// The day that many whole days earlier, or `None` where it is no day of the range.
-    ///
-    /// Only the whole days of the duration count, cut toward zero: 2020-12-31 less 47 hours is 2020-12-30.
+    /// Subtracts the whole days of the duration, truncated toward zero. Returns `None` if the date
+    /// is out of range. 2020-12-31 minus 47 hours is 2020-12-30.
     pub fn checked_sub(self, duration: SignedDuration) -> Option<Self>
         ensures day { SomeIff result (IsDateNumber (pos self -ℤ whole_days duration))
             (date_nearest (pos self -ℤ whole_days duration)) }
@@ -39,14 +38,13 @@ impl Date {
             × (pos (ordinal_at n) ≡ pos (ordinal_at self) -ℤ whole_days duration)) }
         ensures in_range { IsDate self }
     {
-        // Days that cannot be negated lead past the range from every day.
+        // If the days can't be negated, the date is out of range.
         let days = duration.whole_days().checked_neg()?;
         self.moved(days)
     }
 
-    /// The day that many whole days later, or the end of the range that is nearest to it.
-    ///
-    /// Only the whole days of the duration count, cut toward zero: [`Self::MAX`] and one day more are [`Self::MAX`].
+    /// Adds the whole days of the duration, truncated toward zero, and clamps the date to the
+    /// range. [`Self::MAX`] plus one day is [`Self::MAX`].
     pub fn saturating_add(self, duration: SignedDuration) -> Self
         ensures day { result ≡ date_nearest (pos self +ℤ whole_days duration) }
         ensures in_range { IsDate self }
@@ -58,9 +56,8 @@ impl Date {
         }
     }
 
-    /// The day that many whole days earlier, or the end of the range that is nearest to it.
-    ///
-    /// Only the whole days of the duration count, cut toward zero: [`Self::MIN`] less one day is [`Self::MIN`].
+    /// Subtracts the whole days of the duration, truncated toward zero, and clamps the date to the
+    /// range. [`Self::MIN`] minus one day is [`Self::MIN`].
     pub fn saturating_sub(self, duration: SignedDuration) -> Self
         ensures day { result ≡ date_nearest (pos self -ℤ whole_days duration) }
         ensures in_range { IsDate self }
@@ -72,14 +69,15 @@ impl Date {
         }
     }
 
-    /// The day so many days later, or earlier where they are below zero, or `None` where it is no day of the range.
+    /// Returns the date `days` days later, or earlier if `days` is negative, or `None` if it is out
+    /// of range.
     fn moved(self, days: i64) -> Option<Self>
         ensures day { SomeIff result (IsDateNumber (pos self +ℤ days))
             (date_nearest (pos self +ℤ days)) }
         ensures in_range { IsDate self }
     {
-        // Days below zero are taken as 2^64 more. So is a sum below zero, which is then far above the length of a year and the
-        // number of the last day.
+        // Here a negative number becomes 2^64 more. A negative sum is then far above the length of
+        // a year and above the number of the last day.
         let days = days.cast_unsigned();
         let index = days.wrapping_add(u64::from(self.ordinal()) - 1);
         if let Some(date) = self.of_same_year(index) {
@@ -96,7 +94,7 @@ impl Add<SignedDuration> for Date {
 
     ghost add_gives = { λ n v moved. (pos moved ≡ pos n +ℤ whole_days v) × IsDate n };
 
-    /// The day that many whole days later, cut toward zero, for a caller who knows that it is in the range.
+    /// Adds the whole days of the duration, truncated toward zero. The date must be in the range.
     fn add(self, duration: SignedDuration) -> Self {
         self.checked_add(duration).unwrap()
     }
@@ -119,7 +117,8 @@ impl Sub<SignedDuration> for Date {
 
     ghost sub_gives = { λ n v moved. (pos moved ≡ pos n -ℤ whole_days v) × IsDate n };
 
-    /// The day that many whole days earlier, cut toward zero, for a caller who knows that it is in the range.
+    /// Subtracts the whole days of the duration, truncated toward zero. The date must be in the
+    /// range.
     fn sub(self, duration: SignedDuration) -> Self {
         self.checked_sub(duration).unwrap()
     }
@@ -140,7 +139,7 @@ impl Sub for Date {
 
     ghost sub_gives = { λ m n v. (v ≡ (pos m -ℤ pos n) *ℤ pos day) × IsDate m × IsDate n };
 
-    /// The days between, below zero where the other day is later: 2020-01-01 less 2019-12-31 is one day.
+    /// Returns the difference, negative if `other` is later: 1 day for 2020-01-01 minus 2019-12-31.
     fn sub(self, other: Self) -> SignedDuration {
         let days = self.to_julian_day() - other.to_julian_day();
         SignedDuration::days(i64::from(days))

@@ -14,7 +14,8 @@ use crate::error::{Component, ComponentRange};
 use cal_units::util::is_leap_year;
 use cal_units::{Cycle, Month};
 
-/// The days that come before each month, and at the end those of the year: in a common year, and in a leap year.
+/// The days before each month, and at the end the days of the year: in a common year and in a leap
+/// year. The two kinds of year are side by side, because a choice of two rows would be a branch.
 const DAYS_BEFORE_MONTH: [[u16; 2]; 13] = [
     [0, 0],
     [31, 31],
@@ -31,8 +32,8 @@ const DAYS_BEFORE_MONTH: [[u16; 2]; 13] = [
     [365, 366],
 ];
 
-/// The index of the month by the leap mark and the ordinal: from 1 to 365 in a common year, from 513 to 878 in a leap year. No
-/// day has the others.
+/// The index of the month by the leap mark and the ordinal: from 1 to 365 in a common year, from
+/// 513 to 878 in a leap year. The other entries aren't used.
 const MONTH_INDEXES: [u8; 879] = [
     0, 0, 0, 0, 0, 0, 0, 0, 0, 0, 0, 0, 0, 0, 0, 0, 0, 0, 0, 0, 0, 0, 0, 0, 0, 0, 0, 0, 0, 0, 0, 0,
     1, 1, 1, 1, 1, 1, 1, 1, 1, 1, 1, 1, 1, 1, 1, 1, 1, 1, 1, 1, 1, 1, 1, 1, 1, 1, 1, 1, 2, 2, 2, 2,
@@ -66,21 +67,19 @@ const MONTH_INDEXES: [u8; 879] = [
 ];
 
 impl Date {
-    /// The day of the year that has this month and day of the month.
+    /// Creates a date from a year, a month and a day of the month: the calendar date of ISO 8601.
     ///
-    /// The year is from -999999 to 999999, and the day from 1 to the length of the month in that year: the calendar date of
-    /// ISO 8601. 29 February is a day of 2000 and 2020, and none of 1900 and 2019.
-    ///
-    /// # Refusals
-    ///
-    /// For the first component that is out of range: `year`, unconditionally, or `day`, conditionally, as its range depends
-    /// on the month and the year.
+    /// The year is from -999999 to 999999, and the day from 1 to the length of the month. For
+    /// example, 29 February is a day of 2000 and 2020, and not of 1900 and 2019. Returns the
+    /// unconditional error `year` if the year is out of range, else the conditional error `day` if
+    /// the day is.
     pub fn from_calendar_date(year: i32, month: Month, day: u8) -> Result<Self, ComponentRange>
         ensures every { (n : ℕ) → IsDate n → HasCalendarDate year (number month) day n
             → result ≡ Ok n }
         ensures has { IfOk result (λ n. IsDate n × HasCalendarDate year (number month) day n) }
 
-        // It is refused exactly where no day has it, for the first component that is out of range.
+        // It fails if and only if no day of the range has the calendar date. The error names the
+        // first component that is out of range.
         ensures refused { IsErr result ↔ NoDate (HasCalendarDate year (number month) day) }
         ensures reason { IfErr result (λ e. (e ≡ year_out_of_range) ⊎ (e ≡ day_out_of_range)) }
         ensures year { IsRefused year_out_of_range result ↔ ¬ IsYear year }
@@ -98,10 +97,10 @@ impl Date {
         Ok(Date::from_parts(year, leap, ordinal))
     }
 
-    /// The day of the year that has this month, by its index from 0 at January, and this day of the month, or the last day of the
-    /// month where it has no such day. So 2023, 0 and 31 lead to 2023-01-31, and 2023, 1 and 31 to 2023-02-28.
+    /// Creates a date from a year, a month index and a day, clamped to the last day of the month.
     ///
-    /// The year is from -999999 to 999999, the index below 12, and the day at least 1.
+    /// The year is from -999999 to 999999, the index from 0 at January to 11, and the day 1 or
+    /// more. 2023, 0 and 31 give 2023-01-31, and 2023, 1 and 31 give 2023-02-28.
     pub fn at_month_index(year: i32, index: u8, day: u8) -> Self
         requires year { IsYear year }
         requires index { index < 12 }
@@ -115,7 +114,7 @@ impl Date {
         Date::from_parts(year, leap, ordinal.min(days_before_month(index + 1, leap)))
     }
 
-    /// The month. That of 2020-02-29 is February.
+    /// Returns the month. For 2020-02-29 it is February.
     pub fn month(self) -> Month
         ensures counted { number result ≡ month_at self }
         ensures range { (1 ≤ month_at self) × (month_at self ≤ 12) }
@@ -127,7 +126,7 @@ impl Date {
         month
     }
 
-    /// The day of the month, from 1 to the length of the month, at most 31. That of 2020-02-29 is 29.
+    /// Returns the day of the month, from 1 to the length of the month. For 2020-02-29 it is 29.
     pub fn day(self) -> u8
         ensures counted { result ≡ day_of_month_at self }
         ensures range { IsDayOfMonth (year_at self) (month_at self) result }
@@ -140,8 +139,8 @@ impl Date {
         day
     }
 
-    /// The year, the month and the day of the month: the calendar date of ISO 8601. That of the Julian day 2451545 is
-    /// (2000, January, 1).
+    /// Returns the year, the month and the day of the month: the calendar date of ISO 8601. For the
+    /// Julian day 2451545 it is (2000, January, 1).
     pub fn to_calendar_date(self) -> (i32, Month, u8)
         ensures date { HasCalendarDate result.0 (number result.1) result.2 self }
         ensures order { (n : ℕ) → IsDate n
@@ -155,9 +154,8 @@ impl Date {
         (self.year(), month, day)
     }
 
-    /// The index of the month, from 0 at January, and the day of the month. Those of 2020-02-29 are (1, 29).
-    ///
-    /// [`Self::to_calendar_date`] has the month by name, which costs a jump. This does without it.
+    /// Returns the month index, counted from 0, and the day of the month: (1, 29) for 2020-02-29.
+    /// [`Self::to_calendar_date`] returns a `Month`, which costs a jump. This call has no jump.
     #[tactic(auto, using(crate::proofs::MonthIndexes::days_of_the_month))]
     pub fn month_index_and_day(self) -> (u8, u8)
         ensures month { result.0 + 1 ≡ month_at self }
@@ -172,7 +170,7 @@ impl Date {
         (index, (self.ordinal() - before) as u8)
     }
 
-    /// The index of the month, from 0.
+    /// Returns the index of the month, from 0 at January.
     fn month_index(self) -> u8
         ensures month { result + 1 ≡ month_at self }
         ensures range { result < 12 }
@@ -180,10 +178,11 @@ impl Date {
         MONTH_INDEXES[self.low_bits() as usize]
     }
 
-    /// The month and the day of the month, from the leap mark and the ordinal.
+    /// Returns the month and the day of the month, from the leap mark and the ordinal.
     ///
-    /// The months of each part of the year follow one another as in every other year. So a quotient by 8192 gives
-    /// the month of the part, and one by 128 the days of the part before that month.
+    /// In each part of the year the months begin on the same days of the part every year. So a
+    /// quotient by 8192 gives the month of the part, and a quotient by 128 the days of the part
+    /// before this month.
     pub(super) fn month_and_day(self) -> (Month, u8)
         ensures month { number result.0 ≡ month_at self }
         ensures day { result.1 ≡ day_of_month_at self }
@@ -201,8 +200,8 @@ impl Date {
         (Month::at((month + months - 1) as u8), day as u8)
     }
 
-    /// The days into its part of the year, and the months before that part: January and February are the one part,
-    /// and March to December are the other.
+    /// Returns the day of the part of the year, and the number of months before the part. January
+    /// and February are one part, March to December are the other.
     #[tactic(auto, using(crate::proofs::Neighbours::parts_of_years))]
     fn index_in_part(self) -> (u32, u32)
         ensures days { result.0 ≡ days_in_part (is_leap_year (year_at self)) (ordinal_at self) }
@@ -220,7 +219,7 @@ impl Date {
     }
 }
 
-/// Whether the month has that day, in a leap year or in a common one: one of the days before the next month.
+/// Returns `true` if the month has the day, in a leap year or in a common year.
 #[tactic(auto, using(crate::proofs::Months::lengths_of_months))]
 fn has_day(month: Month, leap: bool, day: u8) -> bool
     ensures { (year : ℤ) → leap ≡ is_leap_year year
@@ -231,9 +230,8 @@ fn has_day(month: Month, leap: bool, day: u8) -> bool
     day > 0 && ordinal <= days_before_month(index + 1, leap)
 }
 
-/// The days that come before the month, in a leap year or in a common one.
-///
-/// The month is given by its index. At 12 they are all the days of the year.
+/// Returns the number of days before the month with this index, in a leap year or in a common year.
+/// For 12 it is the length of the year.
 #[tactic(auto, using(crate::proofs::Months::days_before_months))]
 fn days_before_month(index: u8, leap: bool) -> u16
     requires { index ≤ 12 }

@@ -9,10 +9,11 @@ use cal_units::ShortText;
 use std::fmt;
 
 impl Date {
-    /// The text, as the date prints it: that of 29 February 2024 is `2024-02-29`.
+    /// Returns the text that the date prints, such as `2024-02-29`: the calendar date of ISO 8601.
     ///
-    /// It has at least four digits of the year, after a minus sign below the year 0 and a plus sign from the year 10000 on, and two
-    /// each of the month and the day: the calendar date of ISO 8601. It has at most 13 bytes, all of them ASCII.
+    /// The year has four or more digits, after a minus sign if it is negative, or a plus sign if it
+    /// is above 9999. The month and the day have two digits each. The text has at most 13 bytes,
+    /// all ASCII.
     #[tactic(auto, using(cal_units::proofs::TextLengths::text_lengths))]
     pub fn text(self) -> ShortText
         ensures text { result ≡ text self }

@@ -15,27 +15,26 @@ use crate::limits::{MAX_YEAR, MIN_YEAR};
 use cal_units::util::{days_in_year, weeks_in_year};
 use cal_units::{Cycle, Weekday};
 
-/// 2^32 / 7, rounded up: a day times this is its weeks, in parts of 2^32.
+/// 2^32 / 7, rounded up: a number of days times this is its weeks, with 32 fractional bits.
 const SEVENTH: u32 = 613_566_757;
 
 impl Date {
-    /// The day that has this weekday, in this week of this ISO year.
+    /// Creates a date from an ISO year, a week and a weekday: the week date of ISO 8601.
     ///
-    /// Weeks begin on Monday, and a week belongs to the year that holds its Thursday: the week date of ISO 8601. The year is
-    /// from -999999 to 999999, and the week from 1 to 52, or 53 in a year of so many Thursdays. The Friday of week 53 of 2020 is
-    /// 2021-01-01, and the Monday of week 1 of 2020 is 2019-12-30.
+    /// A week begins on Monday, and belongs to the year of its Thursday. The year is from -999999
+    /// to 999999, and the week from 1 to 52, or 53 in a year with 53 Thursdays. Friday of week 53
+    /// of 2020 is 2021-01-01, and Monday of week 1 of 2020 is 2019-12-30.
     ///
-    /// # Refusals
-    ///
-    /// For the first component that is out of range: `year`, unconditionally, or `week`, conditionally, as its
-    /// range depends on the year, or `weekday`, conditionally, where the day would come after [`Self::MAX`]: on Saturday and
-    /// Sunday of week 52 of 999999 alone.
+    /// Returns the unconditional error `year` if the year is out of range, else the conditional
+    /// error `week` if the week is. Returns the conditional error `weekday` if the date is after
+    /// [`Self::MAX`]: for Saturday and Sunday of week 52 of 999999.
     pub fn from_iso_week_date(year: i32, week: u8, weekday: Weekday) -> Result<Self, ComponentRange>
         ensures every { (n : ℕ) → IsDate n → HasIsoWeekDate year week (index weekday) n
             → result ≡ Ok n }
         ensures has { IfOk result (λ n. IsDate n × HasIsoWeekDate year week (index weekday) n) }
 
-        // It is refused exactly where no day has it, for the first component that is out of range.
+        // It fails if and only if no day of the range has the ISO week date. The error names the
+        // first component that is out of range.
         ensures refused { IsErr result ↔ NoDate (HasIsoWeekDate year week (index weekday)) }
         ensures reason { IfErr result (λ e.
             (e ≡ year_out_of_range) ⊎ (e ≡ week_out_of_range) ⊎ (e ≡ weekday_out_of_range)) }
@@ -58,7 +57,7 @@ impl Date {
         Ok(Date::at_ordinal(calendar_year, ordinal))
     }
 
-    /// The weekday. That of 2021-01-01 is Friday.
+    /// Returns the weekday. For 2021-01-01 it is Friday.
     #[tactic(auto, using(crate::proofs::IsoForms::weekdays))]
     pub fn weekday(self) -> Weekday
         ensures counted { index result ≡ weekday_at self }
@@ -68,7 +67,7 @@ impl Date {
         Weekday::at(weekday_index(self.year(), self.ordinal()))
     }
 
-    /// The week of the ISO week date, from 1 to 53. That of 2021-01-01 is 53, as its week belongs to 2020.
+    /// Returns the ISO week, from 1 to 53. For 2021-01-01 it is 53, the last week of 2020.
     pub fn iso_week(self) -> u8
         ensures counted { result ≡ iso_week_at self }
         ensures range { IsWeek (iso_year_at self) result }
@@ -79,9 +78,8 @@ impl Date {
         week
     }
 
-    /// The ISO year, the week and the weekday: the week date of ISO 8601. That of 2021-01-01 is (2020, 53, Friday).
-    ///
-    /// The ISO year too is from -999999 to 999999.
+    /// Returns the ISO year, from -999999 to 999999, the week and the weekday: the week date of
+    /// ISO 8601. For 2021-01-01 it is (2020, 53, Friday).
     pub fn to_iso_week_date(self) -> (i32, u8, Weekday)
         ensures date { HasIsoWeekDate result.0 result.1 (index result.2) self }
         ensures range { IsYear result.0 × IsWeek result.0 result.1 × (result.1 ≤ 53) }
@@ -97,8 +95,8 @@ impl Date {
         (iso_year, week, weekday)
     }
 
-    /// The weeks from Sunday on that have begun in the year up to the day: the Sundays of the year up to it, from 0 to 53.
-    /// That of 2019-01-01 is 0, and that of 2020-12-31 is 52.
+    /// Returns the number of Sundays of the year up to the date, from 0 to 53: its week if week 1
+    /// begins on the first Sunday. For 2019-01-01 it is 0, and for 2020-12-31 it is 52.
     #[tactic(auto, using(crate::proofs::Weekdays::weeks_begun))]
     pub fn sunday_based_week(self) -> u8
         ensures counted { result ≡ weekdays_upto 6 self }
@@ -108,8 +106,8 @@ impl Date {
         ((self.ordinal() + 6 - u16::from(self.weekday().number_days_from_sunday())) / 7) as u8
     }
 
-    /// The weeks from Monday on that have begun in the year up to the day: the Mondays of the year up to it, from 0 to 53.
-    /// That of 2019-01-01 is 0, and that of 2020-12-31 is 52.
+    /// Returns the number of Mondays of the year up to the date, from 0 to 53: its week if week 1
+    /// begins on the first Monday. For 2019-01-01 it is 0, and for 2020-12-31 it is 52.
     #[tactic(auto, using(crate::proofs::Weekdays::weeks_begun))]
     pub fn monday_based_week(self) -> u8
         ensures counted { result ≡ weekdays_upto 0 self }
@@ -120,7 +118,8 @@ impl Date {
     }
 }
 
-/// Whether the year has this week. Each year has 52, so its weeks are asked for only past those.
+/// Returns `true` if the year has the week. Every year has 52 weeks, so only a higher week needs a
+/// count.
 #[tactic(auto, using(crate::proofs::IsoForms::at_least_52_weeks))]
 fn has_week(year: i32, week: u8) -> bool
     ensures { IsTrue result ↔ IsWeek year week }
@@ -132,7 +131,7 @@ fn has_week(year: i32, week: u8) -> bool
     }
 }
 
-/// The weeks of the year, for the few days that ask for them: their count stays out of the code that each day runs through.
+/// Returns the number of weeks of the year. Few dates need it, so it stays out of the common code.
 #[cold]
 fn weeks_of_year(year: i32) -> u8
     ensures { result ≡ weeks_in_year year }
@@ -140,20 +139,20 @@ fn weeks_of_year(year: i32) -> u8
     weeks_in_year(year)
 }
 
-/// The index of the weekday of this day of a year of the range, from Monday, 0.
+/// Returns the index of the weekday, from 0 for Monday, of an ordinal of a year of the range.
 fn weekday_index(year: i32, ordinal: u16) -> u8
     requires year { IsYear year }
     requires ordinal { 1 ≤ ordinal }
     ensures { result ≡ (first_weekday year + (ordinal - 1)) % 7 }
 {
-    // The first year of the range begins on a Monday. A year of 365 days moves the weekday by one, and a leap day by
-    // one more.
+    // The first year of the range begins on a Monday. Each year of 365 days moves the weekday by
+    // one, and each leap day by one more.
     let years = (year - MIN_YEAR) as u32;
     let moved = years + years / 4 - years / 100 + years / 400;
     past_whole_weeks(moved + u32::from(ordinal) - 1)
 }
 
-/// The whole weeks of so many days.
+/// Returns the whole weeks of a number of days.
 fn whole_weeks(days: u16) -> u8
     requires { days < 7 * 256 }
     ensures { result ≡ days / 7 }
@@ -161,7 +160,7 @@ fn whole_weeks(days: u16) -> u8
     (u64::from(days) * u64::from(SEVENTH) >> 32) as u8
 }
 
-/// The days past the whole weeks of so many days: the part of a week that is left, in parts of 2^32, times 7.
+/// Returns the days past the whole weeks of a number of days: the fraction of a week times 7.
 fn past_whole_weeks(days: u32) -> u8
     requires { days < 2 ^ 30 }
     ensures { result ≡ days % 7 }
@@ -169,7 +168,8 @@ fn past_whole_weeks(days: u32) -> u8
     (u64::from(days.wrapping_mul(SEVENTH)) * 7 >> 32) as u8
 }
 
-/// The ISO year and the week of the day of a year of the range that has this ordinal and this weekday.
+/// Returns the ISO year and the week of a day, given its year in the range, its ordinal and its
+/// weekday.
 #[tactic(auto, using(crate::proofs::IsoForms::years_of_weeks), unfolding(crate::specs::ClosedForms::iso_year_of, crate::specs::ClosedForms::iso_week_of))]
 fn iso_year_and_week(year: i32, ordinal: u16, weekday: Weekday) -> (i32, u8)
     requires year { IsYear year }
@@ -187,7 +187,8 @@ fn iso_year_and_week(year: i32, ordinal: u16, weekday: Weekday) -> (i32, u8)
     (year, week)
 }
 
-/// The year and the ordinal of the day that has this weekday, in this week of a year of the range.
+/// Returns the year and the ordinal of a day, given its ISO year in the range, its week and its
+/// weekday.
 #[tactic(auto, using(crate::proofs::IsoForms::years_of_weeks), unfolding(crate::specs::ClosedForms::year_of_week, crate::specs::ClosedForms::ordinal_of_week))]
 fn ordinal_date_of(year: i32, week: u8, weekday: Weekday) -> (i32, u16)
     requires year { IsYear year }
@@ -195,7 +196,7 @@ fn ordinal_date_of(year: i32, week: u8, weekday: Weekday) -> (i32, u16)
     ensures year { result.0 ≡ year_of_week year week (index weekday + 1) }
     ensures ordinal { result.1 ≡ ordinal_of_week year week (index weekday + 1) }
 {
-    // 4 January always lies in week 1.
+    // 4 January is always in week 1.
     let taken = u16::from(weekday_index(year, 4)) + 1 + 3;
     let days = 7 * u16::from(week) + u16::from(weekday.number_from_monday());
     if days <= taken {

@@ -7,14 +7,14 @@ use crate::kernel::{date_of_kernel, julian_kernel};
 use crate::limits::{LAST_DAY, MIN_JULIAN_DAY};
 
 impl Date {
-    /// States that the day is one of the range. It does nothing.
+    /// States that the date is in the range. It does nothing.
     pub(crate) fn is_in_range(self)
         ensures { IsDate self }
     {
         let _ = &self.packed;
     }
 
-    /// The number of the day: the days from the first one on that come before it.
+    /// Returns the number of the date: the number of days of the range before it.
     pub(super) fn number(self) -> u32
         ensures number { result ≡ self }
         ensures in_range { IsDate self }
@@ -22,7 +22,7 @@ impl Date {
         (self.to_julian_day() - MIN_JULIAN_DAY) as u32
     }
 
-    /// The day of that number.
+    /// Creates a date from its number.
     pub(super) fn at_number(number: u32) -> Self
         requires { IsDate number }
         ensures { result ≡ number }
@@ -30,7 +30,7 @@ impl Date {
         date_of_kernel(julian_kernel(MIN_JULIAN_DAY + number as i32))
     }
 
-    /// The day of that number, or `None` past the last one.
+    /// Creates a date from its number. Returns `None` if the number is past the last day.
     pub(super) fn checked_at_number(number: u64) -> Option<Self>
         ensures { SomeIff result (IsDate number) number }
     {
@@ -41,7 +41,7 @@ impl Date {
         }
     }
 
-    /// How many days after this day `later` comes, which does not come before it.
+    /// Returns the number of days from this date to `later`, which isn't before it.
     pub(crate) fn days_until(self, later: Self) -> u32
         requires { self ≤ later }
         ensures { result ≡ later - self }
@@ -52,7 +52,7 @@ impl Date {
         later.number() - self.number()
     }
 
-    /// The day that comes so many days after this one.
+    /// Returns the date `days` days later, which must be in the range.
     #[tactic(auto, using(crate::proofs::Dates::places_in_years))]
     pub(crate) fn days_later(self, days: u32) -> Self
         requires { IsDate (self + days) }
@@ -64,13 +64,14 @@ impl Date {
         }
     }
 
-    /// The day that comes so many days before this one.
+    /// Returns the date `days` days earlier, which must be in the range.
     #[tactic(auto, using(crate::proofs::Dates::places_in_years))]
     pub(crate) fn days_earlier(self, days: u32) -> Self
         requires { days ≤ self }
         ensures { result ≡ self - days }
     {
-        // Where the year begins in between, the difference wraps, far above the length of a year.
+        // If the year begins in between, the difference wraps to a number far above the length of a
+        // year.
         match self.of_same_year((u64::from(self.ordinal()) - 1).wrapping_sub(u64::from(days))) {
             Some(date) => date,
             None => Self::at_number(self.number() - days),

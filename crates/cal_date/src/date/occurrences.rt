@@ -1,4 +1,4 @@
-//! The days with a weekday after a date, and before it.
+//! The dates with a weekday after a date, and before it.
 ghost use Rattle.std.specs.Prelude.{◌≡◌, ◌+◌, ◌-◌, ◌*◌, ◌<◌, ◌≤◌, Some, IsSome, IfSome};
 ghost use Rattle.cal_units.specs.Weekday.{index};
 ghost use Rattle.cal_date.specs.Date.{weekday_at, IsDate};
@@ -8,13 +8,14 @@ use crate::date::Date;
 use crate::limits::LAST_DAY;
 use cal_units::Weekday;
 
-/// The days of so many whole weeks that they reach past the last day.
+/// Whole weeks, in days, that reach past the last day.
 const PAST_LAST_DAY: u32 = 7 * (LAST_DAY as u32 / 7 + 1);
 
 impl Date {
-    /// The first day after this one that has the weekday, or `None` where it is past [`Self::MAX`].
+    /// Returns the first date after this one with the weekday, or `None` if it is after
+    /// [`Self::MAX`].
     ///
-    /// The next Monday after 2023-06-28 is 2023-07-03, and that after a Monday is seven days later.
+    /// The Monday after 2023-06-28 is 2023-07-03. The Monday after a Monday is seven days later.
     pub fn checked_next_occurrence(self, weekday: Weekday) -> Option<Self>
         ensures day { result ≡ kth 1 (next_occurrences (index weekday) self) }
         ensures weekday { IfSome result (λ n. weekday_at n ≡ index weekday) }
@@ -24,9 +25,8 @@ impl Date {
         self.checked_nth_next_occurrence(weekday, 1)
     }
 
-    /// The last day before this one that has the weekday, or `None` where it is before [`Self::MIN`].
-    ///
-    /// The Monday before 2023-06-19 is 2023-06-12, as 2023-06-19 is a Monday itself.
+    /// Returns the last date before this one with the weekday, or `None` if it is before
+    /// [`Self::MIN`]. The Monday before 2023-06-19, a Monday, is 2023-06-12.
     pub fn checked_prev_occurrence(self, weekday: Weekday) -> Option<Self>
         ensures day { result ≡ kth 1 (prev_occurrences (index weekday) self) }
         ensures weekday { IfSome result (λ n. weekday_at n ≡ index weekday) }
@@ -36,14 +36,12 @@ impl Date {
         self.checked_nth_prev_occurrence(weekday, 1)
     }
 
-    /// The `n`-th of the days after this one that have the weekday, counted from 1, or `None` where it is past
-    /// [`Self::MAX`], or `n` is 0.
-    ///
-    /// The fifth Monday after 2023-06-25 is 2023-07-24.
+    /// Returns the `n`-th date after this one with the weekday, counted from 1. Returns `None` if
+    /// it is after [`Self::MAX`] or `n` is 0. The fifth Monday after 2023-06-25 is 2023-07-24.
     pub fn checked_nth_next_occurrence(self, weekday: Weekday, n: u8) -> Option<Self>
         ensures day { result ≡ kth n (next_occurrences (index weekday) self) }
 
-        // It comes in the n-th week after the day.
+        // It is in the n-th week after the date.
         ensures weekday { IfSome result (λ later. weekday_at later ≡ index weekday) }
         ensures within { IfSome result
             (λ later. (self + 7 * (n - 1) < later) × (later ≤ self + 7 * n) × IsDate later) }
@@ -61,15 +59,13 @@ impl Date {
         Self::checked_at_number(u64::from(from + days))
     }
 
-    /// The `n`-th of the days before this one that have the weekday, counted from 1 at the nearest, or `None` where it is
-    /// before [`Self::MIN`], or `n` is 0.
-    ///
-    /// The third Monday before 2023-06-27 is 2023-06-12.
+    /// Returns the `n`-th date before this one with the weekday, counted from 1. Returns `None` if
+    /// it is before [`Self::MIN`] or `n` is 0. The third Monday before 2023-06-27 is 2023-06-12.
     #[tactic(auto, using(crate::proofs::Occurrences::days_before))]
     pub fn checked_nth_prev_occurrence(self, weekday: Weekday, n: u8) -> Option<Self>
         ensures day { result ≡ kth n (prev_occurrences (index weekday) self) }
 
-        // It comes in the n-th week before the day.
+        // It is in the n-th week before the date.
         ensures weekday { IfSome result (λ earlier. weekday_at earlier ≡ index weekday) }
         ensures within { IfSome result
             (λ earlier. (earlier + 7 * (n - 1) < self) × (self ≤ earlier + 7 * n)) }
@@ -89,9 +85,8 @@ impl Date {
         }
     }
 
-    /// The first day after this one that has the weekday, for a caller who knows that there is one.
-    ///
-    /// The next Monday after 2023-06-28 is 2023-07-03.
+    /// Returns the first date after this one with the weekday, which must be in the range. The
+    /// Monday after 2023-06-28 is 2023-07-03.
     pub fn next_occurrence(self, weekday: Weekday) -> Self
         requires { IsSome (kth 1 (next_occurrences (index weekday) self)) }
         ensures day { kth 1 (next_occurrences (index weekday) self) ≡ Some result }
@@ -102,9 +97,8 @@ impl Date {
         self.checked_next_occurrence(weekday).unwrap()
     }
 
-    /// The last day before this one that has the weekday, for a caller who knows that there is one.
-    ///
-    /// The Monday before 2023-06-19 is 2023-06-12.
+    /// Returns the last date before this one with the weekday, which must be in the range. The
+    /// Monday before 2023-06-19 is 2023-06-12.
     pub fn prev_occurrence(self, weekday: Weekday) -> Self
         requires { IsSome (kth 1 (prev_occurrences (index weekday) self)) }
         ensures day { kth 1 (prev_occurrences (index weekday) self) ≡ Some result }
@@ -115,10 +109,8 @@ impl Date {
         self.checked_prev_occurrence(weekday).unwrap()
     }
 
-    /// The `n`-th of the days after this one that have the weekday, counted from 1, for a caller who knows that there is one:
-    /// `n` is not 0, and the day is not past [`Self::MAX`].
-    ///
-    /// The fifth Monday after 2023-06-25 is 2023-07-24.
+    /// Returns the `n`-th date after this one with the weekday, counted from 1. `n` must not be 0,
+    /// and the date must be in the range. The fifth Monday after 2023-06-25 is 2023-07-24.
     pub fn nth_next_occurrence(self, weekday: Weekday, n: u8) -> Self
         requires { IsSome (kth n (next_occurrences (index weekday) self)) }
         ensures day { kth n (next_occurrences (index weekday) self) ≡ Some result }
@@ -129,10 +121,8 @@ impl Date {
         self.checked_nth_next_occurrence(weekday, n).unwrap()
     }
 
-    /// The `n`-th of the days before this one that have the weekday, counted from 1 at the nearest, for a caller who knows
-    /// that there is one: `n` is not 0, and the day is not before [`Self::MIN`].
-    ///
-    /// The third Monday before 2023-06-27 is 2023-06-12.
+    /// Returns the `n`-th date before this one with the weekday, counted from 1. `n` must not be 0,
+    /// and the date must be in the range. The third Monday before 2023-06-27 is 2023-06-12.
     pub fn nth_prev_occurrence(self, weekday: Weekday, n: u8) -> Self
         requires { IsSome (kth n (prev_occurrences (index weekday) self)) }
         ensures day { kth n (prev_occurrences (index weekday) self) ≡ Some result }

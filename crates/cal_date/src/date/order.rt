@@ -79,7 +79,7 @@ impl Counted for Date {
 
     ghost hashed = { λ x y e. Prim.grind (arith, ints) };
 
-    /// The Julian day, from -363521074 to 366963559.
+    /// Returns the Julian day, from -363521074 to 366963559. For 2000-01-01 it is 2451545.
     fn number(self) -> i128 {
         self.to_julian_day() as i128
     }

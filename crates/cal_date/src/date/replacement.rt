@@ -15,22 +15,18 @@ use cal_units::util::is_leap_year;
 const LEAP_DAY: u16 = 60;
 
 impl Date {
-    /// The day of that year that has the same month and day of the month.
+    /// Replaces the year and keeps the month and the day. 2022-02-18 with the year 2019 is
+    /// 2019-02-18.
     ///
-    /// The year is from -999999 to 999999. So 2022-02-18 leads to 2019-02-18, and 2024-03-01 to 2023-03-01, whose ordinal is one
-    /// less.
-    ///
-    /// # Refusals
-    ///
-    /// As `year`, unconditionally, where the year is out of range, or else as `day`, conditionally, where the
-    /// month is shorter in that year: on 29 February, for a common year.
+    /// Returns the unconditional error `year` if the year is not from -999999 to 999999, else the
+    /// conditional error `day` if the month doesn't have the day: 29 February in a common year.
     pub fn replace_year(self, year: i32) -> Result<Self, ComponentRange>
         ensures every { (n : ℕ) → IsDate n
             → HasCalendarDate year (month_at self) (day_of_month_at self) n → result ≡ Ok n }
         ensures has { IfOk result (λ n.
             IsDate n × HasCalendarDate year (month_at self) (day_of_month_at self) n) }
 
-        // It is refused exactly where no day has it.
+        // It fails if and only if no day of the range has the calendar date.
         ensures refused { IsErr result
             ↔ NoDate (HasCalendarDate year (month_at self) (day_of_month_at self)) }
         ensures reason { IfErr result (λ e. (e ≡ year_out_of_range) ⊎ (e ≡ day_out_of_range)) }
@@ -49,9 +45,10 @@ impl Date {
         Ok(Date::at_ordinal(year, ordinal))
     }
 
-    /// The day of that month that has the same year and day of the month. So 2022-02-18 and March lead to 2022-03-18.
+    /// Replaces the month and keeps the year and the day. 2022-02-18 with March is 2022-03-18.
     ///
-    /// It is refused as `day`, conditionally, where the month has no such day: 2022-01-30 leads to no day of February.
+    /// Returns the conditional error `day` if the month doesn't have the day, such as 30 in
+    /// February.
     pub fn replace_month(self, month: Month) -> Result<Self, ComponentRange>
         ensures every { (n : ℕ) → IsDate n
             → HasCalendarDate (year_at self) (number month) (day_of_month_at self) n
@@ -59,7 +56,7 @@ impl Date {
         ensures has { IfOk result (λ n.
             IsDate n × HasCalendarDate (year_at self) (number month) (day_of_month_at self) n) }
 
-        // It is refused exactly where no day has it.
+        // It fails if and only if no day of the range has the calendar date.
         ensures refused { IsErr result
             ↔ NoDate (HasCalendarDate (year_at self) (number month) (day_of_month_at self)) }
         ensures reason { IfErr result (λ e. e ≡ day_out_of_range) }
@@ -70,10 +67,8 @@ impl Date {
         Self::from_calendar_date(self.year(), month, self.day())
     }
 
-    /// The day of the same month of the same year that has this day of the month, from 1 to the length of the month. So
-    /// 2022-02-18 and 1 lead to 2022-02-01.
-    ///
-    /// It is refused as `day`, conditionally, where the month has no such day, as 0 and 30 in February.
+    /// Replaces the day of the month. 2022-02-18 with the day 1 is 2022-02-01. Returns the
+    /// conditional error `day` if the month doesn't have the day, such as 0 or 30 in February.
     #[tactic(auto, using(crate::proofs::Replacements::parts_kept))]
     pub fn replace_day(self, day: u8) -> Result<Self, ComponentRange>
         ensures every { (n : ℕ) → IsDate n → HasCalendarDate (year_at self) (month_at self) day n
@@ -81,7 +76,7 @@ impl Date {
         ensures has { IfOk result (λ n.
             IsDate n × HasCalendarDate (year_at self) (month_at self) day n) }
 
-        // It is refused exactly where no day has it.
+        // It fails if and only if no day of the range has the calendar date.
         ensures refused { IsErr result
             ↔ NoDate (HasCalendarDate (year_at self) (month_at self) day) }
         ensures reason { IfErr result (λ e. e ≡ day_out_of_range) }
@@ -92,17 +87,17 @@ impl Date {
         Self::from_calendar_date(self.year(), self.month(), day)
     }
 
-    /// The day of the same year that has this ordinal, from 1 to 365, or 366 in a leap year. So 2022-02-18 and 1 lead to
-    /// 2022-01-01.
+    /// Replaces the ordinal day and keeps the year. 2022-02-18 with the ordinal 1 is 2022-01-01.
     ///
-    /// It is refused as `ordinal`, conditionally, where the year has no such ordinal, as 366 in 2022.
+    /// Returns the conditional error `ordinal` if the year doesn't have the ordinal, such as 366 in
+    /// 2022.
     #[tactic(auto, using(crate::proofs::Replacements::parts_kept))]
     pub fn replace_ordinal(self, ordinal: u16) -> Result<Self, ComponentRange>
         ensures every { (n : ℕ) → IsDate n → HasOrdinalDate (year_at self) ordinal n
             → result ≡ Ok n }
         ensures has { IfOk result (λ n. IsDate n × HasOrdinalDate (year_at self) ordinal n) }
 
-        // It is refused exactly where no day has it.
+        // It fails if and only if no day of the range has the ordinal date.
         ensures refused { IsErr result ↔ NoDate (HasOrdinalDate (year_at self) ordinal) }
         ensures reason { IfErr result (λ e. e ≡ ordinal_out_of_range) }
         ensures in_range { IsDate self }
@@ -113,8 +108,8 @@ impl Date {
         Self::from_ordinal_date(year, ordinal)
     }
 
-    /// The ordinal that the same month and day of the month have in this year, or `None` on 29 February for a common
-    /// year.
+    /// Returns the ordinal of the same month and day in another year, or `None` for 29 February in
+    /// a common year.
     fn ordinal_in(self, year: i32) -> Option<u16>
         ensures { SomeIff result (IsDayOfMonth year (month_at self) (day_of_month_at self))
             (days_of_months year (month_at self - 1) + day_of_month_at self) }
@@ -123,7 +118,8 @@ impl Date {
         let is_leap = is_leap_year(year);
         let was_leap = self.is_in_leap_year();
 
-        // Up to 28 February all years have the same ordinals. From March on a leap year is one ahead.
+        // Up to 28 February all years have the same ordinals. From March on the ordinals of a leap
+        // year are one higher.
         if is_leap == was_leap || ordinal < LEAP_DAY {
             Some(ordinal)
         } else if is_leap {

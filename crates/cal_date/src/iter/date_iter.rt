@@ -1,4 +1,4 @@
-//! The walk over days from both ends.
+//! The iterator over days from both ends.
 ghost use Rattle.std.specs.Prelude.{◌≡◌, ℕ, ◌+◌, ◌-◌, ◌<◌, ◌≤◌, IfSome, IsSomeAnd, None, true, ⊤, slice_get, reverse, length};
 ghost use Rattle.std.specs.Iterator.{YieldsFirst, YieldsLast, UpTo, item_count};
 ghost use Rattle.std.specs.Iterator.SizeHint.{IsWithinCount};
@@ -12,13 +12,11 @@ ghost use Rattle.cal_date.specs.DateIter.{IsInOneYear, TakesFirst, TakesLast, wa
 use crate::date::Date;
 use std::marker::Model;
 
-/// A walk over the days from one to another, from both ends.
+/// An iterator over the days from one date to another, both included, from both ends.
 ///
-/// It has a front day and a back day, and gives the days from the one to the other, both included, in order from the front or in
-/// reverse from the back. A walk with no days left keeps its front day, has no back day, and answers `None` for ever.
-///
-/// Two walks are equal where their front days are, and their back days. So two walks with no days left are unequal where their
-/// front days are.
+/// It has a front day and a back day. An empty iterator keeps its front day, has no back day, and
+/// always returns `None`. Two iterators are equal if their front days and their back days are
+/// equal, so two empty iterators with different front days aren't.
 #[derive(Debug, Drop)]
 pub struct DateIter {
     front: Date,
@@ -36,9 +34,8 @@ impl Model for DateIter {
 }
 
 impl Date {
-    /// The walk from this day to `end`, both included; it has no days where this day comes after `end`.
-    ///
-    /// From 2019-12-30 to 2020-01-02 it gives four days.
+    /// Creates an iterator from this date to `end`, both included. It is empty if this date is
+    /// after `end`. From 2019-12-30 to 2020-01-02 it has four days.
     pub fn iter_to(self, end: Self) -> DateIter
         ensures { result ≡ walk_between self end }
     {
@@ -47,10 +44,10 @@ impl Date {
 }
 
 impl DateIter {
-    /// The walk from `start` to `end`, both included; it has no days where `start` comes after `end`. From 2019-12-30 to
-    /// 2020-01-02 it gives four days.
+    /// Creates an iterator from `start` to `end`, both included. It is empty if `start` is after
+    /// `end`. From 2019-12-30 to 2020-01-02 it has four days.
     ///
-    /// Its front day is `start`. Its back day is `end`, or none where it has no days.
+    /// The front day is `start`. The back day is `end`, or none if the iterator is empty.
     pub fn new(start: Date, end: Date) -> Self
         ensures { result ≡ walk_between start end }
     {
@@ -61,15 +58,15 @@ impl DateIter {
         }
     }
 
-    /// The day `n` places on from the front, or `None` where fewer than `n + 1` days are left.
+    /// Skips `n` days from the front and returns the day after them. `nth(0)` is `next()`.
     ///
-    /// That day and those before it are taken from the walk; after `None` no days are left. `nth(0)` is `next()`. From
-    /// 2019-12-30 to 2020-01-02, `nth(2)` is 2020-01-01, and 2020-01-02 is left.
+    /// Returns `None` if `n` days or fewer are left; then the iterator is empty. From 2019-12-30 to
+    /// 2020-01-02, `nth(2)` is 2020-01-01, and 2020-01-02 is left.
     pub fn nth(&mut self, n: usize) -> Option<Date>
         ensures item { result ≡ slice_get (days_of self.old) n }
         ensures left { self.new ≡ without_first (n + 1) self.old }
 
-        // Where the front day and the back day are of one year, the ordinals say it.
+        // If the front day and the back day are in one year, the ordinals give the result.
         ensures same_year { (back : ℕ) → IsInOneYear self.old back
             → ordinal_at self.old.front + n ≤ ordinal_at back
             → IsSomeAnd result (HasOrdinalDate (year_at back) (ordinal_at self.old.front + n)) }
@@ -87,15 +84,16 @@ impl DateIter {
         Some(item)
     }
 
-    /// The day `n` places back from the back, or `None` where fewer than `n + 1` days are left.
+    /// Skips `n` days from the back and returns the day before them. `nth_back(0)` is
+    /// `next_back()`.
     ///
-    /// That day and those after it are taken from the walk; after `None` no days are left. `nth_back(0)` is `next_back()`.
-    /// From 2019-12-30 to 2020-01-02, `nth_back(2)` is 2019-12-31, and 2019-12-30 is left.
+    /// Returns `None` if `n` days or fewer are left; then the iterator is empty. From 2019-12-30 to
+    /// 2020-01-02, `nth_back(2)` is 2019-12-31, and 2019-12-30 is left.
     pub fn nth_back(&mut self, n: usize) -> Option<Date>
         ensures item { result ≡ slice_get (reverse (days_of self.old)) n }
         ensures left { self.new ≡ without_last (n + 1) self.old }
 
-        // Where the front day and the back day are of one year, the ordinals say it.
+        // If the front day and the back day are in one year, the ordinals give the result.
         ensures same_year { (back : ℕ) → IsInOneYear self.old back
             → ordinal_at self.old.front + n ≤ ordinal_at back
             → IsSomeAnd result (HasOrdinalDate (year_at back) (ordinal_at back - n)) }
@@ -113,7 +111,7 @@ impl DateIter {
         Some(item)
     }
 
-    /// How many days are left, from 0 to 730484634.
+    /// Returns the number of days left, from 0 to 730484634.
     #[tactic(auto, using(crate::proofs::DateIters::lengths))]
     pub fn len(&self) -> usize
         ensures count { result ≡ length (days_of self.now) }
@@ -127,14 +125,15 @@ impl DateIter {
         self.front.days_until(back) as usize + 1
     }
 
-    /// How many days are left: what [`Self::len`] returns, so 4 from 2019-12-30 to 2020-01-02.
+    /// Returns the number of days left, like [`Self::len`]. From 2019-12-30 to 2020-01-02 it is 4.
     pub fn count(self) -> usize
         ensures { result ≡ length (days_of self) }
     {
         self.len()
     }
 
-    /// The last day, or `None` where no days are left. From 2019-12-30 to 2020-01-02 it is 2020-01-02.
+    /// Returns the last day, or `None` if the iterator is empty. From 2019-12-30 to 2020-01-02 it
+    /// is 2020-01-02.
     #[tactic(auto, using(crate::proofs::DateIters::items))]
     pub fn last(self) -> Option<Date>
         ensures { result ≡ slice_get (reverse (days_of self)) 0 }
@@ -142,7 +141,8 @@ impl DateIter {
         self.back
     }
 
-    /// The greatest day, which is the last, or `None` where no days are left. From 2019-12-30 to 2020-01-02 it is 2020-01-02.
+    /// Returns the maximum day, the last one, or `None` if the iterator is empty. From 2019-12-30
+    /// to 2020-01-02 it is 2020-01-02.
     #[tactic(auto, using(crate::proofs::DateIters::items))]
     pub fn max(self) -> Option<Date>
         ensures { result ≡ slice_get (reverse (days_of self)) 0 }
@@ -150,7 +150,8 @@ impl DateIter {
         self.back
     }
 
-    /// The least day, which is the first, or `None` where no days are left. From 2019-12-30 to 2020-01-02 it is 2019-12-30.
+    /// Returns the minimum day, the first one, or `None` if the iterator is empty. From 2019-12-30
+    /// to 2020-01-02 it is 2019-12-30.
     #[tactic(auto, using(crate::proofs::DateIters::items))]
     pub fn min(self) -> Option<Date>
         ensures { result ≡ slice_get (days_of self) 0 }
@@ -161,7 +162,7 @@ impl DateIter {
         }
     }
 
-    /// Whether no day comes before the one that it follows: always true, as the days go on one by one.
+    /// Returns `true`, because the days ascend.
     #[tactic(auto, using(crate::proofs::DateIters::items))]
     pub fn is_sorted(self) -> bool
         ensures value { result ≡ true }
@@ -170,8 +171,8 @@ impl DateIter {
         true
     }
 
-    /// A walk of its own over the same days: after one call of `next` on the clone of a walk over 4 days, that has 3 left and the
-    /// walk itself 4.
+    /// Returns a separate iterator over the same days. After `next` on the clone of an iterator
+    /// over 4 days, the clone has 3 days left, and the original 4.
     pub fn clone(&self) -> Self
         ensures { result ≡ self.now }
     {
@@ -181,7 +182,7 @@ impl DateIter {
         }
     }
 
-    /// Takes the days up to `item`, one of those up to `back`, the back day.
+    /// Removes the days up to `item`, which is one of them. `back` is the back day.
     #[tactic(auto, using(crate::proofs::DateIters::days_left_after))]
     fn leave_after(&mut self, item: Date, back: Date)
         requires back { self.old.back ≡ Some back }
@@ -196,7 +197,7 @@ impl DateIter {
         }
     }
 
-    /// Takes the days from `item` on, one of those up to `back`, the back day.
+    /// Removes the days from `item` on, which is one of them. `back` is the back day.
     #[tactic(auto, using(crate::proofs::DateIters::days_left_before))]
     fn leave_before(&mut self, item: Date, back: Date)
         requires back { self.old.back ≡ Some back }
@@ -229,13 +230,13 @@ impl Eq for DateIter {
 impl Iterator for DateIter {
     type Item = Date;
 
-    // The first of the days that are left, which the walk then goes on without.
+    // The call returns the first day and removes it.
     ghost next_gives = { λ old result new.
         YieldsFirst days_of old result new × TakesFirst old result new };
 
     ghost remaining = { item_count days_of };
 
-    /// The first of the days that are left, which is taken from the walk, or `None`.
+    /// Removes and returns the first day, or returns `None` if the iterator is empty.
     fn next(&mut self) -> Option<Date> {
         let back = self.back?;
         let item = self.front;
@@ -243,7 +244,7 @@ impl Iterator for DateIter {
         Some(item)
     }
 
-    /// How many days are left, as both bounds.
+    /// Returns the number of days left as both bounds.
     fn size_hint(&self) -> (usize, Option<usize>)
         ensures lower { IsWithinCount result.0 (item_count days_of self.now) }
         ensures upper { IfSome result.1 (UpTo (item_count days_of self.now)) }
@@ -255,11 +256,11 @@ impl Iterator for DateIter {
 }
 
 impl DoubleEndedIterator for DateIter {
-    // The last of the days that are left, which the walk then goes on without.
+    // The call returns the last day and removes it.
     ghost next_back_gives = { λ old result new.
         YieldsLast days_of old result new × TakesLast old result new };
 
-    /// The last of the days that are left, which is taken from the walk, or `None`.
+    /// Removes and returns the last day, or returns `None` if the iterator is empty.
     fn next_back(&mut self) -> Option<Date> {
         let item = self.back?;
         self.leave_before(item, item);

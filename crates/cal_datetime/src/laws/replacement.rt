@@ -1,17 +1,17 @@
-//! A component replaced by what a date-time has already leaves it the same value, at an offset too.
+//! Replacing a component with its current value changes nothing.
 ghost use Rattle.std.specs.Prelude.{◌≡◌, ◌%◌, Ok};
 ghost use Rattle.cal_datetime.specs.DateTime.{time_at};
 
 use crate::{OffsetDateTime, PlainDateTime};
 use cal_time::error::ComponentRange;
 
-/// What a replacement answers for a date-time, and for one at an offset.
+/// The results of a replacement, without and with an offset.
 pub type Replaced = (
     Result<PlainDateTime, ComponentRange>,
     Result<OffsetDateTime, ComponentRange>,
 );
 
-/// The own date.
+/// Replaces the date with the current date.
 pub fn own_date(plain: PlainDateTime, moment: OffsetDateTime) -> (PlainDateTime, OffsetDateTime)
     ensures { result ≡ (plain, moment) }
 {
@@ -21,7 +21,7 @@ pub fn own_date(plain: PlainDateTime, moment: OffsetDateTime) -> (PlainDateTime,
     )
 }
 
-/// The own time of day.
+/// Replaces the time of day with the current one.
 pub fn own_time(plain: PlainDateTime, moment: OffsetDateTime) -> (PlainDateTime, OffsetDateTime)
     ensures { result ≡ (plain, moment) }
 {
@@ -31,7 +31,7 @@ pub fn own_time(plain: PlainDateTime, moment: OffsetDateTime) -> (PlainDateTime,
     )
 }
 
-/// The own local date-time, and the own offset.
+/// Replaces the local date-time and the offset with the current ones.
 pub fn own_clock(moment: OffsetDateTime) -> (OffsetDateTime, OffsetDateTime)
     ensures { result ≡ (moment, moment) }
 {
@@ -41,7 +41,7 @@ pub fn own_clock(moment: OffsetDateTime) -> (OffsetDateTime, OffsetDateTime)
     )
 }
 
-/// The own year.
+/// Replaces the year with the current year.
 pub fn own_year(plain: PlainDateTime, moment: OffsetDateTime) -> Replaced
     ensures { result ≡ (Ok plain, Ok moment) }
 {
@@ -52,7 +52,7 @@ pub fn own_year(plain: PlainDateTime, moment: OffsetDateTime) -> Replaced
     )
 }
 
-/// The own month.
+/// Replaces the month with the current month.
 pub fn own_month(plain: PlainDateTime, moment: OffsetDateTime) -> Replaced
     ensures { result ≡ (Ok plain, Ok moment) }
 {
@@ -63,7 +63,7 @@ pub fn own_month(plain: PlainDateTime, moment: OffsetDateTime) -> Replaced
     )
 }
 
-/// The own day of the month.
+/// Replaces the day with the current day of the month.
 pub fn own_day(plain: PlainDateTime, moment: OffsetDateTime) -> Replaced
     ensures { result ≡ (Ok plain, Ok moment) }
 {
@@ -74,7 +74,7 @@ pub fn own_day(plain: PlainDateTime, moment: OffsetDateTime) -> Replaced
     )
 }
 
-/// The own ordinal.
+/// Replaces the ordinal with the current one.
 pub fn own_ordinal(plain: PlainDateTime, moment: OffsetDateTime) -> Replaced
     ensures { result ≡ (Ok plain, Ok moment) }
 {
@@ -85,7 +85,7 @@ pub fn own_ordinal(plain: PlainDateTime, moment: OffsetDateTime) -> Replaced
     )
 }
 
-/// The own hour.
+/// Replaces the hour with the current hour.
 pub fn own_hour(plain: PlainDateTime, moment: OffsetDateTime) -> Replaced
     ensures { result ≡ (Ok plain, Ok moment) }
 {
@@ -96,7 +96,7 @@ pub fn own_hour(plain: PlainDateTime, moment: OffsetDateTime) -> Replaced
     )
 }
 
-/// The own minute.
+/// Replaces the minute with the current minute.
 pub fn own_minute(plain: PlainDateTime, moment: OffsetDateTime) -> Replaced
     ensures { result ≡ (Ok plain, Ok moment) }
 {
@@ -107,7 +107,7 @@ pub fn own_minute(plain: PlainDateTime, moment: OffsetDateTime) -> Replaced
     )
 }
 
-/// The own second.
+/// Replaces the second with the current second.
 pub fn own_second(plain: PlainDateTime, moment: OffsetDateTime) -> Replaced
     ensures { result ≡ (Ok plain, Ok moment) }
 {
@@ -118,7 +118,7 @@ pub fn own_second(plain: PlainDateTime, moment: OffsetDateTime) -> Replaced
     )
 }
 
-/// The own milliseconds, where the time is a whole number of them: a replacement cuts off all that lies below.
+/// Replaces the milliseconds with the current ones. A time in whole milliseconds doesn't change.
 pub fn own_millisecond(plain: PlainDateTime, moment: OffsetDateTime) -> Replaced
     ensures plain { time_at plain % 1_000_000 ≡ 0 → result.0 ≡ Ok plain }
     ensures moment { time_at moment.local % 1_000_000 ≡ 0 → result.1 ≡ Ok moment }
@@ -130,7 +130,7 @@ pub fn own_millisecond(plain: PlainDateTime, moment: OffsetDateTime) -> Replaced
     )
 }
 
-/// The own microseconds, where the time is a whole number of them: a replacement cuts off all that lies below.
+/// Replaces the microseconds with the current ones. A time in whole microseconds doesn't change.
 pub fn own_microsecond(plain: PlainDateTime, moment: OffsetDateTime) -> Replaced
     ensures plain { time_at plain % 1_000 ≡ 0 → result.0 ≡ Ok plain }
     ensures moment { time_at moment.local % 1_000 ≡ 0 → result.1 ≡ Ok moment }
@@ -142,7 +142,7 @@ pub fn own_microsecond(plain: PlainDateTime, moment: OffsetDateTime) -> Replaced
     )
 }
 
-/// The own nanoseconds.
+/// Replaces the nanoseconds with the current ones.
 pub fn own_nanosecond(plain: PlainDateTime, moment: OffsetDateTime) -> Replaced
     ensures { result ≡ (Ok plain, Ok moment) }
 {

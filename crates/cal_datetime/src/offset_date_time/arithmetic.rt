@@ -1,4 +1,4 @@
-//! Date-times at an offset moved on and back by durations, and the durations between them.
+//! Date-times at an offset plus and minus durations, and the durations between them.
 ghost use Rattle.std.specs.Prelude.{◌≡◌, ◌+ℤ◌, ◌-ℤ◌, Some, IfSome, SomeIff};
 ghost use Rattle.cal_time.specs.SignedDuration.{IsDuration};
 ghost use Rattle.cal_datetime.specs.DateTime.{IsDateTime, nearest};
@@ -10,7 +10,7 @@ use cal_time::SignedDuration;
 use std::ops::{Add, AddAssign, Sub, SubAssign};
 
 impl OffsetDateTime {
-    /// The date-time that much later, at the same offset, or `None` where it is out of the range.
+    /// Adds a duration and keeps the offset. Returns `None` if the local result is out of range.
     #[tactic(auto, unfolding(crate::specs::OffsetDateTime::instant))]
     pub fn checked_add(self, duration: SignedDuration) -> Option<Self>
         ensures value { let local = self.local +ℤ duration
@@ -26,7 +26,8 @@ impl OffsetDateTime {
         }
     }
 
-    /// The date-time that much earlier, at the same offset, or `None` where it is out of the range.
+    /// Subtracts a duration and keeps the offset. Returns `None` if the local result is out of
+    /// range.
     #[tactic(auto, unfolding(crate::specs::OffsetDateTime::instant))]
     pub fn checked_sub(self, duration: SignedDuration) -> Option<Self>
         ensures value { let local = self.local -ℤ duration
@@ -42,7 +43,8 @@ impl OffsetDateTime {
         }
     }
 
-    /// The date-time that much later, or the end of the range that is nearest to it, at the same offset.
+    /// Adds a duration and keeps the offset. A local result out of range is clamped to the first or
+    /// the last date-time.
     pub fn saturating_add(self, duration: SignedDuration) -> Self
         ensures { result ≡ record {
           local = nearest (self.local +ℤ duration);
@@ -54,7 +56,8 @@ impl OffsetDateTime {
             .assume_offset(self.offset())
     }
 
-    /// The date-time that much earlier, or the end of the range that is nearest to it, at the same offset.
+    /// Subtracts a duration and keeps the offset. A local result out of range is clamped to the
+    /// first or the last date-time.
     pub fn saturating_sub(self, duration: SignedDuration) -> Self
         ensures { result ≡ record {
           local = nearest (self.local -ℤ duration);
@@ -76,7 +79,7 @@ impl Add<SignedDuration> for OffsetDateTime {
         (moved ≡ record { local = m.local +ℤ v; offset = m.offset })
         × (instant moved ≡ instant m +ℤ v) };
 
-    /// The date-time that much later, for a caller who knows that it is in the range.
+    /// Adds a duration and keeps the offset. The local result must be in range.
     fn add(self, duration: SignedDuration) -> Self {
         self.checked_add(duration).unwrap()
     }
@@ -103,7 +106,7 @@ impl Sub<SignedDuration> for OffsetDateTime {
         (moved ≡ record { local = m.local -ℤ v; offset = m.offset })
         × (instant moved ≡ instant m -ℤ v) };
 
-    /// The date-time that much earlier, for a caller who knows that it is in the range.
+    /// Subtracts a duration and keeps the offset. The local result must be in range.
     fn sub(self, duration: SignedDuration) -> Self {
         self.checked_sub(duration).unwrap()
     }
@@ -127,7 +130,7 @@ impl Sub for OffsetDateTime {
     ghost sub_gives = { λ a b v. (v ≡ instant a -ℤ instant b) × IsDateTime a.local
         × IsDateTime b.local × IsDuration v };
 
-    /// The duration from the other instant to this one, below zero where the other is later.
+    /// Returns the duration from the instant of `other` to this one, negative if `other` is later.
     #[tactic(auto, unfolding(crate::specs::OffsetDateTime::instant))]
     fn sub(self, other: Self) -> SignedDuration {
         self.local() - other.local() + ahead(other.offset(), self.offset())

@@ -9,10 +9,8 @@ use cal_time::ShortText;
 use std::fmt;
 
 impl OffsetDateTime {
-    /// The text, as the date-time prints it: that of half a second past eight on 29 February 2024, an hour ahead of UTC, is
-    /// `2024-02-29 8:00:00.5 +01:00:00`.
-    ///
-    /// It has the text of the local date-time, a space and that of the offset: at most 42 bytes, all of them ASCII.
+    /// Returns the text that the date-time prints: the local date-time, a space and the offset. It
+    /// is ASCII, with at most 42 bytes. An example is `2024-02-29 8:00:00.5 +01:00:00`.
     pub fn text(self) -> ShortText
         ensures text { result ≡ text self }
         ensures short { length result ≤ 42 }

@@ -1,4 +1,4 @@
-//! The equality, the order and the hash of date-times at an offset: those of the instant.
+//! The equality, the order and the hash of date-times at an offset, all by instant.
 ghost use Rattle.std.specs.Ordering.{int_cmp, int_eq, on, as_partial_cmp};
 ghost use Rattle.std.specs.Cmp.{partial_order_from_own_ties};
 ghost use Rattle.std.specs.Cmp.Rules.{comparing, hashing};

@@ -1,4 +1,4 @@
-//! Date-times at an offset with one component replaced, or cut off.
+//! Date-times at an offset with a component replaced, or truncated.
 ghost use Rattle.std.specs.Prelude.{◌≡◌, ℕ, ◌*◌, ◌<◌, ◌≤◌, ◌↔◌, ◌⊎◌, IfOk, IfErr, IsErr, Ok};
 ghost use Rattle.cal_time.specs.Month.{number};
 ghost use Rattle.cal_time.specs.Refusal.{IsRefused};
@@ -12,7 +12,7 @@ use cal_time::error::ComponentRange;
 use cal_time::{Date, Month, Time, UtcOffset};
 
 impl OffsetDateTime {
-    /// The same time of day on that date, at the same offset.
+    /// Replaces the local date and keeps the local time of day and the offset.
     pub fn replace_date(self, date: Date) -> Self
         ensures value { result ≡ record
             { local = date_time date (time_at self.local); offset = self.offset } }
@@ -20,7 +20,7 @@ impl OffsetDateTime {
         self.local().replace_date(date).assume_offset(self.offset())
     }
 
-    /// That time of day on the same date, at the same offset.
+    /// Replaces the local time of day and keeps the local date and the offset.
     pub fn replace_time(self, time: Time) -> Self
         ensures value { result ≡ record
             { local = date_time (date_at self.local) time; offset = self.offset } }
@@ -28,23 +28,23 @@ impl OffsetDateTime {
         self.local().replace_time(time).assume_offset(self.offset())
     }
 
-    /// That date-time at the same offset.
+    /// Replaces the local date-time and keeps the offset.
     pub fn replace_date_time(self, local: PlainDateTime) -> Self
         ensures value { result ≡ record { local = local; offset = self.offset } }
     {
         local.assume_offset(self.offset())
     }
 
-    /// The same clock at that offset, which is another instant: [`Self::to_offset`] keeps the instant.
+    /// Replaces the offset and keeps the local date-time, so the instant changes with the offset.
+    /// [`Self::to_offset`] keeps the instant.
     pub fn replace_offset(self, offset: UtcOffset) -> Self
         ensures value { result ≡ record { local = self.local; offset = offset } }
     {
         self.local().assume_offset(offset)
     }
 
-    /// The one in that year, with the same month and day of the month. The time of day and the offset stay.
-    ///
-    /// Refused as [`Date::replace_year`](cal_time::Date::replace_year) is: with `year`, or with `day` on 29 February for a common year.
+    /// Replaces the local year and keeps everything else. Returns the error `year` if it is out of
+    /// range, and the conditional error `day` for 29 February in a common year.
     pub fn replace_year(self, year: i32) -> Result<Self, ComponentRange>
         ensures every { (n : ℕ) → IsDate n
             → HasCalendarDate year (month_at (date_at self.local))
@@ -75,9 +75,8 @@ impl OffsetDateTime {
         }
     }
 
-    /// The one in that month of the same year, with the same day of the month. The time of day and the offset stay.
-    ///
-    /// Refused with `day`, conditionally, where the month has no such day.
+    /// Replaces the local month and keeps everything else. Returns the conditional error `day` if
+    /// the month has too few days.
     pub fn replace_month(self, month: Month) -> Result<Self, ComponentRange>
         ensures every { (n : ℕ) → IsDate n
             → HasCalendarDate (year_at (date_at self.local)) (number month)
@@ -107,9 +106,8 @@ impl OffsetDateTime {
         }
     }
 
-    /// The one on that day of the same month. The time of day and the offset stay.
-    ///
-    /// Refused with `day`, conditionally, where the month has no such day.
+    /// Replaces the local day of the month and keeps everything else. Returns the conditional error
+    /// `day` if the month doesn't have this day.
     pub fn replace_day(self, day: u8) -> Result<Self, ComponentRange>
         ensures every { (n : ℕ) → IsDate n
             → HasCalendarDate (year_at (date_at self.local)) (month_at (date_at self.local)) day n
@@ -137,9 +135,8 @@ impl OffsetDateTime {
         }
     }
 
-    /// The one on the day of the same year that has that ordinal. The time of day and the offset stay.
-    ///
-    /// Refused with `ordinal`, conditionally, where the year has no such ordinal.
+    /// Replaces the local date with the day of the same year with this ordinal. Returns the
+    /// conditional error `ordinal` if the year doesn't have it.
     pub fn replace_ordinal(self, ordinal: u16) -> Result<Self, ComponentRange>
         ensures every { (n : ℕ) → IsDate n → HasOrdinalDate (year_at (date_at self.local)) ordinal n
             → result ≡ Ok (record {
@@ -162,9 +159,7 @@ impl OffsetDateTime {
         }
     }
 
-    /// The one with that hour, and everything else the same.
-    ///
-    /// Refused with `hour`, unconditionally, above 23.
+    /// Replaces the local hour. Returns the error `hour` if it is above 23.
     pub fn replace_hour(self, hour: u8) -> Result<Self, ComponentRange>
         ensures refused { IsRefused hour_out_of_range result ↔ (23 < hour) }
         ensures reason { IfErr result (λ e. e ≡ hour_out_of_range) }
@@ -182,9 +177,7 @@ impl OffsetDateTime {
         }
     }
 
-    /// The one with that minute, and everything else the same.
-    ///
-    /// Refused with `minute`, unconditionally, above 59.
+    /// Replaces the local minute. Returns the error `minute` if it is above 59.
     pub fn replace_minute(self, minute: u8) -> Result<Self, ComponentRange>
         ensures refused { IsRefused minute_out_of_range result ↔ (59 < minute) }
         ensures reason { IfErr result (λ e. e ≡ minute_out_of_range) }
@@ -202,9 +195,7 @@ impl OffsetDateTime {
         }
     }
 
-    /// The one with that second, and everything else the same.
-    ///
-    /// Refused with `second`, unconditionally, above 59.
+    /// Replaces the local second. Returns the error `second` if it is above 59.
     pub fn replace_second(self, second: u8) -> Result<Self, ComponentRange>
         ensures refused { IsRefused second_out_of_range result ↔ (59 < second) }
         ensures reason { IfErr result (λ e. e ≡ second_out_of_range) }
@@ -222,9 +213,7 @@ impl OffsetDateTime {
         }
     }
 
-    /// The one with all that lies below its second replaced by that many milliseconds.
-    ///
-    /// Refused with `millisecond`, unconditionally, above 999.
+    /// Sets the fraction of the second in milliseconds. Returns the error `millisecond` above 999.
     pub fn replace_millisecond(self, millisecond: u16) -> Result<Self, ComponentRange>
         ensures refused { IsRefused millisecond_out_of_range result ↔ (999 < millisecond) }
         ensures reason { IfErr result (λ e. e ≡ millisecond_out_of_range) }
@@ -242,9 +231,8 @@ impl OffsetDateTime {
         }
     }
 
-    /// The one with all that lies below its second replaced by that many microseconds.
-    ///
-    /// Refused with `microsecond`, unconditionally, above 999999.
+    /// Sets the fraction of the second in microseconds. Returns the error `microsecond` above
+    /// 999999.
     pub fn replace_microsecond(self, microsecond: u32) -> Result<Self, ComponentRange>
         ensures refused { IsRefused microsecond_out_of_range result ↔ (999_999 < microsecond) }
         ensures reason { IfErr result (λ e. e ≡ microsecond_out_of_range) }
@@ -262,9 +250,8 @@ impl OffsetDateTime {
         }
     }
 
-    /// The one with all that lies below its second replaced by that many nanoseconds.
-    ///
-    /// Refused with `nanosecond`, unconditionally, above 999999999.
+    /// Sets the fraction of the second in nanoseconds. Returns the error `nanosecond` above
+    /// 999999999.
     pub fn replace_nanosecond(self, nanosecond: u32) -> Result<Self, ComponentRange>
         ensures refused { IsRefused nanosecond_out_of_range result ↔ (999_999_999 < nanosecond) }
         ensures reason { IfErr result (λ e. e ≡ nanosecond_out_of_range) }
@@ -282,7 +269,7 @@ impl OffsetDateTime {
         }
     }
 
-    /// The one at its whole hours, with all that lies below them zero.
+    /// Truncates the local time to the hour. 23:59:59.25 becomes 23:00:00.0 on the same day.
     pub fn truncate_to_hour(self) -> Self
         ensures { result ≡ record {
           local = date_time (date_at self.local) (time_of (hour_of (time_at self.local)) 0 0 0);
@@ -292,7 +279,7 @@ impl OffsetDateTime {
         self.local().truncate_to_hour().assume_offset(self.offset())
     }
 
-    /// The one at its whole minutes, with all that lies below them zero.
+    /// Truncates the local time to the minute. 23:59:59.25 becomes 23:59:00.0 on the same day.
     pub fn truncate_to_minute(self) -> Self
         ensures { result ≡ record {
           local = date_time (date_at self.local)
@@ -305,7 +292,7 @@ impl OffsetDateTime {
             .assume_offset(self.offset())
     }
 
-    /// The one at its whole seconds, with all that lies below them zero.
+    /// Truncates the local time to the second. 23:59:59.25 becomes 23:59:59.0 on the same day.
     pub fn truncate_to_second(self) -> Self
         ensures { result ≡ record {
           local = date_time (date_at self.local)
@@ -319,7 +306,7 @@ impl OffsetDateTime {
             .assume_offset(self.offset())
     }
 
-    /// The one at its whole milliseconds, with all that lies below them zero.
+    /// Truncates the local time to the millisecond. 0:00:00.123456789 becomes 0:00:00.123.
     pub fn truncate_to_millisecond(self) -> Self
         ensures { result ≡ record {
           local = date_time (date_at self.local)
@@ -334,7 +321,7 @@ impl OffsetDateTime {
             .assume_offset(self.offset())
     }
 
-    /// The one at its whole microseconds, with all that lies below them zero.
+    /// Truncates the local time to the microsecond. 0:00:00.123456789 becomes 0:00:00.123456.
     pub fn truncate_to_microsecond(self) -> Self
         ensures { result ≡ record {
           local = date_time (date_at self.local)

@@ -1,4 +1,4 @@
-//! Unix times: seconds and nanoseconds since 1970-01-01 0:00 UTC, of which each day has 86400 seconds.
+//! Unix times: the time since 1970-01-01 0:00 UTC, with 86400 seconds in each day.
 ghost use Rattle.std.specs.Prelude.{◌≡◌, ◌↔◌, ◌/◌, ◌^◌, ◌<◌, ◌<ℤ◌, ◌≤ℤ◌, unsigned_abs, ℤ, pos, neg_ℤ, ◌+ℤ◌, ◌-ℤ◌, ◌*ℤ◌, Ok, IfOk, IfErr, IsSome, IfSome};
 ghost use Rattle.cal_time.specs.Date.{first_julian_day};
 ghost use Rattle.cal_time.specs.Move.{IsDateNumber};
@@ -23,7 +23,7 @@ const NANOSECONDS_PER_SECOND: i128 = 1_000_000_000;
 const EPOCH: i128 = 31_619_087_596_800_000_000_000;
 
 impl OffsetDateTime {
-    /// 1970-01-01 0:00 UTC, whose Unix time is 0.
+    /// Returns 1970-01-01 0:00 UTC, whose Unix time is 0.
     pub fn unix_epoch() -> Self
         ensures value { result ≡ record { local = unix_epoch; offset = pos 0 } }
         ensures instant { instant result ≡ unix_epoch }
@@ -31,7 +31,8 @@ impl OffsetDateTime {
         Self::new_utc(date_of(0).unwrap(), Time::MIDNIGHT)
     }
 
-    /// The date-time at UTC that many seconds after 1970-01-01 0:00, or before where they are below zero.
+    /// Creates a date-time at UTC from a Unix timestamp in seconds, negative before 1970. Returns
+    /// the error `timestamp` if the result is out of range. 1000000000 is 2001-09-09 1:46:40.
     pub fn from_unix_timestamp(timestamp: i64) -> Result<Self, ComponentRange>
         ensures value { let local = unix_epoch +ℤ timestamp *ℤ pos second
             in IsDateTime local → result ≡ Ok (record { local = local; offset = pos 0 }) }
@@ -43,7 +44,8 @@ impl OffsetDateTime {
         at_utc(timestamp, 0)
     }
 
-    /// The date-time at UTC that many nanoseconds after 1970-01-01 0:00, or before where they are below zero.
+    /// Creates a date-time at UTC from a Unix timestamp in nanoseconds, negative before 1970.
+    /// Returns the error `timestamp` if the result is out of range.
     pub fn from_unix_timestamp_nanos(timestamp: i128) -> Result<Self, ComponentRange>
         ensures value { let local = unix_epoch +ℤ timestamp
             in IsDateTime local → result ≡ Ok (record { local = local; offset = pos 0 }) }
@@ -59,8 +61,7 @@ impl OffsetDateTime {
         }
     }
 
-    /// The seconds from 1970-01-01 0:00 UTC that have passed, below zero before it: a part of a second counts as a whole one
-    /// there.
+    /// Returns the Unix timestamp in seconds, rounded down. Half a second before 1970 it is -1.
     pub fn unix_timestamp(self) -> i64
         ensures value { result ≡ unix_seconds (instant self) }
         ensures whole { (seconds : ℤ) → instant self ≡ unix_epoch +ℤ seconds *ℤ pos second
@@ -70,14 +71,14 @@ impl OffsetDateTime {
         seconds - seconds_of(self.offset())
     }
 
-    /// The nanoseconds from 1970-01-01 0:00 UTC on, below zero before it.
+    /// Returns the Unix timestamp in nanoseconds, negative before 1970.
     pub fn unix_timestamp_nanos(self) -> i128
         ensures { result ≡ unix_nanoseconds (instant self) }
     {
         self.instant() - EPOCH
     }
 
-    /// The nanoseconds of UTC from the first date-time of the range on. Two products and two sums give it, and no quotient.
+    /// Returns the nanoseconds at UTC since the first date-time of the range. It needs no division.
     #[tactic(auto, using(crate::proofs::Instants::instants), unfolding(crate::specs::OffsetDateTime::instant))]
     pub(super) fn instant(self) -> i128
         ensures value { result ≡ instant self }
@@ -89,7 +90,7 @@ impl OffsetDateTime {
     }
 }
 
-/// The date of that Julian day, or `None` where it is out of the range.
+/// Returns the date of a Julian day, or `None` if it is out of range.
 fn at_julian_day(julian_day: i32) -> Option<Date>
     ensures some { IsSome result ↔ IsDateNumber (julian_day -ℤ first_julian_day) }
     ensures number { IfSome result (λ n. pos n ≡ julian_day -ℤ first_julian_day) }
@@ -100,7 +101,7 @@ fn at_julian_day(julian_day: i32) -> Option<Date>
     }
 }
 
-/// The date so many days after 1970-01-01, or `None` where it is out of the range.
+/// Returns the date some days after 1970-01-01, or `None` if it is out of range.
 fn date_of(days: i64) -> Option<Date>
     requires { unsigned_abs days < 2 ^ 62 }
     ensures some { IsSome result ↔ IsDateNumber (epoch_day +ℤ days) }
@@ -112,7 +113,7 @@ fn date_of(days: i64) -> Option<Date>
     }
 }
 
-/// The days from 1970-01-01 to the date, below zero before it.
+/// Returns the days from 1970-01-01 to the date, negative before it.
 fn days_since_epoch(date: Date) -> i64
     ensures value { result ≡ pos date -ℤ epoch_day }
     ensures range { (neg_ℤ (pos 400_000_000) ≤ℤ result) × (result ≤ℤ pos 400_000_000) }
@@ -120,7 +121,7 @@ fn days_since_epoch(date: Date) -> i64
     i64::from(date.to_julian_day()) - EPOCH_DAY
 }
 
-/// The whole seconds since midnight.
+/// Returns the whole seconds since midnight.
 fn whole_seconds(time: Time) -> i64
     ensures value { result ≡ pos (time / second) }
     ensures range { (pos 0 ≤ℤ result) × (result <ℤ pos 86_400) }
@@ -129,7 +130,7 @@ fn whole_seconds(time: Time) -> i64
     (time.number() as u64 / 1_000_000_000) as i64
 }
 
-/// The seconds of an offset.
+/// Returns the total seconds of an offset.
 fn seconds_of(offset: UtcOffset) -> i64
     ensures value { result ≡ offset }
     ensures least { neg_ℤ (pos greatest) ≤ℤ result }
@@ -138,7 +139,7 @@ fn seconds_of(offset: UtcOffset) -> i64
     i64::from(offset.whole_seconds())
 }
 
-/// The time of so many seconds and nanoseconds past midnight.
+/// Creates a time of day from seconds since midnight and nanoseconds.
 fn time_of(seconds: i64, nanoseconds: i32) -> Time
     requires not_before { pos 0 ≤ℤ seconds × pos 0 ≤ℤ nanoseconds }
     requires within_day { seconds <ℤ pos 86_400 }
@@ -148,7 +149,7 @@ fn time_of(seconds: i64, nanoseconds: i32) -> Time
     Time::MIDNIGHT + SignedDuration::new(seconds, nanoseconds)
 }
 
-/// The date-time at UTC so many seconds after 1970-01-01 0:00, and nanoseconds after that.
+/// Creates the date-time at UTC some seconds and nanoseconds after 1970-01-01 0:00.
 fn at_utc(seconds: i64, nanoseconds: i32) -> Result<OffsetDateTime, ComponentRange>
     requires { pos 0 ≤ℤ nanoseconds × nanoseconds <ℤ pos second }
     ensures value { let local = unix_epoch +ℤ (seconds *ℤ pos second +ℤ nanoseconds)

@@ -1,4 +1,4 @@
-//! Date-times moved on and back by durations, and the durations between them.
+//! Date-times plus and minus durations, and the durations between them.
 ghost use Rattle.std.specs.Prelude.{◌≡◌, ℤ, ◌+ℤ◌, ◌-ℤ◌, Some, SomeIff};
 ghost use Rattle.cal_time.specs.SignedDuration.{IsDuration};
 ghost use Rattle.cal_datetime.specs.DateTime.{IsDateTime, nearest};
@@ -9,9 +9,8 @@ use cal_time::{SignedDuration, add_to_pair, sub_from_pair};
 use std::ops::{Add, AddAssign, Sub, SubAssign};
 
 impl PlainDateTime {
-    /// The date-time that much later, or `None` where it is out of the range.
-    ///
-    /// It is exact, to the nanosecond: 2020-12-31 23:00 and two hours are 2021-01-01 1:00.
+    /// Adds a duration, or returns `None` if the result is out of range. 2020-12-31 23:00 plus two
+    /// hours is 2021-01-01 1:00.
     pub fn checked_add(self, duration: SignedDuration) -> Option<Self>
         ensures value { SomeIff result (IsDateTime (self +ℤ duration)) (self +ℤ duration) }
         ensures every { (to : ℤ) → IsDateTime to → duration ≡ to -ℤ self → result ≡ Some to }
@@ -23,9 +22,8 @@ impl PlainDateTime {
         }
     }
 
-    /// The date-time that much earlier, or `None` where it is out of the range.
-    ///
-    /// It is exact, to the nanosecond: 2021-01-01 1:00 less two hours is 2020-12-31 23:00.
+    /// Subtracts a duration, or returns `None` if the result is out of range. 2021-01-01 1:00 minus
+    /// two hours is 2020-12-31 23:00.
     pub fn checked_sub(self, duration: SignedDuration) -> Option<Self>
         ensures value { SomeIff result (IsDateTime (self -ℤ duration)) (self -ℤ duration) }
         ensures every { (to : ℤ) → IsDateTime to → duration ≡ self -ℤ to → result ≡ Some to }
@@ -37,7 +35,7 @@ impl PlainDateTime {
         }
     }
 
-    /// The date-time that much later, or the end of the range that is nearest to it.
+    /// Adds a duration. A result out of range is clamped to the first or the last date-time.
     pub fn saturating_add(self, duration: SignedDuration) -> Self
         ensures { result ≡ nearest (self +ℤ duration) }
     {
@@ -48,7 +46,7 @@ impl PlainDateTime {
         }
     }
 
-    /// The date-time that much earlier, or the end of the range that is nearest to it.
+    /// Subtracts a duration. A result out of range is clamped to the first or the last date-time.
     pub fn saturating_sub(self, duration: SignedDuration) -> Self
         ensures { result ≡ nearest (self -ℤ duration) }
     {
@@ -67,7 +65,7 @@ impl Add<SignedDuration> for PlainDateTime {
 
     ghost add_gives = { λ m v moved. moved ≡ m +ℤ v };
 
-    /// The date-time that much later, for a caller who knows that it is in the range.
+    /// Adds a duration. The result must be in range.
     fn add(self, duration: SignedDuration) -> Self {
         self.checked_add(duration).unwrap()
     }
@@ -90,7 +88,7 @@ impl Sub<SignedDuration> for PlainDateTime {
 
     ghost sub_gives = { λ m v moved. moved ≡ m -ℤ v };
 
-    /// The date-time that much earlier, for a caller who knows that it is in the range.
+    /// Subtracts a duration. The result must be in range.
     fn sub(self, duration: SignedDuration) -> Self {
         self.checked_sub(duration).unwrap()
     }
@@ -111,7 +109,7 @@ impl Sub for PlainDateTime {
 
     ghost sub_gives = { λ a b v. (v ≡ a -ℤ b) × IsDateTime a × IsDateTime b × IsDuration v };
 
-    /// The duration from the other to this one, below zero where the other is later.
+    /// Returns the duration from `other` to this date-time, negative if `other` is later.
     fn sub(self, other: Self) -> SignedDuration {
         (self.date - other.date) + (self.time - other.time)
     }

@@ -9,9 +9,9 @@ use cal_time::ShortText;
 use std::fmt;
 
 impl PlainDateTime {
-    /// The text, as the date-time prints it: that of half a second past eight on 29 February 2024 is `2024-02-29 8:00:00.5`.
-    ///
-    /// It has the text of the date, a space and that of the time: at most 32 bytes, all of them ASCII.
+    /// Returns the text that the date-time prints: the date, a space and the time. It is ASCII,
+    /// with at most 32 bytes. For half a second past 8:00 on 29 February 2024 it is
+    /// `2024-02-29 8:00:00.5`.
     pub fn text(self) -> ShortText
         ensures text { result ≡ text self }
         ensures short { length result ≤ 32 }

@@ -78,7 +78,8 @@ impl Counted for PlainDateTime {
 
     ghost hashed = { λ x y e. ap fed.i128 e };
 
-    /// The nanoseconds since the first date-time of the range: those of 1970-01-01 0:00 are 31619087596800000000000.
+    /// Returns the nanoseconds since the first date-time of the range. For 1970-01-01 0:00 it is
+    /// 31619087596800000000000.
     fn number(self) -> i128 {
         let days = i128::from(self.date.to_julian_day() - MIN_JULIAN_DAY);
         days * NANOSECONDS_PER_DAY + self.time.number()

@@ -1,4 +1,4 @@
-//! The parts of date-times.
+//! The components of date-times.
 ghost use Rattle.std.specs.Prelude.{◌≡◌, ◌≤◌};
 ghost use Rattle.cal_time.specs.Month.{number};
 ghost use Rattle.cal_time.specs.Weekday.{index};
@@ -11,7 +11,7 @@ use crate::PlainDateTime;
 use cal_time::{Month, Weekday};
 
 impl PlainDateTime {
-    /// The year, from -999999 to 999999. That of 2024-02-29 23:59:59.25 is 2024.
+    /// Returns the year, from -999999 to 999999. For 2024-02-29 23:59:59.25 it is 2024.
     pub fn year(self) -> i32
         ensures counted { result ≡ year_at (date_at self) }
         ensures range { IsYear result }
@@ -20,7 +20,7 @@ impl PlainDateTime {
         self.date().year()
     }
 
-    /// The month. That of 2024-02-29 23:59:59.25 is February.
+    /// Returns the month. For 2024-02-29 23:59:59.25 it is February.
     pub fn month(self) -> Month
         ensures counted { number result ≡ month_at (date_at self) }
         ensures in_range { IsDate (date_at self) }
@@ -28,7 +28,7 @@ impl PlainDateTime {
         self.date().month()
     }
 
-    /// The day of the month, from 1 to the length of the month, at most 31. That of 2024-02-29 23:59:59.25 is 29.
+    /// Returns the day of the month, from 1 to 31. For 2024-02-29 23:59:59.25 it is 29.
     pub fn day(self) -> u8
         ensures counted { result ≡ day_of_month_at (date_at self) }
         ensures range { IsDayOfMonth (year_at (date_at self)) (month_at (date_at self)) result }
@@ -38,7 +38,7 @@ impl PlainDateTime {
         self.date().day()
     }
 
-    /// The number of the day in its year, from 1 to 365, or 366 in a leap year. That of 2024-02-29 23:59:59.25 is 60.
+    /// Returns the day of the year, from 1 to 366. For 2024-02-29 23:59:59.25 it is 60.
     pub fn ordinal(self) -> u16
         ensures counted { result ≡ ordinal_at (date_at self) }
         ensures range { IsOrdinal (year_at (date_at self)) result }
@@ -48,7 +48,7 @@ impl PlainDateTime {
         self.date().ordinal()
     }
 
-    /// The week of the ISO week date, from 1 to 53. That of 2021-01-01 0:00 is 53, as its week belongs to 2020.
+    /// Returns the ISO week, from 1 to 53. For 2021-01-01 0:00 it is 53, a week of 2020.
     pub fn iso_week(self) -> u8
         ensures counted { result ≡ iso_week_at (date_at self) }
         ensures range { IsWeek (iso_year_at (date_at self)) result }
@@ -58,7 +58,8 @@ impl PlainDateTime {
         self.date().iso_week()
     }
 
-    /// The weeks from Sunday on that have begun in the year up to the day, from 0 to 53. That of 2020-12-31 0:00 is 52.
+    /// Returns the week of the year, from 0 to 53. Week 1 begins on the first Sunday of the year.
+    /// For 2020-12-31 0:00 it is 52.
     pub fn sunday_based_week(self) -> u8
         ensures counted { result ≡ weekdays_upto 6 (date_at self) }
         ensures most { result ≤ 53 }
@@ -67,7 +68,8 @@ impl PlainDateTime {
         self.date().sunday_based_week()
     }
 
-    /// The weeks from Monday on that have begun in the year up to the day, from 0 to 53. That of 2020-12-31 0:00 is 52.
+    /// Returns the week of the year, from 0 to 53. Week 1 begins on the first Monday of the year.
+    /// For 2020-12-31 0:00 it is 52.
     pub fn monday_based_week(self) -> u8
         ensures counted { result ≡ weekdays_upto 0 (date_at self) }
         ensures most { result ≤ 53 }
@@ -76,7 +78,8 @@ impl PlainDateTime {
         self.date().monday_based_week()
     }
 
-    /// The year, the month and the day of the month: the calendar date of ISO 8601. That of 2024-02-29 23:59:59.25 is (2024, February, 29).
+    /// Returns the calendar date of ISO 8601: the year, the month and the day of the month. For
+    /// 2024-02-29 23:59:59.25 it is (2024, February, 29).
     pub fn to_calendar_date(self) -> (i32, Month, u8)
         ensures date { HasCalendarDate result.0 (number result.1) result.2 (date_at self) }
         ensures range { IsYear result.0 × IsDayOfMonth result.0 (number result.1) result.2
@@ -86,7 +89,8 @@ impl PlainDateTime {
         self.date().to_calendar_date()
     }
 
-    /// The year and the ordinal: the ordinal date of ISO 8601. That of 2024-02-29 23:59:59.25 is (2024, 60).
+    /// Returns the ordinal date of ISO 8601: the year and the day of the year. For 2024-02-29
+    /// 23:59:59.25 it is (2024, 60).
     pub fn to_ordinal_date(self) -> (i32, u16)
         ensures date { HasOrdinalDate result.0 result.1 (date_at self) }
         ensures range { IsYear result.0 × IsOrdinal result.0 result.1 × (result.1 ≤ 366) }
@@ -95,7 +99,8 @@ impl PlainDateTime {
         self.date().to_ordinal_date()
     }
 
-    /// The ISO year, the week and the weekday: the week date of ISO 8601. That of 2024-02-29 23:59:59.25 is (2024, 9, Thursday).
+    /// Returns the week date of ISO 8601: the ISO year, the ISO week and the weekday. For
+    /// 2024-02-29 23:59:59.25 it is (2024, 9, Thursday).
     pub fn to_iso_week_date(self) -> (i32, u8, Weekday)
         ensures date { HasIsoWeekDate result.0 result.1 (index result.2) (date_at self) }
         ensures range { IsYear result.0 × IsWeek result.0 result.1 × (result.1 ≤ 53) }
@@ -104,7 +109,7 @@ impl PlainDateTime {
         self.date().to_iso_week_date()
     }
 
-    /// The weekday. That of 2024-02-29 23:59:59.25 is Thursday.
+    /// Returns the weekday. For 2024-02-29 23:59:59.25 it is Thursday.
     pub fn weekday(self) -> Weekday
         ensures counted { index result ≡ weekday_at (date_at self) }
         ensures in_range { IsDate (date_at self) }
@@ -112,7 +117,7 @@ impl PlainDateTime {
         self.date().weekday()
     }
 
-    /// The Julian day, from -363521074 to 366963559. That of 2024-02-29 23:59:59.25 is 2460370.
+    /// Returns the Julian day, from -363521074 to 366963559: 2460370 for 2024-02-29 23:59:59.25.
     pub fn to_julian_day(self) -> i32
         ensures day { result ≡ julian_day_at (date_at self) }
         ensures in_range { IsDate (date_at self) }
@@ -120,7 +125,7 @@ impl PlainDateTime {
         self.date().to_julian_day()
     }
 
-    /// The hour, minute and second: those of 2024-02-29 23:59:59.25 are 23, 59 and 59.
+    /// Returns the hour, minute and second: (23, 59, 59) at 23:59:59.25.
     pub fn as_hms(self) -> (u8, u8, u8)
         ensures { result ≡ (
           hour_of (time_at self),
@@ -131,7 +136,7 @@ impl PlainDateTime {
         self.time().as_hms()
     }
 
-    /// The hour, minute, second and millisecond: those of 2024-02-29 23:59:59.25 are 23, 59, 59 and 250.
+    /// Returns the hour, minute, second and millisecond: (23, 59, 59, 250) at 23:59:59.25.
     pub fn as_hms_milli(self) -> (u8, u8, u8, u16)
         ensures { result ≡ (
           hour_of (time_at self),
@@ -143,7 +148,7 @@ impl PlainDateTime {
         self.time().as_hms_milli()
     }
 
-    /// The hour, minute, second and microsecond: those of 2024-02-29 23:59:59.25 are 23, 59, 59 and 250000.
+    /// Returns the hour, minute, second and microsecond: (23, 59, 59, 250000) at 23:59:59.25.
     pub fn as_hms_micro(self) -> (u8, u8, u8, u32)
         ensures { result ≡ (
           hour_of (time_at self),
@@ -155,7 +160,7 @@ impl PlainDateTime {
         self.time().as_hms_micro()
     }
 
-    /// The hour, minute, second and nanosecond: those of 2024-02-29 23:59:59.25 are 23, 59, 59 and 250000000.
+    /// Returns the hour, minute, second and nanosecond: (23, 59, 59, 250000000) at 23:59:59.25.
     pub fn as_hms_nano(self) -> (u8, u8, u8, u32)
         ensures { result ≡ (
           hour_of (time_at self),
@@ -167,7 +172,7 @@ impl PlainDateTime {
         self.time().as_hms_nano()
     }
 
-    /// The hour, from 0 to 23. That of 2024-02-29 23:59:59.25 is 23.
+    /// Returns the hour, from 0 to 23. At 23:59:59.25 it is 23.
     pub fn hour(self) -> u8
         ensures value { result ≡ hour_of (time_at self) }
         ensures most { result ≤ 23 }
@@ -175,7 +180,7 @@ impl PlainDateTime {
         self.time().hour()
     }
 
-    /// The minute of the hour, from 0 to 59. That of 2024-02-29 23:59:59.25 is 59.
+    /// Returns the minute of the hour, from 0 to 59. At 23:59:59.25 it is 59.
     pub fn minute(self) -> u8
         ensures value { result ≡ minute_of (time_at self) }
         ensures most { result ≤ 59 }
@@ -183,7 +188,7 @@ impl PlainDateTime {
         self.time().minute()
     }
 
-    /// The second of the minute, from 0 to 59. That of 2024-02-29 23:59:59.25 is 59.
+    /// Returns the second of the minute, from 0 to 59. At 23:59:59.25 it is 59.
     pub fn second(self) -> u8
         ensures value { result ≡ second_of (time_at self) }
         ensures most { result ≤ 59 }
@@ -191,7 +196,7 @@ impl PlainDateTime {
         self.time().second()
     }
 
-    /// The whole milliseconds of the second, from 0 to 999. Those of 2024-02-29 23:59:59.25 are 250.
+    /// Returns the millisecond of the second, from 0 to 999. At 23:59:59.25 it is 250.
     pub fn millisecond(self) -> u16
         ensures value { result ≡ millisecond_of (time_at self) }
         ensures most { result ≤ 999 }
@@ -199,7 +204,7 @@ impl PlainDateTime {
         self.time().millisecond()
     }
 
-    /// The whole microseconds of the second, from 0 to 999999. Those of 2024-02-29 23:59:59.25 are 250000.
+    /// Returns the microsecond of the second, from 0 to 999999. At 23:59:59.25 it is 250000.
     pub fn microsecond(self) -> u32
         ensures value { result ≡ microsecond_of (time_at self) }
         ensures most { result ≤ 999_999 }
@@ -207,7 +212,7 @@ impl PlainDateTime {
         self.time().microsecond()
     }
 
-    /// The nanoseconds of the second, from 0 to 999999999. Those of 2024-02-29 23:59:59.25 are 250000000.
+    /// Returns the nanosecond of the second, from 0 to 999999999. At 23:59:59.25 it is 250000000.
     pub fn nanosecond(self) -> u32
         ensures value { result ≡ nanosecond_of (time_at self) }
         ensures most { result ≤ 999_999_999 }

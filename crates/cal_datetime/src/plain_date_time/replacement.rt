@@ -1,4 +1,4 @@
-//! Date-times with one component replaced, or cut off.
+//! Date-times with a component replaced, or truncated.
 ghost use Rattle.std.specs.Prelude.{◌≡◌, ℕ, ◌*◌, ◌<◌, ◌≤◌, ◌↔◌, ◌⊎◌, IfOk, IfErr, IsErr, Ok};
 ghost use Rattle.cal_time.specs.Month.{number};
 ghost use Rattle.cal_time.specs.Refusal.{IsRefused};
@@ -12,7 +12,7 @@ use cal_time::error::ComponentRange;
 use cal_time::{Date, Month, Time};
 
 impl PlainDateTime {
-    /// The same time of day on that date.
+    /// Replaces the date and keeps the time of day.
     pub fn replace_date(self, date: Date) -> Self
         ensures value { result ≡ date_time date (time_at self) }
         ensures date { date_at result ≡ date }
@@ -21,7 +21,7 @@ impl PlainDateTime {
         Self::new(date, self.time())
     }
 
-    /// That time of day on the same date.
+    /// Replaces the time of day and keeps the date.
     pub fn replace_time(self, time: Time) -> Self
         ensures value { result ≡ date_time (date_at self) time }
         ensures date { date_at result ≡ date_at self }
@@ -30,9 +30,8 @@ impl PlainDateTime {
         Self::new(self.date(), time)
     }
 
-    /// The one in that year, with the same month and day of the month. The time of day stays.
-    ///
-    /// Refused as [`Date::replace_year`](cal_time::Date::replace_year) is: with `year`, or with `day` on 29 February for a common year.
+    /// Replaces the year and keeps everything else. Returns the error `year` if it is out of range,
+    /// and the conditional error `day` for 29 February in a common year.
     pub fn replace_year(self, year: i32) -> Result<Self, ComponentRange>
         ensures every { (n : ℕ) → IsDate n
             → HasCalendarDate year (month_at (date_at self)) (day_of_month_at (date_at self)) n
@@ -56,9 +55,8 @@ impl PlainDateTime {
         }
     }
 
-    /// The one in that month of the same year, with the same day of the month. The time of day stays.
-    ///
-    /// Refused with `day`, conditionally, where the month has no such day.
+    /// Replaces the month and keeps everything else. Returns the conditional error `day` if the
+    /// month has too few days.
     pub fn replace_month(self, month: Month) -> Result<Self, ComponentRange>
         ensures every { (n : ℕ) → IsDate n
             → HasCalendarDate (year_at (date_at self)) (number month)
@@ -81,9 +79,8 @@ impl PlainDateTime {
         }
     }
 
-    /// The one on that day of the same month. The time of day stays.
-    ///
-    /// Refused with `day`, conditionally, where the month has no such day.
+    /// Replaces the day of the month and keeps everything else. Returns the conditional error `day`
+    /// if the month doesn't have this day.
     pub fn replace_day(self, day: u8) -> Result<Self, ComponentRange>
         ensures every { (n : ℕ) → IsDate n
             → HasCalendarDate (year_at (date_at self)) (month_at (date_at self)) day n
@@ -104,9 +101,8 @@ impl PlainDateTime {
         }
     }
 
-    /// The one on the day of the same year that has that ordinal. The time of day stays.
-    ///
-    /// Refused with `ordinal`, conditionally, where the year has no such ordinal.
+    /// Replaces the date with the day of the same year with this ordinal. Returns the conditional
+    /// error `ordinal` if the year doesn't have it.
     pub fn replace_ordinal(self, ordinal: u16) -> Result<Self, ComponentRange>
         ensures every { (n : ℕ) → IsDate n → HasOrdinalDate (year_at (date_at self)) ordinal n
             → result ≡ Ok (date_time n (time_at self)) }
@@ -124,9 +120,7 @@ impl PlainDateTime {
         }
     }
 
-    /// The one with that hour, and everything else the same.
-    ///
-    /// Refused with `hour`, unconditionally, above 23.
+    /// Replaces the hour. Returns the error `hour` if it is above 23.
     pub fn replace_hour(self, hour: u8) -> Result<Self, ComponentRange>
         ensures refused { IsRefused hour_out_of_range result ↔ (23 < hour) }
         ensures reason { IfErr result (λ e. e ≡ hour_out_of_range) }
@@ -141,9 +135,7 @@ impl PlainDateTime {
         }
     }
 
-    /// The one with that minute, and everything else the same.
-    ///
-    /// Refused with `minute`, unconditionally, above 59.
+    /// Replaces the minute. Returns the error `minute` if it is above 59.
     pub fn replace_minute(self, minute: u8) -> Result<Self, ComponentRange>
         ensures refused { IsRefused minute_out_of_range result ↔ (59 < minute) }
         ensures reason { IfErr result (λ e. e ≡ minute_out_of_range) }
@@ -158,9 +150,7 @@ impl PlainDateTime {
         }
     }
 
-    /// The one with that second, and everything else the same.
-    ///
-    /// Refused with `second`, unconditionally, above 59.
+    /// Replaces the second. Returns the error `second` if it is above 59.
     pub fn replace_second(self, second: u8) -> Result<Self, ComponentRange>
         ensures refused { IsRefused second_out_of_range result ↔ (59 < second) }
         ensures reason { IfErr result (λ e. e ≡ second_out_of_range) }
@@ -175,9 +165,7 @@ impl PlainDateTime {
         }
     }
 
-    /// The one with all that lies below its second replaced by that many milliseconds.
-    ///
-    /// Refused with `millisecond`, unconditionally, above 999.
+    /// Sets the fraction of the second in milliseconds. Returns the error `millisecond` above 999.
     pub fn replace_millisecond(self, millisecond: u16) -> Result<Self, ComponentRange>
         ensures refused { IsRefused millisecond_out_of_range result ↔ (999 < millisecond) }
         ensures reason { IfErr result (λ e. e ≡ millisecond_out_of_range) }
@@ -192,9 +180,8 @@ impl PlainDateTime {
         }
     }
 
-    /// The one with all that lies below its second replaced by that many microseconds.
-    ///
-    /// Refused with `microsecond`, unconditionally, above 999999.
+    /// Sets the fraction of the second in microseconds. Returns the error `microsecond` above
+    /// 999999.
     pub fn replace_microsecond(self, microsecond: u32) -> Result<Self, ComponentRange>
         ensures refused { IsRefused microsecond_out_of_range result ↔ (999_999 < microsecond) }
         ensures reason { IfErr result (λ e. e ≡ microsecond_out_of_range) }
@@ -209,9 +196,8 @@ impl PlainDateTime {
         }
     }
 
-    /// The one with all that lies below its second replaced by that many nanoseconds.
-    ///
-    /// Refused with `nanosecond`, unconditionally, above 999999999.
+    /// Sets the fraction of the second in nanoseconds. Returns the error `nanosecond` above
+    /// 999999999.
     pub fn replace_nanosecond(self, nanosecond: u32) -> Result<Self, ComponentRange>
         ensures refused { IsRefused nanosecond_out_of_range result ↔ (999_999_999 < nanosecond) }
         ensures reason { IfErr result (λ e. e ≡ nanosecond_out_of_range) }
@@ -226,14 +212,14 @@ impl PlainDateTime {
         }
     }
 
-    /// The one at its whole hours, with all that lies below them zero.
+    /// Truncates to the hour. 2024-02-29 23:59:59.25 becomes 2024-02-29 23:00:00.0.
     pub fn truncate_to_hour(self) -> Self
         ensures { result ≡ date_time (date_at self) (time_of (hour_of (time_at self)) 0 0 0) }
     {
         Self::new(self.date(), self.time().truncate_to_hour())
     }
 
-    /// The one at its whole minutes, with all that lies below them zero.
+    /// Truncates to the minute. 2024-02-29 23:59:59.25 becomes 2024-02-29 23:59:00.0.
     pub fn truncate_to_minute(self) -> Self
         ensures { result ≡ date_time (date_at self)
             (time_of (hour_of (time_at self)) (minute_of (time_at self)) 0 0) }
@@ -241,7 +227,7 @@ impl PlainDateTime {
         Self::new(self.date(), self.time().truncate_to_minute())
     }
 
-    /// The one at its whole seconds, with all that lies below them zero.
+    /// Truncates to the second. 2024-02-29 23:59:59.25 becomes 2024-02-29 23:59:59.0.
     pub fn truncate_to_second(self) -> Self
         ensures { result ≡ date_time (date_at self)
             (time_of (hour_of (time_at self)) (minute_of (time_at self))
@@ -250,7 +236,7 @@ impl PlainDateTime {
         Self::new(self.date(), self.time().truncate_to_second())
     }
 
-    /// The one at its whole milliseconds, with all that lies below them zero.
+    /// Truncates to the millisecond. 0:00:00.123456789 becomes 0:00:00.123 on the same day.
     pub fn truncate_to_millisecond(self) -> Self
         ensures { result ≡ date_time (date_at self)
             (time_of (hour_of (time_at self)) (minute_of (time_at self)) (second_of (time_at self))
@@ -259,7 +245,7 @@ impl PlainDateTime {
         Self::new(self.date(), self.time().truncate_to_millisecond())
     }
 
-    /// The one at its whole microseconds, with all that lies below them zero.
+    /// Truncates to the microsecond. 0:00:00.123456789 becomes 0:00:00.123456 on the same day.
     pub fn truncate_to_microsecond(self) -> Self
         ensures { result ≡ date_time (date_at self)
             (time_of (hour_of (time_at self)) (minute_of (time_at self)) (second_of (time_at self))

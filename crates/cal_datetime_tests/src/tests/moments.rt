@@ -8,7 +8,7 @@ use cal_datetime::laws::replacement::{
 use cal_datetime::laws::{
     first, hash_of_instant, is_earlier, is_same_instant, last, order_of_instants, there_and_back,
 };
-use cal_time::{Date, Month, SignedDuration, Time, UtcOffset};
+use cal_time::{Date, Month, SignedDuration, Time, UtcOffset, extent};
 use std::cmp::Ordering;
 use std::process::Abort;
 use std::test::Fail;
@@ -51,6 +51,24 @@ fn one_instant_on_three_clocks(rt: HostRuntime) {
     same(&rt, night.local() == east.local(), false);
     same(&rt, night - east, SignedDuration::ZERO);
     same(&rt, there_and_back(night, hours(&rt, 2)).is_some(), true);
+}
+
+/// Of several date-times of one instant the first one is returned, whatever its offset.
+#[test]
+fn extent_of_instants(rt: HostRuntime) {
+    let night = leap_night(&rt);
+    let march = date_time(&rt, (2024, Month::March, 1), (0, 0, 0, 0)).assume_offset(hours(&rt, 1));
+    let (utc, march_at_utc) = (utc_of(&rt, night), utc_of(&rt, march));
+    let found = extent(&[march, night, utc, march_at_utc]);
+    let Some((first, last)) = found else {
+        panic!(rt; "the slice is not empty");
+    };
+    let offsets = (
+        first.offset().whole_seconds(),
+        last.offset().whole_seconds(),
+    );
+    same(&rt, offsets, (3600, 3600));
+    same(&rt, (first, last), (night, march));
 }
 
 #[test]

@@ -7,13 +7,12 @@ use crate::Frequency;
 use crate::rule::{is_nth_of, turn_of};
 use cal_time::{Date, Weekday};
 
-/// Returns the index of the day, week, month or year that a date is in, by which a rule counts its
+/// Returns the index of the day, week, month or year of a date, by which a rule counts its
 /// interval.
 ///
-/// From a date to the next, the index rises by one if the next date begins a period: any day, the
-/// weekday that weeks begin with, the first of a month, or 1 January. Otherwise it stays. For
-/// example, from Sunday 2024-01-07 to Monday it rises if weeks begin on Monday, and stays if they
-/// begin on Sunday.
+/// From one date to the next, the index rises by 1 if the next date begins a period, else it stays.
+/// For example, from Sunday 2024-01-07 to Monday it rises if weeks begin on Monday, and stays if
+/// they begin on Sunday.
 pub fn period_index(frequency: Frequency, first: Weekday, date: Date) -> u32
     ensures index { result ≡ turn_at frequency first date }
     ensures rises { RisesAtBeginning frequency first date }
@@ -21,11 +20,9 @@ pub fn period_index(frequency: Frequency, first: Weekday, date: Date) -> u32
     turn_of(frequency, first, date)
 }
 
-/// Returns whether a date is the n-th of its weekday in its month, or in its year, by the number of
-/// a rule.
-///
-/// A positive n counts such days up to the date, and a negative n counts them from the date on. For
-/// example, 31 May 2024 is the fifth Friday of its month, and by -1 the last.
+/// Returns `true` if a date is the n-th of its weekday in its month or year, by the number of a
+/// rule. A positive n counts from the start, a negative one from the end: 31 May 2024 is the fifth
+/// Friday of its month, and by -1 the last.
 pub fn is_nth_weekday(of_year: bool, date: Date, n: i8) -> bool
     ensures value { result ≡ is_nth_of of_year date n }
     ensures counts { NumbersByCount date }

@@ -1,4 +1,4 @@
-//! Laws of several calls of working days together.
+//! Laws of several calls of working days.
 ghost use Rattle.std.specs.Prelude.{◌≡◌, ◌+ℤ◌, Some, true};
 ghost use Rattle.cal_schedule.specs.Workdays.{is_workday};
 
@@ -13,8 +13,8 @@ pub fn stays(workdays: &Workdays<'_>, date: Date, convention: Convention) -> Opt
     workdays.adjusted(date, convention)
 }
 
-/// Counts the working days from the first day to the second, from there to the third, and from the
-/// first to the third: the last number is the sum of the other two, in any order of the days.
+/// Counts the working days between three dates in any order. The number from the first to the third
+/// is the sum of the other two.
 pub fn adds_up(workdays: &Workdays<'_>, first: Date, second: Date, third: Date) -> (i32, i32, i32)
     ensures { result.0 +ℤ result.1 ≡ result.2 }
 {

@@ -1,8 +1,8 @@
-//! What a rule is made of.
+//! The parts of a rule.
 
 use cal_time::{Date, Month, Weekday};
 
-/// What a rule counts by: its interval is so many of them, and a rule that names no day takes that of its start.
+/// The unit of a rule's interval (`FREQ`). A rule that names no day takes the day from its start.
 #[derive(Clone, Copy, Debug, PartialEq, Eq)]
 pub enum Frequency {
     Daily,
@@ -11,35 +11,35 @@ pub enum Frequency {
     Yearly,
 }
 
-/// A weekday of a rule.
+/// A weekday of a rule (`BYDAY`).
 #[derive(Clone, Copy, Debug, PartialEq, Eq)]
 pub enum ByDay {
-    /// Each one.
+    /// Each day with this weekday.
     Every(Weekday),
-    /// The so-and-so-many-th of the month, or of the year in a yearly rule that names no month: from 1 on, or from the end by
-    /// -1 for the last one. A month may have no fifth; none is the 0th.
+    /// The n-th day with this weekday in the month, or in the year for a yearly rule without
+    /// months. It counts from 1 at the start, and from -1 at the end. No day is the 0th.
     Nth(i8, Weekday),
 }
 
-/// Days that come back, in a subset of what RFC 5545 writes in a `RRULE`, by days.
-///
-/// A part that is an empty slice leaves out no day. Of the parts that are given, a day of the rule passes each.
+/// A recurrence rule of days, in a subset of RFC 5545 (`RRULE`). A day matches if it passes every
+/// part. An empty slice allows every day.
 #[derive(Clone, Copy, Debug)]
 pub struct Rule<'a> {
-    /// The first day that may be one of the rule; it is one where it passes the other parts.
+    /// The first day that can match (`DTSTART`). It matches only if it passes the other parts.
     pub start: Date,
-    /// What the interval counts.
+    /// The unit of the interval (`FREQ`).
     pub frequency: Frequency,
-    /// Each so-many-th day, week, month or year from that of the start on; 0 counts as 1.
+    /// The interval: every n-th day, week, month or year, counted from the start. 0 counts as 1.
     pub interval: u32,
-    /// The weekday that a week begins with.
+    /// The weekday on which weeks begin (`WKST`).
     pub week_start: Weekday,
-    /// The months.
+    /// The months (`BYMONTH`).
     pub months: &'a [Month],
-    /// The days of the month, from 1 on, or from the end by -1 for the last one. None is the 0th.
+    /// The days of the month (`BYMONTHDAY`), from 1 at its start and from -1 at its end. No day is
+    /// the 0th.
     pub month_days: &'a [i8],
-    /// The weekdays.
+    /// The weekdays (`BYDAY`).
     pub weekdays: &'a [ByDay],
-    /// The last day that may be one of the rule, if there is one.
+    /// The last day that can match, if there is one (`UNTIL`).
     pub until: Option<Date>,
 }

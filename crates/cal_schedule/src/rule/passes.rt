@@ -1,4 +1,4 @@
-//! Whether a day is one of a rule.
+//! Matching a day against a rule.
 ghost use Rattle.std.specs.Prelude.{◌≡◌, ◌<◌, ◌≤◌, ◌&&◌, ◌==◌};
 ghost use Rattle.std.specs.List.{list_any};
 ghost use Rattle.cal_time.specs.Date.{last_day, IsDate, month_at, ordinal_at, year_at};
@@ -13,7 +13,8 @@ use cal_time::limits::MIN_YEAR;
 use cal_time::util::{days_in_month, days_in_year};
 use cal_time::{Cycle, Date, Month, Weekday};
 
-/// Whether what has these numbers from the first one and from the last one is the n-th, or from the end where n is below zero.
+/// Returns `true` if an item with this number from the start and this number from the end, both
+/// from 1, is the n-th. A negative n counts from the end.
 fn is_nth(n: i8, ahead: u16, back: u16) -> bool
     ensures { result ≡ is_nth n ahead back }
 {
@@ -25,21 +26,21 @@ fn is_nth(n: i8, ahead: u16, back: u16) -> bool
     }
 }
 
-/// The number of the month of the day.
+/// Returns the number of the month of a date.
 fn month_of(date: Date) -> u8
     ensures { result ≡ month_at date }
 {
     date.month().place() + 1
 }
 
-/// Whether the months have that number among them.
+/// Returns `true` if one of the months has this number.
 fn any_month(months: &[Month], number: u8) -> bool
     ensures { result ≡ list_any (λ m. month_number m == number) months.now }
 {
     months.iter().any(|month| month.place() + 1 == number)
 }
 
-/// Whether the day is that one of its month.
+/// Returns `true` if the date is this day of its month.
 #[tactic(auto, unfolding(crate::specs::Rule::is_month_day))]
 fn is_month_day(date: Date, day: i8) -> bool
     ensures { result ≡ is_month_day date day }
@@ -58,7 +59,7 @@ fn any_month_day(days: &[i8], date: Date) -> bool
     days.iter().any(|day| is_month_day(date, *day))
 }
 
-/// Whether the day is the so-many-th of its weekday in its year, or in its month.
+/// Returns `true` if the date is the n-th of its weekday in its year, or in its month.
 #[tactic(auto, unfolding(crate::specs::Rule::is_nth_of))]
 pub(crate) fn is_nth_of(of_year: bool, date: Date, n: i8) -> bool
     ensures value { result ≡ is_nth_of of_year date n }
@@ -75,7 +76,7 @@ pub(crate) fn is_nth_of(of_year: bool, date: Date, n: i8) -> bool
     is_nth(n, (index + 6) / 7, (length - index) / 7 + 1)
 }
 
-/// Whether the day has that weekday, and is the so-many-th of it.
+/// Returns `true` if the date has this weekday, and its number if it has one.
 #[tactic(auto, unfolding(crate::specs::Rule::is_weekday))]
 fn is_weekday(of_year: bool, date: Date, by: ByDay) -> bool
     ensures { result ≡ is_weekday of_year date by }
@@ -92,7 +93,7 @@ fn any_weekday(weekdays: &[ByDay], of_year: bool, date: Date) -> bool
     weekdays.iter().any(|by| is_weekday(of_year, date, *by))
 }
 
-/// The day, the week, the month or the year of the day, counted from the first one of the range.
+/// Returns the index of the day, week, month or year of a date, from 0 at the start of the range.
 #[tactic(auto, unfolding(crate::specs::Rule::turn_at))]
 pub(crate) fn turn_of(frequency: Frequency, first: Weekday, date: Date) -> u32
     ensures turn { result ≡ turn_at frequency first date }
@@ -108,7 +109,7 @@ pub(crate) fn turn_of(frequency: Frequency, first: Weekday, date: Date) -> u32
 }
 
 impl Rule<'_> {
-    /// The rule takes each so-many-th day, week, month or year.
+    /// Returns the interval, or 1 if it is 0.
     pub(super) fn step(&self) -> u32
         ensures value { result ≡ step self.now }
         ensures least { 1 ≤ result }
@@ -128,7 +129,7 @@ impl Rule<'_> {
         matches!(self.frequency, Frequency::Yearly)
     }
 
-    /// Whether the rule takes the month of the day.
+    /// Returns `true` if the month of the date passes the rule.
     #[tactic(auto, unfolding(crate::specs::Rule::is_in_months))]
     pub(super) fn is_in_months(&self, date: Date) -> bool
         ensures { result ≡ is_in_months self.now date }
@@ -141,7 +142,8 @@ impl Rule<'_> {
         }
     }
 
-    /// Whether the day is as that of the start, as far as the rule counts by it.
+    /// Returns `true` if the date has the day of the start: its weekday in a weekly rule, its day
+    /// of the month in a monthly or yearly rule.
     fn is_as_start(&self, date: Date) -> bool
         ensures { result ≡ is_as_start self.now.frequency self.now.start date }
     {
@@ -152,7 +154,8 @@ impl Rule<'_> {
         }
     }
 
-    /// Whether the day is one of those that the rule names, or has the day of the start.
+    /// Returns `true` if the date passes the days of the month and the weekdays, or has the day of
+    /// the start if the rule names no day.
     #[tactic(auto, unfolding(crate::specs::Rule::is_on_days))]
     fn is_on_days(&self, date: Date) -> bool
         ensures { result ≡ is_on_days self.now date }
@@ -174,7 +177,8 @@ impl Rule<'_> {
         }
     }
 
-    /// How many of the days, weeks, months or years there are to the day from the last one that the rule takes.
+    /// Returns the number of periods since the last selected one, 0 if the period of the date is
+    /// selected.
     #[tactic(auto, unfolding(crate::specs::Rule::turns_past))]
     pub(super) fn out_of_turn(&self, date: Date) -> u32
         requires { self.now.start ≤ date }
@@ -185,9 +189,8 @@ impl Rule<'_> {
         (turn_of(self.frequency, self.week_start, date) - start) % self.step()
     }
 
-    /// Whether the day is one of the rule's.
-    ///
-    /// A rule of each month's last Friday has 26 January 2024, and not 19 January.
+    /// Returns `true` if the rule matches a date. A rule for the last Friday of each month matches
+    /// 26 January 2024, and not 19 January.
     #[tactic(auto, unfolding(crate::specs::Rule::is_on))]
     pub fn contains(&self, date: Date) -> bool
         ensures value { result ≡ is_on self.now date }

@@ -1,4 +1,4 @@
-//! The next day of a rule.
+//! The search for the next day of a rule.
 ghost use Rattle.std.specs.Prelude.{◌≡◌, ℕ, ◌+◌, ◌<◌, ◌≤◌, ◌==◌, slice_get, IfSome, false, true};
 ghost use Rattle.std.specs.List.{list_any};
 ghost use Rattle.cal_time.specs.Date.{weekday_at, IsDate};
@@ -13,13 +13,13 @@ use crate::rule::kinds::{ByDay, Frequency, Rule};
 use crate::rule::passes::turn_of;
 use cal_time::{Cycle, Date, Weekday};
 
-/// The months of the range.
+/// The number of months in the range.
 const MONTHS: u64 = 23_999_988;
 
-/// After 400 years, which are so many days and whole weeks, everything comes back.
+/// The number of days in 400 years, after which the calendar and the weekdays repeat.
 const PERIOD: u64 = 146_097;
 
-/// The first day of the month that has so many months of the range before it.
+/// Returns the first day of the month with this index.
 fn first_of_month(index: u64, first: Weekday) -> Option<Date>
     ensures { IsFirstOf Monthly first index result }
 {
@@ -30,7 +30,7 @@ fn first_of_month(index: u64, first: Weekday) -> Option<Date>
     }
 }
 
-/// The first day of the day, week, month or year that has so many of the range before it.
+/// Returns the first day of the period with this index, or `None` if it is out of range.
 #[tactic(auto, unfolding(crate::specs::Rule::turn_at), using(crate::proofs::Rules::firsts))]
 fn first_of(frequency: Frequency, first: Weekday, turn: u64) -> Option<Date>
     requires some { 1 ≤ turn }
@@ -45,7 +45,7 @@ fn first_of(frequency: Frequency, first: Weekday, turn: u64) -> Option<Date>
     }
 }
 
-/// The weekday, with or without its number.
+/// Returns the weekday, without its number.
 fn weekday_of(by: ByDay) -> Weekday
     ensures { result ≡ weekday_of by }
 {
@@ -54,7 +54,7 @@ fn weekday_of(by: ByDay) -> Weekday
     }
 }
 
-/// Whether the weekdays have one at that index of the week, which begins with Monday.
+/// Returns `true` if one of the weekdays has this index, from 0 for Monday.
 fn any_at_index(weekdays: &[ByDay], at: u8) -> bool
     ensures { result ≡ list_any (λ by. at == index (weekday_of by)) weekdays.now }
 {
@@ -62,14 +62,14 @@ fn any_at_index(weekdays: &[ByDay], at: u8) -> bool
 }
 
 impl Rule<'_> {
-    /// Whether the rule takes days of the weekday at that index of the week, with whatever number.
+    /// Returns `true` if the rule can match a day with the weekday at this index.
     fn takes_weekday(&self, at: u8) -> bool
         ensures { result ≡ takes_weekday self.now at }
     {
         self.weekdays.is_empty() || any_at_index(self.weekdays, at)
     }
 
-    /// How many days on the next day is whose weekday the rule takes; a week on there is one, if there is any.
+    /// Returns the days to the next day with a weekday that the rule can match, at most 7.
     fn days_on(&self, day: Date) -> u8
         ensures least { 1 ≤ result }
         ensures most { result ≤ 7 }
@@ -86,7 +86,7 @@ impl Rule<'_> {
         days
     }
 
-    /// A later day, where none from this one to the day before it is one of the rule's.
+    /// Returns a later day to go on with, or `None`. No day from `day` on and before it matches.
     fn skip(&self, day: Date) -> Option<Date>
         requires start { self.now.start ≤ day }
         requires off { is_on self.now day ≡ false }
@@ -105,12 +105,12 @@ impl Rule<'_> {
         first_of_month(u64::from(index) + 1, self.week_start)
     }
 
-    /// The first day of the rule from this one on.
+    /// Returns the first day of the rule from this one on.
     pub(super) fn next_from(&self, first: Date) -> Option<Date>
         requires { self.now.start ≤ first }
         ensures { IsNextFrom self.now first result }
     {
-        // A day of the rule past so many periods has one of the rule so much earlier.
+        // The calendar repeats: if a day past this end matches, so does the day this much earlier.
         let end = u64::from(number(first)) + PERIOD * u64::from(self.step());
         let mut day = first;
         while u64::from(number(day)) < end {
@@ -125,10 +125,10 @@ impl Rule<'_> {
         None
     }
 
-    /// The first day of the rule after this day, or `None` exactly where the range has none.
+    /// Returns the first day of the rule after a date, or `None` if the range has no such day. For
+    /// the last Friday of each month, 23 February comes after 26 January 2024.
     ///
-    /// After 26 January 2024 a rule of each month's last Friday has 23 February. A rule of each 30 February has no day, and the
-    /// call says so after a look at 400 years.
+    /// A rule for 30 February has no days. The search ends after 400 years times the interval.
     pub fn next_after(&self, date: Date) -> Option<Date>
         ensures day { result ≡ slice_get (days_after self.now date) 0 }
         ensures found { IfSome result (λ n. (date < n) × IsDate n × (is_on self.now n ≡ true)) }

@@ -1,4 +1,4 @@
-//! The walk over the days of a rule.
+//! The iterator over the days of a rule.
 ghost use Rattle.std.specs.Prelude.{◌≡◌, length, None, List, take};
 ghost use Rattle.std.specs.Iterator.{YieldsFirst, item_count};
 ghost use Rattle.cal_time.specs.declared.Weekday.TheVariants.{Monday};
@@ -8,12 +8,12 @@ use crate::rule::kinds::{Frequency, Rule};
 use cal_time::{Date, Weekday};
 use std::marker::Model;
 
-/// A walk over days of a rule, in order. Contracts see it as the list of the days that it still gives.
+/// An iterator over days of a rule, in ascending order. Contracts see the list of the days left.
 #[derive(Debug, Drop)]
 pub struct RuleDays<'a> {
     rule: Rule<'a>,
     front: Option<Date>,
-    /// How many days it still gives at most.
+    /// The maximum number of days left.
     left: u32,
 }
 
@@ -27,9 +27,8 @@ impl<'a> Model for RuleDays<'a> {
 }
 
 impl<'a> Rule<'a> {
-    /// The rule of each day, or the same day of each week, month or year, from the start on. Its weeks begin on Monday.
-    ///
-    /// A rule with more parts is written by its fields.
+    /// Creates the rule for every day, or for the same day of every week, month or year. Its weeks
+    /// begin on Monday. Set other parts by their fields.
     pub fn new(start: Date, frequency: Frequency) -> Self
         ensures start { result.start ≡ start }
         ensures frequency { result.frequency ≡ frequency }
@@ -52,7 +51,7 @@ impl<'a> Rule<'a> {
         }
     }
 
-    /// The rule again, with the same borrowed parts.
+    /// Copies the rule, with the same borrowed parts.
     fn copied(&self) -> Self
         ensures { result ≡ self.now }
     {
@@ -68,19 +67,18 @@ impl<'a> Rule<'a> {
         }
     }
 
-    /// The walk over the days of the rule, the first one first.
+    /// Returns an iterator over all days of the rule, in ascending order.
     #[tactic(auto, using(crate::proofs::Rules::all_of_them))]
     pub fn days(&self) -> RuleDays<'a>
         ensures { result ≡ days_of self.now }
     {
-        // The range has fewer days.
+        // The range has fewer days than this.
         self.first_days(u32::MAX)
     }
 
-    /// The walk over the first so many days of the rule, or over all of them where it has no more.
-    ///
-    /// Of a rule of each month's last Friday from January 2024 on the first two are 26 January and 23 February. In the text of
-    /// RFC 5545 the number is its `COUNT`.
+    /// Returns an iterator over the first `count` days of the rule, or over all of them if there
+    /// are fewer (`COUNT` of RFC 5545). For the last Friday of each month from January 2024 on, the
+    /// first two are 26 January and 23 February.
     pub fn first_days(&self, count: u32) -> RuleDays<'a>
         ensures { result ≡ take count (days_of self.now) }
     {
@@ -99,7 +97,7 @@ impl Iterator for RuleDays<'_> {
 
     ghost remaining = { item_count (λ days. days) };
 
-    /// The first of the days that are left, which is taken from the walk, or `None`.
+    /// Returns the next day, or `None` after the last one.
     fn next(&mut self) -> Option<Date> {
         if self.left == 0 {
             return None;
@@ -107,7 +105,7 @@ impl Iterator for RuleDays<'_> {
         let item = self.front?;
         self.left -= 1;
         if self.left == 0 {
-            // No other one is searched for.
+            // No further day is needed, so don't search for one.
             return Some(item);
         }
         self.front = self.rule.next_after(item);

@@ -1,4 +1,4 @@
-//! Days moved to working days.
+//! Dates moved to working days.
 ghost use Rattle.std.specs.Prelude.{◌≡◌, ◌≤◌, IfSome, true};
 ghost use Rattle.cal_time.specs.Date.{IsDate};
 ghost use Rattle.cal_schedule.specs.Workdays.{is_workday};
@@ -8,14 +8,14 @@ use crate::numbers::number;
 use crate::workdays::{Convention, Workdays};
 use cal_time::Date;
 
-/// Whether the other day is in the month of the day.
+/// Returns `true` if both dates are in the same month of the same year.
 fn is_in_month_of(date: Date, other: Date) -> bool
     ensures { result ≡ is_in_month_of date other }
 {
     other.year() == date.year() && other.month() == date.month()
 }
 
-/// The first, where it is in the month of the day, or else the second.
+/// Returns the first date if it is in the month of `date`, else the second.
 fn first_in_month_of(date: Date, first: Option<Date>, second: Option<Date>) -> Option<Date>
     ensures { result ≡ first_in_month_of date first second }
 {
@@ -26,10 +26,11 @@ fn first_in_month_of(date: Date, first: Option<Date>, second: Option<Date>) -> O
 }
 
 impl Workdays<'_> {
-    /// The working day that the day is moved to by the convention, or `None` where the range has no such day.
+    /// Moves a date by a convention, or returns `None` if the range has no such day.
     ///
-    /// 31 August 2024 is a Saturday, and the Monday after it is Labor Day in the United States: with its holidays, it is moved to
-    /// 3 September as `Following`, and to 30 August as `ModifiedFollowing`.
+    /// 31 August 2024 is a Saturday, and the Monday after it is Labor Day in the United States.
+    /// With its holidays, `Following` moves it to 3 September, and `ModifiedFollowing` to 30
+    /// August.
     pub fn adjusted(&self, date: Date, convention: Convention) -> Option<Date>
         ensures day { result ≡ adjusted self.now convention date }
         ensures found { IfSome result (λ n. IsAdjusted self.now convention date n × IsDate n) }

@@ -1,4 +1,4 @@
-//! The marks of the week and the holidays.
+//! Marked weekdays and holidays.
 ghost use Rattle.std.specs.Prelude.{◌≡◌, ◌<◌, length, slice_index, SomeIff};
 ghost use Rattle.cal_time.specs.Counted.{IsRising};
 ghost use Rattle.cal_time.specs.Date.{julian_day_at, IsDate};
@@ -7,14 +7,13 @@ use crate::numbers::number;
 use cal_time::{Date, is_rising};
 use std::marker::Model;
 
-/// The working days of a calendar: the days of the week that are marked, but for the holidays.
-///
-/// Contracts see it as the marks and the numbers of the holidays.
+/// The working days of a calendar: the days with a marked weekday, except the holidays. Contracts
+/// see the marks and the numbers of the holidays.
 #[derive(Debug, Drop)]
 pub struct Workdays<'a> {
-    /// Whether each day of the week is worked on, from Monday to Sunday.
+    /// A mark for each weekday, from Monday to Sunday.
     pub(super) marks: [bool; 7],
-    /// The holidays, in order.
+    /// The holidays, in ascending order.
     pub(super) holidays: &'a [Date],
 }
 
@@ -31,10 +30,9 @@ impl<'a> Model for Workdays<'a> {
 }
 
 impl<'a> Workdays<'a> {
-    /// The working days of a week with these marks, from Monday to Sunday, but for the holidays.
-    ///
-    /// `None` exactly where the holidays do not rise: where one is not before the next. A holiday on a day of the week that is
-    /// not marked changes nothing.
+    /// Creates a calendar from a mark for each weekday, from Monday to Sunday, and its holidays.
+    /// Returns `None` if the holidays are not in strictly ascending order. A holiday on a weekday
+    /// without a mark changes nothing.
     pub fn new(marks: [bool; 7], holidays: &'a [Date]) -> Option<Self>
         ensures { SomeIff result (IsRising julian_day_at holidays.now)
             (record { marks = marks; holidays = holidays.now }) }
@@ -46,7 +44,7 @@ impl<'a> Workdays<'a> {
         }
     }
 
-    /// How many holidays there are.
+    /// Returns the number of holidays.
     pub(super) fn holidays_len(&self) -> usize
         ensures number { result ≡ length self.now.holidays }
         ensures rising { IsRising julian_day_at self.now.holidays }
@@ -54,7 +52,7 @@ impl<'a> Workdays<'a> {
         self.holidays.len()
     }
 
-    /// The number of the holiday at that index.
+    /// Returns the number of the holiday at an index.
     pub(super) fn holiday(&self, index: usize) -> u32
         requires { index < length self.now.holidays }
         ensures number { result ≡ slice_index self.now.holidays index }

@@ -1,16 +1,16 @@
-//! The conventions by which a day is moved to a working day.
+//! The conventions that move a date to a working day.
 
-/// How a day that is no working day is moved to one, under the names that financial contracts give it.
+/// A business day convention of the ISDA Definitions, for dates that are not working days.
 #[derive(Clone, Copy, Debug, PartialEq, Eq)]
 pub enum Convention {
-    /// The day itself, whether or not it is a working day.
+    /// The date itself, even if it is not a working day.
     Unadjusted,
-    /// The first working day from the day on.
+    /// The first working day on or after the date.
     Following,
-    /// As `Following`, but where that is in another month, as `Preceding`.
+    /// `Following`, or `Preceding` if that is in another month.
     ModifiedFollowing,
-    /// The last working day up to the day.
+    /// The last working day on or before the date.
     Preceding,
-    /// As `Preceding`, but where that is in another month, as `Following`.
+    /// `Preceding`, or `Following` if that is in another month.
     ModifiedPreceding,
 }

@@ -1,4 +1,4 @@
-//! Working days found and counted: by whole weeks, and by the holidays in between.
+//! Finding and counting working days by whole weeks and the holidays between them.
 ghost use Rattle.std.specs.Prelude.{◌≡◌, ℕ, ◌+◌, ◌<◌, ◌≤◌, length, slice_get, IfSome, MatchOption, true};
 ghost use Rattle.cal_time.specs.Counted.{IsRising};
 ghost use Rattle.cal_time.specs.Date.{last_day, julian_day_at, IsDate};
@@ -11,7 +11,7 @@ use crate::workdays::Workdays;
 use cal_time::Date;
 
 impl Workdays<'_> {
-    /// How many of the holidays come before the day of that number.
+    /// Returns the number of holidays before a day.
     fn holidays_before(&self, day: u32) -> usize
         ensures split { IsSplit self.now.holidays result day }
         ensures rising { IsRising julian_day_at self.now.holidays }
@@ -28,7 +28,7 @@ impl Workdays<'_> {
         low
     }
 
-    /// Whether the day of that number is a holiday.
+    /// Returns `true` if a day is a holiday.
     pub(super) fn is_holiday(&self, day: u32) -> bool
         ensures { result ≡ is_holiday self.now day }
     {
@@ -36,7 +36,7 @@ impl Workdays<'_> {
         index < self.holidays_len() && self.holiday(index) == day
     }
 
-    /// How many working days there are from the day of the one number to the one before that of the other.
+    /// Counts the working days from one day on and before the other.
     pub(super) fn count(&self, from: u32, to: u32) -> u32
         requires { from ≤ to }
         ensures number { result ≡ length (workdays_within self.now from to) }
@@ -50,8 +50,8 @@ impl Workdays<'_> {
         self.marked_before(to) - self.marked_before(from) - held
     }
 
-    /// The marked days before the working day that has so many others from the day of that number on before it: those before this
-    /// day, so many more, and one for each marked holiday in between.
+    /// Returns the marked days before the working day after n others, counted from a day on: the
+    /// marked days before this day, n more, and one for each marked holiday in between.
     fn marked_before_nth_from(&self, from: u32, n: u32) -> u64
         ensures day { (x : ℕ) → is_marked self.now x ≡ true
             → count_before (is_marked self.now) x ≡ result → IsNthFrom self.now from n x }
@@ -69,8 +69,8 @@ impl Workdays<'_> {
         before
     }
 
-    /// The marked days before the working day that has so many others between it and the day of that number: one less for each
-    /// marked holiday in between. `None` where there is no such day.
+    /// Returns the marked days before the working day with n others between it and a day: one less
+    /// for each marked holiday in between. Returns `None` if there is no such day.
     fn marked_before_nth_back(&self, to: u32, n: u32) -> Option<u32>
         requires { to ≤ last_day + 1 }
         ensures day { MatchOption result (count_before (is_workday self.now) to ≤ n)
@@ -101,7 +101,7 @@ impl Workdays<'_> {
         Some(before)
     }
 
-    /// The working day from the day of that number on that has so many of them before it, or `None` past the last day.
+    /// Returns the working day at index n of those from a day on, or `None` past the range.
     pub(super) fn nth_from(&self, from: u32, n: u32) -> Option<Date>
         requires { from ≤ last_day + 1 }
         ensures day { result ≡ slice_get (workdays_from self.now from) n }
@@ -114,7 +114,7 @@ impl Workdays<'_> {
         at_number(self.nth_marked(self.marked_before_nth_from(from, n)))
     }
 
-    /// The working day before the day of that number that has so many of them between the two, or `None` before the first day.
+    /// Returns the working day at index n of those before a day, from the nearest back, or `None`.
     pub(super) fn nth_before(&self, to: u32, n: u32) -> Option<Date>
         requires { to ≤ last_day + 1 }
         ensures day { result ≡ slice_get (workdays_back self.now to) n }

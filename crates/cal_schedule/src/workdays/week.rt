@@ -1,4 +1,4 @@
-//! The marked days of the week, counted by whole weeks.
+//! Counting days with a marked weekday by whole weeks.
 ghost use Rattle.std.specs.Prelude.{◌≡◌, ◌^◌, ◌<◌, ◌≤◌, true};
 ghost use Rattle.cal_time.specs.IsoWeekDate.{count_before};
 ghost use Rattle.cal_schedule.specs.Workdays.{is_marked};
@@ -6,14 +6,14 @@ ghost use Rattle.cal_schedule.specs.Workdays.{is_marked};
 use crate::workdays::Workdays;
 
 impl Workdays<'_> {
-    /// Whether the day of that number has a marked day of the week. Day 0 is a Monday.
+    /// Returns `true` if a day has a marked weekday. Day 0 is a Monday.
     pub(super) fn is_marked(&self, day: u32) -> bool
         ensures { result ≡ is_marked self.now day }
     {
         self.marks[(day % 7) as usize]
     }
 
-    /// How many days of the week before that index are marked.
+    /// Returns the number of marks before an index of the week.
     pub(super) fn marked_in_week(&self, index: u32) -> u32
         requires { index ≤ 7 }
         ensures number { result ≡ count_before (is_marked self.now) index }
@@ -26,7 +26,7 @@ impl Workdays<'_> {
         marked
     }
 
-    /// How many days before that of the number have a marked day of the week.
+    /// Returns the number of marked days before a day.
     pub(super) fn marked_before(&self, day: u32) -> u32
         ensures number { result ≡ count_before (is_marked self.now) day }
         ensures most { result ≤ day }
@@ -34,7 +34,7 @@ impl Workdays<'_> {
         day / 7 * self.marked_in_week(7) + self.marked_in_week(day % 7)
     }
 
-    /// The index of the marked day of the week that has so many marked ones before it.
+    /// Returns the index of the marked weekday with n marks before it.
     fn nth_index(&self, n: u32) -> u32
         requires { n < count_before (is_marked self.now) 7 }
         ensures index { result < 7 }
@@ -53,7 +53,7 @@ impl Workdays<'_> {
         unreachable!()
     }
 
-    /// The number of the marked day that has so many marked ones before it.
+    /// Returns the number of the marked day with n marked days before it.
     pub(super) fn nth_marked(&self, n: u64) -> u64
         requires some { 0 < count_before (is_marked self.now) 7 }
         requires fits { n < 2 ^ 60 }

@@ -1,4 +1,4 @@
-//! Sums, differences, products and quotients of durations, exact to the nanosecond.
+//! Exact sums, differences, products and quotients of durations.
 
 ghost use Rattle.std.specs.Prelude.{◌≡◌, ◌+◌, ◌*◌, ◌<◌, ◌≤◌, pos, neg_ℤ, ◌+ℤ◌, ◌-ℤ◌, ◌*ℤ◌, ◌≤ℤ◌, ◌<ℤ◌, unsigned_abs, FitsSigned, SomeIff};
 ghost use Rattle.std.specs.Int.{w64};
@@ -7,11 +7,12 @@ ghost use Rattle.cal_span.specs.Fields.{CanCarry, IsCarry};
 
 use crate::signed_duration::{NANOSECONDS_PER_SECOND, SignedDuration};
 
-/// The greatest magnitude of a factor or a divisor, which is that of a `u32`.
+/// The maximum magnitude of a factor or a divisor, `u32::MAX`.
 pub(super) const GREATEST_OPERAND: u64 = 4_294_967_295;
 
 impl SignedDuration {
-    /// The sum, or `None` where it is no duration. `MAX.checked_add(MIN)` is -1 second.
+    /// Computes `self + rhs`. Returns `None` if the sum is out of range. `MAX.checked_add(MIN)` is
+    /// -1 s.
     pub fn checked_add(self, rhs: Self) -> Option<Self>
         ensures { SomeIff result (IsDuration (self +ℤ rhs)) (self +ℤ rhs) }
     {
@@ -19,15 +20,16 @@ impl SignedDuration {
         Self::checked_new(seconds, self.nanoseconds + rhs.nanoseconds)
     }
 
-    /// The difference, or `None` where it is no duration. So `nanoseconds(-1)` less
-    /// `seconds(i64::MIN)` is [`Self::MAX`].
+    /// Computes `self - rhs`. Returns `None` if the difference is out of range. For example,
+    /// `nanoseconds(-1)` minus `seconds(i64::MIN)` is [`Self::MAX`].
     pub fn checked_sub(self, rhs: Self) -> Option<Self>
         ensures { SomeIff result (IsDuration (self -ℤ rhs)) (self -ℤ rhs) }
     {
         let nanoseconds = self.nanoseconds - rhs.nanoseconds;
         match self.seconds.checked_sub(rhs.seconds) {
             Some(seconds) => Self::checked_new(seconds, nanoseconds),
-            // The seconds are one too many, and the nanoseconds take that one back.
+            // The seconds are one above `i64::MAX`, so one second moves to the negative
+            // nanoseconds.
             None if self.seconds == 0 && nanoseconds < 0 => Some(Self {
                 seconds: i64::MAX,
                 nanoseconds: nanoseconds + NANOSECONDS_PER_SECOND,
@@ -36,10 +38,10 @@ impl SignedDuration {
         }
     }
 
-    /// That many seconds and nanoseconds, or `None` where their sum is no duration.
+    /// Creates a duration from seconds and nanoseconds. Returns `None` if it is out of range.
     ///
-    /// The nanoseconds are less than two seconds, and against the seconds only where they are less
-    /// than one.
+    /// The nanoseconds are less than two seconds, or less than one second if they and the seconds
+    /// have opposite signs.
     pub(super) fn checked_new(seconds: i64, nanoseconds: i32) -> Option<Self>
         requires { CanCarry seconds nanoseconds }
         ensures { SomeIff result (IsDuration (seconds *ℤ pos second +ℤ nanoseconds))
@@ -52,15 +54,16 @@ impl SignedDuration {
         })
     }
 
-    /// The product, or `None` where it is no duration, as that of [`Self::MIN`] and -1. That of 2 s
-    /// and -3 is -6 s.
+    /// Computes `self * rhs`. Returns `None` if the product is out of range. 2 s times -3 is -6 s,
+    /// and [`Self::MIN`] times -1 is `None`.
     pub fn checked_mul(self, rhs: i32) -> Option<Self>
         ensures { SomeIff result (IsDuration (self *ℤ rhs)) (self *ℤ rhs) }
     {
         self.checked_product(i64::from(rhs))
     }
 
-    /// The product with a factor of 33 bits, or `None` where it is no duration.
+    /// Computes `self * factor`. Returns `None` if the product is out of range. The magnitude of
+    /// the factor fits in a `u32`.
     pub(super) fn checked_product(self, factor: i64) -> Option<Self>
         requires { IsWithin GREATEST_OPERAND factor }
         ensures { SomeIff result (IsDuration (self *ℤ factor)) (self *ℤ factor) }
@@ -72,7 +75,8 @@ impl SignedDuration {
         })
     }
 
-    /// The product of what is past the whole seconds with a factor of 33 bits.
+    /// Computes the nanoseconds past the whole seconds, times `factor`, whose magnitude fits in a
+    /// `u32`.
     fn past_second_times(self, factor: i64) -> Self
         requires { IsWithin GREATEST_OPERAND factor }
         ensures { result ≡ past_second self *ℤ factor }
@@ -80,16 +84,16 @@ impl SignedDuration {
         Self::nanoseconds(i64::from(self.subsec_nanoseconds()) * factor)
     }
 
-    /// The quotient, cut toward zero, or `None` where the divisor is zero or the quotient is no
-    /// duration. So -7.5 s by 2 are -3.75 s, and -1 ns by 2 is zero.
+    /// Computes `self / rhs`, truncated toward zero. Returns `None` if `rhs` is zero or the
+    /// quotient is out of range. -7.5 s divided by 2 is -3.75 s, and -1 ns divided by 2 is zero.
     pub fn checked_div(self, rhs: i32) -> Option<Self>
         ensures { SomeIff result (HasQuotient self rhs) (cut self rhs) }
     {
         self.checked_quotient(i64::from(rhs))
     }
 
-    /// The quotient by a divisor of 33 bits, cut toward zero, or `None` where the divisor is zero or
-    /// the quotient is no duration.
+    /// Computes `self / divisor`, truncated toward zero. Returns `None` if `divisor` is zero or the
+    /// quotient is out of range. The magnitude of the divisor fits in a `u32`.
     pub(super) fn checked_quotient(self, divisor: i64) -> Option<Self>
         requires { IsWithin GREATEST_OPERAND divisor }
         ensures { SomeIff result (HasQuotient self divisor) (cut self divisor) }
@@ -104,7 +108,7 @@ impl SignedDuration {
         Self::checked_of_magnitude(is_negative, seconds / size, (rest / size) as u32)
     }
 
-    /// The duration of that sign and magnitude, or `None` where there is none.
+    /// Creates a duration from a sign and a magnitude. Returns `None` if it is out of range.
     fn checked_of_magnitude(is_negative: bool, seconds: u64, nanoseconds: u32) -> Option<Self>
         requires { nanoseconds < second }
         ensures { SomeIff result (IsDuration
@@ -129,8 +133,8 @@ impl SignedDuration {
         })
     }
 
-    /// The duration of the other sign, or `None` where it is no duration, as for [`Self::MIN`]. That
-    /// of 1 s is -1 s.
+    /// Computes `-self`. Returns `None` if the result is out of range. For 1 s it is -1 s, and for
+    /// [`Self::MIN`] it is `None`.
     pub fn checked_neg(self) -> Option<Self>
         ensures { SomeIff result (IsDuration (neg_ℤ self)) (neg_ℤ self) }
     {
@@ -140,8 +144,7 @@ impl SignedDuration {
         })
     }
 
-    /// The sum, or the limit nearest to it where it is no duration: that of [`Self::MAX`] and 1 ns is
-    /// [`Self::MAX`].
+    /// Computes `self + rhs`, clamped to the range. [`Self::MAX`] plus 1 ns is [`Self::MAX`].
     pub fn saturating_add(self, rhs: Self) -> Self
         ensures { result ≡ clamp (self +ℤ rhs) }
     {
@@ -152,8 +155,7 @@ impl SignedDuration {
         }
     }
 
-    /// The difference, or the limit nearest to it where it is no duration: zero less [`Self::MIN`] is
-    /// [`Self::MAX`].
+    /// Computes `self - rhs`, clamped to the range. Zero minus [`Self::MIN`] is [`Self::MAX`].
     pub fn saturating_sub(self, rhs: Self) -> Self
         ensures { result ≡ clamp (self -ℤ rhs) }
     {
@@ -163,8 +165,7 @@ impl SignedDuration {
         if self < rhs { Self::MIN } else { Self::MAX }
     }
 
-    /// The product, or the limit nearest to it where it is no duration: that of [`Self::MIN`] and -2 is
-    /// [`Self::MAX`].
+    /// Computes `self * rhs`, clamped to the range. [`Self::MIN`] times -2 is [`Self::MAX`].
     pub fn saturating_mul(self, rhs: i32) -> Self
         ensures { result ≡ clamp (self *ℤ rhs) }
     {
@@ -175,11 +176,11 @@ impl SignedDuration {
         }
     }
 
-    /// The sum of the durations, [`Self::ZERO`] where there are none, or `None` where the sum of the
-    /// first few of them, however few, is no duration.
+    /// Returns the sum of the durations, or `None` if a partial sum is out of range. The sum of no
+    /// durations is [`Self::ZERO`].
     ///
-    /// So the order matters at the ends: with `MAX`, 1 ns and -1 ns there is none, and with `MAX`,
-    /// -1 ns and 1 ns it is `MAX`.
+    /// The order matters near the limits: `MAX`, -1 ns and 1 ns have the sum `MAX`, and `MAX`, 1 ns
+    /// and -1 ns have none.
     pub fn try_sum(durations: &[Self]) -> Option<Self>
         ensures { SomeIff result (HasSum durations.now) (sum_of durations.now) }
     {
@@ -191,11 +192,11 @@ impl SignedDuration {
     }
 }
 
-/// The seconds to carry over from the nanoseconds: what is left of these is then less than a second,
-/// and not against the seconds.
+/// Returns the seconds to carry from the nanoseconds to the seconds: -1, 0 or 1. Then the
+/// nanoseconds are less than a second, and the two don't have opposite signs.
 ///
-/// It is counted from two comparisons. A branch on a data-dependent sign is mispredicted half
-/// of the time.
+/// Two comparisons replace a branch, because a branch on a random sign is mispredicted half of the
+/// time.
 fn carry_of(seconds: i64, nanoseconds: i32) -> i32
     requires { CanCarry seconds nanoseconds }
     ensures { IsCarry seconds nanoseconds result }
@@ -205,10 +206,10 @@ fn carry_of(seconds: i64, nanoseconds: i32) -> i32
     i32::from(nanoseconds > most) - i32::from(nanoseconds < least)
 }
 
-/// The product and a carry, or `None` where their sum is no `i64`.
+/// Computes `seconds * factor + carry`. Returns `None` if the result doesn't fit in an `i64`.
 ///
-/// Of two factors of 32 bits neither the product nor the sum can overflow, and the test for that is cheaper than the
-/// checked ones.
+/// For two factors of 32 bits nothing can overflow, and testing for this is cheaper than the
+/// checked operations.
 fn checked_times(seconds: i64, factor: i64, carry: i64) -> Option<i64>
     requires small { unsigned_abs carry ≤ unsigned_abs factor }
     requires positive { pos 0 <ℤ (seconds *ℤ factor) → pos 0 ≤ℤ carry }

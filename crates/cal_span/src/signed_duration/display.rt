@@ -12,10 +12,12 @@ use cal_units::ShortText;
 use std::fmt;
 
 impl SignedDuration {
-    /// The text, as the duration prints it: that of 250 milliseconds below a day and three hours is `-1d3h250ms`.
+    /// Returns the text that the duration prints, such as `-1d3h250ms`.
     ///
-    /// It has the sign, days of 24 hours, hours, minutes, seconds, milliseconds, microseconds and nanoseconds, each with its unit
-    /// and without those that are zero. Zero is `0s`. It has at most 42 bytes, all of them ASCII but the `µ` of microseconds.
+    /// It has a minus sign if the duration is negative, then days of 24 hours, hours, minutes,
+    /// seconds, milliseconds, microseconds and nanoseconds, each with its unit. Parts that are zero
+    /// are omitted; zero is `0s`. It has at most 42 bytes, all ASCII except the `µ` of
+    /// microseconds.
     pub fn text(self) -> ShortText
         ensures text { result ≡ text self }
         ensures short { length result ≤ 42 }
@@ -34,7 +36,7 @@ impl SignedDuration {
     }
 }
 
-/// Appends the parts of a magnitude, each with its unit, and without those that are zero.
+/// Appends the parts of a magnitude, each with its unit. Parts that are zero are omitted.
 #[tactic(auto, using(crate::proofs::Text::short_parts))]
 fn push_parts(text: &mut ShortText, seconds: u64, nanoseconds: u32)
     requires room { HasRoom 41 text.old }
@@ -58,7 +60,7 @@ fn push_parts(text: &mut ShortText, seconds: u64, nanoseconds: u32)
     push_part(text, nanoseconds % NANOSECONDS_PER_MICROSECOND as u64, "ns");
 }
 
-/// Appends a number and its unit, or nothing where the number is zero.
+/// Appends a number and its unit, or nothing if the number is zero.
 fn push_part(text: &mut ShortText, number: u64, unit: &str)
     requires { HasRoom (length (part number unit.now)) text.old }
     ensures text { text.new ≡ text.old ++ part number unit.now }

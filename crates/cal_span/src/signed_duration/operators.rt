@@ -1,4 +1,4 @@
-//! The operators, under the condition that the exact result is a duration, and the divisor not zero.
+//! The operators. The exact result must be a duration, and the divisor must not be zero.
 
 ghost use Rattle.std.specs.Prelude.{◌≡◌, pos, neg_ℤ, ◌+ℤ◌, ◌-ℤ◌, ◌*ℤ◌};
 ghost use Rattle.cal_span.specs.SignedDuration.{IsDuration, IsWithin, HasQuotient, cut};
@@ -8,7 +8,7 @@ use crate::signed_duration::arithmetic::GREATEST_OPERAND;
 use std::ops::{Add, AddAssign, Div, DivAssign, Mul, MulAssign, Neg, Sub, SubAssign};
 
 impl SignedDuration {
-    /// The product with a factor of 33 bits.
+    /// Computes `self * factor`. The magnitude of the factor fits in a `u32`.
     fn product(self, factor: i64) -> Self
         requires small { IsWithin GREATEST_OPERAND factor }
         requires exact { IsDuration (self *ℤ factor) }
@@ -17,7 +17,8 @@ impl SignedDuration {
         self.checked_product(factor).unwrap()
     }
 
-    /// The quotient by a divisor of 33 bits, cut toward zero.
+    /// Computes `self / divisor`, truncated toward zero. The magnitude of the divisor fits in a
+    /// `u32`.
     fn quotient(self, divisor: i64) -> Self
         requires small { IsWithin GREATEST_OPERAND divisor }
         requires exact { HasQuotient self divisor }

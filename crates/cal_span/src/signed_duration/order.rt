@@ -78,7 +78,7 @@ impl Counted for SignedDuration {
 
     ghost hashed = { λ x y e. ap hash_input_of e };
 
-    /// The nanoseconds: those of 1 s are 1000000000.
+    /// Returns the number of nanoseconds. For 1 s it is 1000000000.
     fn number(self) -> i128 {
         self.whole_nanoseconds()
     }

@@ -1,4 +1,4 @@
-//! The dates of ISO 8601 among the forms: a text that is none of the others.
+//! Dates of ISO 8601, after the other forms have been ruled out.
 ghost use Rattle.std.specs.Prelude.{◌≡◌, ◌≢◌, ◌↔◌, IfOk, IfErr, Ok, get_or};
 ghost use Rattle.cal_time.specs.declared.error.ComponentRange.{ComponentRange};
 ghost use Rattle.cal_text.specs.declared.any.DateOrMoment.{DateOrMoment};
@@ -12,7 +12,8 @@ use crate::date::of_form::date_of;
 use crate::date_numbers::{DateNumbers, form_of};
 use crate::error::Unreadable;
 
-/// The error, at the position where a date goes on to if it goes on further: a date may have a sign.
+/// Converts an error of a moment to an error of any form. A date may have a sign, so the text may
+/// match a date further than a moment.
 pub(super) fn further(error: Unreadable, text: &[u8]) -> Unreadable
     requires first { (get_or text.now 0 0 ≢ 74) × (get_or text.now 0 0 ≢ 64) }
     requires separator { IsSeparator (get_or text.now 10 0) }
@@ -30,7 +31,7 @@ pub(super) fn further(error: Unreadable, text: &[u8]) -> Unreadable
     }
 }
 
-/// The date that the text is, in one of the three forms of ISO 8601.
+/// Parses a date in one of the three forms of ISO 8601.
 pub(super) fn date_in(text: &[u8]) -> Result<DateOrMoment, Unreadable>
     requires first { (get_or text.now 0 0 ≢ 74) × (get_or text.now 0 0 ≢ 64) }
     requires separator { ¬ IsSeparator (get_or text.now 10 0) }
@@ -49,7 +50,7 @@ pub(super) fn date_in(text: &[u8]) -> Result<DateOrMoment, Unreadable>
     }
 }
 
-/// The name of a form, whatever its numbers.
+/// Returns the name of a form.
 fn name_of(form: DateNumbers) -> DateForm
     ensures { result ≡ name_of form }
 {

@@ -1,4 +1,4 @@
-//! The calendar date, the ordinal date and the week date of a day, printed.
+//! Dates that print as calendar dates, ordinal dates and week dates.
 ghost use Rattle.std.specs.Prelude.{◌≡◌, ◌≤◌, Some, length};
 ghost use Rattle.std.specs.Fmt.{padded};
 ghost use Rattle.cal_time.specs.DateText.{text};
@@ -7,20 +7,20 @@ ghost use Rattle.cal_text.specs.DateForms.{ordinal_text, week_text};
 use cal_time::{Date, ShortText};
 use std::fmt;
 
-/// A date that prints its calendar date, as `2024-02-29` and as the date itself does. Under a width the whole text is padded.
+/// A date that prints as a calendar date, such as `2024-02-29`. A width pads the whole text.
 #[derive(Clone, Copy, Debug, PartialEq, Eq)]
 pub struct CalendarText(pub Date);
 
-/// A date that prints its ordinal date, as `2024-060`. Under a width the whole text is padded.
+/// A date that prints as an ordinal date, such as `2024-060`. A width pads the whole text.
 #[derive(Clone, Copy, Debug, PartialEq, Eq)]
 pub struct OrdinalText(pub Date);
 
-/// A date that prints its week date, as `2024-W09-4`. Under a width the whole text is padded.
+/// A date that prints as a week date, such as `2024-W09-4`. A width pads the whole text.
 #[derive(Clone, Copy, Debug, PartialEq, Eq)]
 pub struct WeekText(pub Date);
 
 impl CalendarText {
-    /// The text in place, of at most 13 bytes.
+    /// Returns the text, at most 13 bytes.
     pub fn text(self) -> ShortText
         ensures text { result ≡ text self.0 }
         ensures short { length result ≤ 13 }
@@ -30,7 +30,7 @@ impl CalendarText {
 }
 
 impl OrdinalText {
-    /// The text in place, of at most 11 bytes.
+    /// Returns the text, at most 11 bytes.
     #[tactic(auto, using(cal_time::proofs::TextLengths::text_lengths))]
     pub fn text(self) -> ShortText
         ensures text { result ≡ ordinal_text self.0 }
@@ -46,7 +46,7 @@ impl OrdinalText {
 }
 
 impl WeekText {
-    /// The text in place, of at most 13 bytes.
+    /// Returns the text, at most 13 bytes.
     #[tactic(auto, using(crate::proofs::NumberTexts::week_digits, cal_time::proofs::TextLengths::text_lengths))]
     pub fn text(self) -> ShortText
         ensures text { result ≡ week_text self.0 }

@@ -1,4 +1,4 @@
-//! The day that has the numbers of a form.
+//! The date with the numbers of a form.
 ghost use Rattle.std.specs.Prelude.{◌≡◌, ◌⊎◌, ℕ, ◌↔◌, IfOk, IfErr, Ok};
 ghost use Rattle.cal_time.specs.Date.{IsDate, IsYear, IsDayOfMonth, HasCalendarDate};
 ghost use Rattle.cal_time.specs.Month.{month_out_of_range};
@@ -12,7 +12,7 @@ use crate::date_numbers::DateNumbers;
 use cal_time::error::ComponentRange;
 use cal_time::{Cycle, Date, Month, Weekday};
 
-/// The day that has the numbers of the form, or the first component at fault.
+/// Returns the date with the numbers of the form, or the error of the first component out of range.
 pub(crate) fn date_of(form: DateNumbers) -> Result<Date, ComponentRange>
     requires { DigitsFit form }
     ensures every { (n : ℕ) → IsDate n → IsOnDay form n → result ≡ Ok n }
@@ -28,7 +28,8 @@ pub(crate) fn date_of(form: DateNumbers) -> Result<Date, ComponentRange>
     }
 }
 
-/// The day of the year that has the month of this number, and this day of the month.
+/// Returns the date of a year, the number of a month and a day of the month. Returns the first
+/// error that applies: `month`, `year` or `day`.
 pub(crate) fn calendar_date(year: i32, month: u8, day: u8) -> Result<Date, ComponentRange>
     ensures every { (n : ℕ) → IsDate n → HasCalendarDate year month day n → result ≡ Ok n }
     ensures has { IfOk result (λ n. IsDate n × HasCalendarDate year month day n) }

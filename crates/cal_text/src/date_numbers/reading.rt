@@ -1,4 +1,4 @@
-//! The form that a text has.
+//! Parsing the form of a date.
 ghost use Rattle.std.specs.Prelude.{◌≡◌, ◌∷◌, IfSome, IfOk, IfErr, Ok};
 ghost use Rattle.cal_text.specs.declared.date_numbers.DateNumbers.{DateNumbers};
 ghost use Rattle.cal_text.specs.DateForms.{IsWrittenYear, year_of, rest_of, DigitsFit, HasForm};
@@ -9,13 +9,14 @@ use crate::date_numbers::DateNumbers;
 use crate::scanner::Scanner;
 use crate::year::year;
 
-/// The form that the text has, or the position where it stops being of one.
+/// Returns the form of the text, or the position at which the text stops matching the forms.
 pub(crate) fn form_of(text: &[u8]) -> Result<DateNumbers, usize>
     ensures every { (form : DateNumbers) → HasForm text.now form → result ≡ Ok form }
     ensures has { IfOk result (HasForm text.now) }
     ensures position { IfErr result (IsPosition (HasSome HasForm) text.now) }
 {
-    // Most dates have a year of four digits, so the number of their bytes is asked once, and not before each of them.
+    // Most dates have a year of four digits. For these the length is tested once, not before each
+    // byte.
     let mut scanner = Scanner { rest: text };
     if let [_, _, _, _, b'-', _, _, b'-', _, _] = text
         && let Some(year) = scanner.four_digits()
@@ -31,7 +32,7 @@ pub(crate) fn form_of(text: &[u8]) -> Result<DateNumbers, usize>
     }
 }
 
-/// The year, and after a hyphen a week and a weekday, a month and a day, or an ordinal.
+/// Parses a year, a hyphen, and then a week and a weekday, a month and a day, or an ordinal.
 fn date(scanner: &mut Scanner) -> Option<DateNumbers>
     ensures scans { ScansWhole date scanner.old.rest.now scanner.new.rest.now result }
     ensures has { IfSome result (HasForm scanner.old.rest.now) }

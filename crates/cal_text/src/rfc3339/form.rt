@@ -1,4 +1,4 @@
-//! The numbers of the form that a text has.
+//! Parsing the numbers of a moment.
 ghost use Rattle.std.specs.Prelude.{◌≡◌, ◌⊎◌, ℕ, List, ◌<◌, ◌≤◌, ◌∷◌, ◌++◌, length, IfSome, IsTrue, ◌↔◌};
 ghost use Rattle.cal_text.specs.declared.rfc3339.numbers.Numbers.{Numbers};
 ghost use Rattle.cal_text.specs.declared.rfc3339.numbers.TimeOffset.{TimeOffset};
@@ -9,7 +9,7 @@ use crate::fraction::fraction;
 use crate::rfc3339::numbers::{Numbers, TimeOffset};
 use crate::scanner::Scanner;
 
-/// The numbers of the moment whose form the rest of a text has, or `None` in front of the byte where it stops being of one.
+/// Parses the numbers of a moment up to the end of the text.
 #[inline(always)]
 pub(super) fn numbers_of(scanner: &mut Scanner) -> Option<Numbers>
     ensures scans { ScansLarge moment scanner.old.rest.now scanner.new.rest.now result }
@@ -33,7 +33,7 @@ pub(super) fn numbers_of(scanner: &mut Scanner) -> Option<Numbers>
     })
 }
 
-/// The byte between the date and the time.
+/// Parses the byte between the date and the time.
 #[inline(always)]
 fn separator(scanner: &mut Scanner) -> Option<()>
     ensures scans { Scans Separator scanner.old.rest.now scanner.new.rest.now result }
@@ -58,7 +58,7 @@ pub(crate) fn is_separator(byte: u8) -> bool
     byte == b'T' || byte == b't' || byte == b' '
 }
 
-/// The fraction of a second, of any length, and the offset.
+/// Parses the fraction of a second, of any length, and the offset.
 #[inline(always)]
 fn fraction_and_offset(scanner: &mut Scanner) -> Option<(u32, TimeOffset)>
     ensures scans { ScansLarge (λ more. Fraction more time_offset) scanner.old.rest.now
@@ -73,7 +73,7 @@ fn fraction_and_offset(scanner: &mut Scanner) -> Option<(u32, TimeOffset)>
     Some((nanosecond, offset))
 }
 
-/// The offset that the rest of a text is.
+/// Parses an offset up to the end of the text.
 #[inline(always)]
 fn time_offset(scanner: &mut Scanner) -> Option<TimeOffset>
     ensures scans { ScansWhole time_offset scanner.old.rest.now scanner.new.rest.now result }

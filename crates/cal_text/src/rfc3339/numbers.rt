@@ -1,6 +1,6 @@
 //! The numbers of a moment in text.
 
-/// The numbers of a moment in text, which need not be those of one.
+/// The numbers of a moment in text. They need not be in range.
 #[derive(Clone, Copy)]
 pub(crate) struct Numbers {
     pub(crate) year: u16,
@@ -18,6 +18,6 @@ pub(crate) struct Numbers {
 pub(crate) enum TimeOffset {
     /// The letter Z.
     Utc,
-    /// Whether the sign is minus, and the hours and the minutes after it.
+    /// `true` for a minus sign, the hours and the minutes.
     Signed(bool, u8, u8),
 }

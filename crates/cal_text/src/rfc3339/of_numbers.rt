@@ -1,4 +1,4 @@
-//! The moment that has the numbers of one in text.
+//! The moment with the numbers of a text.
 ghost use Rattle.std.specs.Prelude.{◌≡◌, ◌⊎◌, ◌+◌, ◌*◌, ℤ, ◌≤◌, ◌<◌, ◌↔◌, pos, neg_ℤ, IfOk, IfErr, Ok, if◌then◌else◌};
 ghost use Rattle.cal_time.specs.Date.{IsDayOfMonth};
 ghost use Rattle.cal_time.specs.Month.{month_out_of_range};
@@ -16,7 +16,7 @@ use cal_datetime::OffsetDateTime;
 use cal_time::error::{Component, ComponentRange};
 use cal_time::{Time, UtcOffset};
 
-/// The moment that has the numbers, or the first component at fault.
+/// Returns the moment with these numbers, or the error of the first component out of range.
 #[tactic(auto, using(crate::proofs::Moments::parts))]
 pub(super) fn moment_of(numbers: Numbers) -> Result<OffsetDateTime, ComponentRange>
     requires { NumbersFit numbers }
@@ -59,7 +59,7 @@ pub(super) fn moment_of(numbers: Numbers) -> Result<OffsetDateTime, ComponentRan
     }
 }
 
-/// The offset of these hours and minutes, of which it has less than a day.
+/// Returns the offset, or the error `offset hour` above 23, or else `offset minute` above 59.
 fn offset_of(offset: TimeOffset) -> Result<UtcOffset, ComponentRange>
     ensures every { (o : ℤ) → IsOffsetOf offset o → result ≡ Ok o }
     ensures has { IfOk result (IsOffsetOf offset) }

@@ -13,10 +13,9 @@ use cal_datetime::OffsetDateTime;
 use cal_time::{Date, ShortText, Time, UtcOffset};
 use std::fmt;
 
-/// A moment that prints as RFC 3339 has it, as `2024-02-29T23:59:59.25+01:00`.
-///
-/// The fraction of the second has no zeros at its end, and is left out where it is zero; the offset of UTC is `Z`. Under a width
-/// the whole text is padded. Two that are equal print the same.
+/// A moment that prints in RFC 3339, such as `2024-02-29T23:59:59.25+01:00`. The fraction of the
+/// second has no trailing zeros and is left out if it is 0. The offset of UTC is `Z`. A width pads
+/// the whole text. Equal values print the same text.
 #[derive(Clone, Copy, Debug, PartialEq, Eq)]
 pub struct Text {
     date: Date,
@@ -25,10 +24,8 @@ pub struct Text {
 }
 
 impl Text {
-    /// The moment, to be printed.
-    ///
-    /// It is `None` exactly where RFC 3339 has no text: for a year outside 0 to 9999, an offset of a day and more, and one with
-    /// seconds, as `+05:30:15`.
+    /// Creates the text of a moment. Returns `None` if RFC 3339 has no text for it: for a year
+    /// outside 0 to 9999, or an offset of 24 hours or more or with seconds, such as `+05:30:15`.
     pub fn new(moment: OffsetDateTime) -> Option<Self>
         ensures parts { SomeIff result (HasMomentText moment)
             (record {
@@ -37,7 +34,7 @@ impl Text {
               offset = moment.offset;
             }) }
 
-        // What it prints reads back.
+        // The text parses as this moment.
         ensures text { IfSome result (λ text.
             IsMomentText (parts_text text.date text.time text.offset) moment) }
     {
@@ -52,7 +49,7 @@ impl Text {
         Some(Text { date, time, offset })
     }
 
-    /// The text in place, of at most 38 bytes.
+    /// Returns the text, at most 38 bytes.
     pub fn text(self) -> ShortText
         ensures text { result ≡ parts_text self.date self.time self.offset }
         ensures short { length result ≤ 38 }
@@ -66,7 +63,7 @@ impl Text {
     }
 }
 
-/// The hour, the minute and the second.
+/// Appends the hour, the minute and the second.
 fn push_clock(text: &mut ShortText, time: Time)
     requires { HasRoom 8 text.old }
     ensures text { text.new ≡ text.old ++ digits_at_least 2 (hour_of time) ++ codes ":"
@@ -81,7 +78,7 @@ fn push_clock(text: &mut ShortText, time: Time)
     text.push_two_digits(u32::from(time.second()));
 }
 
-/// The offset from UTC.
+/// Appends the offset from UTC.
 fn push_offset(text: &mut ShortText, offset: UtcOffset)
     requires { HasRoom 6 text.old }
     ensures text { text.new ≡ text.old ++ offset_text offset }

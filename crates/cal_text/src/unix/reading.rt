@@ -1,4 +1,4 @@
-//! Unix times read.
+//! Parsing Unix times.
 ghost use Rattle.std.specs.Prelude.{◌≡◌, pos, neg_ℤ, ◌+◌, ◌*◌, ◌<◌, IfSome};
 ghost use Rattle.cal_time.specs.SignedDuration.{second};
 ghost use Rattle.cal_text.specs.Shape.{ScansWhole, unix_time, seconds, seconds_above_0, from_one};
@@ -10,7 +10,7 @@ use crate::scanner::Scanner;
 
 const NANOSECONDS_PER_SECOND: i128 = 1_000_000_000;
 
-/// The Unix time that the rest of a text says, in nanoseconds.
+/// Parses a Unix time up to the end of the text, and returns its nanoseconds.
 pub(super) fn unix_time(scanner: &mut Scanner) -> Option<i128>
     ensures scans { ScansWhole unix_time scanner.old.rest.now scanner.new.rest.now result }
     ensures has { IfSome result (HasUnixForm scanner.old.rest.now) }
@@ -28,21 +28,21 @@ pub(super) fn unix_time(scanner: &mut Scanner) -> Option<i128>
     }
 }
 
-/// So many seconds and nanoseconds below zero.
+/// Returns the nanoseconds of a negative time from its magnitude.
 fn below_zero(seconds: u64, nanosecond: u32) -> i128
     ensures { result ≡ neg_ℤ (pos (seconds * second + nanosecond)) }
 {
     -in_nanoseconds(seconds, nanosecond)
 }
 
-/// So many seconds and nanoseconds together.
+/// Returns the nanoseconds of a time.
 fn in_nanoseconds(seconds: u64, nanosecond: u32) -> i128
     ensures { result ≡ pos (seconds * second + nanosecond) }
 {
     i128::from(seconds) * NANOSECONDS_PER_SECOND + i128::from(nanosecond)
 }
 
-/// The seconds and the nanoseconds of a number of at most 18 digits and a fraction of at most nine.
+/// Parses at most 18 digits of seconds and a fraction of at most nine digits, up to the end.
 fn seconds(scanner: &mut Scanner) -> Option<(u64, u32)>
     ensures scans { ScansWhole seconds scanner.old.rest.now scanner.new.rest.now result }
     ensures has { IfSome result (λ found. HasSeconds scanner.old.rest.now found.0 found.1) }
@@ -57,7 +57,7 @@ fn seconds(scanner: &mut Scanner) -> Option<(u64, u32)>
     }
 }
 
-/// Seconds and nanoseconds that are not both 0.
+/// Parses seconds and a fraction that are not both 0, up to the end.
 fn seconds_above_0(scanner: &mut Scanner) -> Option<(u64, u32)>
     ensures scans { ScansWhole seconds_above_0 scanner.old.rest.now scanner.new.rest.now result }
     ensures has { IfSome result (λ found. HasSeconds scanner.old.rest.now found.0 found.1) }
@@ -74,7 +74,7 @@ fn seconds_above_0(scanner: &mut Scanner) -> Option<(u64, u32)>
     }
 }
 
-/// A second or more, and nanoseconds.
+/// Parses one second or more and a fraction, up to the end.
 fn from_one(scanner: &mut Scanner) -> Option<(u64, u32)>
     ensures scans { ScansWhole from_one scanner.old.rest.now scanner.new.rest.now result }
     ensures has { IfSome result (λ found. HasSeconds scanner.old.rest.now found.0 found.1) }

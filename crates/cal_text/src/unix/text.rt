@@ -9,25 +9,24 @@ use cal_datetime::OffsetDateTime;
 use cal_time::{ShortText, SignedDuration};
 use std::fmt;
 
-/// A moment that prints as its Unix time, as `@1709164800.5`.
-///
-/// A time before 1970 has a minus sign. The fraction of the second has no zeros at its end, and is left out where it is zero.
-/// Under a width the whole text is padded.
+/// A moment that prints as its Unix time, such as `@1709164800.5`. A time before 1970 has a minus
+/// sign. The fraction of the second has no trailing zeros and is left out if it is 0. A width pads
+/// the whole text.
 #[derive(Clone, Copy, Debug, PartialEq, Eq)]
 pub struct Text {
     since_epoch: SignedDuration,
 }
 
 impl Text {
-    /// The moment, to be printed.
+    /// Creates the text of a moment.
     pub fn new(moment: OffsetDateTime) -> Self
         ensures value { result.since_epoch ≡ unix_nanoseconds (instant moment) }
 
-        // What it prints says this time.
+        // The text has the form of this time.
         ensures text { HasUnixForm (unix_text result.since_epoch)
             (unix_nanoseconds (instant moment)) }
     {
-        // How far it is from the epoch at most is known from the calls of its parts alone. These cost nothing.
+        // These calls state how far the moment can be from the epoch. They cost nothing.
         let _ = moment.date();
         let _ = moment.offset();
         Text {
@@ -35,7 +34,7 @@ impl Text {
         }
     }
 
-    /// The text in place, of at most 32 bytes.
+    /// Returns the text, at most 32 bytes.
     #[tactic(auto, using(crate::proofs::NumberTexts::few_digits))]
     pub fn text(self) -> ShortText
         ensures text { result ≡ unix_text self.since_epoch }

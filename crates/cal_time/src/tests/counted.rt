@@ -1,7 +1,6 @@
 //! The bound at a type of the tests.
-ghost use Rattle.std.specs.Prelude.{◌≡◌, ◌↔◌, ◌<ℤ◌, IsTrue};
-
-use crate::tests::{hash_of, same};
+use crate::tests::laws::values::check_values;
+use crate::tests::same;
 use crate::{Counted, extent, is_rising};
 
 /// A floor of a house, counted from the street.
@@ -24,32 +23,11 @@ impl Counted for Floor {
     }
 }
 
-fn is_below<T: Counted>(a: T, b: T) -> bool
-    ensures { IsTrue result ↔ (T.number_of a <ℤ T.number_of b) }
-{
-    a < b
-}
-
-fn is_same<T: Counted>(a: T, b: T) -> bool
-    ensures { IsTrue result ↔ (T.number_of a ≡ T.number_of b) }
-{
-    a == b
-}
-
-fn hashes<T: Counted>(a: T, b: T) -> (u64, u64)
-    ensures { T.number_of a ≡ T.number_of b → result.0 ≡ result.1 }
-{
-    (hash_of(&a), hash_of(&b))
-}
-
 #[test]
-fn the_laws_of_counted_values(rt: HostRuntime) {
+fn floors_by_their_numbers(rt: HostRuntime) {
     let (cellar, street) = (Floor(-1), Floor(0));
     same(&rt, cellar.number(), -1);
-    assert!(rt; is_below(cellar, street) && !is_below(street, street));
-    assert!(rt; is_same(street, Floor(0)) && !is_same(cellar, street));
-    let (one, other) = hashes(cellar, Floor(-1));
-    same(&rt, one, other);
+    check_values(&rt, &[cellar, street, Floor(0), Floor(7)]);
 }
 
 #[test]

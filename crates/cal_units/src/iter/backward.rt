@@ -1,4 +1,4 @@
-//! The walk backwards.
+//! The backward iterator.
 ghost use Rattle.std.specs.Prelude.{◌≡◌, true, false, Some, IfSome, IsSomeAnd};
 ghost use Rattle.std.specs.Iterator.{UpTo, endless};
 ghost use Rattle.std.specs.Iterator.SizeHint.{IsWithinCount};
@@ -10,10 +10,11 @@ use crate::month::Month;
 use crate::steps::{all_in, any_in, nth_back_in};
 use std::marker::Model;
 
-/// An endless walk turned round: the start, then each value before it, round and round.
+/// An endless iterator that goes backward: the start, then each value before it, again and again.
 ///
-/// It never answers `None`, so use it through a limit, as `MonthIter::new(Month::June).rev().take(3)`. Two walks are equal where they
-/// would go on with the same value.
+/// It never returns `None`, so limit it, for example with
+/// `MonthIter::new(Month::June).rev().take(3)`. Two iterators are equal if their next values are
+/// equal.
 #[derive(Debug, PartialEq, Eq, Drop)]
 pub struct Rev<I> {
     forward: I,
@@ -28,16 +29,15 @@ impl<I> Model for Rev<I> {
 }
 
 impl<C: Cycle> Rev<CycleIter<C>> {
-    /// The walk turned round, from the value where it stands.
+    /// Creates a backward iterator that starts at the next value of `forward`.
     pub(super) fn new(forward: CycleIter<C>) -> Self
         ensures { result ≡ forward }
     {
         Rev { forward }
     }
 
-    /// A walk of its own that goes on as this one does.
-    ///
-    /// The clone of a walk from June back gives June, May, and so on, and leaves the walk at June.
+    /// Returns a separate iterator with the same next value. The clone of an iterator back from
+    /// June returns June, then May. The original still returns June.
     pub fn clone(&self) -> Self
         ensures { result ≡ self.now }
     {
@@ -46,9 +46,8 @@ impl<C: Cycle> Rev<CycleIter<C>> {
         }
     }
 
-    /// The value `n` places back, always `Some`. The walk goes on before it.
-    ///
-    /// `nth(0)` is `next()`. From June back, `nth(2)` is April, and then `next()` is March.
+    /// Skips `n` values and returns the value after them, always `Some`. `nth(0)` is `next()`. From
+    /// June, `nth(2)` is April, and then `next()` is March.
     pub fn nth(&mut self, n: usize) -> Option<C>
         ensures { IsSomeAnd result (λ x.
             IsBack C.Cycle n self.old x × IsBack C.Cycle 1 x self.new) }
@@ -58,12 +57,12 @@ impl<C: Cycle> Rev<CycleIter<C>> {
         Some(value)
     }
 
-    /// Whether `f` answers true at every value of the cycle.
+    /// Returns `true` if `f` returns `true` for every value of the cycle. The iterator doesn't
+    /// move.
     ///
-    /// It asks at January or Monday first, wherever the walk stands, then at each value after it, and nothing after the first false.
-    /// The walk stays where it is.
-    ///
-    /// Of 'the number of the month is below 5' it is `false`, after the questions of January to May.
+    /// Calls `f` for each value from January or Monday on, until it returns `false`. For the
+    /// condition "the number of the month is below 5" it calls `f` for January to May and returns
+    /// `false`.
     pub fn all_once<F: FnMut(C) -> bool>(&mut self, f: F) -> bool
         requires { F.IsAlwaysCallable f }
         ensures asked { Asked C.Cycle F.step true 0 f result }
@@ -72,12 +71,11 @@ impl<C: Cycle> Rev<CycleIter<C>> {
         all_in(f)
     }
 
-    /// Whether `f` answers true at some value of the cycle.
+    /// Returns `true` if `f` returns `true` for some value of the cycle. The iterator doesn't move.
     ///
-    /// It asks at January or Monday first, wherever the walk stands, then at each value after it, and nothing after the first true.
-    /// The walk stays where it is.
-    ///
-    /// Of 'the number of the month is at least 5' it is `true`, after the questions of January to May.
+    /// Calls `f` for each value from January or Monday on, until it returns `true`. For the
+    /// condition "the number of the month is above 4" it calls `f` for January to May and returns
+    /// `true`.
     pub fn any_once<F: FnMut(C) -> bool>(&mut self, f: F) -> bool
         requires { F.IsAlwaysCallable f }
         ensures asked { Asked C.Cycle F.step false 0 f result }
@@ -90,21 +88,21 @@ impl<C: Cycle> Rev<CycleIter<C>> {
 impl Rev<CycleIter<Month>> {
     ghost use Rattle.cal_units.specs.declared.month.Month.TheVariants.{January, December};
 
-    /// The least month of the walk, January, always `Some`.
+    /// Returns the minimum of all months, January. It is always `Some`.
     pub fn min(self) -> Option<Month>
         ensures { result ≡ Some January }
     {
         Some(Month::January)
     }
 
-    /// The greatest month of the walk, December, always `Some`.
+    /// Returns the maximum of all months, December. It is always `Some`.
     pub fn max(self) -> Option<Month>
         ensures { result ≡ Some December }
     {
         Some(Month::December)
     }
 
-    /// Whether each month is at most the one that follows it: never, as December follows January.
+    /// Returns `false`: the months go down, so November comes after December.
     pub fn is_sorted(self) -> bool
         ensures { result ≡ false }
     {
@@ -117,16 +115,15 @@ impl<C: Cycle> Iterator for Rev<CycleIter<C>> {
 
     ghost next_gives = { λ old r new. (r ≡ Some old) × IsBack C.Cycle 1 old new };
 
-    /// The value where the walk stands, always `Some`. The walk goes on before it.
-    ///
-    /// From January back it gives January, December, November, and so on.
+    /// Returns the next value, always `Some`. From January it returns January, December, November
+    /// and so on.
     fn next(&mut self) -> Option<C> {
         let item = self.forward.next;
         self.forward.next = nth_back_in(item, 1);
         Some(item)
     }
 
-    /// At least `usize::MAX`, with no upper bound.
+    /// Returns `(usize::MAX, None)`, because the iterator has no end.
     fn size_hint(&self) -> (usize, Option<usize>)
         ensures lower { IsWithinCount result.0 endless }
         ensures upper { IfSome result.1 (UpTo endless) }

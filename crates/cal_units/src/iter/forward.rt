@@ -1,4 +1,4 @@
-//! The walk forwards.
+//! The forward iterator.
 ghost use Rattle.std.specs.Prelude.{◌≡◌, true, false, Some, IfSome, IsSomeAnd};
 ghost use Rattle.std.specs.Iterator.{UpTo, endless};
 ghost use Rattle.std.specs.Iterator.SizeHint.{IsWithinCount};
@@ -10,10 +10,10 @@ use crate::month::Month;
 use crate::steps::{all_in, any_in, nth_in};
 use std::marker::Model;
 
-/// An endless walk forwards over the values of a cycle: the start, then each value after it, round and round.
+/// An endless iterator over a cycle: the start, then each value after it, again and again.
 ///
-/// It never answers `None`, so use it through a limit, as `MonthIter::new(Month::June).take(3)`. Two walks are equal where they would
-/// go on with the same value.
+/// It never returns `None`, so limit it, for example with `MonthIter::new(Month::June).take(3)`.
+/// Two iterators are equal if their next values are equal.
 #[derive(Debug, PartialEq, Eq, Drop)]
 pub struct CycleIter<C> {
     pub(super) next: C,
@@ -28,36 +28,32 @@ impl<C> Model for CycleIter<C> {
 }
 
 impl<C: Cycle> CycleIter<C> {
-    /// A walk that begins at `start`.
-    ///
-    /// `MonthIter::new(Month::November)` gives November, December, January, and so on.
+    /// Creates an iterator that starts at `start`. `MonthIter::new(Month::November)` returns
+    /// November, December, January and so on.
     pub fn new(start: C) -> Self
         ensures { result ≡ start }
     {
         CycleIter { next: start }
     }
 
-    /// The walk backwards, which begins at the value that `next` would have given.
-    ///
-    /// `MonthIter::new(Month::June).rev()` gives June, May, April, and so on.
+    /// Reverses the direction. The new iterator starts at the next value of this one.
+    /// `MonthIter::new(Month::June).rev()` returns June, May, April and so on.
     pub fn rev(self) -> Rev<Self>
         ensures { result ≡ self }
     {
         Rev::new(self)
     }
 
-    /// A walk of its own that goes on as this one does.
-    ///
-    /// The clone of a walk from June on gives June, July, and so on, and leaves the walk at June.
+    /// Returns a separate iterator with the same next value. The clone of an iterator from June
+    /// returns June, then July. The original still returns June.
     pub fn clone(&self) -> Self
         ensures { result ≡ self.now }
     {
         CycleIter { next: self.next }
     }
 
-    /// The value `n` places on, always `Some`. The walk goes on after it.
-    ///
-    /// `nth(0)` is `next()`. From June on, `nth(2)` is August, and then `next()` is September.
+    /// Skips `n` values and returns the value after them, always `Some`. `nth(0)` is `next()`. From
+    /// June, `nth(2)` is August, and then `next()` is September.
     pub fn nth(&mut self, n: usize) -> Option<C>
         ensures { IsSomeAnd result (λ x.
             IsAhead C.Cycle n self.old x × IsAhead C.Cycle 1 x self.new) }
@@ -67,12 +63,12 @@ impl<C: Cycle> CycleIter<C> {
         Some(value)
     }
 
-    /// Whether `f` answers true at every value of the cycle.
+    /// Returns `true` if `f` returns `true` for every value of the cycle. The iterator doesn't
+    /// move.
     ///
-    /// It asks at January or Monday first, wherever the walk stands, then at each value after it, and nothing after the first false.
-    /// The walk stays where it is.
-    ///
-    /// Of 'the number of the month is below 5' it is `false`, after the questions of January to May.
+    /// Calls `f` for each value from January or Monday on, until it returns `false`. For the
+    /// condition "the number of the month is below 5" it calls `f` for January to May and returns
+    /// `false`.
     pub fn all_once<F: FnMut(C) -> bool>(&mut self, f: F) -> bool
         requires { F.IsAlwaysCallable f }
         ensures asked { Asked C.Cycle F.step true 0 f result }
@@ -81,12 +77,11 @@ impl<C: Cycle> CycleIter<C> {
         all_in(f)
     }
 
-    /// Whether `f` answers true at some value of the cycle.
+    /// Returns `true` if `f` returns `true` for some value of the cycle. The iterator doesn't move.
     ///
-    /// It asks at January or Monday first, wherever the walk stands, then at each value after it, and nothing after the first true.
-    /// The walk stays where it is.
-    ///
-    /// Of 'the number of the month is at least 5' it is `true`, after the questions of January to May.
+    /// Calls `f` for each value from January or Monday on, until it returns `true`. For the
+    /// condition "the number of the month is above 4" it calls `f` for January to May and returns
+    /// `true`.
     pub fn any_once<F: FnMut(C) -> bool>(&mut self, f: F) -> bool
         requires { F.IsAlwaysCallable f }
         ensures asked { Asked C.Cycle F.step false 0 f result }
@@ -99,21 +94,21 @@ impl<C: Cycle> CycleIter<C> {
 impl CycleIter<Month> {
     ghost use Rattle.cal_units.specs.declared.month.Month.TheVariants.{January, December};
 
-    /// The least month of the walk, January, always `Some`.
+    /// Returns the minimum of all months, January. It is always `Some`.
     pub fn min(self) -> Option<Month>
         ensures { result ≡ Some January }
     {
         Some(Month::January)
     }
 
-    /// The greatest month of the walk, December, always `Some`.
+    /// Returns the maximum of all months, December. It is always `Some`.
     pub fn max(self) -> Option<Month>
         ensures { result ≡ Some December }
     {
         Some(Month::December)
     }
 
-    /// Whether each month is at most the one that follows it: never, as January follows December.
+    /// Returns `false`: January comes after December.
     pub fn is_sorted(self) -> bool
         ensures { result ≡ false }
     {
@@ -126,16 +121,15 @@ impl<C: Cycle> Iterator for CycleIter<C> {
 
     ghost next_gives = { λ old r new. (r ≡ Some old) × IsAhead C.Cycle 1 old new };
 
-    /// The value where the walk stands, always `Some`. The walk goes on after it.
-    ///
-    /// From December on it gives December, January, February, and so on.
+    /// Returns the next value, always `Some`. From December it returns December, January, February
+    /// and so on.
     fn next(&mut self) -> Option<C> {
         let item = self.next;
         self.next = nth_in(item, 1);
         Some(item)
     }
 
-    /// At least `usize::MAX`, with no upper bound.
+    /// Returns `(usize::MAX, None)`, because the iterator has no end.
     fn size_hint(&self) -> (usize, Option<usize>)
         ensures lower { IsWithinCount result.0 endless }
         ensures upper { IfSome result.1 (UpTo endless) }

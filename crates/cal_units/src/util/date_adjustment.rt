@@ -1,9 +1,9 @@
-//! The step of a clock to another day.
+//! The change of day when a time of day is moved.
 
-/// Which way a step of the clock leaves the day that it began in.
+/// A change of day when a time of day is moved by a duration.
 ///
-/// 23:00 and two hours more are 1:00 on the `Next` day, 1:00 less two hours is 23:00 on the `Previous` day, and 12:00 and
-/// two hours more are 14:00 of the same day, `None`.
+/// Two hours after 23:00 it is 1:00 on the `Next` day, and two hours before 1:00 it is 23:00 on the
+/// `Previous` day. Two hours after 12:00 it is 14:00 on the same day: `None`.
 #[derive(Clone, Copy, Debug, PartialEq, Eq)]
 pub enum DateAdjustment {
     /// The day before.

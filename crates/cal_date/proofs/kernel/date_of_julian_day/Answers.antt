@@ -8,7 +8,7 @@ use Rattle.cal_date.proofs.JulianDays.{number_at}
 use Rattle.cal_date.proofs.Kernels.{HasJulianKernel, date_by_kernel, has_julian_kernel}
 use Rattle.cal_date.proofs.kernel.date_of_julian_day.Goals as goal
 
--- past the test a day of the range has the Julian day, and the kernel
+-- After the test a day of the range has the Julian day and the kernel.
 in_range : (c : goal.Else-kernel-gt-LAST_YEAR) → HasJulianKernel c.args.julian_day c.kernel_of_day-kernel.result (number_at c.args.julian_day)
 unfolding kernel_of
 in_range c =

@@ -47,6 +47,12 @@ fn month(date: Date) -> Twice<Month>
     twice!(date.month())
 }
 
+fn month_index_and_day(date: Date) -> Twice<(u8, u8)>
+    ensures { result.0 ≡ result.1 }
+{
+    twice!(date.month_index_and_day())
+}
+
 fn weekday(date: Date) -> Twice<Weekday>
     ensures { result.0 ≡ result.1 }
 {

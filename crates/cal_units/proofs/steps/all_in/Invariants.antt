@@ -2,7 +2,7 @@ use Rattle.std.proofs.Common.{Bool, true}
 use Rattle.cal_units.specs.Walk.{Asked}
 use Rattle.cal_units.proofs.steps.all_in.Given as goal
 
--- what the answers from here on give is what all of them give
+-- The outcome from here on is the outcome of all calls.
 abbrev pub invariant-loop-index : goal.invariant-loop-index
 invariant-loop-index g l =
     goal.F-IsAlwaysCallable g l.f

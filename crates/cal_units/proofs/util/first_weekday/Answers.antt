@@ -4,11 +4,11 @@ use Rattle.std.specs.Int.{int_div_euclid, int_rem_euclid}
 use Rattle.cal_units.proofs.Weeks.{leap_days, int_div_euclid-small, first_weekday-divided}
 use Rattle.cal_units.proofs.util.first_weekday.Goals as goal
 
--- a number as the code holds it
+-- A number as the code stores it.
 abbrev held : ℤ → ℤ
 held z = to_z w64 (of_z w64 z)
 
--- the quotients of a small number, as the code passes it, are its own and small
+-- The quotients that the code computes are the quotients of the number, and they are small.
 record Quotients (years four hundred four_hundred : ℤ) : Type 0 where
   by_four : four ≡ int_div_euclid years (pos 4)
   by_hundred : hundred ≡ int_div_euclid years (pos 100)

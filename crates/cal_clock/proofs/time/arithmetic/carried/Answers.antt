@@ -3,7 +3,7 @@ use Rattle.std.proofs.lemmas.Int.{ints, to_z-of_z}
 use Rattle.cal_clock.proofs.Days.{IsInDay, IsInDay-counted}
 use Rattle.cal_clock.proofs.time.arithmetic.carried.Goals as goal
 
--- the step lies in its day, so what is computed of it fits
+-- The moved time is in its day, so the computation fits.
 in_day : (c : goal.After-days_past-days) → IsInDay c.args.nanoseconds c.days_past-days.result
 in_day c =
     let n = c.ranges.nanoseconds in

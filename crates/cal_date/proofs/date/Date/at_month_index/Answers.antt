@@ -8,7 +8,7 @@ use Rattle.cal_date.proofs.Months.{days_of_months-next}
 use Rattle.cal_date.proofs.date.Date.at_month_index.Goals as goal
 use Rattle.cal_date.proofs.date.Date.at_month_index.Goals.{After-min}
 
--- the day, or the last one, and its ordinal
+-- The day, or the last day of the month, and its ordinal.
 record Fits (c : After-min) (d : ℕ) : Type 0 where
   same : to_z w32 (of_z w32 c.args.year) ≡ c.args.year
   day : IsDayOfMonth c.args.year (c.args.index + 1) d

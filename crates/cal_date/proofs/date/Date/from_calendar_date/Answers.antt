@@ -33,7 +33,7 @@ returns-then-not-has_day-clause-every c = λ n h has. absurd (no_day c (calendar
 pub returns-then-not-has_day-clause-refused : goal.returns-then-not-has_day-clause-refused
 returns-then-not-has_day-clause-refused c = (λ e. NoDate-calendar_date _ (index c.args.month) _ (λ h. no_day c h.1), λ none. refl)
 
--- past both tests the year and the day are in their ranges
+-- After both tests the year and the day are in their ranges.
 record Fits (c : After-from) : Type 0 where
   same : to_z w32 (of_z w32 c.args.year) ≡ c.args.year
   leap : c.is_leap_year-leap.result ≡ is_leap_year c.args.year

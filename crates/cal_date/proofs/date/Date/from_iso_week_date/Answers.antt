@@ -33,7 +33,8 @@ returns-then-not-has_week-clause-every c = λ n h has. absurd (no_week c (in_wee
 pub returns-then-not-has_week-clause-refused : goal.returns-then-not-has_week-clause-refused
 returns-then-not-has_week-clause-refused c = (λ e n h has. no_week c (in_weeks n _ _ _ h has).week, λ none. refl)
 
--- past both tests the year and the week are in their ranges, and the year and the ordinal are those of the closed forms
+-- After both tests the year and the week are in their ranges. z and o are the year and the ordinal
+-- of the closed forms.
 record Fits (y : ℤ) (w p : ℕ) (z : ℤ) (o : ℕ) : Type 0 where
   year : IsYear y
   week : IsWeek y w
@@ -53,7 +54,7 @@ fits y w weekday z o year week year_is ordinal_is =
       ordinal_is = rw same at ordinal_is;
     }
 
--- where the year of the day comes after the last, no day has the week date
+-- If the year of the day is after the last year, no day has the ISO week date.
 after : (c : goal.After-conditional-then-calendar_year-gt-MAX_YEAR) → Fits c.args.year c.args.week (index c.args.weekday) c.ordinal_date_of-calendar_year.result.0 c.ordinal_date_of-calendar_year.result.1
 after c =
     let found = c.ordinal_date_of-calendar_year.ensures in
@@ -76,7 +77,7 @@ returns-then-calendar_year-gt-MAX_YEAR-clause-weekday c =
     let f = after c in
     (λ e. (f.year, f.week, no_day c), λ all. c.conditional-then-calendar_year-gt-MAX_YEAR.ensures)
 
--- else it is the day of that year and ordinal
+-- Else the day with this year and ordinal has it.
 record Found (c : goal.Else-calendar_year-gt-MAX_YEAR) : Type 0 where
   same : to_z w32 (of_z w32 c.ordinal_date_of-calendar_year.result.0) ≡ c.ordinal_date_of-calendar_year.result.0
   year : IsYear c.ordinal_date_of-calendar_year.result.0

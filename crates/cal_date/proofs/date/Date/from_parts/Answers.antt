@@ -7,7 +7,7 @@ use Rattle.cal_date.proofs.Packed.{IsPackedDate-packed, number_of-packed, packed
 use Rattle.cal_date.proofs.date.Date.from_parts.Goals as goal
 use mir.Val.{bool_byte}
 
--- the bits are the packed value
+-- The bits are the packed value.
 bits : (c : goal.After-from-2)
     → to_z w32 (bit_or (bit_or (of_z w32 c.args.year * 1024 % 4294967296) (of_z w32 c.from.result * 512 % 4294967296)) (of_z w32 c.from-2.result)) ≡ packed c.args.year c.args.ordinal
 bits c =

@@ -15,7 +15,7 @@ returns-then-not-is_year-clause-every c = λ n h has. absurd (no_year c (replace
 pub returns-then-not-is_year-clause-refused : goal.returns-then-not-is_year-clause-refused
 returns-then-not-is_year-clause-refused c = (λ e n h has. no_year c (replaceable _ c.args.self n h has).year, λ none. refl)
 
--- the ordinal that was found is that of the one day with the month and the day of the month
+-- The ordinal that was found belongs to the only day with the month and the day of the month.
 pub at_ordinal-requires-clause-ordinal : goal.at_ordinal-requires-clause-ordinal
 at_ordinal-requires-clause-ordinal c =
     let same : to_z w32 (of_z w32 c.args.year) ≡ c.args.year = to_z-of_z w32 _ c.ranges.year in
@@ -48,7 +48,7 @@ returns-clause-refused c =
     let is = replacement c.args.year c.args.self c.in-Some.ordinal year (record { day = some.0; ordinal_is = some.1 }) in
     (λ e. absurd (false≢true e), λ none. absurd (none _ is.in_range is.has))
 
--- a year in which the month has no such day
+-- The month doesn't have the day in this year.
 no_day : (c : After-conditional) → NoDate (HasCalendarDate c.args.year (month_at c.args.self) (day_of_month_at c.args.self))
 no_day c = λ n h has.
     let same : to_z w32 (of_z w32 c.args.year) ≡ c.args.year = to_z-of_z w32 _ c.ranges.year in

@@ -5,7 +5,7 @@ use Rattle.cal_span.specs.SignedDuration.{second, IsDuration, with_sign}
 use Rattle.cal_span.proofs.signed_duration.SignedDuration.checked_of_magnitude.Goals as goal
 use Rattle.cal_span.proofs.signed_duration.SignedDuration.checked_of_magnitude.Goals.{then-is_negative, else-is_negative}
 
--- the wrapped negation of a magnitude's bits
+-- The wrapped negation of the bits of a magnitude.
 negated : (n : ℕ) → n ≤ 2 ^ 63 → int_wrapping_neg w64 (cast_signed w64 n) ≡ neg_ℤ (pos n)
 negated zero h = refl
 negated (suc n) h =

@@ -5,7 +5,7 @@ use Rattle.cal_span.specs.SignedDuration.{second, with_sign}
 use Rattle.cal_span.proofs.Quotient.{long-division, rest-below, cut-signs, size-above, quotient-along}
 use Rattle.cal_span.proofs.signed_duration.SignedDuration.checked_quotient.Goals as goal
 
--- the second quotient in the code, by the magnitudes
+-- The second quotient in the code, by magnitudes.
 past-below : (s n size v k : ℕ) → 0 < k → s ≡ v / second → n ≡ v % second → size ≡ k → (s % size * second + n) / size < second
 past-below s n size v k above is_s is_n is_size =
     subst (λ x. x < second) (sym (λ t. (is_s t % is_size t * second + is_n t) / is_size t)) (rest-below v k above)

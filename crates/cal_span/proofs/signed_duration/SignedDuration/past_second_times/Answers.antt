@@ -5,7 +5,7 @@ use Rattle.cal_span.specs.SignedDuration.{past_second}
 use Rattle.cal_span.proofs.Product.{past-fits}
 use Rattle.cal_span.proofs.signed_duration.SignedDuration.past_second_times.Goals as goal
 
--- the number that is multiplied, in 64 bits
+-- The factor in 64 bits that the code multiplies.
 widened : (v m n : ℤ) → FitsSigned w32 m → m ≡ past_second v → n ≡ to_z w32 (of_z w32 m) → n ≡ past_second v
 widened v m n fits past wide = wide ∙ to_z-of_z w32 m fits ∙ past
 

@@ -4,7 +4,7 @@ use Rattle.std.proofs.lemmas.Str.{IsUtf8-append}
 use Rattle.std.proofs.lemmas.Slice.{take-put_mid}
 use Rattle.cal_units.proofs.text.ShortText.push.Goals as goal
 
--- what there was, and what is appended
+-- The text is the old text and then the appended text.
 pub invariant_of-self : goal.invariant_of-self
 invariant_of-self c =
     let start = c.self.inside.filled in

@@ -2,7 +2,7 @@ use Rattle.std.proofs.Common.{◌≡◌, ◌<◌, ◌++◌, length}
 use Rattle.cal_units.proofs.Decimals.{decimals_of}
 use Rattle.cal_units.proofs.text.ShortText.push_decimals.Given as goal
 
--- what is appended and what is to come are all decimals
+-- The appended decimals and the decimals that follow are all decimals.
 abbrev pub invariant-loop-others : goal.invariant-loop-others
 invariant-loop-others l = record {
   below : l.others < 1000000000;

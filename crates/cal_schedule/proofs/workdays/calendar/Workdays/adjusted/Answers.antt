@@ -14,7 +14,7 @@ found : (w : WorkWeek) (More : ℕ → Type 0) (r : Option ℕ) → IfSome r (λ
 found w More None h = tt
 found w More (Some day) h = (h.0, h.2)
 
--- of two of them the one that is taken
+-- The day taken from the two is a day of the list.
 taken : (w : WorkWeek) (n : ℕ) (first second : Option ℕ) → FoundDay w first → FoundDay w second → FoundDay w (first_in_month_of n first second)
 taken w n None second h k = k
 taken w n (Some day) second h k =

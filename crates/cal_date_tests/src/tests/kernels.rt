@@ -4,8 +4,8 @@ ghost use Rattle.cal_date.specs.ClosedForms.{HasKernel};
 ghost use Rattle.cal_date.specs.Date.{first_julian_day, IsDate};
 ghost use Rattle.cal_date.specs.Move.{IsDateNumber};
 
-use crate::kernel::{JulianKernel, date_of_kernel, julian_kernel, shifted_day};
 use crate::tests::same;
+use cal_date::{JulianKernel, date_of_kernel, julian_kernel};
 
 fn ordinal_date(kernel: JulianKernel) -> (i32, u16)
     requires { (n : ℕ) × IsDate n × HasKernel kernel n }
@@ -36,7 +36,17 @@ fn kernel(
     }
 }
 
-// The days from 1 January -2379600 on, which the kernel multiplies. 146097 divides the third and the sixth.
+/// The day of the kernel, counted from 1 January -2379600 on: `julian` without the days that it
+/// counts for each century.
+fn shifted_day(julian_day: i32) -> u32
+    requires { IsDateNumber (julian_day -ℤ first_julian_day) }
+{
+    let kernel = julian_kernel(julian_day);
+    let days = kernel.julian.wrapping_sub(kernel.century);
+    days.wrapping_add(kernel.century / 4)
+}
+
+// 146097 divides the third and the sixth day.
 #[test]
 fn shifted_days(rt: HostRuntime) {
     let found = [

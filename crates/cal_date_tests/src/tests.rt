@@ -1,22 +1,24 @@
-//! Callers that know no more than a stated condition, and the laws. The worked values stand in the crate of the facade.
+//! Callers that know only a stated condition; the limits, clones and weeks. Worked values are in the tests of `cal_time`.
 ghost use Rattle.std.specs.Prelude.{◌≡◌, pos, ◌+ℤ◌, ◌-ℤ◌, IsSome};
 ghost use Rattle.cal_span.specs.SignedDuration.{whole_days};
 ghost use Rattle.cal_units.specs.Weekday.{index};
 ghost use Rattle.cal_date.specs.Move.{IsDateNumber};
 ghost use Rattle.cal_date.specs.Occurrence.{next_occurrences, prev_occurrences, kth};
 
-use crate::laws::{cloned, cloned_kernel, final_day, first_day, is_same_kernel, weeks_of};
-use crate::{Date, julian_kernel};
+use cal_date::{Date, julian_kernel};
 use cal_span::SignedDuration;
 use cal_units::Weekday;
+use cal_units::util::weeks_in_year;
 use std::fmt::Debug;
 use std::process::Abort;
 use std::test::Fail;
 
 mod every_day;
+mod kernels;
+mod packed;
 
 /// Stops the test unless the two are equal. One function for all is proved once, where `assert_eq!` is proved at each place.
-pub(crate) fn same<T: Copy + Debug + PartialEq>(rt: &impl Abort, found: T, wanted: T) {
+fn same<T: Copy + Debug + PartialEq>(rt: &impl Abort, found: T, wanted: T) {
     assert!(rt; found == wanted, "{found:?} and not {wanted:?}");
 }
 
@@ -65,13 +67,13 @@ fn moves_within_the_range(rt: HostRuntime) {
 }
 
 #[test]
-fn the_laws(rt: HostRuntime) -> Result<(), Fail> {
-    same(&rt, first_day().to_julian_day(), -363_521_074);
-    same(&rt, final_day().to_julian_day(), 366_963_559);
-    same(&rt, cloned(Date::MAX)?, Date::MAX);
+fn limits_clones_and_weeks(rt: HostRuntime) -> Result<(), Fail> {
+    same(&rt, Date::MIN.to_julian_day(), -363_521_074);
+    same(&rt, Date::MAX.to_julian_day(), 366_963_559);
+    same(&rt, Date::MAX.clone()?, Date::MAX);
     let (kernel, next) = (julian_kernel(2_451_545), julian_kernel(2_451_546));
-    assert!(rt; is_same_kernel(cloned_kernel(kernel)?, kernel));
-    assert!(rt; !is_same_kernel(kernel, next));
-    same(&rt, (weeks_of(2020), weeks_of(999_999)), (53, 52));
+    assert!(rt; kernel.clone()? == kernel);
+    assert!(rt; kernel != next);
+    same(&rt, (weeks_in_year(2020), weeks_in_year(999_999)), (53, 52));
     Ok(())
 }

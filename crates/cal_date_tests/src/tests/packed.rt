@@ -1,6 +1,22 @@
-//! The packed values, which no call shows.
-use crate::date::Date;
+//! The packed values. No call returns one, but a date hashes exactly as its packed value does.
 use crate::tests::same;
+use cal_date::Date;
+use std::hash::{DefaultHasher, Hash, Hasher};
+use std::process::Abort;
+
+fn hash_of<T: Hash>(value: &T) -> u64 {
+    let mut state = DefaultHasher::new();
+    value.hash(&mut state);
+    state.finish()
+}
+
+/// Stops the test unless the date has this packed value.
+fn is_packed(rt: &impl Abort, date: Date, packed: i32) {
+    assert!(rt;
+        hash_of(&date) == hash_of(&packed),
+        "the packed value of {date} is not {packed}"
+    );
+}
 
 #[test]
 fn packed_values(rt: HostRuntime) {
@@ -16,20 +32,20 @@ fn packed_values(rt: HostRuntime) {
         let Ok(date) = Date::from_ordinal_date(year, ordinal) else {
             panic!(rt; "{year} {ordinal} is refused");
         };
-        same(&rt, date.packed, packed);
+        is_packed(&rt, date, packed);
         same(&rt, date.to_ordinal_date(), (year, ordinal));
         let Some(day_after) = date.next_day() else {
             panic!(rt; "no day follows {date}");
         };
-        same(&rt, day_after.packed, next);
+        is_packed(&rt, day_after, next);
         same(&rt, day_after.previous_day(), Some(date));
     }
 }
 
 #[test]
 fn packed_ends_of_the_range(rt: HostRuntime) {
-    same(&rt, Date::MIN.packed, -1_023_998_975);
-    same(&rt, Date::MAX.packed, 1_023_999_341);
+    is_packed(&rt, Date::MIN, -1_023_998_975);
+    is_packed(&rt, Date::MAX, 1_023_999_341);
     same(&rt, Date::MIN.to_ordinal_date(), (-999_999, 1));
     same(&rt, Date::MAX.to_ordinal_date(), (999_999, 365));
 }

@@ -1,8 +1,8 @@
 //! Every day of the years of four digits, and of 400 years at each end of the range, by a date that goes on from day to day.
 ghost use Rattle.std.specs.Prelude.{◌≤◌};
 
-use crate::Date;
 use crate::tests::same;
+use cal_date::Date;
 use std::alloc::Global;
 use std::process::Abort;
 use std::test::Fail;

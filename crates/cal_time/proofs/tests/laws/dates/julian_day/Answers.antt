@@ -1,0 +1,8 @@
+use Rattle.std.proofs.Common.{rules}
+use Rattle.cal_time.proofs.Laws.{julian_day-some}
+use Rattle.cal_time.proofs.tests.laws.dates.julian_day.Goals as goal
+
+pub returns-in-Err : goal.returns-in-Err
+returns-in-Err c =
+    let had = julian_day-some c.args.julian_day c.requires in
+    search rules

@@ -1,0 +1,166 @@
+//! Dates by what they have, and neighbours.
+ghost use Rattle.std.specs.Prelude.{◌≡◌, ◌+ℤ◌, ◌-ℤ◌, pos, Ok, IfOk, IfSome};
+ghost use Rattle.cal_date.specs.Date.{first_julian_day};
+ghost use Rattle.cal_date.specs.Move.{IsDateNumber};
+
+use crate::error::ComponentRange;
+use crate::tests::range::{FIRST_JULIAN_DAY, FIRST_YEAR, LAST_JULIAN_DAY, LAST_YEAR};
+use crate::tests::{date, same, same_at};
+use crate::{Date, Month, Weekday};
+use std::process::Abort;
+
+fn by_julian_day(date: Date) -> Result<Date, ComponentRange>
+    ensures { result ≡ Ok date }
+{
+    Date::from_julian_day(date.to_julian_day())
+}
+
+fn by_ordinal_date(date: Date) -> Result<Date, ComponentRange>
+    ensures { result ≡ Ok date }
+{
+    let (year, ordinal) = date.to_ordinal_date();
+    Date::from_ordinal_date(year, ordinal)
+}
+
+fn by_calendar_date(date: Date) -> Result<Date, ComponentRange>
+    ensures { result ≡ Ok date }
+{
+    let (year, month, day) = date.to_calendar_date();
+    Date::from_calendar_date(year, month, day)
+}
+
+fn by_iso_week_date(date: Date) -> Result<Date, ComponentRange>
+    ensures { result ≡ Ok date }
+{
+    let (year, week, weekday) = date.to_iso_week_date();
+    Date::from_iso_week_date(year, week, weekday)
+}
+
+#[test]
+fn dates_by_what_they_have(rt: HostRuntime) {
+    for date in [
+        Date::MIN,
+        date(&rt, 2000, 2, 29),
+        date(&rt, 2021, 1, 1),
+        Date::MAX,
+    ] {
+        let by_numbers = [by_julian_day(date), by_ordinal_date(date)];
+        same(&rt, by_numbers, [Ok(date), Ok(date)]);
+        let by_names = [by_calendar_date(date), by_iso_week_date(date)];
+        same(&rt, by_names, [Ok(date), Ok(date)]);
+    }
+}
+
+fn julian_day(julian_day: i32) -> Result<i32, ComponentRange>
+    requires { IsDateNumber (julian_day -ℤ first_julian_day) }
+    ensures { result ≡ Ok julian_day }
+{
+    match Date::from_julian_day(julian_day) {
+        Ok(date) => Ok(date.to_julian_day()),
+        Err(error) => Err(error),
+    }
+}
+
+fn ordinal_date(year: i32, ordinal: u16) -> Result<(i32, u16), ComponentRange>
+    ensures { IfOk result (λ has. has ≡ (year, ordinal)) }
+{
+    match Date::from_ordinal_date(year, ordinal) {
+        Ok(date) => Ok(date.to_ordinal_date()),
+        Err(error) => Err(error),
+    }
+}
+
+fn calendar_date(year: i32, month: Month, day: u8) -> Result<(i32, Month, u8), ComponentRange>
+    ensures { IfOk result (λ has. has ≡ (year, month, day)) }
+{
+    match Date::from_calendar_date(year, month, day) {
+        Ok(date) => Ok(date.to_calendar_date()),
+        Err(error) => Err(error),
+    }
+}
+
+fn iso_week_date(
+    year: i32,
+    week: u8,
+    weekday: Weekday,
+) -> Result<(i32, u8, Weekday), ComponentRange>
+    ensures { IfOk result (λ has. has ≡ (year, week, weekday)) }
+{
+    match Date::from_iso_week_date(year, week, weekday) {
+        Ok(date) => Ok(date.to_iso_week_date()),
+        Err(error) => Err(error),
+    }
+}
+
+#[test]
+fn julian_days_by_their_dates(rt: HostRuntime) {
+    let found = [
+        julian_day(FIRST_JULIAN_DAY),
+        julian_day(0),
+        julian_day(LAST_JULIAN_DAY),
+    ];
+    same(&rt, found, [FIRST_JULIAN_DAY, 0, LAST_JULIAN_DAY].map(Ok));
+}
+
+#[test]
+fn components_by_their_dates(rt: HostRuntime) {
+    for (year, ordinal) in [(FIRST_YEAR, 1), (2000, 60), (2020, 366)] {
+        let found = ordinal_date(year, ordinal);
+        same(&rt, found, Ok((year, ordinal)));
+    }
+    for (year, month, day) in [
+        (-1, Month::December, 31),
+        (2000, Month::February, 29),
+        (LAST_YEAR, Month::December, 31),
+    ] {
+        let found = calendar_date(year, month, day);
+        same(&rt, found, Ok((year, month, day)));
+    }
+    for (year, week, weekday) in [
+        (2019, 40, Weekday::Friday),
+        (2020, 1, Weekday::Monday),
+        (2020, 53, Weekday::Sunday),
+    ] {
+        let found = iso_week_date(year, week, weekday);
+        same(&rt, found, Ok((year, week, weekday)));
+    }
+}
+
+/// Returns the Julian days of a date and of the next one.
+fn next_julian_day(date: Date) -> Option<(i32, i32)>
+    ensures { IfSome result (λ days. days.1 ≡ days.0 +ℤ pos 1) }
+{
+    match date.next_day() {
+        Some(next) => Some((date.to_julian_day(), next.to_julian_day())),
+        None => None,
+    }
+}
+
+/// Returns the Julian days of a date and of the previous one.
+fn previous_julian_day(date: Date) -> Option<(i32, i32)>
+    ensures { IfSome result (λ days. days.1 ≡ days.0 -ℤ pos 1) }
+{
+    match date.previous_day() {
+        Some(previous) => Some((date.to_julian_day(), previous.to_julian_day())),
+        None => None,
+    }
+}
+
+fn date_of(rt: &impl Abort, julian_day: i32) -> Date {
+    Date::from_julian_day(julian_day).expect(rt, "no date")
+}
+
+#[test]
+fn julian_days_of_neighbours(rt: HostRuntime) {
+    for (julian_day, next) in [
+        (FIRST_JULIAN_DAY, FIRST_JULIAN_DAY + 1),
+        (-1, 0),
+        (2_451_544, 2_451_545),
+        (LAST_JULIAN_DAY - 1, LAST_JULIAN_DAY),
+    ] {
+        let found = next_julian_day(date_of(&rt, julian_day));
+        same_at(&rt, julian_day, found, Some((julian_day, next)));
+        let found = previous_julian_day(date_of(&rt, next));
+        same_at(&rt, next, found, Some((next, julian_day)));
+    }
+}
