@@ -1,6 +1,5 @@
-# Proves and builds a program or the static library. Its caller sets top, the folder of the repository; name, that of the crate; crate,
-# its folder; make, which is run for a program and lib for the library; and the functions say and fail. It sets crates to the crates
-# that this one is made of, each after those that it uses.
+# Proves and builds a program (make=run) or the library (make=lib). The caller sets top, name, crate
+# and make, and the functions say and fail. It sets crates to the needed crates, lowest first.
 
 add_crate() {
     for used in $(sed -n "s/^$1\( [^:]*\)*://p" "$top/crates.txt"); do
@@ -12,8 +11,8 @@ add_crate() {
     esac
 }
 
-# Each library that is not proved yet in its turn, lowest first, and then the crate itself. The kit runs a program that it has built:
-# its words, and its status, say nothing of the build.
+# Proves each library that isn't proved, lowest first, and then builds the crate. The kit also runs
+# the program, whose output and status don't count.
 prove_and_build() {
     for one in $crates; do
         if [ "$one" != "$name" ] && [ ! -d "$top/crates/$one/out" ]; then
@@ -27,7 +26,7 @@ prove_and_build() {
     esac
 }
 
-# Says which crate has its turn, and where another build is in the way.
+# Reports each crate that starts, and another build in the way.
 progress() {
     told=' '
     while IFS= read -r line; do
@@ -60,7 +59,7 @@ for one in $crates; do
 done
 unset CDPATH
 log=$crate/out/build.log
-# It names the crates, and bears the time before the build, so that a source that changes from here on is newer.
+# The marker has the crates, and a time before the build, so later changes of a source are newer.
 begun=$crate/out/begun.$$
 command -v rt >/dev/null || fail "the kit's rt is not on the path, so nothing is built"
 mkdir -p -- "$crate/out" 2>/dev/null && echo "$crates" 2>/dev/null >"$begun" || fail 'this checkout cannot be written to, so nothing is built'
@@ -72,7 +71,8 @@ if grep -q -e "^rt: running out/$name;" -e "^rt: built $name\$" "$log"; then
     mv -f -- "$begun" "$crate/out/$name.built"
     trap - EXIT
 else
-    # What is not proved or not understood, and where; a function that only calls such a one is left out.
+    # Prints unproved functions and errors with their places, without functions that only call
+    # these.
     grep -E '^note: src/.*it is not proved|: error(\[|:)|^fn .*: no proof: (expected|search)|^rt: the library .* did not build' "$log" | head -n 40 >&2 ||
         tail -n 5 "$log" >&2
     if grep -q '^logic=not-proved' "$log"; then

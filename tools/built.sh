@@ -1,6 +1,5 @@
-# Says whether the program, or the library, is built and nothing has changed since: no source, and no folder, where one came or went. Its
-# caller sets top, the folder of the repository; program, the file that is built; and marker, which names the crates that it was built from, and
-# bears the time before that build.
+# Returns whether the program or library is built, and no source or folder has changed since. The
+# caller sets top, program and marker, which has the crates and the time of the build.
 is_built() {
     [ -s "$program" ] && [ -f "$marker" ] && read -r crates <"$marker" || return 1
     set -- "$top/crates.txt"

@@ -1,12 +1,10 @@
-# The body of the scripts that run a program of this repository, which name it: top, the folder of the repository; name, that of the
-# program and its crate; hint, what is said where standard input is a terminal, or nothing.
-#
-# The first time, and when one of its sources has changed, the program is proved and built before. Standard input, standard output,
-# arguments and the status are the program's; all else goes to standard error.
+# Runs a program, and builds it before if a source has changed. The caller sets top, name and hint,
+# which is printed if standard input is a terminal. Only the program writes to standard output, and
+# the status is its own.
 
 crate=$top/crates/$name
 program=$crate/out/$name
-# It names the crates that the program was built from, and bears the time before that build.
+# The marker has the crates of the program, and a time before the build.
 marker=$crate/out/$name.built
 
 say() {
