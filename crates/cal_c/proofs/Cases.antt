@@ -1,4 +1,4 @@
--- What the result of a reading leaves open: the value, no form, or a component at fault.
+-- The cases of a result of parsing: a value, no form, or a component out of range.
 use Rattle.std.proofs.Common.{◌≡◌, ◌⊎◌, ◌↔◌, inl, inr, Option, Result, Ok, Err, IfOk, None, Some, refl}
 use Rattle.cal_time.specs.declared.error.ComponentRange.{ComponentRange}
 use Rattle.cal_text.specs.Reading.{component_of, IsRefusedFor, IsRefusedForForm}

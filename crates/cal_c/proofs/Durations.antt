@@ -1,4 +1,4 @@
--- What a duration that may be none comes to.
+-- The result of an optional duration.
 use Rattle.std.proofs.Common.{◌≡◌, refl, ap, ℤ, Option, Some, None, SomeIff}
 use Rattle.cal_time.specs.SignedDuration.{IsDuration}
 use Rattle.cal_c.specs.Results.{duration_done, duration_refused, duration_if_any, IsDurationIfAny}

@@ -1,4 +1,4 @@
--- What equal results of a reading have in common.
+-- Equal results of parsing have equal values.
 use Rattle.std.proofs.Common.{◌≡◌, Result, Ok, Err}
 
 pub same_value : {A E : Type 0} (a b : A) → ◌≡◌ {A = Result A E} (Ok a) (Ok b) → a ≡ b

@@ -1,4 +1,4 @@
--- Moves by days that are held in 32 bits: they lead to the same dates, and past the range where the days do.
+-- Days clamped to 32 bits give the same dates, and are out of range if the days are.
 use Rattle.std.proofs.Common.{◌≡◌, sym, subst, arith, ℤ, pos, neg_ℤ, ◌+ℤ◌}
 use Rattle.std.specs.Int.{int_min, int_max}
 use Rattle.std.proofs.lemmas.Int.{ints, clamps}

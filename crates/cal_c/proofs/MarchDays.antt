@@ -9,7 +9,7 @@ use Rattle.cal_time.specs.Lengths.{days_in_year, days_in_month}
 use Rattle.cal_c.specs.Values.{IsMonth}
 use Rattle.cal_c.proofs.MarchYears.{each_month, other_month, leap_year-step, years_days, years_before, number_with, has_number, march_number, IsMarked}
 
--- a day by its century, and by its year where every fourth one is a leap year
+-- A day by its century, and by its year if every fourth year is a leap year.
 in_century : (n c t : ℕ) → 4 * n + 3 ≡ 146097 * c + t → 4 * (n + c - c / 4) + 3 ≡ 146100 * c + (t + c % 4)
 in_century n c t e = omega arith
 

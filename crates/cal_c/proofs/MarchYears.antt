@@ -1,4 +1,4 @@
--- Years that begin on 1 March, whose months come after so many days as a quotient says.
+-- Years that begin on 1 March. A quotient gives the days before each month.
 use Rattle.std.proofs.Common.{◌≡◌, ◌≢◌, ℕ, zero, suc, ◌+◌, ◌-◌, ◌*◌, ◌/◌, ◌%◌, ◌<◌, ◌≤◌, ◌∙◌, sym, ap, subst, arith, add-zero, inl, inr, ℤ, pos, ◌+ℤ◌, ◌-ℤ◌, ◌≤ℤ◌, unsigned_abs, nat_le, to_z, of_z, w32}
 use mir.Val.{bool_byte}
 use Rattle.std.proofs.lemmas.Bool.{cases_lt}
@@ -27,7 +27,8 @@ each_month P _ _ _ _ _ _ _ _ _ _ p10 _ (suc (suc (suc (suc (suc (suc (suc (suc (
 each_month P _ _ _ _ _ _ _ _ _ _ _ p11 (suc (suc (suc (suc (suc (suc (suc (suc (suc (suc (suc zero))))))))))) low = p11
 each_month P _ _ _ _ _ _ _ _ _ _ _ _ (suc (suc (suc (suc (suc (suc (suc (suc (suc (suc (suc (suc i)))))))))))) low = absurd (omega arith)
 
--- a month other than February has 30 days, and one more where it is odd up to July, or even from August on
+-- A month other than February has 30 days, and one more if it is odd up to July, or even from
+-- August on.
 pub other_month : (y : ℤ) (m : ℕ) → IsMonth m → m ≢ 2 → 30 + (m + m / 8) % 2 ≡ days_in_month y m
 unfolding days_in_month
 other_month y m month other =
@@ -60,7 +61,8 @@ all_months : (y : ℤ) → before y 11 + days_in_month y 12 ≡ days_in_year y
 unfolding before days_in_month
 all_months y = grind (arith, nat_tests)
 
--- the days of a March year before a month: before January and February, which end it, and before the other ten
+-- The days of a March year before a month: before January and February, which end it, and before
+-- the other ten.
 early_months : (y : ℤ) (i : ℕ) → i < 2 → i < 12 → (979 * (i + 13) - 2919) / 32 ≡ before y i + 306
 unfolding before days_in_month
 early_months y i early low =
@@ -152,7 +154,8 @@ has_number y m d h month day =
     let month_start : HasCalendarDate y m 1 (years_days (years_before y) + before y (m - 1)) = months_follow y (years_days (years_before y)) (m - 1) start (omega arith) ∙ ap (λ k. calendar_day y k 1) same in
     days-follow y m (years_days (years_before y) + before y (m - 1)) (d - 1) month_start (omega arith) ∙ ap (calendar_day y m) first
 
--- The same by years that begin on 1 March, the first of them in -1000000. The mark is 1 for January and February, and else 0.
+-- The same by years that begin on 1 March, the first of them in -1000000. The mark is 1 for January
+-- and February, else 0.
 pub record IsMarked (m mark : ℕ) : Type 0 where
   pub early : m ≤ 2 → mark ≡ 1
   pub late : 2 < m → mark ≡ 0

@@ -1,4 +1,4 @@
--- The days to the next one with a weekday, and back to the one before, by one remainder.
+-- The days to the next day with a weekday, and back to the previous one, by one remainder.
 use Rattle.std.proofs.Common.{◌≡◌, ℕ, suc, ◌+◌, ◌-◌, ◌*◌, ◌%◌, ◌≤◌, sym, ap, ◌∙◌, arith, Option, Some, None, if◌then◌else◌, nat_le}
 use Rattle.std.proofs.lemmas.Bool.Decides.{nat_tests}
 use Rattle.cal_time.specs.Date.{last_day, weekday_at, IsDate}
@@ -11,7 +11,7 @@ next_days w n low high = let is = weekday_at-is n in omega arith
 prev_days : (w n : ℕ) → 1 ≤ w → w ≤ 7 → (w - 1 + ((n % 7 + 7 - w) % 7 + 1)) % 7 ≡ weekday_at n
 prev_days w n low high = let is = weekday_at-is n in omega arith
 
--- a day of the range, where it is one
+-- A day, if it is in range.
 abbrev pub day_if_any : ℕ → Option ℕ
 day_if_any n = if nat_le n last_day then Some n else None
 

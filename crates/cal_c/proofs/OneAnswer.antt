@@ -18,7 +18,7 @@ pub decided : {P : Type 0} (r : Option ℕ) (v : ℕ) → SomeIff r P v → P �
 decided None v h = inr h
 decided (Some x) v h = inl h.0
 
--- what is written over an array is one
+-- Writing over an array has one result.
 written-one : (ns : List ℕ) (old a b : List ℤ) (n m : ℕ) → length a ≡ length b → AreWritten ns old a n → AreWritten ns old b m → (n ≡ m) × (a ≡ b)
 written-one ns old a b n m lengths p q =
     let count : n ≡ m = p.count_is ∙ sym q.count_is in (

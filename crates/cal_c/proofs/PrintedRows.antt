@@ -7,7 +7,8 @@ use Rattle.std.proofs.lemmas.Slice.{between_is}
 use Rattle.std.specs.List.{between}
 use Rattle.cal_c.specs.TextColumns.{ArePartOf, text_at}
 
--- the texts of some rows stand before the end, each between its bounds, and what comes after it is as it was
+-- The texts of the first rows are before the end, each between its bounds, and the bytes after the
+-- end are unchanged.
 pub record Printed (Row : ℕ → List ℕ → ℕ → Type 0) (longest : ℕ) (old now : List ℕ) (bounds : List ℤ) (statuses : List ℕ) (row end : ℕ) : Type 0 where
   pub few : end ≤ row * longest
   pub first : get_or bounds 0 (pos 0) ≡ pos 0

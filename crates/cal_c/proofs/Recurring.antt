@@ -36,7 +36,7 @@ month_at-number December = refl
 pub month_numbered : (m : Month) (k : ℕ) → number m ≡ k → m ≡ month_at (k - 1)
 month_numbered m k e = sym (month_at-number m) ∙ ap (λ n. month_at (n - 1)) e
 
--- what the parts are refused with, from the front
+-- The status of the first invalid part.
 pub refused_dates : (p : RuleParts) → ¬ AreDates p → (¬ IsRule p) × IsRuleStatus p bad_date
 refused_dates p out = (
   λ is. out is.plain.dates,
@@ -94,7 +94,7 @@ pub none_first : (xs : List ℕ) → None ≡ slice_get xs 0 → xs ≡ []
 none_first [] e = refl
 none_first (x ∷ xs) e = absurd (cc)
 
--- a list, of which so many are taken, goes on
+-- A list after its first i days.
 pub goes_on : (ns xs : List ℕ) (i x : ℕ) → i < length ns → drop i ns ≡ x ∷ xs → (get_or ns i 0 ≡ x) × (drop (i + 1) ns ≡ xs)
 goes_on ns xs i x lt e = let same = drop-cons ns i 0 lt in (cc, rw (add-one) (cc))
 

@@ -1,4 +1,4 @@
--- Days that a move leads to, where there is one.
+-- Days after a move, if they exist.
 use Rattle.std.proofs.Common.{◌≡◌, ℕ, ◌<◌, ◌≤◌, ◌==◌, if◌then◌else◌, refl, sym, ap, ◌∙◌, arith, ℤ, ◌≤ℤ◌, ◌<ℤ◌, Option, Some, None, IfSome, IfNone, Result, Ok, Err, IfOk, IfErr, subst}
 use Rattle.std.proofs.lemmas.Int.{ints}
 use Rattle.cal_time.specs.Date.{IsDate}
@@ -23,7 +23,8 @@ pub past-if-any : (A : Type 0) (r : Option ℕ) → IfSome r (λ n. A) → (A �
 past-if-any A None some out = refl
 past-if-any A (Some n) some out = absurd (out some)
 
--- what holds of each refusal holds of the one that there is, and of each value of the one that was read
+-- A property of each error is a property of this error, and a property of each value is a property
+-- of this value.
 pub if_refused : {V : Type 0} (R : ℤ → Type 0) (r : Result V ℤ) (s : ℤ) → r ≡ Err s → IsByte s → IfErr r (λ t. IsByte t → R t) → R s
 if_refused R r s is byte h = subst (λ q. IfErr q (λ t. IsByte t → R t)) is h byte
 

@@ -1,4 +1,4 @@
--- What a text reads as, as a row of columns.
+-- The result of parsing a text in a row of columns.
 use Rattle.std.proofs.Common.{◌≡◌, ℕ, ℤ, pos, List, inl, inr, ap, sym, subst, ◌∙◌, arith, FitsSigned, w32, to_z, of_z}
 use Rattle.std.proofs.lemmas.Int.{ints, to_z-of_z}
 use Rattle.cal_datetime.specs.OffsetDateTime.{Shown}

@@ -11,7 +11,7 @@ use Rattle.cal_time.specs.IsoWeekDate.{count_before, is_weekday_of_year, weekday
 use Rattle.cal_time.specs.Laws.{weekday_at-is}
 use Rattle.cal_time.specs.Parts.{year_at-rises, ordinals-apart}
 
--- one step of the count of days, of the ordinals, and of what is counted
+-- One step of the count of days, of the ordinals, and of the Thursdays.
 day_at-next : (n : ℕ) → day_at (suc n) ≡ day_after (day_at n)
 unfolding day_at
 day_at-next n = refl
@@ -51,7 +51,7 @@ ordinal_at-some (suc n) =
       | inr later ↦ omega (arith, ordinal_at-next n later)
     ]
 
--- the year stays but for a first of January, and each day before that is of another year
+-- The year stays except before 1 January, and each earlier day is in another year.
 year-stays : (d : CalendarDay) → is_first_of_january (day_after d) ≡ false → (day_after d).year ≡ d.year
 unfolding day_after
 year-stays d h = grind (arith, nat_tests)

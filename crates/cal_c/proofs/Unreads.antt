@@ -1,4 +1,5 @@
--- What the error of a text that is not read says: the component at fault, or where the text stops being of the form.
+-- An error of parsing names the component out of range, or the position at which the text stops
+-- matching the form.
 use Rattle.std.proofs.Common.{◌≡◌, ℕ, List, None, Some, ap, inl, inr, refl}
 use Rattle.cal_time.specs.declared.error.ComponentRange.{ComponentRange}
 use Rattle.cal_text.specs.Position.{IsAtStop}

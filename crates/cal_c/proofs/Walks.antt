@@ -1,4 +1,5 @@
--- The days of a recurrence from a date on: those of a walk that do not come before it, and those of a rule after the day before it.
+-- The days of a recurrence from a date on: the days of an iterator that are not before it, and the
+-- days of a rule after the previous day.
 use Rattle.std.proofs.Common.{◌≡◌, refl, ℕ, zero, suc, ◌+◌, ◌-◌, ◌<◌, ◌≤◌, ap, ◌∙◌, sym, arith, Bool, true, false, List, [], ◌∷◌, filter, nat_le, cond}
 use Rattle.std.proofs.lemmas.Bool.Decides.{nat_tests}
 use Rattle.std.specs.Ordering.{is_le, nat_cmp}

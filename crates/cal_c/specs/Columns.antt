@@ -1,4 +1,4 @@
--- What a call answers, alone or for each row of columns.
+-- The results of calls, and of calls for columns, row by row.
 use Rattle.std.specs.Prelude.{◌≡◌, ℕ, ℤ, pos, ◌+◌, ◌-◌, ◌<◌, ◌≤◌, ◌+ℤ◌, ◌≤ℤ◌, Bool, not, ◌==◌, List, length, get_or, count_by}
 use Rattle.cal_time.specs.Date.{julian_day_at, weekday_at, IsDate, IsYear, IsDayOfMonth, IsOrdinal, HasCalendarDate, HasOrdinalDate, NoDate}
 use Rattle.cal_time.specs.IsoWeekDate.{IsWeek, HasIsoWeekDate}
@@ -14,15 +14,15 @@ use Rattle.cal_c.specs.declared.results.CalendarDateResult.{CalendarDateResult}
 use Rattle.cal_c.specs.declared.results.OrdinalDateResult.{OrdinalDateResult}
 use Rattle.cal_c.specs.declared.results.IsoWeekDateResult.{IsoWeekDateResult}
 
--- there is no answer
+-- A status is an error if it isn't 0.
 abbrev pub is_refused : ℕ → Bool
 is_refused status = not (status == 0)
 
--- a status is a byte
+-- A status fits in a byte.
 abbrev pub IsByte : ℤ → Type 0
 IsByte status = (pos 0 ≤ℤ status) × (status ≤ℤ pos 255)
 
--- the arrays are of one length
+-- The arrays have the same length.
 abbrev pub Alike3 : {A B C : Type 0} → List A → List B → List C → Type 0
 Alike3 a b c = (length b ≡ length a) × (length c ≡ length a)
 
@@ -37,19 +37,19 @@ Alike7 a b c d e f g =
     (length b ≡ length a) × (length c ≡ length a) × (length d ≡ length a) × (length e ≡ length a) × (length f ≡ length a)
     × (length g ≡ length a)
 
--- what a row has in an array
+-- The value of row k in an array, or 0 after its end.
 abbrev pub int_at : List ℤ → ℕ → ℤ
 int_at xs k = get_or xs k (pos 0)
 
 abbrev pub nat_at : List ℕ → ℕ → ℕ
 nat_at xs k = get_or xs k 0
 
--- each row is answered so, and those that have no answer are counted
+-- Each row has its result, and the rows with an error are counted.
 pub record AreAnswered (statuses : List ℕ) (refused : ℕ) (Row : ℕ → Type 0) : Type 0 where
   pub each : (k : ℕ) → k < length statuses → Row k
   pub count : refused ≡ count_by is_refused statuses
 
--- ---- a row of several arrays, as the result of the single call
+-- ---- a row of several arrays, which is the result of the single call
 abbrev pub date_row : ℤ → ℕ → DateResult
 date_row date status = record { status = pos status; date = date }
 
@@ -65,25 +65,25 @@ ordinal_date_row year ordinal status = record { status = pos status; year = year
 abbrev pub iso_week_date_row : ℤ → ℕ → ℕ → ℕ → IsoWeekDateResult
 iso_week_date_row year week weekday status = record { status = pos status; year = year; week = week; weekday = weekday }
 
--- as `fots_date_from_julian_day`
+-- The result of `fots_date_from_julian_day`.
 pub record IsDateOfJulianDay (julian_day : ℤ) (r : DateResult) : Type 0 where
   pub no_julian_day : (IsJulianDay julian_day → ⊥) → r ≡ date_refused julian_day_refused
   pub date : IsJulianDay julian_day → r ≡ date_done julian_day
 
--- as `fots_date_from_calendar_date`
+-- The result of `fots_date_from_calendar_date`.
 pub record IsDateOfCalendarDate (year : ℤ) (month : ℕ) (day : ℕ) (r : DateResult) : Type 0 where
   pub no_month : (IsMonth month → ⊥) → r ≡ date_refused month_refused
   pub no_year : IsMonth month → (IsYear year → ⊥) → r ≡ date_refused year_refused
   pub no_day : IsMonth month → IsYear year → (IsDayOfMonth year month day → ⊥) → r ≡ date_refused day_refused
   pub date : IsMonth month → IsYear year → IsDayOfMonth year month day → IsDayWith (HasCalendarDate year month day) r
 
--- as `fots_date_from_ordinal_date`
+-- The result of `fots_date_from_ordinal_date`.
 pub record IsDateOfOrdinalDate (year : ℤ) (ordinal : ℕ) (r : DateResult) : Type 0 where
   pub no_year : (IsYear year → ⊥) → r ≡ date_refused year_refused
   pub no_ordinal : IsYear year → (IsOrdinal year ordinal → ⊥) → r ≡ date_refused ordinal_refused
   pub date : IsYear year → IsOrdinal year ordinal → IsDayWith (HasOrdinalDate year ordinal) r
 
--- as `fots_date_from_iso_week_date`
+-- The result of `fots_date_from_iso_week_date`.
 pub record IsDateOfIsoWeekDate (year : ℤ) (week : ℕ) (weekday : ℕ) (r : DateResult) : Type 0 where
   pub bad_weekday : (IsWeekday weekday → ⊥) → r ≡ date_refused bad_weekday
   pub no_year : IsWeekday weekday → (IsYear year → ⊥) → r ≡ date_refused year_refused
@@ -91,27 +91,27 @@ pub record IsDateOfIsoWeekDate (year : ℤ) (week : ℕ) (weekday : ℕ) (r : Da
   pub no_weekday : IsWeekday weekday → IsYear year → IsWeek year week → NoDate (HasIsoWeekDate year week (weekday - 1)) → r ≡ date_refused weekday_refused
   pub date : IsWeekday weekday → (n : ℕ) → IsDate n → HasIsoWeekDate year week (weekday - 1) n → IsWeek year week → r ≡ date_done (julian_day_at n)
 
--- as `fots_date_to_calendar_date`
+-- The result of `fots_date_to_calendar_date`.
 pub record IsCalendarDateOf (date : ℤ) (r : CalendarDateResult) : Type 0 where
   pub bad_date : (IsJulianDay date → ⊥) → r ≡ calendar_date_refused bad_date
   pub value : IsJulianDay date → r ≡ calendar_date_done (day_of date)
 
--- as `fots_date_to_ordinal_date`
+-- The result of `fots_date_to_ordinal_date`.
 pub record IsOrdinalDateOf (date : ℤ) (r : OrdinalDateResult) : Type 0 where
   pub bad_date : (IsJulianDay date → ⊥) → r ≡ ordinal_date_refused bad_date
   pub value : IsJulianDay date → r ≡ ordinal_date_done (day_of date)
 
--- as `fots_date_to_iso_week_date`
+-- The result of `fots_date_to_iso_week_date`.
 pub record IsIsoWeekDateOf (date : ℤ) (r : IsoWeekDateResult) : Type 0 where
   pub bad_date : (IsJulianDay date → ⊥) → r ≡ iso_week_date_refused bad_date
   pub value : IsJulianDay date → r ≡ iso_week_date_done (day_of date)
 
--- as `fots_date_weekday`, but for the number where there is none
+-- The result of `fots_date_weekday`, with the weekday 0 for an error.
 pub record IsWeekdayOf (date : ℤ) (weekday status : ℕ) : Type 0 where
   pub bad_date : (IsJulianDay date → ⊥) → (weekday ≡ 0) × (pos status ≡ bad_date)
   pub value : IsJulianDay date → (weekday ≡ weekday_at (day_of date) + 1) × (pos status ≡ done)
 
--- as `fots_date_from_calendar_date`, and then `fots_date_to_iso_week_date`
+-- The result of `fots_date_from_calendar_date` and then `fots_date_to_iso_week_date`.
 pub record IsIsoWeekDateOfCalendarDate (year : ℤ) (month : ℕ) (day : ℕ) (r : IsoWeekDateResult) : Type 0 where
   pub no_month : (IsMonth month → ⊥) → r ≡ iso_week_date_refused month_refused
   pub no_year : IsMonth month → (IsYear year → ⊥) → r ≡ iso_week_date_refused year_refused
@@ -119,18 +119,18 @@ pub record IsIsoWeekDateOfCalendarDate (year : ℤ) (month : ℕ) (day : ℕ) (r
   pub value : IsMonth month → IsYear year → IsDayOfMonth year month day
       → (n : ℕ) × IsDate n × HasCalendarDate year month day n × (r ≡ iso_week_date_done n)
 
--- as `fots_date_add_days`
+-- The result of `fots_date_add_days`.
 pub record IsDateMoved (date : ℤ) (days : ℤ) (r : DateResult) : Type 0 where
   pub bad_date : (IsJulianDay date → ⊥) → r ≡ date_refused bad_date
   pub day : IsJulianDay date → IsDateIfAny (date +ℤ days) r
 
--- as `fots_date_add_months`
+-- The result of `fots_date_add_months`.
 pub record IsDateMonthsLater (date : ℤ) (months : ℤ) (r : DateResult) : Type 0 where
   pub bad_date : (IsJulianDay date → ⊥) → r ≡ date_refused bad_date
   pub past_range : IsJulianDay date → (IsMonthNumber (month_number_at (day_of date) +ℤ months) → ⊥) → r ≡ date_refused past_range
   pub day : IsJulianDay date → IsMonthNumber (month_number_at (day_of date) +ℤ months) → IsDayWith (IsMonthsLater (day_of date) months) r
 
--- as `fots_date_add_workdays`
+-- The result of `fots_date_add_workdays`.
 pub record IsDateWorkdaysLater (date : ℤ) (days : ℤ) (week : ℕ) (holidays : List ℤ) (r : DateResult) : Type 0 where
   pub bad_date : (IsJulianDay date → ⊥) → r ≡ date_refused bad_date
   pub bad_week : IsJulianDay date → (IsMarks week → ⊥) → r ≡ date_refused bad_week
@@ -139,7 +139,7 @@ pub record IsDateWorkdaysLater (date : ℤ) (days : ℤ) (week : ℕ) (holidays 
   pub day : IsJulianDay date → IsMarks week → length holidays ≤ most_holidays → AreHolidays holidays
       → r ≡ date_if_any (nth_workday (work_week week holidays) days (day_of date))
 
--- as `fots_date_workdays_between`
+-- The result of `fots_date_workdays_between`.
 pub record IsWorkdaysBetween (date : ℤ) (other : ℤ) (week : ℕ) (holidays : List ℤ) (r : NumberResult) : Type 0 where
   pub bad_date : (IsJulianDay date × IsJulianDay other → ⊥) → r ≡ number_refused bad_date
   pub bad_week : IsJulianDay date → IsJulianDay other → (IsMarks week → ⊥) → r ≡ number_refused bad_week

@@ -1,4 +1,4 @@
--- Moments, as they cross: a date and a time of day, each as its number, at an offset.
+-- Moments for C: a date, a time of day and an offset, each as its number.
 use Rattle.std.specs.Prelude.{◌≡◌, ℤ}
 use Rattle.cal_time.specs.Date.{julian_day_at}
 use Rattle.cal_time.specs.Time.{IsTime}
@@ -11,28 +11,32 @@ use Rattle.cal_c.specs.Values.{IsJulianDay, day_of}
 use Rattle.cal_c.specs.declared.results.Moment.{Moment}
 use Rattle.cal_c.specs.declared.results.MomentResult.{MomentResult}
 
--- each of its numbers stands for a value
+-- A moment is valid if each of its numbers is.
 pub record IsMoment (m : Moment) : Type 0 where
   pub date : IsJulianDay m.date
   pub time : IsTime m.time
   pub offset : IsOffset m.offset
 
--- the local date-time, and the moment that it stands for
+-- The local date-time of a moment.
 abbrev pub local_in : Moment → ℤ
 local_in m = date_time (day_of m.date) m.time
 
+-- The moment as a date-time at an offset.
 abbrev pub shown_in : Moment → Shown
 shown_in m = record { local = local_in m; offset = m.offset }
 
+-- The result with a moment.
 abbrev pub moment_done : Shown → MomentResult
 moment_done m =
     record { status = done; moment = record { date = julian_day_at (date_at m.local); offset = m.offset; time = time_at m.local } }
 
+-- The result with an error.
 abbrev pub moment_refused : ℤ → MomentResult
 moment_refused s =
     record { status = s; moment = record { date = nothing; offset = nothing; time = 18_446_744_073_709_551_615 } }
 
--- the answer is the moment of a local date-time at an offset, where there is one, and else it has the status
+-- The result is the moment of a local date-time at an offset, or the error s if the local date-time
+-- is out of range.
 pub record IsMomentOr (s local offset : ℤ) (r : MomentResult) : Type 0 where
   pub none : (IsDateTime local → ⊥) → r ≡ moment_refused s
   pub moment : IsDateTime local → r ≡ moment_done (record { local = local; offset = offset })

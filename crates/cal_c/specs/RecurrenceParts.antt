@@ -1,4 +1,4 @@
--- What the text of a recurrence says, as numbers.
+-- The parts of a recurrence as numbers.
 use Rattle.std.specs.Prelude.{ℕ, ◌+◌, ◌-◌, ℤ, pos, List, ◌++◌, length, map, replicate, Result, Ok, Err}
 use Rattle.cal_time.specs.Date.{julian_day_at}
 use Rattle.cal_time.specs.Month.{number}
@@ -18,19 +18,19 @@ use Rattle.cal_c.specs.declared.schedule.recurrences.parsed.RecurrenceParts.{Rec
 use Rattle.cal_c.specs.declared.schedule.recurrences.parsing.ReadRecurrenceResult.{ReadRecurrenceResult}
 use Rattle.cal_c.specs.declared.schedule.recurrences.parts.RuleWeekday.{RuleWeekday}
 
--- the last day, or none
+-- The last day of a recurrence, or the number for none.
 abbrev pub until_in : RuleEnd → ℤ
 until_in Never = nothing
 until_in (Until day) = julian_day_at day
 until_in (Count n) = nothing
 
--- the number of times, or 0
+-- The number of days of a recurrence, or 0.
 abbrev pub count_in : RuleEnd → ℕ
 count_in Never = 0
 count_in (Until day) = 0
 count_in (Count n) = n
 
--- a weekday of a rule as it crosses
+-- A weekday of a rule as numbers.
 abbrev pub parts_of_weekday : ByDay → RuleWeekday
 parts_of_weekday (Every w) = record { number = pos 0; weekday = index w + 1 }
 parts_of_weekday (Nth k w) = record { number = k; weekday = index w + 1 }
@@ -38,10 +38,11 @@ parts_of_weekday (Nth k w) = record { number = k; weekday = index w + 1 }
 abbrev pub no_weekday : RuleWeekday
 no_weekday = record { number = pos 0; weekday = 0 }
 
--- the values, and others after them up to 62
+-- A list is filled up to 62 values.
 abbrev pub filled : {X : Type 0} → X → List X → List X
 filled x xs = xs ++ replicate (62 - length xs) x
 
+-- The parts of a recurrence.
 abbrev pub parts_of : Recurrence → RecurrenceParts
 parts_of r = record {
   frequency = frequency_number r.frequency;
@@ -57,6 +58,7 @@ parts_of r = record {
   weekdays = filled no_weekday (map parts_of_weekday r.weekdays);
 }
 
+-- The parts for an error.
 abbrev pub no_parts : RecurrenceParts
 no_parts = record {
   frequency = 0;
@@ -72,7 +74,7 @@ no_parts = record {
   weekdays = replicate 62 no_weekday;
 }
 
--- the parts of what was read
+-- The result of parsing: the parts of the recurrence, or the first wrong part of the text.
 abbrev pub parsed_as : Result Recurrence RuleFault → ReadRecurrenceResult
 parsed_as (Ok its) = record { status = done; part = 0; position = nowhere; recurrence = parts_of its }
 parsed_as (Err fault) = record { status = reason_status fault.reason; part = part_of fault.reason; position = fault.position; recurrence = no_parts }

@@ -1,4 +1,4 @@
--- What the text of a recurrence gives: its days, or its own text, or the part at fault.
+-- Recurrences in text: their days, their own text, or the first wrong part.
 use Rattle.std.specs.Prelude.{ℕ, ◌-◌, ℤ, List, ◌++◌, length, replicate, Result, Ok, Err}
 use Rattle.cal_recurrence.specs.declared.fault.RuleFault.{RuleFault}
 use Rattle.cal_recurrence.specs.declared.fault.RulePart.{RulePart}
@@ -12,7 +12,7 @@ use Rattle.cal_c.specs.Texts.{nowhere}
 use Rattle.cal_c.specs.declared.schedule.recurrences.results.RecurrenceResult.{RecurrenceResult}
 use Rattle.cal_c.specs.declared.schedule.recurrences.written.RecurrenceTextResult.{RecurrenceTextResult}
 
--- a part is its number from `FREQ`, 1
+-- Parts are numbered from 1, `FREQ`.
 abbrev pub part_number : RulePart → ℕ
 part_number Frequency = 1
 part_number Interval = 2
@@ -23,7 +23,7 @@ part_number Weekdays = 6
 part_number Until = 7
 part_number Count = 8
 
--- the status of a reason, and the part that it names, or 0
+-- The status of a reason.
 abbrev pub reason_status : RuleReason → ℤ
 reason_status Unknown = unknown_part
 reason_status (Twice part) = part_twice
@@ -31,6 +31,7 @@ reason_status (TooMany part) = many_values
 reason_status (Value part) = part_value
 reason_status Missing = no_frequency
 
+-- The number of the part of a reason, or 0.
 abbrev pub part_of : RuleReason → ℕ
 part_of Unknown = 0
 part_of (Twice part) = part_number part
@@ -38,24 +39,25 @@ part_of (TooMany part) = part_number part
 part_of (Value part) = part_number part
 part_of Missing = 0
 
--- so many days were written
+-- The result with a number of days written.
 abbrev pub recurrence_done : ℕ → RecurrenceResult
 recurrence_done count = record { status = done; part = 0; length = count; position = nowhere }
 
+-- The result with an error outside the text.
 abbrev pub recurrence_refused : ℤ → RecurrenceResult
 recurrence_refused s = record { status = s; part = 0; length = 0; position = nowhere }
 
--- the text is read up to this fault
+-- The result with the first wrong part of the text.
 abbrev pub recurrence_unread : RuleFault → RecurrenceResult
 recurrence_unread fault =
     record { status = reason_status fault.reason; part = part_of fault.reason; length = 0; position = fault.position }
 
--- the bytes of the text, and zeros after them up to 1404
+-- The result with a text, filled with zeros up to 1404 bytes.
 abbrev pub written_done : List ℕ → RecurrenceTextResult
 written_done text =
     record { status = done; part = 0; position = nowhere; length = length text; bytes = text ++ replicate (1404 - length text) 0 }
 
--- the text of what was read
+-- The result of parsing a text and writing its recurrence.
 abbrev pub written_as : Result Recurrence RuleFault → RecurrenceTextResult
 written_as (Ok its) = written_done (text_of its)
 written_as (Err fault) =

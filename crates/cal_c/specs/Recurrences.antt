@@ -1,4 +1,4 @@
--- Rules of days that come back, from the parts that C passes.
+-- Recurrence rules with the parts that C passes.
 use Rattle.std.specs.Prelude.{◌≡◌, ℕ, zero, ◌+◌, ◌-◌, ◌<◌, ◌≤◌, min, ℤ, pos, List, All, get_or, length, map, Some}
 use Rattle.cal_time.specs.Date.{julian_day_at}
 use Rattle.cal_schedule.specs.declared.rule.kinds.ByDay.{ByDay}
@@ -16,7 +16,7 @@ use Rattle.cal_c.specs.declared.schedule.recurrences.parts.RuleParts.{RuleParts}
 use Rattle.cal_c.specs.declared.schedule.recurrences.parts.RuleWeekday.{RuleWeekday}
 use Rattle.cal_c.specs.declared.schedule.results.DaysResult.{DaysResult}
 
--- a frequency is its number from daily, 1
+-- Frequencies are numbered from 1, daily.
 abbrev pub frequency_number : Frequency → ℕ
 frequency_number Daily = 1
 frequency_number Weekly = 2
@@ -26,17 +26,18 @@ frequency_number Yearly = 4
 abbrev pub IsFrequency : ℕ → Type 0
 IsFrequency k = (1 ≤ k) × (k ≤ 4)
 
--- as many months and weekdays as a rule takes
+-- A rule has at most 64 months and 64 weekdays.
 abbrev pub most_months : ℕ
 most_months = 64
 
 abbrev pub most_weekdays : ℕ
 most_weekdays = 64
 
+-- The months with these numbers.
 abbrev pub months_in : List ℕ → List Month
 months_in ms = map (λ m. month_at (m - 1)) ms
 
--- a weekday of a rule is its number in the month or the year, and itself; the number 0 stands for each one
+-- A weekday of a rule has a number in the month or the year; 0 means each such weekday.
 abbrev pub by_day : ℤ → Weekday → ByDay
 by_day (pos zero) w = Every w
 by_day k w = Nth k w
@@ -47,31 +48,36 @@ weekday_in w = by_day w.number (weekday_at (w.weekday - 1))
 abbrev pub weekdays_in : List RuleWeekday → List ByDay
 weekdays_in ws = map weekday_in ws
 
--- each part is one of a rule
+-- The dates of the parts are valid.
 abbrev pub AreDates : RuleParts → Type 0
 AreDates p = IsJulianDay p.start × IsJulianDay p.until
 
+-- The parts have few enough months and weekdays.
 abbrev pub AreFew : RuleParts → Type 0
 AreFew p = (length p.months.now ≤ most_months) × (length p.weekdays.now ≤ most_weekdays)
 
+-- Each number is the number of a month.
 abbrev pub AreMonths : List ℕ → Type 0
 AreMonths ms = All IsMonth ms
 
+-- Each weekday is valid.
 abbrev pub AreWeekdays : List RuleWeekday → Type 0
 AreWeekdays ws = All (λ w. IsWeekday w.weekday) ws
 
+-- The parts that are single numbers are valid.
 pub record ArePlain (p : RuleParts) : Type 0 where
   pub dates : AreDates p
   pub frequency : IsFrequency p.frequency
   pub week_start : IsWeekday p.week_start
 
+-- All parts are valid.
 pub record IsRule (p : RuleParts) : Type 0 where
   pub plain : ArePlain p
   pub few : AreFew p
   pub months : AreMonths p.months.now
   pub weekdays : AreWeekdays p.weekdays.now
 
--- the status for the first part that is none
+-- The status of the first invalid part.
 pub record IsRuleStatus (p : RuleParts) (s : ℤ) : Type 0 where
   pub dates : ¬ AreDates p → s ≡ bad_date
   pub frequency : AreDates p → ¬ IsFrequency p.frequency → s ≡ bad_frequency
@@ -80,7 +86,7 @@ pub record IsRuleStatus (p : RuleParts) (s : ℤ) : Type 0 where
   pub months : ArePlain p → AreFew p → ¬ AreMonths p.months.now → s ≡ month_refused
   pub weekdays : ArePlain p → AreFew p → AreMonths p.months.now → ¬ AreWeekdays p.weekdays.now → s ≡ bad_weekday
 
--- the rule of the parts
+-- The rule has the parts p, except its months and weekdays.
 pub record IsPlainRuleOf (p : RuleParts) (rule : Rule) : Type 0 where
   pub start : rule.start ≡ day_of p.start
   pub until : rule.until ≡ Some (day_of p.until)
@@ -89,19 +95,22 @@ pub record IsPlainRuleOf (p : RuleParts) (rule : Rule) : Type 0 where
   pub week_start : index rule.week_start + 1 ≡ p.week_start
   pub month_days : rule.month_days.now ≡ p.month_days.now
 
+-- The rule has the parts p.
 pub record IsRuleOf (p : RuleParts) (rule : Rule) : Type 0 where
   pub plain : IsPlainRuleOf p rule
   pub months : rule.months.now ≡ months_in p.months.now
   pub weekdays : rule.weekdays.now ≡ weekdays_in p.weekdays.now
 
--- so many days were written
+-- The result with a number of days written.
 abbrev pub days_done : ℕ → DaysResult
 days_done count = record { status = done; length = count }
 
+-- The result with an error.
 abbrev pub days_refused : ℤ → DaysResult
 days_refused s = record { status = s; length = 0 }
 
--- they are the first ones of the list, as many as the array has room for, and the array goes on as before
+-- The first days of a list were written, as many as fit in the array, and the rest of the array is
+-- unchanged.
 pub record AreWritten (ns : List ℕ) (old new : List ℤ) (count : ℕ) : Type 0 where
   pub count_is : count ≡ min (length ns) (length old)
   pub days : (k : ℕ) → k < count → get_or new k (pos 0) ≡ julian_day_at (get_or ns k 0)

@@ -1,4 +1,4 @@
--- The answers of the calls. Where there is none, each number beside the status is one that no value has.
+-- The results of calls. In a result with an error, each number is one that no valid value has.
 use Rattle.std.specs.Prelude.{◌≡◌, ℕ, ◌+◌, ℤ, pos, neg_ℤ, ◌+ℤ◌, ◌-ℤ◌, ◌*ℤ◌, ◌≤ℤ◌, Option, Some, None, FitsSigned}
 use Rattle.std.specs.Int.{w64}
 use Rattle.cal_time.specs.Date.{year_at, month_at, day_of_month_at, ordinal_at, weekday_at, julian_day_at}
@@ -24,7 +24,7 @@ use Rattle.cal_c.specs.declared.results.CalendarDateResult.{CalendarDateResult}
 use Rattle.cal_c.specs.declared.results.OrdinalDateResult.{OrdinalDateResult}
 use Rattle.cal_c.specs.declared.results.IsoWeekDateResult.{IsoWeekDateResult}
 
--- the least i32, which is no date, year, offset or part of one
+-- The minimum i32 is not a date, a year, an offset or a part of one.
 abbrev pub nothing : ℤ
 nothing = neg_ℤ (pos 2_147_483_648)
 
@@ -35,18 +35,18 @@ date_done j = record { status = done; date = j }
 abbrev pub date_refused : ℤ → DateResult
 date_refused s = record { status = s; date = nothing }
 
--- the answer is a day of the range that has it
+-- The result is a day of the range with a property.
 pub record IsDayWith (Has : ℕ → Type 0) (r : DateResult) : Type 0 where
   pub status_is : r.status ≡ done
   pub in_range : IsJulianDay r.date
   pub has : Has (day_of r.date)
 
--- the answer is the date that has the Julian day, where there is one
+-- The result is the date with the Julian day j, or out of range.
 pub record IsDateIfAny (j : ℤ) (r : DateResult) : Type 0 where
   pub past_range : (IsJulianDay j → ⊥) → r ≡ date_refused past_range
   pub day : IsJulianDay j → r ≡ date_done j
 
--- the answer is the day, where there is one
+-- The result is a day, or out of range for `None`.
 abbrev pub date_if_any : Option ℕ → DateResult
 date_if_any (Some n) = date_done (julian_day_at n)
 date_if_any None = date_refused past_range
@@ -58,7 +58,7 @@ number_done z = record { status = done; number = z }
 abbrev pub number_refused : ℤ → NumberResult
 number_refused s = record { status = s; number = nothing }
 
--- what day n has
+-- The result with the components of day n.
 abbrev pub calendar_date_done : ℕ → CalendarDateResult
 calendar_date_done n = record { status = done; year = year_at n; month = month_at n; day = day_of_month_at n }
 
@@ -78,19 +78,19 @@ abbrev pub iso_week_date_refused : ℤ → IsoWeekDateResult
 iso_week_date_refused s = record { status = s; year = nothing; week = 0; weekday = 0 }
 
 -- ---- durations
--- the whole seconds of a number of nanoseconds, and what is past them
+-- The result with the whole seconds and the remaining nanoseconds of v.
 abbrev pub duration_done : ℤ → DurationResult
 duration_done v = record { status = done; duration = record { seconds = cut v (pos second); nanoseconds = past_second v } }
 
 abbrev pub duration_refused : ℤ → DurationResult
 duration_refused s = record { status = s; duration = record { seconds = neg_ℤ (pos 9_223_372_036_854_775_808); nanoseconds = nothing } }
 
--- the answer is the duration, where there is one
+-- The result is a duration, or out of range for `None`.
 abbrev pub duration_if_any : Option ℤ → DurationResult
 duration_if_any (Some v) = duration_done v
 duration_if_any None = duration_refused past_range
 
--- the answer is the duration of so many nanoseconds, where there is one
+-- The result is the duration of v nanoseconds, or out of range.
 pub record IsDurationIfAny (v : ℤ) (r : DurationResult) : Type 0 where
   pub past_range : (IsDuration v → ⊥) → r ≡ duration_refused past_range
   pub duration : IsDuration v → r ≡ duration_done v
@@ -101,7 +101,7 @@ long_done z = record { status = done; number = z }
 abbrev pub long_refused : ℤ → LongResult
 long_refused s = record { status = s; number = neg_ℤ (pos 9_223_372_036_854_775_808) }
 
--- the answer is the number, where it has no more than 64 bits
+-- The result is the number z, or out of range if it doesn't fit in 64 bits.
 pub record IsLongIfAny (z : ℤ) (r : LongResult) : Type 0 where
   pub past_range : (FitsSigned w64 z → ⊥) → r ≡ long_refused past_range
   pub number : FitsSigned w64 z → r ≡ long_done z
@@ -110,7 +110,7 @@ pub record IsLongIfAny (z : ℤ) (r : LongResult) : Type 0 where
 abbrev pub time_done : ℕ → TimeResult
 time_done t = record { status = done; time = t }
 
--- the greatest u64 is no time
+-- The maximum u64 is not a time of day.
 abbrev pub time_refused : ℤ → TimeResult
 time_refused s = record { status = s; time = 18_446_744_073_709_551_615 }
 
@@ -126,7 +126,8 @@ adjusted_time_done c t = record { status = done; carry = c; time = t }
 abbrev pub adjusted_time_refused : ℤ → AdjustedTimeResult
 adjusted_time_refused s = record { status = s; carry = nothing; time = 18_446_744_073_709_551_615 }
 
--- the time that comes so much later, and the carry, which never goes against the move
+-- The result is the time v later, and the days carried beyond the whole days of v. The carry is 0
+-- or has the sign of v.
 pub record IsAddAdjusted (t : ℕ) (v : ℤ) (r : AdjustedTimeResult) : Type 0 where
   pub status_is : r.status ≡ done
   pub is_time : IsTime r.time
@@ -134,7 +135,8 @@ pub record IsAddAdjusted (t : ℕ) (v : ℤ) (r : AdjustedTimeResult) : Type 0 w
   pub forward : pos 0 ≤ℤ v → pos 0 ≤ℤ r.carry
   pub backward : v ≤ℤ pos 0 → r.carry ≤ℤ pos 0
 
--- the time that comes so much earlier
+-- The result is the time v earlier, and the days carried beyond the whole days of v. The carry is 0
+-- or has the opposite sign.
 pub record IsSubAdjusted (t : ℕ) (v : ℤ) (r : AdjustedTimeResult) : Type 0 where
   pub status_is : r.status ≡ done
   pub is_time : IsTime r.time
@@ -166,10 +168,10 @@ abbrev pub pair_if_any : Option (ℕ × ℕ) → PairResult
 pair_if_any (Some pair) = pair_done pair.0 pair.1
 pair_if_any None = pair_refused past_range
 
--- those of a local date-time
+-- The result with the day and the time of a local date-time.
 abbrev pub local_done : ℤ → PairResult
 local_done z = pair_done (date_at z) (time_at z)
 
--- the answer is the day and the time of the pair of this number, where there is one
+-- The result is the day and the time of the pair with this number, or out of range.
 abbrev pub IsPairAt : ℤ → PairResult → Type 0
 IsPairAt z r = (pair : Option (ℕ × ℕ)) × PairAt z pair × (r ≡ pair_if_any pair)

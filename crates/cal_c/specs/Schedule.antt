@@ -1,4 +1,4 @@
--- The answers of the calls of schedules, and the numbers of their conventions.
+-- The results of calls for schedules, and the numbers of conventions.
 use Rattle.std.specs.Prelude.{◌≡◌, ℕ, ◌≤◌, ℤ, pos, neg_ℤ}
 use Rattle.cal_schedule.specs.declared.money.DayCount.{DayCount}
 use Rattle.cal_schedule.specs.declared.money.DayCount.TheVariants.{Actual360, Actual365Fixed, Thirty360, ThirtyE360, ActualActual}
@@ -9,7 +9,7 @@ use Rattle.cal_c.specs.declared.results.NumberResult.{NumberResult}
 use Rattle.cal_c.specs.declared.schedule.results.PeriodResult.{PeriodResult}
 use Rattle.cal_c.specs.declared.schedule.results.YearFractionResult.{YearFractionResult}
 
--- the answer is a number that has it
+-- The result is a number with a property.
 pub record IsNumberWith (Has : ℤ → Type 0) (r : NumberResult) : Type 0 where
   pub status_is : r.status ≡ done
   pub has : Has r.number
@@ -21,7 +21,7 @@ period_done p = record { status = done; years = p.years; months = p.months; days
 abbrev pub period_refused : ℤ → PeriodResult
 period_refused s = record { status = s; years = nothing; months = nothing; days = nothing }
 
--- the answer is a period that has it
+-- The result is a period with a property.
 pub record IsPeriodWith (Has : Period → Type 0) (r : PeriodResult) : Type 0 where
   pub status_is : r.status ≡ done
   pub has : Has (record { years = r.years; months = r.months; days = r.days })
@@ -33,7 +33,7 @@ year_fraction_done z y = record { status = done; denominator = y; numerator = z 
 abbrev pub year_fraction_refused : ℤ → YearFractionResult
 year_fraction_refused s = record { status = s; denominator = 0; numerator = neg_ℤ (pos 9_223_372_036_854_775_808) }
 
--- a day count is its number from actual/360, 1
+-- Day count conventions are numbered from 1, actual/360.
 abbrev pub day_count_number : DayCount → ℕ
 day_count_number Actual360 = 1
 day_count_number Actual365Fixed = 2

@@ -1,17 +1,17 @@
--- The status of a call, as a number.
+-- The status of a call is a number.
 use Rattle.std.specs.Prelude.{ℤ, pos}
 use Rattle.cal_time.specs.declared.error.Component.{Component}
 use Rattle.cal_time.specs.declared.error.Component.TheVariants.{Year, Month, JulianDay, Hour, Minute, Second, Millisecond, Microsecond, Nanosecond, OffsetHour, OffsetMinute, OffsetSecond, Seconds, Timestamp, Day, Ordinal, Week, Weekday}
 
--- there is an answer
+-- The call returns a value.
 abbrev pub done : ℤ
 done = pos 0
 
--- the exact result is no value of its type
+-- The exact result is out of range.
 abbrev pub past_range : ℤ
 past_range = pos 1
 
--- an argument is no value of its type
+-- An argument is invalid.
 abbrev pub bad_date : ℤ
 bad_date = pos 2
 
@@ -30,39 +30,39 @@ bad_weekday = pos 6
 abbrev pub bad_count : ℤ
 bad_count = pos 7
 
--- the bytes are no text that the call reads, and one of them is wrong
+-- A byte of the text is wrong.
 abbrev pub unreadable : ℤ
 unreadable = pos 8
 
--- an argument is no moment
+-- An argument is not a moment.
 abbrev pub bad_moment : ℤ
 bad_moment = pos 9
 
--- the number is no frequency of a rule
+-- The number of the frequency is invalid.
 abbrev pub bad_frequency : ℤ
 bad_frequency = pos 10
 
--- a rule has more months or weekdays than a call takes
+-- The rule has too many months or weekdays.
 abbrev pub many_parts : ℤ
 many_parts = pos 11
 
--- the number is no convention
+-- The number of the convention is invalid.
 abbrev pub bad_convention : ℤ
 bad_convention = pos 12
 
--- the marks of the week are more than seven
+-- The number has more marks than the seven of a week.
 abbrev pub bad_week : ℤ
 bad_week = pos 13
 
--- the holidays do not rise, or one of them is no date
+-- The holidays are not in ascending order, or one is not a date.
 abbrev pub bad_holidays : ℤ
 bad_holidays = pos 14
 
--- there are more holidays than a call takes
+-- There are too many holidays.
 abbrev pub many_holidays : ℤ
 many_holidays = pos 15
 
--- the refusals whose range depends on nothing, by their names
+-- The errors of components whose range is always the same.
 abbrev pub year_refused : ℤ
 year_refused = pos 16
 
@@ -105,16 +105,16 @@ seconds_refused = pos 28
 abbrev pub timestamp_refused : ℤ
 timestamp_refused = pos 29
 
--- the bounds of a text do not lie in the bytes, one after the other
+-- The bounds of a text are not within the bytes, in order.
 abbrev pub bounds_refused : ℤ
 bounds_refused = pos 30
 
--- the bytes are no text that the call reads, and some more make one
+-- The text ends too early: more bytes could complete it.
 abbrev pub unexpected_end : ℤ
 unexpected_end = pos 31
 
--- a part of the text of a recurrence has no name that is read, comes again, has more values than are read, or none that is; or there
--- is no frequency
+-- A part of the recurrence has an unknown name, is a duplicate, has too many values or an invalid
+-- value; or the frequency is missing.
 abbrev pub unknown_part : ℤ
 unknown_part = pos 32
 
@@ -130,7 +130,7 @@ part_value = pos 35
 abbrev pub no_frequency : ℤ
 no_frequency = pos 36
 
--- those whose range depends on the arguments before
+-- The errors of components whose range depends on other components.
 abbrev pub day_refused : ℤ
 day_refused = pos 64
 
@@ -143,7 +143,7 @@ week_refused = pos 66
 abbrev pub weekday_refused : ℤ
 weekday_refused = pos 67
 
--- the status of a refusal by this component
+-- The status of the error of a component.
 abbrev pub component_status : Component → ℤ
 component_status Year = year_refused
 component_status Month = month_refused

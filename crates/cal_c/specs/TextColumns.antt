@@ -1,4 +1,5 @@
--- Columns of texts: one array has the bytes of all, and another one where each begins, which is where the one before it ends.
+-- Columns of texts. One array has the bytes of all texts, and one has the start of each text, which
+-- is the end of the text before it.
 use Rattle.std.specs.Prelude.{◌≡◌, ℕ, ◌+◌, ◌*◌, ◌<◌, ◌≤◌, ℤ, pos, ◌≤ℤ◌, unsigned_abs, List, [], length, drop, count_by}
 use Rattle.std.specs.List.{between}
 use Rattle.cal_time.specs.Date.{IsDate, julian_day_at}
@@ -19,33 +20,34 @@ use Rattle.cal_c.specs.Values.{IsJulianDay, day_of, moment_of}
 use Rattle.cal_c.specs.declared.results.DateResult.{DateResult}
 use Rattle.cal_c.specs.declared.results.MomentResult.{MomentResult}
 
--- the bytes from the one bound to the other, where both lie in the array, one after the other
+-- Two bounds are within the bytes, in order.
 pub record ArePartOf (bytes : List ℕ) (from to : ℤ) : Type 0 where
   pub not_before : pos 0 ≤ℤ from
   pub rising : from ≤ℤ to
   pub not_after : to ≤ℤ pos (length bytes)
 
+-- The bytes between two bounds.
 abbrev pub part : List ℕ → ℤ → ℤ → List ℕ
 part bytes from to = between (unsigned_abs from) (unsigned_abs to) bytes
 
--- the text of a row
+-- The text of row k.
 abbrev pub text_at : List ℕ → List ℤ → ℕ → List ℕ
 text_at bytes bounds k = part bytes (int_at bounds k) (int_at bounds (k + 1))
 
--- the arrays are of one length, but that there is one bound more than there are rows
+-- The arrays have the same length, except that there is one bound more than rows.
 abbrev pub Bounded2 : {A B C : Type 0} → List A → List B → List C → Type 0
 Bounded2 rows bounds a = (length bounds ≡ length rows + 1) × (length a ≡ length rows)
 
 abbrev pub Bounded4 : {A B C D E : Type 0} → List A → List B → List C → List D → List E → Type 0
 Bounded4 rows bounds a b c = (length bounds ≡ length rows + 1) × (length a ≡ length rows) × (length b ≡ length rows) × (length c ≡ length rows)
 
--- the bytes have room for rows of that length, and the last bound is a number of 32 bits
+-- The bytes have room for rows of this length, and the last bound fits in 32 bits.
 pub record HasRoomFor (longest rows bytes : ℕ) : Type 0 where
   pub room : rows * longest ≤ bytes
   pub few : rows * longest ≤ 2_147_483_647
 
--- the texts stand one after another from the front, each between its bounds and answered so; the bytes after them stay as they were, and
--- the rows that have none are counted
+-- The texts follow each other from the front, each between its bounds and with its result. The
+-- bytes after them are unchanged, and the rows with an error are counted.
 pub record ArePrinted (old new : List ℕ) (bounds : List ℤ) (statuses : List ℕ) (refused : ℕ) (Row : ℕ → List ℕ → ℕ → Type 0) : Type 0 where
   pub first : int_at bounds 0 ≡ pos 0
   pub part : (k : ℕ) → k < length statuses → ArePartOf new (int_at bounds k) (int_at bounds (k + 1))
@@ -53,36 +55,38 @@ pub record ArePrinted (old new : List ℕ) (bounds : List ℤ) (statuses : List 
   pub rest : let end = unsigned_abs (int_at bounds (length statuses)) in drop end new ≡ drop end old
   pub count : refused ≡ count_by is_refused statuses
 
--- ---- a row of several arrays, as the result of the single call
+-- ---- a row of several arrays, which is the result of the single call
 abbrev pub moment_row : ℤ → ℕ → ℤ → ℕ → MomentResult
 moment_row date time offset status = record { status = pos status; moment = record { date = date; offset = offset; time = time } }
 
--- as `fots_date_read`, but for the position
+-- The result of `fots_date_read` without the position.
 pub record IsDateOfText (bytes : List ℕ) (r : DateResult) : Type 0 where
   pub date : (n : ℕ) → IsDate n → IsDateText bytes n → r ≡ date_done (julian_day_at n)
   pub form : (HasDateForm bytes → ⊥) → (at : ℕ) × (s : ℤ) × StopsAt HasDateForm bytes at s × (r ≡ date_refused s)
   pub component : (why : ComponentRange) → HasDateFault bytes why → r ≡ date_refused (component_status why.component)
 
+-- The same for the bytes between two bounds.
 pub record IsDateOfPart (bytes : List ℕ) (from to : ℤ) (r : DateResult) : Type 0 where
   pub bounds : (ArePartOf bytes from to → ⊥) → r ≡ date_refused bounds_refused
   pub read : ArePartOf bytes from to → IsDateOfText (part bytes from to) r
 
--- as `fots_moment_read`, but for the position
+-- The result of `fots_moment_read` without the position.
 pub record IsMomentOfText (bytes : List ℕ) (r : MomentResult) : Type 0 where
   pub moment : (m : Shown) → IsMomentText bytes m → r ≡ moment_done m
   pub form : (HasFormOfMoment bytes → ⊥) → (at : ℕ) × (s : ℤ) × StopsAt HasFormOfMoment bytes at s × (r ≡ moment_refused s)
   pub component : (why : ComponentRange) → HasMomentFault bytes why → r ≡ moment_refused (component_status why.component)
 
+-- The same for the bytes between two bounds.
 pub record IsMomentOfPart (bytes : List ℕ) (from to : ℤ) (r : MomentResult) : Type 0 where
   pub bounds : (ArePartOf bytes from to → ⊥) → r ≡ moment_refused bounds_refused
   pub read : ArePartOf bytes from to → IsMomentOfText (part bytes from to) r
 
--- as `fots_date_calendar_text`
+-- The result of `fots_date_calendar_text`.
 pub record IsTextOfDate (date : ℤ) (bytes : List ℕ) (status : ℕ) : Type 0 where
   pub bad_date : (IsJulianDay date → ⊥) → (bytes ≡ []) × (pos status ≡ bad_date)
   pub value : IsJulianDay date → (bytes ≡ text (day_of date)) × (pos status ≡ done)
 
--- as `fots_moment_text`
+-- The result of `fots_moment_text`.
 pub record IsTextOfMoment (date : ℤ) (time : ℕ) (offset : ℤ) (bytes : List ℕ) (status : ℕ) : Type 0 where
   pub bad_date : (IsJulianDay date → ⊥) → (bytes ≡ []) × (pos status ≡ bad_date)
   pub bad_time : IsJulianDay date → (IsTime time → ⊥) → (bytes ≡ []) × (pos status ≡ bad_time)

@@ -1,4 +1,4 @@
--- Texts, as they cross, and what a text reads as.
+-- Texts for C, and the results of parsing.
 use Rattle.std.specs.Prelude.{◌≡◌, ◌⊎◌, ℕ, ◌-◌, ◌<◌, ℤ, List, ◌++◌, length, replicate}
 use Rattle.cal_time.specs.Date.{julian_day_at}
 use Rattle.cal_time.specs.Month.{month_at, name}
@@ -17,41 +17,45 @@ use Rattle.cal_c.specs.declared.texts.ReadDateResult.{ReadDateResult}
 use Rattle.cal_c.specs.declared.texts.ReadMomentResult.{ReadMomentResult}
 
 -- ---- texts
--- the bytes of the text, and zeros after them up to 40
+-- The result with a text, filled with zeros up to 40 bytes.
 abbrev pub text_done : List ℕ → TextResult
 text_done text = record { status = done; length = length text; bytes = text ++ replicate (40 - length text) 0 }
 
 abbrev pub text_refused : ℤ → TextResult
 text_refused s = record { status = s; length = 0; bytes = replicate 40 0 }
 
--- the English names, by the number from January and from Monday, 1
+-- The English name of a month, by its number.
 abbrev pub month_name : ℕ → List ℕ
 month_name m = name (month_at (m - 1))
 
+-- The English name of a weekday, by its number.
 abbrev pub weekday_name : ℕ → List ℕ
 weekday_name w = weekdays.name (weekdays.weekday_at (w - 1))
 
 -- ---- forms
--- the bytes have one of the forms of a date, or that of a moment, whatever the numbers
+-- The bytes have a form of a date, with any numbers.
 abbrev pub HasDateForm : List ℕ → Type 0
 HasDateForm bytes = HasSome HasForm bytes
 
+-- The bytes have the form of a moment, with any numbers.
 abbrev pub HasFormOfMoment : List ℕ → Type 0
 HasFormOfMoment bytes = HasSome HasMomentForm bytes
 
--- and this component of it is at fault
+-- The bytes have a form of a date with this error.
 abbrev pub HasDateFault : List ℕ → ComponentRange → Type 0
 HasDateFault bytes why = HasFault HasForm IsFaultOf bytes why
 
+-- The bytes have the form of a moment with this error.
 abbrev pub HasMomentFault : List ℕ → ComponentRange → Type 0
 HasMomentFault bytes why = HasFault HasMomentForm IsMomentFault bytes why
 
--- the bytes stop being of a form at this position, and have this status: that of a wrong byte there, or that of their end
+-- The bytes stop matching the form at this position. The status says if there is a wrong byte or
+-- the end.
 pub record StopsAt (IsText : List ℕ → Type 0) (bytes : List ℕ) (at : ℕ) (s : ℤ) : Type 0 where
   pub position : IsPosition IsText bytes at
   pub status : ((s ≡ unreadable) × (at < length bytes)) ⊎ ((s ≡ unexpected_end) × (at ≡ length bytes))
 
--- ---- what is read: a position is the greatest number where the bytes stop nowhere
+-- ---- results of parsing: the position is the maximum u64 if the bytes have the form
 abbrev pub nowhere : ℕ
 nowhere = 18_446_744_073_709_551_615
 

@@ -1,4 +1,4 @@
--- What a text that is not read gives.
+-- The result of a text that doesn't parse.
 use Rattle.cal_text.specs.declared.error.Unreadable.{Unreadable}
 use Rattle.cal_text.specs.declared.error.Unreadable.TheVariants.{UnexpectedByte, UnexpectedEnd, OutOfRange}
 use Rattle.cal_c.specs.Statuses.{unreadable, unexpected_end, component_status}
@@ -6,7 +6,7 @@ use Rattle.cal_c.specs.Texts.{no_date_read, no_moment_read, read_date_refused, r
 use Rattle.cal_c.specs.declared.texts.ReadDateResult.{ReadDateResult}
 use Rattle.cal_c.specs.declared.texts.ReadMomentResult.{ReadMomentResult}
 
--- the position of the error, or the status of its component
+-- An error of the form has its position, and an error of a component its status.
 abbrev pub unread_date : Unreadable → ReadDateResult
 unread_date (UnexpectedByte at) = no_date_read unreadable at
 unread_date (UnexpectedEnd at) = no_date_read unexpected_end at

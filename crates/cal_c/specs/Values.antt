@@ -1,4 +1,4 @@
--- What a number from C must be to stand for a value, and for which one it stands. A time is its nanoseconds since midnight, and an
+-- Valid numbers from C, and their values. A time of day is its nanoseconds since midnight and an
 -- offset its seconds, as in `IsTime` and `IsOffset`.
 use Rattle.std.specs.Prelude.{ℕ, ◌≤◌, ℤ, pos, neg_ℤ, ◌+ℤ◌, ◌-ℤ◌, ◌*ℤ◌, ◌<ℤ◌, ◌≤ℤ◌, unsigned_abs}
 use Rattle.std.specs.Int.{int_min, int_max}
@@ -8,37 +8,38 @@ use Rattle.cal_datetime.specs.DateTime.{date_time}
 use Rattle.cal_datetime.specs.OffsetDateTime.{Shown}
 use Rattle.cal_c.specs.declared.results.Duration.{Duration}
 
--- a date is its Julian day
+-- A date is its Julian day.
 pub record IsJulianDay (j : ℤ) : Type 0 where
   pub not_before : first_julian_day ≤ℤ j
   pub not_after : j ≤ℤ julian_day_at last_day
 
--- the number of the day that has it
+-- The number of the day with the Julian day j.
 abbrev pub day_of : ℤ → ℕ
 day_of j = unsigned_abs (j -ℤ first_julian_day)
 
--- the Julian day of the range that is nearest
+-- The Julian day of the range that is nearest to j.
 abbrev pub julian_nearest : ℤ → ℤ
 julian_nearest j = int_max first_julian_day (int_min j (julian_day_at last_day))
 
--- a month is its number from January, 1, and a weekday its number from Monday, 1
+-- Months are numbered from 1, January, and weekdays from 1, Monday.
 abbrev pub IsMonth : ℕ → Type 0
 IsMonth m = (1 ≤ m) × (m ≤ 12)
 
 abbrev pub IsWeekday : ℕ → Type 0
 IsWeekday w = (1 ≤ w) × (w ≤ 7)
 
--- a duration is its whole seconds and the nanoseconds past them, which are less than a second and not against the seconds
+-- A duration is its whole seconds and the remaining nanoseconds, less than a second and of the same
+-- sign.
 pub record IsDurationPair (d : Duration) : Type 0 where
   pub above : neg_ℤ (pos second) <ℤ d.nanoseconds
   pub below : d.nanoseconds <ℤ pos second
   pub positive : pos 0 <ℤ d.seconds → pos 0 ≤ℤ d.nanoseconds
   pub negative : d.seconds <ℤ pos 0 → d.nanoseconds ≤ℤ pos 0
 
--- in nanoseconds
+-- The nanoseconds of a duration.
 abbrev pub nanoseconds_in : Duration → ℤ
 nanoseconds_in d = d.seconds *ℤ pos second +ℤ d.nanoseconds
 
--- a moment is a date and a time at an offset
+-- A moment is a date and a time of day at an offset.
 abbrev pub moment_of : ℤ → ℕ → ℤ → Shown
 moment_of date time offset = record { local = date_time (day_of date) time; offset = offset }

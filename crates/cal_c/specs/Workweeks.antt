@@ -1,4 +1,4 @@
--- The working days that C passes: the marks of the week as a number, and the holidays as their Julian days.
+-- The working days that C passes: the marks of a week as a number, and the holidays as Julian days.
 use Rattle.std.specs.Prelude.{ℕ, ◌/◌, ◌%◌, ◌<◌, ◌≤◌, ◌==◌, Bool, List, [], ◌∷◌, All, length, map, ℤ, pos, ◌-ℤ◌}
 use Rattle.cal_time.specs.Counted.{IsRising}
 use Rattle.cal_time.specs.Date.{julian_day_at}
@@ -7,7 +7,7 @@ use Rattle.cal_schedule.specs.declared.workdays.convention.Convention.{Conventio
 use Rattle.cal_schedule.specs.declared.workdays.convention.Convention.TheVariants.{Unadjusted, Following, ModifiedFollowing, Preceding, ModifiedPreceding}
 use Rattle.cal_c.specs.Values.{IsJulianDay, day_of}
 
--- seven marks, from 1 for Monday and 2 for Tuesday to 64 for Sunday, are their sum
+-- The marks of a week are a sum of 1 for Monday, 2 for Tuesday, up to 64 for Sunday.
 abbrev pub IsMarks : ℕ → Type 0
 IsMarks k = k < 128
 
@@ -16,27 +16,28 @@ marks_in k =
     (k % 2 == 1) ∷ (k / 2 % 2 == 1) ∷ (k / 4 % 2 == 1) ∷ (k / 8 % 2 == 1) ∷ (k / 16 % 2 == 1) ∷ (k / 32 % 2 == 1)
     ∷ (k / 64 % 2 == 1) ∷ []
 
--- as many holidays as a call takes
+-- A call takes at most 1024 holidays.
 abbrev pub most_holidays : ℕ
 most_holidays = 1024
 
--- holidays are Julian days that rise
+-- The days with these Julian days.
 abbrev pub holidays_in : List ℤ → List ℕ
 holidays_in hs = map day_of hs
 
+-- Holidays are Julian days in ascending order.
 pub record AreHolidays (hs : List ℤ) : Type 0 where
   pub dates : All IsJulianDay hs
   pub rising : IsRising julian_day_at (holidays_in hs)
 
--- the working days of both
+-- The working week with these marks and holidays.
 abbrev pub work_week : ℕ → List ℤ → WorkWeek
 work_week marks hs = record { marks = marks_in marks; holidays = holidays_in hs }
 
--- those from day n to the one before day t, below zero where t comes first
+-- The number of working days from day n to the day before day t, negative if t comes first.
 abbrev pub workdays_number : WorkWeek → ℕ → ℕ → ℤ
 workdays_number w n t = pos (length (workdays_within w n t)) -ℤ pos (length (workdays_within w t n))
 
--- a convention is its number from `Unadjusted`, 0
+-- Conventions are numbered from 0, `Unadjusted`.
 abbrev pub convention_number : Convention → ℕ
 convention_number Unadjusted = 0
 convention_number Following = 1

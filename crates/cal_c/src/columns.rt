@@ -1,7 +1,8 @@
-//! Whole columns: each call answers row by row what its single call does, and counts the rows that have no answer.
+//! Columns: each call treats every row like its single call.
 //!
-//! A column is one array for each part of a value, and one of status bytes. What one call writes is what the next one takes. Where
-//! the arrays of a call are not of one length, nothing is written, and the answer is the greatest number.
+//! A column is an array for each part of a value, and an array of status bytes. The arrays that a
+//! call writes can be passed to the next call. A call returns the number of rows with an error, or
+//! `usize::MAX` if its arrays differ in length; then it writes nothing.
 ghost use Rattle.std.specs.Prelude.{◌≡◌, ◌≤◌, count_by, length, if◌then◌else◌};
 ghost use Rattle.cal_c.specs.Columns.{is_refused};
 
@@ -15,16 +16,16 @@ mod workdays;
 
 use statuses::DONE;
 
-/// What a call answers where its arrays are not of one length.
+/// The result of a call whose arrays differ in length.
 const UNLIKE: usize = usize::MAX;
 
-/// How many rows are counted in one byte.
+/// The number of rows that are counted in one byte.
 const BLOCK: usize = 192;
 
-/// What stands for the date or the year of a row that has none.
+/// The date or the year of a row with an error.
 const NOTHING: i32 = i32::MIN;
 
-/// How many rows have no answer.
+/// Returns the number of rows with an error.
 fn refused_in(statuses: &[u8]) -> usize
     ensures { result ≡ count_by is_refused statuses.now }
 {
@@ -38,7 +39,7 @@ fn refused_in(statuses: &[u8]) -> usize
     refused
 }
 
-/// How many of so few rows have no answer: counted in a byte, so that a loop takes many rows at a time.
+/// Returns the number of rows with an error among at most 192. A `u8` counts many rows at once.
 fn refused_among(statuses: &[u8]) -> u8
     requires { length statuses.now ≤ 192 }
     ensures { result ≡ count_by is_refused statuses.now }
@@ -50,7 +51,7 @@ fn refused_among(statuses: &[u8]) -> u8
     refused
 }
 
-/// 1 where there is no answer, else 0.
+/// Returns 1 for an error, else 0.
 #[inline(always)]
 fn one_if_refused(status: u8) -> u8
     ensures { result ≡ (if is_refused status then 1 else 0) }

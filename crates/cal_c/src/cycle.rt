@@ -1,4 +1,4 @@
-//! Months and weekdays, by their numbers, and the lengths of years.
+//! Months and weekdays by number, and the lengths of years.
 ghost use Rattle.std.specs.Prelude.{◌≡◌, ◌+◌, ◌-◌, ◌%◌, pos, if◌then◌else◌};
 ghost use Rattle.cal_time.specs.Lengths.{is_leap_year, days_in_year, days_in_month};
 ghost use Rattle.cal_time.specs.Weeks.{weeks_in_year};
@@ -11,7 +11,7 @@ use crate::status::{BAD_WEEKDAY, MONTH};
 use crate::values::{month_of, weekday_of};
 use cal_time::util::{days_in_year, is_leap_year, weeks_in_year};
 
-/// The days of the month in the year. Those of 2 and 2000 are 29.
+/// Returns the number of days of a month in a year. For 2 and 2000 it is 29.
 #[unsafe(no_mangle)]
 pub extern "C" fn fots_month_length(month: u32, year: i32) -> NumberResult
     ensures month { ¬ IsMonth month → result ≡ number_refused month_refused }
@@ -21,7 +21,7 @@ pub extern "C" fn fots_month_length(month: u32, year: i32) -> NumberResult
     NumberResult::of(i32::from(month.length(year)))
 }
 
-/// The month `n` after, round the year as often as it takes. Nine months after 7 is 4.
+/// Returns the month `n` months later. January comes after December. Nine months after 7 is 4.
 #[unsafe(no_mangle)]
 pub extern "C" fn fots_month_nth_next(month: u32, n: u32) -> NumberResult
     ensures month { ¬ IsMonth month → result ≡ number_refused month_refused }
@@ -31,7 +31,7 @@ pub extern "C" fn fots_month_nth_next(month: u32, n: u32) -> NumberResult
     NumberResult::of(i32::from(month.nth_next((n % 12) as u8) as u8))
 }
 
-/// The month `n` before, round the year as often as it takes. Nine months before 4 is 7.
+/// Returns the month `n` months earlier. December comes before January. Nine months before 4 is 7.
 #[unsafe(no_mangle)]
 pub extern "C" fn fots_month_nth_prev(month: u32, n: u32) -> NumberResult
     ensures month { ¬ IsMonth month → result ≡ number_refused month_refused }
@@ -41,7 +41,7 @@ pub extern "C" fn fots_month_nth_prev(month: u32, n: u32) -> NumberResult
     NumberResult::of(i32::from(month.nth_prev((n % 12) as u8) as u8))
 }
 
-/// The weekday `n` days after. Ten days after 7 is 3.
+/// Returns the weekday `n` days later. Ten days after 7 is 3.
 #[unsafe(no_mangle)]
 pub extern "C" fn fots_weekday_nth_next(weekday: u32, n: u32) -> NumberResult
     ensures bad_weekday { ¬ IsWeekday weekday → result ≡ number_refused bad_weekday }
@@ -51,7 +51,7 @@ pub extern "C" fn fots_weekday_nth_next(weekday: u32, n: u32) -> NumberResult
     NumberResult::of(i32::from(weekday.nth_next((n % 7) as u8).number_from_monday()))
 }
 
-/// The weekday `n` days before. Ten days before 3 is 7.
+/// Returns the weekday `n` days earlier. Ten days before 3 is 7.
 #[unsafe(no_mangle)]
 pub extern "C" fn fots_weekday_nth_prev(weekday: u32, n: u32) -> NumberResult
     ensures bad_weekday { ¬ IsWeekday weekday → result ≡ number_refused bad_weekday }
@@ -61,7 +61,7 @@ pub extern "C" fn fots_weekday_nth_prev(weekday: u32, n: u32) -> NumberResult
     NumberResult::of(i32::from(weekday.nth_prev((n % 7) as u8).number_from_monday()))
 }
 
-/// The number of the weekday from Sunday, 1, to Saturday, 7. That of Friday, 5, is 6.
+/// Returns the number of a weekday from 1, Sunday, to 7, Saturday. For Friday, 5, it is 6.
 #[unsafe(no_mangle)]
 pub extern "C" fn fots_weekday_number_from_sunday(weekday: u32) -> NumberResult
     ensures bad_weekday { ¬ IsWeekday weekday → result ≡ number_refused bad_weekday }
@@ -71,7 +71,7 @@ pub extern "C" fn fots_weekday_number_from_sunday(weekday: u32) -> NumberResult
     NumberResult::of(i32::from(weekday.number_from_sunday()))
 }
 
-/// 1 where the year is a leap year, else 0. It is 1 for 2000 and 0 for 1900.
+/// Returns 1 for a leap year, else 0. For 2000 it is 1, and for 1900 it is 0.
 #[unsafe(no_mangle)]
 pub extern "C" fn fots_is_leap_year(year: i32) -> u32
     ensures { result ≡ (if is_leap_year year then 1 else 0) }
@@ -79,7 +79,7 @@ pub extern "C" fn fots_is_leap_year(year: i32) -> u32
     u32::from(is_leap_year(year))
 }
 
-/// The days of the year, 365 or 366. Those of 2000 are 366.
+/// Returns the number of days of a year, 365 or 366. For 2000 it is 366.
 #[unsafe(no_mangle)]
 pub extern "C" fn fots_days_in_year(year: i32) -> u32
     ensures { result ≡ days_in_year year }
@@ -87,7 +87,7 @@ pub extern "C" fn fots_days_in_year(year: i32) -> u32
     u32::from(days_in_year(year))
 }
 
-/// The ISO weeks of the year, 52 or 53. Those of 2020 are 53.
+/// Returns the number of ISO weeks of a year, 52 or 53. For 2020 it is 53.
 #[unsafe(no_mangle)]
 pub extern "C" fn fots_weeks_in_year(year: i32) -> u32
     ensures { result ≡ weeks_in_year year }

@@ -1,4 +1,4 @@
-//! Dates, each as its Julian day.
+//! Dates, which are Julian days.
 
 pub(crate) mod making;
 pub(crate) mod moves;

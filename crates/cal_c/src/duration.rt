@@ -1,4 +1,4 @@
-//! Durations made, and what they have.
+//! Constructors and components of durations.
 ghost use Rattle.std.specs.Prelude.{◌≡◌, pos, ◌+ℤ◌, ◌*ℤ◌};
 ghost use Rattle.cal_time.specs.SignedDuration.{microsecond, millisecond, second, minute, hour, day, week, cut, past_second};
 ghost use Rattle.cal_c.specs.Results.{IsDurationIfAny, IsLongIfAny, duration_done, number_done, number_refused, long_done, long_refused};
@@ -12,9 +12,8 @@ use cal_time::SignedDuration;
 
 mod arithmetic;
 
-/// The duration of seconds and nanoseconds, which may be of opposite signs, and of which the nanoseconds may be more than a second.
-///
-/// None where that is no duration. That of -1 and 1 has 0 seconds and -999999999 nanoseconds.
+/// Creates a duration from seconds and nanoseconds, whose signs may differ. Fails if it is out of
+/// range. -1 and 1 give 0 seconds and -999999999 nanoseconds.
 #[unsafe(no_mangle)]
 pub extern "C" fn fots_duration_new(seconds: i64, nanoseconds: i32) -> DurationResult
     ensures { IsDurationIfAny (seconds *ℤ pos second +ℤ nanoseconds) result }
@@ -23,7 +22,7 @@ pub extern "C" fn fots_duration_new(seconds: i64, nanoseconds: i32) -> DurationR
     DurationResult::of_option(SignedDuration::seconds(seconds).checked_add(past))
 }
 
-/// The duration of so many weeks of 7 days, or none where that is no duration.
+/// Creates a duration from weeks of 7 days. Fails if it is out of range.
 #[unsafe(no_mangle)]
 pub extern "C" fn fots_duration_weeks(weeks: i64) -> DurationResult
     ensures { IsDurationIfAny (weeks *ℤ pos week) result }
@@ -35,7 +34,7 @@ pub extern "C" fn fots_duration_weeks(weeks: i64) -> DurationResult
     DurationResult::of(SignedDuration::seconds(seconds))
 }
 
-/// The duration of so many days of 24 hours, or none where that is no duration.
+/// Creates a duration from days of 24 hours. Fails if it is out of range.
 #[unsafe(no_mangle)]
 pub extern "C" fn fots_duration_days(days: i64) -> DurationResult
     ensures { IsDurationIfAny (days *ℤ pos day) result }
@@ -44,7 +43,7 @@ pub extern "C" fn fots_duration_days(days: i64) -> DurationResult
     DurationResult::of(SignedDuration::seconds(seconds))
 }
 
-/// The duration of so many hours, or none where that is no duration.
+/// Creates a duration from hours. Fails if it is out of range.
 #[unsafe(no_mangle)]
 pub extern "C" fn fots_duration_hours(hours: i64) -> DurationResult
     ensures { IsDurationIfAny (hours *ℤ pos hour) result }
@@ -53,7 +52,7 @@ pub extern "C" fn fots_duration_hours(hours: i64) -> DurationResult
     DurationResult::of(SignedDuration::seconds(seconds))
 }
 
-/// The duration of so many minutes, or none where that is no duration.
+/// Creates a duration from minutes. Fails if it is out of range.
 #[unsafe(no_mangle)]
 pub extern "C" fn fots_duration_minutes(minutes: i64) -> DurationResult
     ensures { IsDurationIfAny (minutes *ℤ pos minute) result }
@@ -62,7 +61,7 @@ pub extern "C" fn fots_duration_minutes(minutes: i64) -> DurationResult
     DurationResult::of(SignedDuration::seconds(seconds))
 }
 
-/// The duration of so many seconds, of which each number has one.
+/// Creates a duration from seconds.
 #[unsafe(no_mangle)]
 pub extern "C" fn fots_duration_seconds(seconds: i64) -> DurationResult
     ensures { result ≡ duration_done (seconds *ℤ pos second) }
@@ -70,7 +69,7 @@ pub extern "C" fn fots_duration_seconds(seconds: i64) -> DurationResult
     DurationResult::of(SignedDuration::seconds(seconds))
 }
 
-/// The duration of so many milliseconds, of which each number has one.
+/// Creates a duration from milliseconds.
 #[unsafe(no_mangle)]
 pub extern "C" fn fots_duration_milliseconds(milliseconds: i64) -> DurationResult
     ensures { result ≡ duration_done (milliseconds *ℤ pos millisecond) }
@@ -78,7 +77,7 @@ pub extern "C" fn fots_duration_milliseconds(milliseconds: i64) -> DurationResul
     DurationResult::of(SignedDuration::milliseconds(milliseconds))
 }
 
-/// The duration of so many microseconds, of which each number has one.
+/// Creates a duration from microseconds.
 #[unsafe(no_mangle)]
 pub extern "C" fn fots_duration_microseconds(microseconds: i64) -> DurationResult
     ensures { result ≡ duration_done (microseconds *ℤ pos microsecond) }
@@ -86,7 +85,7 @@ pub extern "C" fn fots_duration_microseconds(microseconds: i64) -> DurationResul
     DurationResult::of(SignedDuration::microseconds(microseconds))
 }
 
-/// The duration of so many nanoseconds, of which each number has one.
+/// Creates a duration from nanoseconds.
 #[unsafe(no_mangle)]
 pub extern "C" fn fots_duration_nanoseconds(nanoseconds: i64) -> DurationResult
     ensures { result ≡ duration_done nanoseconds }
@@ -94,7 +93,7 @@ pub extern "C" fn fots_duration_nanoseconds(nanoseconds: i64) -> DurationResult
     DurationResult::of(SignedDuration::nanoseconds(nanoseconds))
 }
 
-/// The whole weeks of a duration, cut toward zero.
+/// Returns the whole weeks, truncated toward zero.
 #[unsafe(no_mangle)]
 pub extern "C" fn fots_duration_whole_weeks(duration: Duration) -> LongResult
     ensures bad_duration { ¬ IsDurationPair duration → result ≡ long_refused bad_duration }
@@ -105,7 +104,7 @@ pub extern "C" fn fots_duration_whole_weeks(duration: Duration) -> LongResult
     LongResult::of(duration.whole_weeks())
 }
 
-/// The whole days of a duration, cut toward zero.
+/// Returns the whole days, truncated toward zero.
 #[unsafe(no_mangle)]
 pub extern "C" fn fots_duration_whole_days(duration: Duration) -> LongResult
     ensures bad_duration { ¬ IsDurationPair duration → result ≡ long_refused bad_duration }
@@ -116,7 +115,7 @@ pub extern "C" fn fots_duration_whole_days(duration: Duration) -> LongResult
     LongResult::of(duration.whole_days())
 }
 
-/// The whole hours of a duration, cut toward zero.
+/// Returns the whole hours, truncated toward zero.
 #[unsafe(no_mangle)]
 pub extern "C" fn fots_duration_whole_hours(duration: Duration) -> LongResult
     ensures bad_duration { ¬ IsDurationPair duration → result ≡ long_refused bad_duration }
@@ -127,7 +126,7 @@ pub extern "C" fn fots_duration_whole_hours(duration: Duration) -> LongResult
     LongResult::of(duration.whole_hours())
 }
 
-/// The whole minutes of a duration, cut toward zero.
+/// Returns the whole minutes, truncated toward zero.
 #[unsafe(no_mangle)]
 pub extern "C" fn fots_duration_whole_minutes(duration: Duration) -> LongResult
     ensures bad_duration { ¬ IsDurationPair duration → result ≡ long_refused bad_duration }
@@ -138,7 +137,7 @@ pub extern "C" fn fots_duration_whole_minutes(duration: Duration) -> LongResult
     LongResult::of(duration.whole_minutes())
 }
 
-/// The whole seconds of a duration, cut toward zero.
+/// Returns the whole seconds, truncated toward zero.
 #[unsafe(no_mangle)]
 pub extern "C" fn fots_duration_whole_seconds(duration: Duration) -> LongResult
     ensures bad_duration { ¬ IsDurationPair duration → result ≡ long_refused bad_duration }
@@ -149,7 +148,7 @@ pub extern "C" fn fots_duration_whole_seconds(duration: Duration) -> LongResult
     LongResult::of(duration.whole_seconds())
 }
 
-/// The whole milliseconds of a duration, cut toward zero, or none where they are no `i64`.
+/// Returns the whole milliseconds, truncated toward zero. Fails if they don't fit in an `i64`.
 #[unsafe(no_mangle)]
 pub extern "C" fn fots_duration_whole_milliseconds(duration: Duration) -> LongResult
     ensures bad_duration { ¬ IsDurationPair duration → result ≡ long_refused bad_duration }
@@ -160,7 +159,7 @@ pub extern "C" fn fots_duration_whole_milliseconds(duration: Duration) -> LongRe
     LongResult::of_wide(duration.whole_milliseconds())
 }
 
-/// The whole microseconds of a duration, cut toward zero, or none where they are no `i64`.
+/// Returns the whole microseconds, truncated toward zero. Fails if they don't fit in an `i64`.
 #[unsafe(no_mangle)]
 pub extern "C" fn fots_duration_whole_microseconds(duration: Duration) -> LongResult
     ensures bad_duration { ¬ IsDurationPair duration → result ≡ long_refused bad_duration }
@@ -171,7 +170,7 @@ pub extern "C" fn fots_duration_whole_microseconds(duration: Duration) -> LongRe
     LongResult::of_wide(duration.whole_microseconds())
 }
 
-/// The whole nanoseconds of a duration, cut toward zero, or none where they are no `i64`.
+/// Returns the nanoseconds. Fails if they don't fit in an `i64`.
 #[unsafe(no_mangle)]
 pub extern "C" fn fots_duration_whole_nanoseconds(duration: Duration) -> LongResult
     ensures bad_duration { ¬ IsDurationPair duration → result ≡ long_refused bad_duration }
@@ -181,7 +180,7 @@ pub extern "C" fn fots_duration_whole_nanoseconds(duration: Duration) -> LongRes
     LongResult::of_wide(duration.whole_nanoseconds())
 }
 
-/// What a duration has past its whole seconds, in whole milliseconds, cut toward zero.
+/// Returns the milliseconds past the whole seconds, truncated toward zero.
 #[unsafe(no_mangle)]
 pub extern "C" fn fots_duration_subsec_milliseconds(duration: Duration) -> NumberResult
     ensures bad_duration { ¬ IsDurationPair duration → result ≡ number_refused bad_duration }
@@ -192,7 +191,7 @@ pub extern "C" fn fots_duration_subsec_milliseconds(duration: Duration) -> Numbe
     NumberResult::of(i32::from(duration.subsec_milliseconds()))
 }
 
-/// What a duration has past its whole seconds, in whole microseconds, cut toward zero.
+/// Returns the microseconds past the whole seconds, truncated toward zero.
 #[unsafe(no_mangle)]
 pub extern "C" fn fots_duration_subsec_microseconds(duration: Duration) -> NumberResult
     ensures bad_duration { ¬ IsDurationPair duration → result ≡ number_refused bad_duration }

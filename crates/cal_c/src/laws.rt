@@ -1,4 +1,4 @@
-//! Laws: the cases in which texts are read are all that there are, so the clauses of the readers leave one answer.
+//! Laws: the cases of parsing are complete, so the clauses of the parsers allow only one result.
 ghost use Rattle.std.specs.Prelude.{◌≡◌, ◌⊎◌, ℕ};
 ghost use Rattle.cal_time.specs.Date.{IsDate};
 ghost use Rattle.cal_time.specs.declared.error.ComponentRange.{ComponentRange};
@@ -13,7 +13,7 @@ ghost use Rattle.cal_c.specs.Texts.{HasDateForm, HasFormOfMoment, HasDateFault, 
 
 use cal_text::{date, julian_day, rfc3339, unix};
 
-/// A text is one of a day, has no form of a date, or has one with a component at fault.
+/// States that a text is a date, has no form of a date, or has a component out of range.
 pub fn date_cases(text: &[u8])
     ensures { ((n : ℕ) × IsDate n × IsDateText text.now n) ⊎ (¬ HasDateForm text.now)
         ⊎ ((why : ComponentRange) × HasDateFault text.now why) }
@@ -21,7 +21,7 @@ pub fn date_cases(text: &[u8])
     let _ = date::read(text);
 }
 
-/// A text is that of a day by its Julian day, has no such form, or says a number of no day.
+/// States that a text is a Julian day of a date, has no such form, or is out of range.
 pub fn julian_day_cases(text: &[u8])
     ensures { ((n : ℕ) × IsDate n × (text.now ≡ julian_text n)) ⊎ (¬ HasSome IsJulianForm text.now)
         ⊎ ((why : ComponentRange) × HasFault IsJulianForm IsJulianFault text.now why) }
@@ -29,7 +29,7 @@ pub fn julian_day_cases(text: &[u8])
     let _ = julian_day::read(text);
 }
 
-/// A text is one of a moment, has no such form, or has one with a component at fault.
+/// States that a text is a moment, has no such form, or has a component out of range.
 pub fn moment_cases(text: &[u8])
     ensures { ((m : Shown) × IsMomentText text.now m) ⊎ (¬ HasFormOfMoment text.now)
         ⊎ ((why : ComponentRange) × HasMomentFault text.now why) }
@@ -37,7 +37,7 @@ pub fn moment_cases(text: &[u8])
     let _ = rfc3339::read(text);
 }
 
-/// A text is that of a Unix time of the range, has no such form, or says a time of no moment.
+/// States that a text is a Unix time of a moment, has no such form, or is out of range.
 pub fn unix_cases(text: &[u8])
     ensures { ((m : Shown) × IsUnixText text.now m) ⊎ (¬ HasSome HasUnixForm text.now)
         ⊎ ((why : ComponentRange) × HasFault HasUnixForm IsUnixFault text.now why) }

@@ -1,11 +1,16 @@
-//! The calendar for C: exported functions over `cal_time`, `cal_datetime`, `cal_schedule` and `cal_text`, each total over every argument that C may pass.
+//! The calendar for C: calls over `cal_time`, `cal_datetime`, `cal_schedule` and `cal_text`, for
+//! any arguments that C can pass.
 //!
-//! A value crosses as plain numbers: a date as its Julian day, a time as nanoseconds since midnight, an offset as seconds, a
-//! duration as seconds and nanoseconds, a month and a weekday by number. A call returns its answer with a status. No call keeps a
-//! pointer, allocates, or has a state.
+//! Values are plain numbers: a date is its Julian day, a time of day its nanoseconds since
+//! midnight, an offset its seconds, a duration its seconds and nanoseconds, a month is from 1 to
+//! 12, and a weekday from 1, Monday, to 7, Sunday.
+//!
+//! A call returns its value with a status. The status names the first invalid argument, in
+//! parameter order, or else the error of the call: a component out of range, such as `month`, or a
+//! result out of range. No call keeps a pointer, allocates, or has a state.
 #![tactic(auto)]
 
-/// The value that is there, or a return of what the call answers where there is none.
+/// Returns the value, or makes the function return `$answer`.
 macro_rules! or_return {
     ($option:expr, $answer:expr) => {
         match $option {
@@ -21,7 +26,7 @@ macro_rules! or_return {
     };
 }
 
-/// The answer of what is made, or the one with the status of its refusal.
+/// Returns the result of a value, or the result of its error.
 macro_rules! made_or_refused {
     ($answer:ident, $made:expr) => {
         match $made {

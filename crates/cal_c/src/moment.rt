@@ -1,4 +1,4 @@
-//! Moments, each as a date and a time of day at an offset from UTC.
+//! Moments: a date and a time of day at an offset from UTC.
 ghost use Rattle.std.specs.Prelude.{SomeIff};
 ghost use Rattle.cal_c.specs.Moments.{IsMoment, shown_in};
 
@@ -10,7 +10,7 @@ mod making;
 mod moves;
 mod unix;
 
-/// The moment of its three numbers.
+/// Returns the moment of three numbers, or `None` if one of them is invalid.
 fn moment_of(moment: Moment) -> Option<OffsetDateTime>
     ensures { SomeIff result (IsMoment moment) (shown_in moment) }
 {

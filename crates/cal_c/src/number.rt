@@ -1,4 +1,4 @@
-//! Dates by their Julian days alone, where a call asks for no part of a date.
+//! Dates by number, for calls that need no component of a date.
 ghost use Rattle.std.specs.Prelude.{◌≡◌, ◌+◌, ◌%◌, ◌≤◌, IsTrue, ◌↔◌, ◌+ℤ◌, ◌-ℤ◌, ◌*ℤ◌, pos, Some, None, SomeIff, nat_le, if◌then◌else◌};
 ghost use Rattle.cal_time.specs.Date.{last_day, weekday_at};
 ghost use Rattle.cal_time.specs.SignedDuration.{day};
@@ -10,28 +10,28 @@ use crate::status::{DONE, PAST_RANGE};
 use cal_time::SignedDuration;
 use cal_time::limits::{LAST_DAY, MAX_JULIAN_DAY, MIN_JULIAN_DAY};
 
-/// The Julian days of the first date and of the last.
+/// The Julian days of the first and the last date.
 pub const FIRST_JULIAN_DAY: i64 = MIN_JULIAN_DAY as i64;
 
 pub const LAST_JULIAN_DAY: i64 = MAX_JULIAN_DAY as i64;
 
-/// The number of the day whose Julian day is 0.
+/// The number of the day with the Julian day 0.
 pub const DAY_ZERO: i32 = -MIN_JULIAN_DAY;
 
 /// The number of the last day.
 pub const LAST_NUMBER: u32 = LAST_DAY as u32;
 
-/// 2^32 / 7, rounded up: a day times this is its weeks, in parts of 2^32.
+/// 2^32 / 7, rounded up: a number of days times this is its weeks, times 2^32.
 const WEEK_FACTOR: u32 = 613_566_757;
 
-/// Says whether a day of the range has the Julian day.
+/// Returns `true` if a Julian day is in range.
 pub fn is_julian_day(julian_day: i32) -> bool
     ensures { IsTrue result ↔ IsJulianDay julian_day }
 {
     julian_day >= FIRST_JULIAN_DAY as i32 && julian_day <= LAST_JULIAN_DAY as i32
 }
 
-/// The number of the day of the range that has the Julian day.
+/// Returns the number of the day with a Julian day, or `None` if it is out of range.
 pub fn number_of(julian_day: i32) -> Option<u32>
     ensures { SomeIff result (IsJulianDay julian_day) (day_of julian_day) }
 {
@@ -41,7 +41,7 @@ pub fn number_of(julian_day: i32) -> Option<u32>
     Some((i64::from(julian_day) - FIRST_JULIAN_DAY) as u32)
 }
 
-/// The date that has the Julian day.
+/// Returns the date with a Julian day, or fails if it is out of range.
 pub fn date_with(julian_day: i64) -> DateResult
     ensures { IsDateIfAny julian_day result }
 {
@@ -54,36 +54,36 @@ pub fn date_with(julian_day: i64) -> DateResult
     }
 }
 
-/// The date so many days later.
+/// Adds days.
 pub fn days_later(julian_day: i32, days: i64) -> DateResult
     ensures { IsDateIfAny (julian_day +ℤ days) result }
 {
-    // A sum past 64 bits wraps to one that is past the range as well.
+    // A sum that overflows 64 bits wraps to another number out of range.
     date_with(i64::from(julian_day).wrapping_add(days))
 }
 
-/// The date so many days earlier.
+/// Subtracts days.
 pub fn days_earlier(julian_day: i32, days: i64) -> DateResult
     ensures { IsDateIfAny (julian_day -ℤ days) result }
 {
     date_with(i64::from(julian_day).wrapping_sub(days))
 }
 
-/// The date that is nearest to so many days later.
+/// Adds days, and clamps the result.
 pub fn days_later_held(julian_day: i32, days: i64) -> DateResult
     ensures { result ≡ date_done (julian_nearest (julian_day +ℤ days)) }
 {
     date_nearest_to(i64::from(julian_day).saturating_add(days))
 }
 
-/// The date that is nearest to so many days earlier.
+/// Subtracts days, and clamps the result.
 pub fn days_earlier_held(julian_day: i32, days: i64) -> DateResult
     ensures { result ≡ date_done (julian_nearest (julian_day -ℤ days)) }
 {
     date_nearest_to(i64::from(julian_day).saturating_sub(days))
 }
 
-/// The date of the range that is nearest to the Julian day.
+/// Clamps a Julian day to the range.
 pub fn date_nearest_to(julian_day: i64) -> DateResult
     ensures { result ≡ date_done (julian_nearest julian_day) }
 {
@@ -93,7 +93,7 @@ pub fn date_nearest_to(julian_day: i64) -> DateResult
     }
 }
 
-/// Day `number` of the range, counted from 0, where there is one.
+/// Returns the date with a number, or fails after the last one.
 pub fn day_if_any(number: u32) -> DateResult
     ensures { result ≡ date_if_any (if nat_le number last_day then Some number else None) }
 {
@@ -106,14 +106,14 @@ pub fn day_if_any(number: u32) -> DateResult
     }
 }
 
-/// The duration from the one day to the other.
+/// Returns the duration between two dates.
 pub fn days_between(from: i32, to: i32) -> SignedDuration
     ensures { result ≡ (to -ℤ from) *ℤ pos day }
 {
     SignedDuration::days(i64::from(to) - i64::from(from))
 }
 
-/// The weekday of day `number`, from Monday, 1.
+/// Returns the weekday of a day, from 1 for Monday.
 pub fn weekday_of_number(number: u32) -> u8
     requires { number ≤ last_day }
     ensures { result ≡ weekday_at number + 1 }
@@ -121,12 +121,13 @@ pub fn weekday_of_number(number: u32) -> u8
     days_since_monday(number) as u8 + 1
 }
 
-/// The days from the last Monday to day `number`, from 0 to 6. The first day of the range is a Monday.
+/// Returns the days from Monday to a day, from 0 to 6. Day 0 is a Monday.
 pub fn days_since_monday(number: u32) -> u32
     requires { number ≤ last_day }
     ensures { result ≡ number % 7 }
 {
-    // The low half of the product is the part of the week that has gone by. Seven eighths of that, in parts of 2^29, are its days.
+    // `part` is the part of the week that has passed, times 2^32, so 7/8 of it over 2^29 is the
+    // days.
     let part = number.wrapping_mul(WEEK_FACTOR);
     (part - part / 8) >> 29
 }

@@ -1,4 +1,4 @@
-//! Offsets from UTC, each as its seconds.
+//! Offsets from UTC, in seconds.
 ghost use Rattle.std.specs.Prelude.{◌≡◌, ◌<◌, ◌≤◌, neg_ℤ, unsigned_abs};
 ghost use Rattle.cal_time.specs.UtcOffset.{IsOffset, offset_of, whole_hours, whole_minutes, minutes_past_hour, seconds_past_minute};
 ghost use Rattle.cal_c.specs.Results.{offset_done, offset_refused, offset_parts_done, offset_parts_refused, number_done, number_refused};
@@ -9,10 +9,9 @@ use crate::status::{BAD_OFFSET, DONE, SECONDS};
 use crate::values::{offset_of, signed_byte_of};
 use cal_time::UtcOffset;
 
-/// The offset of hours, minutes and seconds. The first that is not zero gives the sign of all.
-///
-/// Refused as `offset hour` outside -25 to 25, then as `offset minute` or `offset second` outside -59 to 59. That of -1, 30 and 0 is
-/// -5400.
+/// Creates an offset from hours, minutes and seconds. The first that isn't 0 gives the sign of all.
+/// Returns the error `offset hour` outside -25 to 25, then `offset minute` or `offset second`
+/// outside -59 to 59. -1, 30 and 0 give -5400.
 #[unsafe(no_mangle)]
 pub extern "C" fn fots_offset_from_hms(hours: i32, minutes: i32, seconds: i32) -> OffsetResult
     ensures hour { 25 < unsigned_abs hours → result ≡ offset_refused offset_hour_refused }
@@ -33,7 +32,7 @@ pub extern "C" fn fots_offset_from_hms(hours: i32, minutes: i32, seconds: i32) -
     )
 }
 
-/// The offset of so many seconds, from -93599 to 93599, which it is itself. Refused as `seconds`.
+/// Creates an offset from seconds, from -93599 to 93599. Returns the error `seconds` outside.
 #[unsafe(no_mangle)]
 pub extern "C" fn fots_offset_from_whole_seconds(seconds: i64) -> OffsetResult
     ensures seconds { ¬ IsOffset seconds → result ≡ offset_refused seconds_refused }
@@ -44,7 +43,7 @@ pub extern "C" fn fots_offset_from_whole_seconds(seconds: i64) -> OffsetResult
     OffsetResult::of(offset)
 }
 
-/// The whole hours, the minutes past them and the seconds past these, of one sign. Those of -5400 are -1, -30 and 0.
+/// Returns the hours, minutes and seconds, all of one sign. For -5400 they are -1, -30 and 0.
 #[unsafe(no_mangle)]
 pub extern "C" fn fots_offset_as_hms(offset: i32) -> OffsetPartsResult
     ensures bad_offset { ¬ IsOffset offset → result ≡ offset_parts_refused bad_offset }
@@ -60,7 +59,7 @@ pub extern "C" fn fots_offset_as_hms(offset: i32) -> OffsetPartsResult
     }
 }
 
-/// The offset as far on the other side of UTC. That of -5400 is 5400.
+/// Negates an offset. -5400 becomes 5400.
 #[unsafe(no_mangle)]
 pub extern "C" fn fots_offset_negated(offset: i32) -> OffsetResult
     ensures bad_offset { ¬ IsOffset offset → result ≡ offset_refused bad_offset }
@@ -70,7 +69,7 @@ pub extern "C" fn fots_offset_negated(offset: i32) -> OffsetResult
     OffsetResult::of(-offset)
 }
 
-/// The whole hours of an offset, cut toward zero. Those of -5400 are -1.
+/// Returns the whole hours, truncated toward zero. For -5400 it is -1.
 #[unsafe(no_mangle)]
 pub extern "C" fn fots_offset_whole_hours(offset: i32) -> NumberResult
     ensures bad_offset { ¬ IsOffset offset → result ≡ number_refused bad_offset }
@@ -80,7 +79,7 @@ pub extern "C" fn fots_offset_whole_hours(offset: i32) -> NumberResult
     NumberResult::of(i32::from(offset.whole_hours()))
 }
 
-/// The whole minutes of an offset, cut toward zero. Those of -5400 are -90.
+/// Returns the whole minutes, truncated toward zero. For -5400 it is -90.
 #[unsafe(no_mangle)]
 pub extern "C" fn fots_offset_whole_minutes(offset: i32) -> NumberResult
     ensures bad_offset { ¬ IsOffset offset → result ≡ number_refused bad_offset }
@@ -90,7 +89,7 @@ pub extern "C" fn fots_offset_whole_minutes(offset: i32) -> NumberResult
     NumberResult::of(i32::from(offset.whole_minutes()))
 }
 
-/// The minutes past the whole hours, with the sign of the offset. Those of -5400 are -30.
+/// Returns the minutes past the whole hours, with the sign of the offset. For -5400 it is -30.
 #[unsafe(no_mangle)]
 pub extern "C" fn fots_offset_minutes_past_hour(offset: i32) -> NumberResult
     ensures bad_offset { ¬ IsOffset offset → result ≡ number_refused bad_offset }
@@ -100,7 +99,7 @@ pub extern "C" fn fots_offset_minutes_past_hour(offset: i32) -> NumberResult
     NumberResult::of(i32::from(offset.minutes_past_hour()))
 }
 
-/// The seconds past the whole minutes, with the sign of the offset. Those of -5400 are 0.
+/// Returns the seconds past the whole minutes, with the sign of the offset. For -5400 it is 0.
 #[unsafe(no_mangle)]
 pub extern "C" fn fots_offset_seconds_past_minute(offset: i32) -> NumberResult
     ensures bad_offset { ¬ IsOffset offset → result ≡ number_refused bad_offset }

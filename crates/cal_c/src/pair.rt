@@ -1,4 +1,4 @@
-//! Dates and times of day together.
+//! Pairs of a date and a time of day.
 ghost use Rattle.std.specs.Prelude.{◌≡◌, ◌+ℤ◌, ◌-ℤ◌};
 ghost use Rattle.cal_time.specs.Pair.{pair_number};
 ghost use Rattle.cal_time.specs.Time.{IsTime};
@@ -11,7 +11,7 @@ use crate::status::{BAD_DATE, BAD_DURATION, BAD_TIME};
 use crate::values::{date_of, duration_of, time_of};
 use cal_time::{add_to_pair, sub_from_pair};
 
-/// The date and the time that come so much later, to the nanosecond, or none where that date is past the range.
+/// Adds a duration to a date and a time. Fails if the resulting date is out of range.
 #[unsafe(no_mangle)]
 pub extern "C" fn fots_add_to_pair(date: i32, time: u64, duration: Duration) -> PairResult
     ensures bad_date { ¬ IsJulianDay date → result ≡ pair_refused bad_date }
@@ -27,7 +27,7 @@ pub extern "C" fn fots_add_to_pair(date: i32, time: u64, duration: Duration) -> 
     PairResult::of_option(add_to_pair(date, time, duration))
 }
 
-/// The date and the time that come so much earlier, to the nanosecond, or none where that date is past the range.
+/// Subtracts a duration from a date and a time. Fails if the resulting date is out of range.
 #[unsafe(no_mangle)]
 pub extern "C" fn fots_sub_from_pair(date: i32, time: u64, duration: Duration) -> PairResult
     ensures bad_date { ¬ IsJulianDay date → result ≡ pair_refused bad_date }

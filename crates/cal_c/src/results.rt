@@ -1,5 +1,4 @@
-//! What crosses to C: a duration, and answers with the status of the call. Where there is no answer, each number beside the status
-//! is one that no value has.
+//! Durations, moments and results. A result with an error has numbers that no valid value has.
 ghost use Rattle.std.specs.Prelude.{◌≡◌};
 ghost use Rattle.cal_time.specs.Date.{julian_day_at};
 ghost use Rattle.cal_c.specs.Results.{IsLongIfAny, date_done, date_refused, date_if_any, number_done, number_refused, calendar_date_refused, ordinal_date_refused, iso_week_date_refused, duration_done, duration_if_any, duration_refused, time_done, time_refused, clock_refused, adjusted_time_done, adjusted_time_refused, offset_done, offset_refused, offset_parts_refused, long_done, long_refused, pair_if_any, pair_refused};
@@ -12,7 +11,7 @@ use cal_datetime::OffsetDateTime;
 use cal_time::util::DateAdjustment;
 use cal_time::{Date, SignedDuration, Time, UtcOffset};
 
-/// A duration, as whole seconds and the nanoseconds past them, from -999999999 to 999999999 and never against the seconds.
+/// A duration: whole seconds, and nanoseconds from -999999999 to 999999999 with the same sign.
 #[repr(C)]
 #[derive(Clone, Copy)]
 pub struct Duration {
@@ -28,7 +27,7 @@ pub struct DateResult {
     pub date: i32,
 }
 
-/// A part of a value.
+/// A component, or another number.
 #[repr(C)]
 #[derive(Clone, Copy)]
 pub struct NumberResult {
@@ -44,7 +43,7 @@ pub struct DurationResult {
     pub duration: Duration,
 }
 
-/// A time, as its nanoseconds since midnight.
+/// A time of day, in nanoseconds since midnight.
 #[repr(C)]
 #[derive(Clone, Copy)]
 pub struct TimeResult {
@@ -52,7 +51,7 @@ pub struct TimeResult {
     pub time: u64,
 }
 
-/// The parts of a time.
+/// The components of a time of day.
 #[repr(C)]
 #[derive(Clone, Copy)]
 pub struct ClockResult {
@@ -63,7 +62,7 @@ pub struct ClockResult {
     pub nanosecond: u32,
 }
 
-/// A time, and the carry into the day.
+/// A time of day, and the days carried.
 #[repr(C)]
 #[derive(Clone, Copy)]
 pub struct AdjustedTimeResult {
@@ -72,7 +71,7 @@ pub struct AdjustedTimeResult {
     pub time: u64,
 }
 
-/// An offset, as its seconds.
+/// An offset, in seconds.
 #[repr(C)]
 #[derive(Clone, Copy)]
 pub struct OffsetResult {
@@ -80,7 +79,7 @@ pub struct OffsetResult {
     pub offset: i32,
 }
 
-/// The parts of an offset.
+/// The components of an offset.
 #[repr(C)]
 #[derive(Clone, Copy)]
 pub struct OffsetPartsResult {
@@ -90,7 +89,7 @@ pub struct OffsetPartsResult {
     pub seconds: i32,
 }
 
-/// A part of a duration.
+/// A number in 64 bits.
 #[repr(C)]
 #[derive(Clone, Copy)]
 pub struct LongResult {
@@ -98,7 +97,7 @@ pub struct LongResult {
     pub number: i64,
 }
 
-/// A date and a time.
+/// A date and a time of day.
 #[repr(C)]
 #[derive(Clone, Copy)]
 pub struct PairResult {
@@ -358,7 +357,7 @@ impl LongResult {
         }
     }
 
-    /// The number, or none where it is no `i64`.
+    /// Returns the result of a number, or of an error if it doesn't fit in an `i64`.
     pub fn of_wide(number: i128) -> Self
         ensures { IsLongIfAny number result }
     {
@@ -401,7 +400,7 @@ impl PairResult {
     }
 }
 
-/// A date and a time of day, as a clock at that offset from UTC shows them.
+/// A local date and time of day at an offset from UTC.
 #[repr(C)]
 #[derive(Clone, Copy)]
 pub struct Moment {

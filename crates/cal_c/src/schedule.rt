@@ -1,4 +1,4 @@
-//! Days moved by months, the ends of periods, weekdays of a month, day counts, working days and recurrences.
+//! Months and years, ends of periods, weekdays of months, day counts, working days, recurrences.
 
 mod bounds;
 mod money;

@@ -1,4 +1,4 @@
-//! The status of a call, as a number: the header has them as an enum.
+//! The statuses. The header has them as an enum.
 ghost use Rattle.std.specs.Prelude.{◌≡◌};
 ghost use Rattle.cal_c.specs.Statuses.{component_status};
 
@@ -6,7 +6,7 @@ use cal_time::error::{Component, ComponentRange};
 
 pub const DONE: i32 = 0;
 
-/// The exact result is no value of its type.
+/// The exact result is out of range.
 pub const PAST_RANGE: i32 = 1;
 
 pub const BAD_DATE: i32 = 2;
@@ -21,27 +21,27 @@ pub const BAD_WEEKDAY: i32 = 6;
 
 pub const BAD_COUNT: i32 = 7;
 
-/// The bytes are no text that the call reads, and one of them is wrong.
+/// A byte of the text is wrong.
 pub const UNREADABLE: i32 = 8;
 
 pub const BAD_MOMENT: i32 = 9;
 
-/// The number is no frequency of a rule.
+/// The number of the frequency is invalid.
 pub const BAD_FREQUENCY: i32 = 10;
 
-/// A rule has more months or weekdays than a call takes.
+/// The rule has too many months or weekdays.
 pub const MANY_PARTS: i32 = 11;
 
-/// The number is no convention of day counts or of working days.
+/// The number of the day count or business day convention is invalid.
 pub const BAD_CONVENTION: i32 = 12;
 
-/// The number has a mark besides those of the seven days of the week.
+/// The number has more marks than the seven of a week.
 pub const BAD_WEEK: i32 = 13;
 
-/// The holidays do not rise, or one of them is no date.
+/// The holidays are not in ascending order, or one is not a date.
 pub const BAD_HOLIDAYS: i32 = 14;
 
-/// There are more holidays than a call takes.
+/// There are too many holidays.
 pub const MANY_HOLIDAYS: i32 = 15;
 
 pub const YEAR: i32 = 16;
@@ -72,25 +72,25 @@ pub const SECONDS: i32 = 28;
 
 pub const TIMESTAMP: i32 = 29;
 
-/// The bounds of a text do not lie in the bytes, one after the other.
+/// The bounds of a text are not within the bytes, in order.
 pub const BOUNDS: i32 = 30;
 
-/// The bytes are no text that the call reads, and some more make one.
+/// The text ends too early: more bytes could complete it.
 pub const UNEXPECTED_END: i32 = 31;
 
-/// A part of the text of a recurrence has no name that is read.
+/// A part of the recurrence has an unknown name.
 pub const UNKNOWN_PART: i32 = 32;
 
-/// A part of the text comes again.
+/// A part of the recurrence is a duplicate.
 pub const PART_TWICE: i32 = 33;
 
-/// A part of the text has more values than are read.
+/// A part of the recurrence has too many values.
 pub const MANY_VALUES: i32 = 34;
 
-/// A part of the text has no value that is read.
+/// A part of the recurrence has an invalid value.
 pub const PART_VALUE: i32 = 35;
 
-/// The text has no frequency.
+/// The recurrence has no frequency.
 pub const NO_FREQUENCY: i32 = 36;
 
 pub const DAY: i32 = 64;
@@ -101,7 +101,7 @@ pub const WEEK: i32 = 66;
 
 pub const WEEKDAY: i32 = 67;
 
-/// The status of a refusal, by the component that it is of.
+/// Returns the status of an error, by its component.
 pub fn status_of(error: ComponentRange) -> i32
     ensures { result ≡ component_status error.component }
 {

@@ -1,5 +1,5 @@
-//! Days by sums alone: with no table, and with each value chosen at the end, so that a loop over rows takes several at a time. What
-//! stands for no date gives some number, which the caller does not take.
+//! Dates by arithmetic without tables or branches, so that a loop takes several rows at a time. For
+//! an invalid date the result is some number, which the caller ignores.
 ghost use Rattle.std.specs.Prelude.{◌≡◌, ℤ, ◌+◌, ◌≤◌, ◌↔◌, IsTrue};
 ghost use Rattle.cal_time.specs.Date.{last_day, weekday_at, IsYear, IsDayOfMonth, HasCalendarDate, HasOrdinalDate};
 ghost use Rattle.cal_time.specs.IsoWeekDate.{iso_year_at, iso_week_at};
@@ -10,7 +10,7 @@ use crate::number::{DAY_ZERO, LAST_NUMBER};
 use cal_time::Date;
 use cal_time::util::is_leap_year;
 
-/// The number of the day that has the Julian day, or that of some day where none has it.
+/// Returns the number of a date, or some number in range if the date is invalid.
 #[inline(always)]
 pub fn number_held(date: i32) -> u32
     ensures day { IsJulianDay date → result ≡ day_of date }
@@ -21,7 +21,7 @@ pub fn number_held(date: i32) -> u32
         .min(LAST_NUMBER)
 }
 
-/// The year and the ordinal of the day that has the number.
+/// Returns the year and the ordinal of a day.
 #[inline(always)]
 fn ordinal_date_at(number: u32) -> (i32, u16)
     requires { number ≤ last_day }
@@ -34,7 +34,7 @@ fn ordinal_date_at(number: u32) -> (i32, u16)
     }
 }
 
-/// The ISO year, the week and the weekday of a date. The week is that of its Thursday, in the year of which it lies.
+/// Returns the ISO year, week and weekday of a date. A week is in the year of its Thursday.
 #[inline(always)]
 pub fn iso_week_date_at(date: i32) -> (i32, u8, u8)
     ensures year { IsJulianDay date → result.0 ≡ iso_year_at (day_of date) }
@@ -45,7 +45,7 @@ pub fn iso_week_date_at(date: i32) -> (i32, u8, u8)
     let weekday = number % 7;
     let (year, ordinal) = ordinal_date_at(number - weekday + 3);
 
-    // A quotient by 7 of so small a number is a product by 9363, which is 2^16 / 7, rounded up.
+    // For a number this small, division by 7 is a product by 9363, which is 2^16 / 7, rounded up.
     (
         year,
         ((u32::from(ordinal) + 6) * 9363 / 65_536) as u8,
@@ -53,7 +53,7 @@ pub fn iso_week_date_at(date: i32) -> (i32, u8, u8)
     )
 }
 
-/// The days of a month, in a leap year or in a common one.
+/// Returns the number of days of a month, in a leap year or a common year.
 #[inline(always)]
 pub fn length_of(month: u8, leap: bool) -> u8
     ensures value { (year : ℤ) → IsMonth month → leap ≡ is_leap_year year
@@ -69,16 +69,16 @@ pub fn length_of(month: u8, leap: bool) -> u8
     }
 }
 
-/// Whether the month of the year has the day.
+/// Returns `true` if the month of the year has the day.
 #[inline(always)]
 pub fn has_day(year: i32, month: u8, day: u8) -> bool
     ensures { IsMonth month → IsTrue result ↔ IsDayOfMonth year month day }
 {
-    // A day of 0 wraps, far above the length of a month.
+    // A day of 0 wraps to a number far above the length of a month.
     u32::from(day).wrapping_sub(1) < u32::from(length_of(month, is_leap_year(year)))
 }
 
-/// The Julian day of a year, a month and a day of the month.
+/// Returns the Julian day of a year, a month and a day of the month.
 #[inline(always)]
 pub fn julian_day_at(year: i32, month: u8, day: u8) -> i32
     ensures has { IsYear year → IsMonth month → IsDayOfMonth year month day
@@ -86,7 +86,8 @@ pub fn julian_day_at(year: i32, month: u8, day: u8) -> i32
     ensures in_range { IsYear year → IsMonth month → IsDayOfMonth year month day
         → IsJulianDay result }
 {
-    // Years are counted from 1 March, so that a leap day ends its year; the first one begins in -1000000.
+    // Years begin on 1 March here, so a leap day is the last day of its year. The first year begins
+    // in -1000000.
     let is_early = month <= 2;
     let years = year
         .cast_unsigned()
@@ -98,7 +99,7 @@ pub fn julian_day_at(year: i32, month: u8, day: u8) -> i32
     (1461 * years / 4 - centuries + centuries / 4 + past) as i32 - 363_521_381
 }
 
-/// The year, the month and the day of the month of day `number`.
+/// Returns the year, the month and the day of the month of a day.
 #[inline(always)]
 pub fn calendar_date_at(number: u32) -> (i32, u32, u32)
     requires { number ≤ last_day }
@@ -106,14 +107,14 @@ pub fn calendar_date_at(number: u32) -> (i32, u32, u32)
     ensures month { result.1 ≤ 12 }
     ensures day { result.2 ≤ 31 }
 {
-    // Years are counted from 1 March, as above, and 306 days come before the first January.
+    // Years begin on 1 March, as above, and the first one has 306 days before 1 January.
     let days = number + 306;
     let century = (4 * days + 3) / 146_097;
     let julian = days + century - century / 4;
     let years = (4 * julian + 3) / 1461;
     let past = julian - 1461 * years / 4;
 
-    // The months of such a year, from 3 to 14, in parts of 2^16.
+    // The month of this year, from 3 to 14, times 2^16.
     let months = 2141 * past + 197_913;
     let month = months / 65_536;
     let day = months % 65_536 / 2141 + 1;

@@ -1,4 +1,4 @@
-//! What crosses of texts: the bytes of one, and what one reads as.
+//! Texts and the results of parsing.
 ghost use Rattle.std.specs.Prelude.{◌≡◌, ◌≤◌, length};
 ghost use Rattle.cal_c.specs.Texts.{no_date_read, no_moment_read, read_date_done, read_moment_done, text_done, text_refused};
 ghost use Rattle.cal_c.specs.Unread.{unread_date, unread_moment};
@@ -12,10 +12,10 @@ use cal_time::Date;
 mod making;
 pub mod reading;
 
-/// The bytes of a struct of a text: those of the longest one, and a zero byte after them.
+/// The bytes of a text: enough for the longest one and a zero byte.
 const CAPACITY: usize = 40;
 
-/// A text in ASCII, and zero bytes after it.
+/// A text in ASCII, followed by zero bytes.
 #[repr(C)]
 #[derive(Clone, Copy)]
 pub struct TextResult {
@@ -24,7 +24,7 @@ pub struct TextResult {
     pub bytes: [u8; CAPACITY],
 }
 
-/// A date that was read, or the position of the first byte that is wrong, or the length of a text that ends too early.
+/// A parsed date, or the position of the first wrong byte or of an end that comes too early.
 #[repr(C)]
 #[derive(Clone, Copy)]
 pub struct ReadDateResult {
@@ -33,7 +33,7 @@ pub struct ReadDateResult {
     pub position: usize,
 }
 
-/// A date, a time and an offset that were read, or such a position.
+/// A parsed date, time and offset, or a position as for a date.
 #[repr(C)]
 #[derive(Clone, Copy)]
 pub struct ReadMomentResult {

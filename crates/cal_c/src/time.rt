@@ -1,4 +1,4 @@
-//! Times of day, each as its nanoseconds since midnight.
+//! Times of day, in nanoseconds since midnight.
 
 mod making;
 mod moves;

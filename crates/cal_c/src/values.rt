@@ -1,4 +1,4 @@
-//! Values from the numbers that C passes, each checked.
+//! Checked values from the numbers that C passes.
 ghost use Rattle.std.specs.Prelude.{◌≡◌, ℕ, ℤ, ◌+◌, ◌<◌, ◌≤◌, SomeIff, MatchOption, min, unsigned_abs};
 ghost use Rattle.cal_time.specs.Date.{IsDayOfMonth, IsOrdinal};
 ghost use Rattle.cal_time.specs.IsoWeekDate.{IsWeek};
@@ -20,7 +20,7 @@ const NANOSECONDS_PER_HOUR: u64 = 3_600_000_000_000;
 
 const NANOSECONDS_PER_DAY: u64 = 86_400_000_000_000;
 
-/// The date that has the Julian day.
+/// Returns the date with a Julian day, or `None` if it is out of range.
 pub fn date_of(julian_day: i32) -> Option<Date>
     ensures { SomeIff result (IsJulianDay julian_day) (day_of julian_day) }
 {
@@ -30,7 +30,7 @@ pub fn date_of(julian_day: i32) -> Option<Date>
     }
 }
 
-/// The month that has the number, from January, 1.
+/// Returns the month with a number, from 1 for January, or `None`.
 pub fn month_of(month: u32) -> Option<Month>
     ensures { MatchOption result (¬ IsMonth month)
         (λ found. IsMonth month × (number found ≡ month)) }
@@ -38,7 +38,7 @@ pub fn month_of(month: u32) -> Option<Month>
     Month::try_from(byte_of(month)).ok()
 }
 
-/// The weekday that has the number, from Monday, 1.
+/// Returns the weekday with a number, from 1 for Monday, or `None`.
 pub fn weekday_of(weekday: u32) -> Option<Weekday>
     ensures { MatchOption result (¬ IsWeekday weekday)
         (λ found. IsWeekday weekday × (index found + 1 ≡ weekday)) }
@@ -55,7 +55,7 @@ pub fn weekday_of(weekday: u32) -> Option<Weekday>
     }
 }
 
-/// The day of a month, or a number that no month has where it is none.
+/// Returns the day of the month as a byte. An invalid day becomes one that no month has.
 #[tactic(auto, using(crate::proofs::Days::days_in_month_most))]
 pub fn day_of_month_of(day: u32) -> u8
     ensures has { (y : ℤ) (m : ℕ) → IsDayOfMonth y m day → result ≡ day }
@@ -64,7 +64,7 @@ pub fn day_of_month_of(day: u32) -> u8
     byte_of(day)
 }
 
-/// The ordinal, or a number that no year has where it is none.
+/// Returns the ordinal in 16 bits. An invalid ordinal becomes one that no year has.
 pub fn ordinal_of(ordinal: u32) -> u16
     ensures has { (y : ℤ) → IsOrdinal y ordinal → result ≡ ordinal }
     ensures none { (y : ℤ) → ¬ IsOrdinal y ordinal → ¬ IsOrdinal y result }
@@ -72,21 +72,21 @@ pub fn ordinal_of(ordinal: u32) -> u16
     short_of(ordinal)
 }
 
-/// The number, or the greatest `u8`, which no component has, where it is more.
+/// Clamps a number to 8 bits. No component has the maximum, 255.
 pub fn byte_of(number: u32) -> u8
     ensures { result ≡ min number 255 }
 {
     number.min(255) as u8
 }
 
-/// The number, or the greatest `u16` where it is more.
+/// Clamps a number to 16 bits.
 pub fn short_of(number: u32) -> u16
     ensures { result ≡ min number 65535 }
 {
     number.min(65535) as u16
 }
 
-/// The week, or 0 where the year has no such week.
+/// Returns the week, or 0 if the year doesn't have it.
 pub fn week_of(year: i32, week: u32) -> u8
     ensures has { IsWeek year week → result ≡ week }
     ensures none { ¬ IsWeek year week → ¬ IsWeek year result }
@@ -98,14 +98,14 @@ pub fn week_of(year: i32, week: u32) -> u8
     }
 }
 
-/// The date that has the Julian day.
+/// Returns the date with a Julian day, or `None` if it is out of range.
 pub fn date_at(julian_day: i64) -> Option<Date>
     ensures { SomeIff result (IsJulianDay julian_day) (day_of julian_day) }
 {
     date_of(i32::try_from(julian_day).ok()?)
 }
 
-/// The duration of seconds and nanoseconds.
+/// Returns the duration of seconds and nanoseconds, or `None` if they are invalid.
 pub fn duration_of(duration: Duration) -> Option<SignedDuration>
     ensures { SomeIff result (IsDurationPair duration) (nanoseconds_in duration) }
 {
@@ -125,7 +125,7 @@ pub fn duration_of(duration: Duration) -> Option<SignedDuration>
     Some(SignedDuration::new(seconds, nanoseconds))
 }
 
-/// The time of nanoseconds since midnight.
+/// Returns the time with nanoseconds since midnight, or `None` if it is a day or more.
 pub fn time_of(nanoseconds: u64) -> Option<Time>
     ensures { SomeIff result (IsTime nanoseconds) nanoseconds }
 {
@@ -137,7 +137,7 @@ pub fn time_of(nanoseconds: u64) -> Option<Time>
     Some(time)
 }
 
-/// The nanoseconds of a time since midnight.
+/// Returns the nanoseconds since midnight of a time.
 pub fn nanoseconds_of(time: Time) -> u64
     ensures { result ≡ time }
 {
@@ -147,14 +147,14 @@ pub fn nanoseconds_of(time: Time) -> u64
         + u64::from(time.nanosecond())
 }
 
-/// The offset of seconds.
+/// Returns the offset of seconds, or `None` if it is out of range.
 pub fn offset_of(seconds: i32) -> Option<UtcOffset>
     ensures { SomeIff result (IsOffset seconds) seconds }
 {
     UtcOffset::from_whole_seconds(seconds).ok()
 }
 
-/// The number, or the nearest `i8`, which no component of an offset is, where it is past those.
+/// Clamps a number to 8 bits with a sign. No component of an offset is at either end.
 pub fn signed_byte_of(number: i32) -> i8
     ensures same { unsigned_abs number ≤ 127 → result ≡ number }
     ensures above { (n : ℕ) → n < 127 → n < unsigned_abs number → n < unsigned_abs result }

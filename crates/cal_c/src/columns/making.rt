@@ -1,4 +1,4 @@
-//! Columns of dates that are made.
+//! Columns of dates from their parts.
 ghost use Rattle.std.specs.Prelude.{◌≡◌, pos};
 ghost use Rattle.cal_time.specs.Date.{julian_day_at, IsYear, IsDayOfMonth};
 ghost use Rattle.cal_c.specs.Columns.{int_at, nat_at, Alike3, Alike4, Alike5, AreAnswered, date_row, IsDateOfJulianDay, IsDateOfCalendarDate, IsDateOfOrdinalDate, IsDateOfIsoWeekDate};
@@ -14,7 +14,7 @@ use crate::values::weekday_of;
 use cal_time::Date;
 use cal_time::limits::{MAX_YEAR, MIN_YEAR};
 
-/// The dates of a column of Julian days, row by row as `fots_date_from_julian_day`, and how many rows have none.
+/// Creates dates from Julian days, like `fots_date_from_julian_day`.
 #[unsafe(no_mangle)]
 pub extern "C" fn fots_dates_from_julian_days(
     julian_days: &[i64],
@@ -39,7 +39,7 @@ pub extern "C" fn fots_dates_from_julian_days(
     refused_in(statuses)
 }
 
-/// The dates of columns of years, months and days, row by row as `fots_date_from_calendar_date`, and how many rows have none.
+/// Creates dates from years, months and days, like `fots_date_from_calendar_date`.
 #[unsafe(no_mangle)]
 pub extern "C" fn fots_dates_from_calendar_dates(
     years: &[i32],
@@ -67,7 +67,7 @@ pub extern "C" fn fots_dates_from_calendar_dates(
     refused_in(statuses)
 }
 
-/// The dates of columns of years and ordinals, row by row as `fots_date_from_ordinal_date`, and how many rows have none.
+/// Creates dates from years and ordinals, like `fots_date_from_ordinal_date`.
 #[unsafe(no_mangle)]
 pub extern "C" fn fots_dates_from_ordinal_dates(
     years: &[i32],
@@ -93,7 +93,7 @@ pub extern "C" fn fots_dates_from_ordinal_dates(
     refused_in(statuses)
 }
 
-/// The dates of columns of ISO years, weeks and weekdays, row by row as `fots_date_from_iso_week_date`, and how many rows have none.
+/// Creates dates from ISO years, weeks and weekdays, like `fots_date_from_iso_week_date`.
 #[unsafe(no_mangle)]
 pub extern "C" fn fots_dates_from_iso_week_dates(
     years: &[i32],
@@ -125,7 +125,7 @@ pub extern "C" fn fots_dates_from_iso_week_dates(
     refused_in(statuses)
 }
 
-/// The date of a row, and its status.
+/// Returns the row of a date.
 #[inline(always)]
 fn made(date: Date) -> (i32, u8)
     ensures { date_row result.0 result.1 ≡ date_done (julian_day_at date) }
@@ -133,7 +133,7 @@ fn made(date: Date) -> (i32, u8)
     (date.to_julian_day(), DONE)
 }
 
-/// What stands for the date of a row that has none, and the status.
+/// Returns the row of an error.
 #[inline(always)]
 pub(super) fn refused(status: u8) -> (i32, u8)
     ensures { date_row result.0 result.1 ≡ date_refused (pos status) }
@@ -141,7 +141,7 @@ pub(super) fn refused(status: u8) -> (i32, u8)
     (NOTHING, status)
 }
 
-/// The date of a row where the range has it, and the status.
+/// Returns the row of a date, or of a date out of range.
 #[inline(always)]
 pub(super) fn made_if_any(date: Option<Date>) -> (i32, u8)
     ensures { date_row result.0 result.1 ≡ date_if_any date }
@@ -152,7 +152,7 @@ pub(super) fn made_if_any(date: Option<Date>) -> (i32, u8)
     }
 }
 
-/// The date of a Julian day, and its status.
+/// Returns the row of a Julian day.
 fn date_of_julian_day(julian_day: i64) -> (i32, u8)
     ensures { IsDateOfJulianDay julian_day (date_row result.0 result.1) }
 {
@@ -163,7 +163,7 @@ fn date_of_julian_day(julian_day: i64) -> (i32, u8)
     }
 }
 
-/// The date of a year, a month and a day of the month, and its status.
+/// Returns the row of a year, a month and a day of the month.
 fn date_of_calendar_date(year: i32, month: u8, day: u8) -> (i32, u8)
     ensures { IsDateOfCalendarDate year month day (date_row result.0 result.1) }
 {
@@ -176,7 +176,7 @@ fn date_of_calendar_date(year: i32, month: u8, day: u8) -> (i32, u8)
     }
 }
 
-/// The status of a year, a month and a day of the month: of the month before the year, and of the year before the day.
+/// Returns the status of a year, a month and a day, or of the first error: month, year or day.
 #[inline(always)]
 pub(super) fn status_of_calendar_date(year: i32, month: u8, day: u8) -> u8
     ensures no_month { ¬ IsMonth month → pos result ≡ month_refused }
@@ -197,7 +197,7 @@ pub(super) fn status_of_calendar_date(year: i32, month: u8, day: u8) -> u8
     }
 }
 
-/// The date of a year and an ordinal, and its status.
+/// Returns the row of a year and an ordinal.
 fn date_of_ordinal_date(year: i32, ordinal: u16) -> (i32, u8)
     ensures { IsDateOfOrdinalDate year ordinal (date_row result.0 result.1) }
 {
@@ -207,7 +207,7 @@ fn date_of_ordinal_date(year: i32, ordinal: u16) -> (i32, u8)
     }
 }
 
-/// The date of an ISO year, a week and a weekday, and its status.
+/// Returns the row of an ISO year, a week and a weekday.
 fn date_of_iso_week_date(year: i32, week: u8, weekday: u8) -> (i32, u8)
     ensures { IsDateOfIsoWeekDate year week weekday (date_row result.0 result.1) }
 {

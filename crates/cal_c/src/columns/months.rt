@@ -1,4 +1,4 @@
-//! Columns of dates that are moved by months.
+//! Columns of dates plus months.
 ghost use Rattle.std.specs.Prelude.{◌≡◌, ◌≤◌, ◌+ℤ◌, min, pos};
 ghost use Rattle.cal_time.specs.Date.{year_at, month_at, day_of_month_at};
 ghost use Rattle.cal_time.specs.Lengths.{days_in_month};
@@ -16,10 +16,10 @@ use cal_time::Cycle;
 use cal_time::limits::MIN_YEAR;
 use cal_time::util::is_leap_year;
 
-/// The months of the range that come before its last one.
+/// The index of the last month of the range.
 const LAST_MONTH: u32 = 23_999_987;
 
-/// The dates of a column, each moved by the months of another column, row by row as `fots_date_add_months`, and how many rows have none.
+/// Adds months to dates, like `fots_date_add_months`.
 #[unsafe(no_mangle)]
 pub extern "C" fn fots_dates_add_months(
     dates: &[i32],
@@ -45,12 +45,12 @@ pub extern "C" fn fots_dates_add_months(
     refused_in(statuses)
 }
 
-/// The day so many months later, and the status.
+/// Returns the row of a date plus months.
 fn date_months_later(date: i32, months: i32) -> (i32, u8)
     ensures { IsDateMonthsLater date months (date_row result.0 result.1) }
 {
     let (index, day) = index_and_day(date);
-    // A sum below zero wraps, far above the last month.
+    // A negative sum wraps to a number far above the last month.
     let index = index.wrapping_add(months.cast_unsigned());
     let later = day_in_month(index.min(LAST_MONTH), day);
     if !is_julian_day(date) {
@@ -62,7 +62,7 @@ fn date_months_later(date: i32, months: i32) -> (i32, u8)
     }
 }
 
-/// The months of the range that come before the month of a date, and its day of the month.
+/// Returns the index of the month from the start of the range, and the day of the month.
 #[inline(always)]
 fn index_and_day(date: i32) -> (u32, u8)
     ensures index { IsJulianDay date
@@ -83,7 +83,7 @@ fn index_and_day(date: i32) -> (u32, u8)
     }
 }
 
-/// The day of the month that has so many months of the range before it, or its last day where it has no such day.
+/// Returns the date in a month with this day, or the last day of the month if it is shorter.
 #[inline(always)]
 fn day_in_month(index: u32, day: u8) -> i32
     requires index { index ≤ 23_999_987 }

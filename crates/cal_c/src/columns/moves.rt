@@ -1,4 +1,4 @@
-//! Columns of dates that are moved.
+//! Columns of dates plus days.
 ghost use Rattle.std.specs.Prelude.{◌≡◌, ℕ, ◌<◌, ◌≤◌, ◌+ℤ◌, length, get_or, pos};
 ghost use Rattle.std.specs.Int.{int_min, int_max};
 ghost use Rattle.cal_time.specs.Date.{last_day};
@@ -10,7 +10,7 @@ use super::{NOTHING, UNLIKE, refused_in};
 use crate::number::{DAY_ZERO, LAST_NUMBER, is_julian_day};
 use crate::sums::number_held;
 
-/// The dates of a column, each moved by the days of another column, row by row as `fots_date_add_days`, and how many rows have none.
+/// Adds days to dates, like `fots_date_add_days`.
 #[unsafe(no_mangle)]
 pub extern "C" fn fots_dates_add_days(
     dates: &[i32],
@@ -37,8 +37,8 @@ pub extern "C" fn fots_dates_add_days(
     refused_in(statuses)
 }
 
-/// The days of each row in 32 bits, or the nearest number to them, which leads past the range as well. This loop alone has rows of
-/// 64 bits, so the next one takes twice as many of them at a time.
+/// Clamps the days of each row to 32 bits; the clamped days are out of range, too. Only this loop
+/// has rows of 64 bits, so the next one takes twice as many rows at a time.
 fn hold_days(days: &[i64], held: &mut [i32])
     requires { length held.old ≡ length days.now }
     ensures length { length held.new ≡ length held.old }
@@ -51,7 +51,7 @@ fn hold_days(days: &[i64], held: &mut [i32])
     }
 }
 
-/// The day so many days later, and the status.
+/// Returns the row of a date plus days.
 fn moved_date(date: i32, days: i32) -> (i32, u8)
     ensures { IsDateMoved date days (date_row result.0 result.1) }
 {
@@ -65,12 +65,12 @@ fn moved_date(date: i32, days: i32) -> (i32, u8)
     }
 }
 
-/// The number of the day so many days later, or a number past the last one where there is none.
+/// Returns the number of a day plus days, or a number after the last day if it is out of range.
 fn moved_number(number: u32, days: i32) -> u32
     requires { number ≤ last_day }
     ensures within { IsDateNumber (pos number +ℤ days) → pos result ≡ pos number +ℤ days }
     ensures past { ¬ IsDateNumber (pos number +ℤ days) → last_day < result }
 {
-    // A sum below zero wraps, far above the last number.
+    // A negative sum wraps to a number far above the last day.
     number.wrapping_add(days.cast_unsigned())
 }

@@ -1,4 +1,4 @@
-//! Columns of what dates have.
+//! Columns of the components of dates.
 ghost use Rattle.std.specs.Prelude.{◌≡◌};
 ghost use Rattle.cal_c.specs.Columns.{int_at, nat_at, Alike3, Alike4, Alike5, Alike7, AreAnswered, calendar_date_row, ordinal_date_row, iso_week_date_row, IsCalendarDateOf, IsOrdinalDateOf, IsIsoWeekDateOf, IsWeekdayOf, IsIsoWeekDateOfCalendarDate};
 
@@ -9,7 +9,7 @@ use crate::number::{is_julian_day, number_of, weekday_of_number};
 use crate::sums::{calendar_date_at, iso_week_date_at, julian_day_at, number_held};
 use crate::values::date_of;
 
-/// The calendar dates of a column of dates, row by row as `fots_date_to_calendar_date`, and how many rows have none.
+/// Converts dates to calendar dates, like `fots_date_to_calendar_date`.
 #[unsafe(no_mangle)]
 pub extern "C" fn fots_dates_to_calendar_dates(
     dates: &[i32],
@@ -40,7 +40,7 @@ pub extern "C" fn fots_dates_to_calendar_dates(
     refused_in(statuses)
 }
 
-/// The ordinal dates of a column of dates, row by row as `fots_date_to_ordinal_date`, and how many rows have none.
+/// Converts dates to ordinal dates, like `fots_date_to_ordinal_date`.
 #[unsafe(no_mangle)]
 pub extern "C" fn fots_dates_to_ordinal_dates(
     dates: &[i32],
@@ -68,7 +68,7 @@ pub extern "C" fn fots_dates_to_ordinal_dates(
     refused_in(statuses)
 }
 
-/// The ISO week dates of a column of dates, row by row as `fots_date_to_iso_week_date`, and how many rows have none.
+/// Converts dates to ISO week dates, like `fots_date_to_iso_week_date`.
 #[unsafe(no_mangle)]
 pub extern "C" fn fots_dates_to_iso_week_dates(
     dates: &[i32],
@@ -103,7 +103,7 @@ pub extern "C" fn fots_dates_to_iso_week_dates(
     refused_in(statuses)
 }
 
-/// The weekdays of a column of dates, row by row as `fots_date_weekday`, and how many rows have none.
+/// Writes the weekdays of dates, like `fots_date_weekday`.
 #[unsafe(no_mangle)]
 pub extern "C" fn fots_dates_weekdays(
     dates: &[i32],
@@ -128,7 +128,7 @@ pub extern "C" fn fots_dates_weekdays(
     refused_in(statuses)
 }
 
-/// The ISO week dates of columns of years, months and days, and how many rows have none: those of the dates that `fots_date_from_calendar_date` gives.
+/// Converts calendar dates to ISO week dates, like the single calls for both.
 #[unsafe(no_mangle)]
 pub extern "C" fn fots_calendar_dates_to_iso_week_dates(
     years: &[i32],
@@ -173,7 +173,7 @@ pub extern "C" fn fots_calendar_dates_to_iso_week_dates(
     refused_in(statuses)
 }
 
-/// The year, the month and the day of the month of a date, and the status.
+/// Returns the calendar date of a date, and the status.
 fn calendar_date_of(date: i32) -> (i32, u8, u8, u8)
     ensures { IsCalendarDateOf date (calendar_date_row result.0 result.1 result.2 result.3) }
 {
@@ -185,7 +185,7 @@ fn calendar_date_of(date: i32) -> (i32, u8, u8, u8)
     }
 }
 
-/// The year and the ordinal of a date, and the status.
+/// Returns the ordinal date of a date, and the status.
 fn ordinal_date_of(date: i32) -> (i32, u16, u8)
     ensures { IsOrdinalDateOf date (ordinal_date_row result.0 result.1 result.2) }
 {
@@ -194,7 +194,7 @@ fn ordinal_date_of(date: i32) -> (i32, u16, u8)
     (year, ordinal, DONE)
 }
 
-/// The ISO year, the week and the weekday of a date, and the status.
+/// Returns the ISO week date of a date, and the status.
 fn iso_week_date_of(date: i32) -> (i32, u8, u8, u8)
     ensures { IsIsoWeekDateOf date (iso_week_date_row result.0 result.1 result.2 result.3) }
 {
@@ -206,7 +206,7 @@ fn iso_week_date_of(date: i32) -> (i32, u8, u8, u8)
     }
 }
 
-/// The weekday of a date, from Monday, 1, and the status.
+/// Returns the weekday of a date, from 1 for Monday, and the status.
 fn weekday_of(date: i32) -> (u8, u8)
     ensures { IsWeekdayOf date result.0 result.1 }
 {
@@ -216,7 +216,7 @@ fn weekday_of(date: i32) -> (u8, u8)
     }
 }
 
-/// The ISO year, the week and the weekday of a year, a month and a day of the month, and the status.
+/// Returns the ISO week date of a calendar date, and the status.
 fn iso_week_date_of_calendar_date(year: i32, month: u8, day: u8) -> (i32, u8, u8, u8)
     ensures { IsIsoWeekDateOfCalendarDate year month day
         (iso_week_date_row result.0 result.1 result.2 result.3) }

@@ -1,4 +1,4 @@
-//! The status of a row in one byte: each status is below 256.
+//! Statuses as bytes: each status is below 256.
 ghost use Rattle.std.specs.Prelude.{◌≡◌, pos};
 ghost use Rattle.cal_c.specs.Columns.{IsByte};
 ghost use Rattle.cal_c.specs.Statuses.{component_status};
@@ -34,7 +34,7 @@ pub(super) const WEEK: u8 = status::WEEK as u8;
 
 pub(super) const WEEKDAY: u8 = status::WEEKDAY as u8;
 
-/// The status of a refusal, by the component that it is of.
+/// Returns the status of an error.
 #[tactic(auto, using(crate::proofs::TextRows::is_byte))]
 pub(super) fn status_of(error: ComponentRange) -> u8
     ensures { pos result ≡ component_status error.component }
@@ -42,7 +42,7 @@ pub(super) fn status_of(error: ComponentRange) -> u8
     byte_of(status::status_of(error))
 }
 
-/// The status in one byte.
+/// Returns a status as a byte.
 pub(super) fn byte_of(status: i32) -> u8
     ensures { IsByte status → pos result ≡ status }
 {

@@ -1,3 +1,3 @@
-//! Columns of texts: one array has the bytes of all, and another one where each begins, which is where the one before it ends.
+//! Columns of texts: the bytes of all texts, and the bounds between which the texts are.
 mod making;
 mod reading;

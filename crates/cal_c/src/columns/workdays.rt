@@ -1,4 +1,4 @@
-//! Columns of dates that are moved by working days, and of working days counted between dates.
+//! Columns of dates plus working days, and of working days between dates.
 ghost use Rattle.std.specs.Prelude.{◌≡◌, IfErr, IfOk};
 ghost use Rattle.cal_schedule.specs.Workdays.{nth_workday};
 ghost use Rattle.cal_c.specs.Columns.{int_at, nat_at, Alike4, AreAnswered, date_row, number_row, IsByte, IsDateWorkdaysLater, IsWorkdaysBetween};
@@ -14,8 +14,7 @@ use crate::schedule::workdays::calendar::{Calendar, workdays_of};
 use crate::values::date_of;
 use cal_schedule::Workdays;
 
-/// The dates of a column, each moved by the working days of another column, row by row as `fots_date_add_workdays`, and how many rows have
-/// none.
+/// Adds working days to dates, like `fots_date_add_workdays`.
 #[unsafe(no_mangle)]
 pub extern "C" fn fots_dates_add_workdays(
     dates: &[i32],
@@ -46,8 +45,7 @@ pub extern "C" fn fots_dates_add_workdays(
     refused_in(statuses)
 }
 
-/// How many working days there are from each date of a column to the one of another column, row by row as `fots_date_workdays_between`,
-/// and how many rows have no answer.
+/// Counts the working days between dates, like `fots_date_workdays_between`.
 #[unsafe(no_mangle)]
 pub extern "C" fn fots_dates_workdays_between(
     dates: &[i32],
@@ -78,7 +76,7 @@ pub extern "C" fn fots_dates_workdays_between(
     refused_in(statuses)
 }
 
-/// The working day so many working days later, and the status.
+/// Returns the row of a date plus working days.
 fn date_workdays_later(date: i32, days: i32, workdays: &Result<Workdays<'_>, i32>) -> (i32, u8)
     ensures bad_date { ¬ IsJulianDay date → date_row result.0 result.1 ≡ date_refused bad_date }
     ensures refused { IsJulianDay date
@@ -92,7 +90,7 @@ fn date_workdays_later(date: i32, days: i32, workdays: &Result<Workdays<'_>, i32
     made_if_any(workdays.checked_add_workdays(date, days))
 }
 
-/// How many working days there are from the date to the day before the other, and the status.
+/// Returns the row of the working days between two dates.
 fn workdays_to(date: i32, other: i32, workdays: &Result<Workdays<'_>, i32>) -> (i32, u8)
     ensures bad_date { ¬ (IsJulianDay date × IsJulianDay other)
         → number_row result.0 result.1 ≡ number_refused bad_date }

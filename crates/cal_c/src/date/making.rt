@@ -1,4 +1,4 @@
-//! Dates made.
+//! Constructors of dates.
 ghost use Rattle.cal_c.specs.Columns.{IsDateOfJulianDay, IsDateOfCalendarDate, IsDateOfOrdinalDate, IsDateOfIsoWeekDate};
 
 use crate::results::DateResult;
@@ -8,9 +8,8 @@ use crate::values::{date_at, day_of_month_of, ordinal_of, week_of, weekday_of};
 use cal_time::Date;
 use cal_time::limits::{MAX_YEAR, MIN_YEAR};
 
-/// The date that has the Julian day, from -363521074 to 366963559, which it is itself.
-///
-/// Refused as `julian_day` where no day of the range has it. The day of 2451545 is 2000-01-01.
+/// Creates a date from a Julian day, from -363521074 to 366963559. Returns the error `julian_day`
+/// if it is out of range. 2451545 is 2000-01-01.
 #[unsafe(no_mangle)]
 pub extern "C" fn fots_date_from_julian_day(julian_day: i64) -> DateResult
     ensures { IsDateOfJulianDay julian_day result }
@@ -19,9 +18,8 @@ pub extern "C" fn fots_date_from_julian_day(julian_day: i64) -> DateResult
     DateResult::of(date)
 }
 
-/// The date of a year, from -999999 to 999999, a month, from 1 to 12, and a day of the month.
-///
-/// Refused as `month` first, then as `year`, then as `day`. That of 2000, 2 and 29 is 2451604.
+/// Creates a date from a year, from -999999 to 999999, a month and a day of the month. Returns the
+/// first error that applies: `month`, `year` or `day`. 2000, 2 and 29 give 2451604.
 #[unsafe(no_mangle)]
 pub extern "C" fn fots_date_from_calendar_date(year: i32, month: u32, day: u32) -> DateResult
     ensures { IsDateOfCalendarDate year month day result }
@@ -42,9 +40,8 @@ pub extern "C" fn fots_date_from_calendar_date(year: i32, month: u32, day: u32) 
     }
 }
 
-/// The date of a year, from -999999 to 999999, and an ordinal, from 1 to 365, or 366 in a leap year.
-///
-/// Refused as `year`, then as `ordinal`. That of 2000 and 60 is 2451604.
+/// Creates a date from a year, from -999999 to 999999, and an ordinal, from 1 to 365, or 366 in a
+/// leap year. Returns the first error that applies: `year` or `ordinal`. 2000 and 60 give 2451604.
 #[unsafe(no_mangle)]
 pub extern "C" fn fots_date_from_ordinal_date(year: i32, ordinal: u32) -> DateResult
     ensures { IsDateOfOrdinalDate year ordinal result }
@@ -55,10 +52,8 @@ pub extern "C" fn fots_date_from_ordinal_date(year: i32, ordinal: u32) -> DateRe
     )
 }
 
-/// The date of an ISO year, from -999999 to 999999, a week, and a weekday from Monday, 1, to Sunday, 7.
-///
-/// A number that is no weekday comes first, then `year`, then `week`; then `weekday`, where the day would come after the last one.
-/// That of 2000, 9 and 2 is 2451604.
+/// Creates a date from an ISO year, from -999999 to 999999, a week and a weekday. The errors are
+/// `year`, `week`, and `weekday` after the last day of the range. 2000, 9 and 2 give 2451604.
 #[unsafe(no_mangle)]
 pub extern "C" fn fots_date_from_iso_week_date(year: i32, week: u32, weekday: u32) -> DateResult
     ensures { IsDateOfIsoWeekDate year week weekday result }

@@ -1,4 +1,4 @@
-//! Dates moved on and back, and the durations between dates.
+//! Dates plus and minus days, and the durations between dates.
 ghost use Rattle.std.specs.Prelude.{◌≡◌, pos, ◌+ℤ◌, ◌-ℤ◌, ◌*ℤ◌};
 ghost use Rattle.cal_time.specs.SignedDuration.{day, whole_days};
 ghost use Rattle.cal_c.specs.Columns.{IsDateMoved};
@@ -13,7 +13,7 @@ use crate::results::{DateResult, Duration, DurationResult};
 use crate::status::{BAD_DATE, BAD_DURATION};
 use crate::values::duration_of;
 
-/// The day after. None after 366963559 alone. That of 2451604 is 2451605.
+/// Returns the next day. Fails only for the last day, 366963559. After 2451604 it is 2451605.
 #[unsafe(no_mangle)]
 pub extern "C" fn fots_date_next_day(date: i32) -> DateResult
     ensures bad_date { ¬ IsJulianDay date → result ≡ date_refused bad_date }
@@ -25,7 +25,7 @@ pub extern "C" fn fots_date_next_day(date: i32) -> DateResult
     days_later(date, 1)
 }
 
-/// The day before. None before -363521074 alone. That of 2451604 is 2451603.
+/// Returns the previous day. Fails only for the first, -363521074. Before 2451604 it is 2451603.
 #[unsafe(no_mangle)]
 pub extern "C" fn fots_date_previous_day(date: i32) -> DateResult
     ensures bad_date { ¬ IsJulianDay date → result ≡ date_refused bad_date }
@@ -37,7 +37,8 @@ pub extern "C" fn fots_date_previous_day(date: i32) -> DateResult
     days_earlier(date, 1)
 }
 
-/// The day that many whole days later, cut toward zero, or none where that is past an end of the range. 2020-12-31 and 47 hours more are 2021-01-01.
+/// Adds the whole days of a duration, truncated toward zero. Fails if the result is out of range.
+/// 2020-12-31 plus 47 hours is 2021-01-01.
 #[unsafe(no_mangle)]
 pub extern "C" fn fots_date_checked_add(date: i32, duration: Duration) -> DateResult
     ensures bad_date { ¬ IsJulianDay date → result ≡ date_refused bad_date }
@@ -53,7 +54,7 @@ pub extern "C" fn fots_date_checked_add(date: i32, duration: Duration) -> DateRe
     days_later(date, duration.whole_days())
 }
 
-/// The day that many whole days later, cut toward zero, or the end of the range that is nearest to it.
+/// Adds the whole days of a duration, truncated toward zero. A result out of range is clamped.
 #[unsafe(no_mangle)]
 pub extern "C" fn fots_date_saturating_add(date: i32, duration: Duration) -> DateResult
     ensures bad_date { ¬ IsJulianDay date → result ≡ date_refused bad_date }
@@ -69,7 +70,8 @@ pub extern "C" fn fots_date_saturating_add(date: i32, duration: Duration) -> Dat
     days_later_held(date, duration.whole_days())
 }
 
-/// The day that many whole days earlier, cut toward zero, or none where that is past an end of the range. 2020-12-31 less 47 hours is 2020-12-30.
+/// Subtracts the whole days of a duration, truncated toward zero. Fails if the result is out of
+/// range. 2020-12-31 minus 47 hours is 2020-12-30.
 #[unsafe(no_mangle)]
 pub extern "C" fn fots_date_checked_sub(date: i32, duration: Duration) -> DateResult
     ensures bad_date { ¬ IsJulianDay date → result ≡ date_refused bad_date }
@@ -85,7 +87,7 @@ pub extern "C" fn fots_date_checked_sub(date: i32, duration: Duration) -> DateRe
     days_earlier(date, duration.whole_days())
 }
 
-/// The day that many whole days earlier, cut toward zero, or the end of the range that is nearest to it.
+/// Subtracts the whole days of a duration, truncated toward zero. A result out of range is clamped.
 #[unsafe(no_mangle)]
 pub extern "C" fn fots_date_saturating_sub(date: i32, duration: Duration) -> DateResult
     ensures bad_date { ¬ IsJulianDay date → result ≡ date_refused bad_date }
@@ -101,8 +103,8 @@ pub extern "C" fn fots_date_saturating_sub(date: i32, duration: Duration) -> Dat
     days_earlier_held(date, duration.whole_days())
 }
 
-/// The day so many days later, or earlier where they are below zero, or none where that is past an end of the range. That 366 days
-/// after 2451604 is 2451970.
+/// Adds days, or subtracts them if the number is negative. Fails if the result is out of range. 366
+/// days after 2451604 is 2451970.
 #[unsafe(no_mangle)]
 pub extern "C" fn fots_date_add_days(date: i32, days: i64) -> DateResult
     ensures { IsDateMoved date days result }
@@ -113,8 +115,8 @@ pub extern "C" fn fots_date_add_days(date: i32, days: i64) -> DateResult
     days_later(date, days)
 }
 
-/// The duration from the other date to the date, in whole days, below zero where the other one is later. From 2451545 to 2451604 it
-/// is 5097600 seconds.
+/// Returns the duration from `other` to `date`, negative if `other` is later. From 2451545 to
+/// 2451604 it is 5097600 seconds.
 #[unsafe(no_mangle)]
 pub extern "C" fn fots_date_duration_since(date: i32, other: i32) -> DurationResult
     ensures bad_date { ¬ (IsJulianDay date × IsJulianDay other)

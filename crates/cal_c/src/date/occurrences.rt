@@ -10,8 +10,8 @@ use crate::number::{day_if_any, days_since_monday, number_of};
 use crate::results::DateResult;
 use crate::status::{BAD_COUNT, BAD_DATE, BAD_WEEKDAY, PAST_RANGE};
 
-/// The `count`-th of the days after the date that have the weekday, counted from 1, or none where it is past the range, or `count`
-/// is 0. Counts go up to 255. The fifth Monday after 2460121 is 2460150.
+/// Returns the `count`-th day with a weekday after a date, from 1 to 255. Fails if it is out of
+/// range, or for 0. The fifth Monday after 2460121 is 2460150.
 #[unsafe(no_mangle)]
 pub extern "C" fn fots_date_nth_next_occurrence(date: i32, weekday: u32, count: u32) -> DateResult
     ensures bad_date { ¬ IsJulianDay date → result ≡ date_refused bad_date }
@@ -32,8 +32,8 @@ pub extern "C" fn fots_date_nth_next_occurrence(date: i32, weekday: u32, count: 
     occurrence_after(number, weekday, count)
 }
 
-/// The `count`-th of the days before the date that have the weekday, counted from 1 at the nearest, or none where it is before the
-/// range, or `count` is 0. Counts go up to 255. The third Monday before 2460123 is 2460108.
+/// Returns the `count`-th day with a weekday before a date, from 1 to 255. Fails if it is out of
+/// range, or for 0. The third Monday before 2460123 is 2460108.
 #[unsafe(no_mangle)]
 pub extern "C" fn fots_date_nth_prev_occurrence(date: i32, weekday: u32, count: u32) -> DateResult
     ensures bad_date { ¬ IsJulianDay date → result ≡ date_refused bad_date }
@@ -54,7 +54,8 @@ pub extern "C" fn fots_date_nth_prev_occurrence(date: i32, weekday: u32, count: 
     occurrence_before(number, weekday, count)
 }
 
-/// The first day after the date that has the weekday, or none where it is past the range. The Monday after 2460124 is 2460129.
+/// Returns the first day with a weekday after a date. Fails if it is out of range. The Monday after
+/// 2460124 is 2460129.
 #[unsafe(no_mangle)]
 pub extern "C" fn fots_date_next_occurrence(date: i32, weekday: u32) -> DateResult
     ensures bad_date { ¬ IsJulianDay date → result ≡ date_refused bad_date }
@@ -70,7 +71,8 @@ pub extern "C" fn fots_date_next_occurrence(date: i32, weekday: u32) -> DateResu
     occurrence_after(number, weekday, 1)
 }
 
-/// The last day before the date that has the weekday, or none where it is before the range. The Monday before 2460115 is 2460108.
+/// Returns the last day with a weekday before a date. Fails if it is out of range. The Monday
+/// before 2460115 is 2460108.
 #[unsafe(no_mangle)]
 pub extern "C" fn fots_date_prev_occurrence(date: i32, weekday: u32) -> DateResult
     ensures bad_date { ¬ IsJulianDay date → result ≡ date_refused bad_date }
@@ -86,7 +88,7 @@ pub extern "C" fn fots_date_prev_occurrence(date: i32, weekday: u32) -> DateResu
     occurrence_before(number, weekday, 1)
 }
 
-/// The `count`-th of the days after day `number` that have the weekday, counted from 1.
+/// Returns the `count`-th day with a weekday after a day.
 fn occurrence_after(number: u32, weekday: u32, count: u32) -> DateResult
     requires in_range { IsDate number }
     requires is_weekday { IsWeekday weekday }
@@ -101,7 +103,7 @@ fn occurrence_after(number: u32, weekday: u32, count: u32) -> DateResult
     day_if_any(number + first + 7 * (count - 1))
 }
 
-/// The `count`-th of the days before day `number` that have the weekday, counted from 1 at the nearest.
+/// Returns the `count`-th day with a weekday before a day.
 fn occurrence_before(number: u32, weekday: u32, count: u32) -> DateResult
     requires in_range { IsDate number }
     requires is_weekday { IsWeekday weekday }
@@ -119,7 +121,7 @@ fn occurrence_before(number: u32, weekday: u32, count: u32) -> DateResult
     day_if_any(number)
 }
 
-/// The days from a day that has the one weekday to the next one that has the other, from 1 to 7.
+/// Returns the days from one weekday to the next day with another, from 1 to 7.
 fn days_until(weekday: u32, other: u32) -> u32
     requires is_weekday { IsWeekday weekday }
     requires is_other { IsWeekday other }

@@ -1,4 +1,4 @@
-//! What dates have.
+//! The components of dates.
 ghost use Rattle.std.specs.Prelude.{◌≡◌, ◌+◌, pos};
 ghost use Rattle.cal_time.specs.Date.{year_at, month_at, day_of_month_at, ordinal_at, weekday_at};
 ghost use Rattle.cal_time.specs.IsoWeekDate.{iso_week_at, weekdays_upto};
@@ -13,7 +13,7 @@ use crate::status::{BAD_DATE, DONE};
 use crate::sums::{calendar_date_at, iso_week_date_at};
 use crate::values::date_of;
 
-/// The year, the month and the day of the month of a date. Those of 2451604 are 2000, 2 and 29.
+/// Returns the year, the month and the day of the month. For 2451604 they are 2000, 2 and 29.
 #[unsafe(no_mangle)]
 pub extern "C" fn fots_date_to_calendar_date(date: i32) -> CalendarDateResult
     ensures { IsCalendarDateOf date result }
@@ -28,7 +28,7 @@ pub extern "C" fn fots_date_to_calendar_date(date: i32) -> CalendarDateResult
     }
 }
 
-/// The year and the ordinal of a date. Those of 2451604 are 2000 and 60.
+/// Returns the year and the ordinal. For 2451604 they are 2000 and 60.
 #[unsafe(no_mangle)]
 pub extern "C" fn fots_date_to_ordinal_date(date: i32) -> OrdinalDateResult
     ensures { IsOrdinalDateOf date result }
@@ -42,7 +42,7 @@ pub extern "C" fn fots_date_to_ordinal_date(date: i32) -> OrdinalDateResult
     }
 }
 
-/// The ISO year, the week and the weekday of a date. Those of 2451604 are 2000, 9 and 2.
+/// Returns the ISO year, the week and the weekday. For 2451604 they are 2000, 9 and 2.
 #[unsafe(no_mangle)]
 pub extern "C" fn fots_date_to_iso_week_date(date: i32) -> IsoWeekDateResult
     ensures { IsIsoWeekDateOf date result }
@@ -59,7 +59,7 @@ pub extern "C" fn fots_date_to_iso_week_date(date: i32) -> IsoWeekDateResult
     }
 }
 
-/// The year of a date, from -999999 to 999999. That of 2451604 is 2000.
+/// Returns the year, from -999999 to 999999. For 2451604 it is 2000.
 #[unsafe(no_mangle)]
 pub extern "C" fn fots_date_year(date: i32) -> NumberResult
     ensures bad_date { ¬ IsJulianDay date → result ≡ number_refused bad_date }
@@ -69,7 +69,7 @@ pub extern "C" fn fots_date_year(date: i32) -> NumberResult
     NumberResult::of(date.year())
 }
 
-/// The month of a date, from 1 to 12. That of 2451604 is 2.
+/// Returns the month, from 1 to 12. For 2451604 it is 2.
 #[unsafe(no_mangle)]
 pub extern "C" fn fots_date_month(date: i32) -> NumberResult
     ensures bad_date { ¬ IsJulianDay date → result ≡ number_refused bad_date }
@@ -79,7 +79,7 @@ pub extern "C" fn fots_date_month(date: i32) -> NumberResult
     NumberResult::of(i32::from(date.month() as u8))
 }
 
-/// The day of the month of a date, from 1 to 31. That of 2451604 is 29.
+/// Returns the day of the month, from 1 to 31. For 2451604 it is 29.
 #[unsafe(no_mangle)]
 pub extern "C" fn fots_date_day(date: i32) -> NumberResult
     ensures bad_date { ¬ IsJulianDay date → result ≡ number_refused bad_date }
@@ -89,7 +89,7 @@ pub extern "C" fn fots_date_day(date: i32) -> NumberResult
     NumberResult::of(i32::from(date.day()))
 }
 
-/// The ordinal of a date, from 1 to 366. That of 2451604 is 60.
+/// Returns the ordinal, from 1 to 366. For 2451604 it is 60.
 #[unsafe(no_mangle)]
 pub extern "C" fn fots_date_ordinal(date: i32) -> NumberResult
     ensures bad_date { ¬ IsJulianDay date → result ≡ number_refused bad_date }
@@ -99,7 +99,7 @@ pub extern "C" fn fots_date_ordinal(date: i32) -> NumberResult
     NumberResult::of(i32::from(date.ordinal()))
 }
 
-/// The ISO week of a date, from 1 to 53. That of 2451604 is 9.
+/// Returns the ISO week, from 1 to 53. For 2451604 it is 9.
 #[unsafe(no_mangle)]
 pub extern "C" fn fots_date_iso_week(date: i32) -> NumberResult
     ensures bad_date { ¬ IsJulianDay date → result ≡ number_refused bad_date }
@@ -109,7 +109,7 @@ pub extern "C" fn fots_date_iso_week(date: i32) -> NumberResult
     NumberResult::of(i32::from(date.iso_week()))
 }
 
-/// The Sundays of the year up to a date, from 0 to 53. Those of 2451604 are 9.
+/// Returns the week, from 0 to 53. Week 1 begins on the first Sunday. For 2451604 it is 9.
 #[unsafe(no_mangle)]
 pub extern "C" fn fots_date_sunday_based_week(date: i32) -> NumberResult
     ensures bad_date { ¬ IsJulianDay date → result ≡ number_refused bad_date }
@@ -119,7 +119,7 @@ pub extern "C" fn fots_date_sunday_based_week(date: i32) -> NumberResult
     NumberResult::of(i32::from(date.sunday_based_week()))
 }
 
-/// The Mondays of the year up to a date, from 0 to 53. Those of 2451604 are 9.
+/// Returns the week, from 0 to 53. Week 1 begins on the first Monday. For 2451604 it is 9.
 #[unsafe(no_mangle)]
 pub extern "C" fn fots_date_monday_based_week(date: i32) -> NumberResult
     ensures bad_date { ¬ IsJulianDay date → result ≡ number_refused bad_date }
@@ -129,7 +129,7 @@ pub extern "C" fn fots_date_monday_based_week(date: i32) -> NumberResult
     NumberResult::of(i32::from(date.monday_based_week()))
 }
 
-/// The weekday of a date, from Monday, 1, to Sunday, 7. That of 2451604 is 2.
+/// Returns the weekday, from 1, Monday, to 7, Sunday. For 2451604 it is 2.
 #[unsafe(no_mangle)]
 pub extern "C" fn fots_date_weekday(date: i32) -> NumberResult
     ensures bad_date { ¬ IsJulianDay date → result ≡ number_refused bad_date }

@@ -1,4 +1,4 @@
-//! Dates with one component replaced.
+//! Dates with a component replaced.
 ghost use Rattle.std.specs.Prelude.{◌≡◌};
 ghost use Rattle.cal_time.specs.Date.{year_at, month_at, day_of_month_at, IsYear, IsDayOfMonth, IsOrdinal, HasCalendarDate, HasOrdinalDate};
 ghost use Rattle.cal_c.specs.Results.{date_refused, IsDayWith};
@@ -9,8 +9,8 @@ use crate::results::DateResult;
 use crate::status::{BAD_DATE, MONTH};
 use crate::values::{date_of, day_of_month_of, month_of, ordinal_of};
 
-/// The day of that year that has the same month and day of the month. Refused as `year`, then as `day`, on 29 February for a common
-/// year. 2451604 and 2004 lead to 2453065.
+/// Replaces the year. Returns the error `year`, or `day` for 29 February in a common year. 2451604
+/// with the year 2004 is 2453065.
 #[unsafe(no_mangle)]
 pub extern "C" fn fots_date_replace_year(date: i32, year: i32) -> DateResult
     ensures bad_date { ¬ IsJulianDay date → result ≡ date_refused bad_date }
@@ -26,8 +26,8 @@ pub extern "C" fn fots_date_replace_year(date: i32, year: i32) -> DateResult
     made_or_refused!(DateResult, date.replace_year(year))
 }
 
-/// The day of that month of the same year that has the same day of the month. Refused as `month`, then as `day`. 2451604 and 3 lead
-/// to 2451633.
+/// Replaces the month. Returns the error `month`, or `day` if the month is too short. 2451604 with
+/// the month 3 is 2451633.
 #[unsafe(no_mangle)]
 pub extern "C" fn fots_date_replace_month(date: i32, month: u32) -> DateResult
     ensures bad_date { ¬ IsJulianDay date → result ≡ date_refused bad_date }
@@ -44,7 +44,7 @@ pub extern "C" fn fots_date_replace_month(date: i32, month: u32) -> DateResult
     made_or_refused!(DateResult, date.replace_month(month))
 }
 
-/// The day of the same month of the same year that has this day of the month. Refused as `day`. 2451604 and 1 lead to 2451576.
+/// Replaces the day of the month. Returns the error `day`. 2451604 with the day 1 is 2451576.
 #[unsafe(no_mangle)]
 pub extern "C" fn fots_date_replace_day(date: i32, day: u32) -> DateResult
     ensures bad_date { ¬ IsJulianDay date → result ≡ date_refused bad_date }
@@ -59,7 +59,7 @@ pub extern "C" fn fots_date_replace_day(date: i32, day: u32) -> DateResult
     made_or_refused!(DateResult, date.replace_day(day_of_month_of(day)))
 }
 
-/// The day of the same year that has this ordinal. Refused as `ordinal`. 2451604 and 1 lead to 2451545.
+/// Replaces the ordinal. Returns the error `ordinal`. 2451604 with the ordinal 1 is 2451545.
 #[unsafe(no_mangle)]
 pub extern "C" fn fots_date_replace_ordinal(date: i32, ordinal: u32) -> DateResult
     ensures bad_date { ¬ IsJulianDay date → result ≡ date_refused bad_date }

@@ -1,4 +1,4 @@
-//! Sums, differences, products and quotients of durations.
+//! Arithmetic with durations.
 ghost use Rattle.std.specs.Prelude.{◌≡◌, pos, neg_ℤ, ◌+ℤ◌, ◌-ℤ◌, ◌*ℤ◌, ◌<ℤ◌, unsigned_abs};
 ghost use Rattle.cal_time.specs.SignedDuration.{HasQuotient, clamp, cut};
 ghost use Rattle.cal_c.specs.Results.{IsDurationIfAny, duration_done, duration_refused, number_done, number_refused};
@@ -9,7 +9,7 @@ use crate::results::{Duration, DurationResult, NumberResult};
 use crate::status::BAD_DURATION;
 use crate::values::duration_of;
 
-/// The sum, or none where it is no duration.
+/// Adds two durations. Fails if the sum is out of range.
 #[unsafe(no_mangle)]
 pub extern "C" fn fots_duration_checked_add(duration: Duration, other: Duration) -> DurationResult
     ensures bad_duration { ¬ (IsDurationPair duration × IsDurationPair other)
@@ -22,7 +22,7 @@ pub extern "C" fn fots_duration_checked_add(duration: Duration, other: Duration)
     DurationResult::of_option(duration.checked_add(other))
 }
 
-/// The sum, or the limit nearest to it where it is no duration.
+/// Adds two durations. A sum out of range is clamped.
 #[unsafe(no_mangle)]
 pub extern "C" fn fots_duration_saturating_add(
     duration: Duration,
@@ -38,7 +38,7 @@ pub extern "C" fn fots_duration_saturating_add(
     DurationResult::of(duration.saturating_add(other))
 }
 
-/// The difference, or none where it is no duration.
+/// Subtracts two durations. Fails if the difference is out of range.
 #[unsafe(no_mangle)]
 pub extern "C" fn fots_duration_checked_sub(duration: Duration, other: Duration) -> DurationResult
     ensures bad_duration { ¬ (IsDurationPair duration × IsDurationPair other)
@@ -51,7 +51,7 @@ pub extern "C" fn fots_duration_checked_sub(duration: Duration, other: Duration)
     DurationResult::of_option(duration.checked_sub(other))
 }
 
-/// The difference, or the limit nearest to it where it is no duration.
+/// Subtracts two durations. A difference out of range is clamped.
 #[unsafe(no_mangle)]
 pub extern "C" fn fots_duration_saturating_sub(
     duration: Duration,
@@ -67,7 +67,7 @@ pub extern "C" fn fots_duration_saturating_sub(
     DurationResult::of(duration.saturating_sub(other))
 }
 
-/// The product, or none where it is no duration.
+/// Multiplies a duration. Fails if the product is out of range.
 #[unsafe(no_mangle)]
 pub extern "C" fn fots_duration_checked_mul(duration: Duration, factor: i32) -> DurationResult
     ensures bad_duration { ¬ IsDurationPair duration → result ≡ duration_refused bad_duration }
@@ -78,7 +78,7 @@ pub extern "C" fn fots_duration_checked_mul(duration: Duration, factor: i32) -> 
     DurationResult::of_option(duration.checked_mul(factor))
 }
 
-/// The quotient, cut toward zero, or none where it is no duration, or the divisor is 0.
+/// Divides a duration, truncating toward zero. Fails for 0, and if the result is out of range.
 #[unsafe(no_mangle)]
 pub extern "C" fn fots_duration_checked_div(duration: Duration, divisor: i32) -> DurationResult
     ensures bad_duration { ¬ IsDurationPair duration → result ≡ duration_refused bad_duration }
@@ -91,7 +91,7 @@ pub extern "C" fn fots_duration_checked_div(duration: Duration, divisor: i32) ->
     DurationResult::of_option(duration.checked_div(divisor))
 }
 
-/// The duration of the other sign, or none where it is no duration, as for the least one alone.
+/// Negates a duration. Fails only for the minimum.
 #[unsafe(no_mangle)]
 pub extern "C" fn fots_duration_checked_neg(duration: Duration) -> DurationResult
     ensures bad_duration { ¬ IsDurationPair duration → result ≡ duration_refused bad_duration }
@@ -102,7 +102,7 @@ pub extern "C" fn fots_duration_checked_neg(duration: Duration) -> DurationResul
     DurationResult::of_option(duration.checked_neg())
 }
 
-/// The product, or the limit nearest to it where it is no duration.
+/// Multiplies a duration. A product out of range is clamped.
 #[unsafe(no_mangle)]
 pub extern "C" fn fots_duration_saturating_mul(duration: Duration, factor: i32) -> DurationResult
     ensures bad_duration { ¬ IsDurationPair duration → result ≡ duration_refused bad_duration }
@@ -113,7 +113,7 @@ pub extern "C" fn fots_duration_saturating_mul(duration: Duration, factor: i32) 
     DurationResult::of(duration.saturating_mul(factor))
 }
 
-/// The magnitude, or the greatest duration where it is past that.
+/// Returns the magnitude. For the minimum it is the maximum.
 #[unsafe(no_mangle)]
 pub extern "C" fn fots_duration_abs(duration: Duration) -> DurationResult
     ensures bad_duration { ¬ IsDurationPair duration → result ≡ duration_refused bad_duration }
@@ -124,7 +124,7 @@ pub extern "C" fn fots_duration_abs(duration: Duration) -> DurationResult
     DurationResult::of(duration.abs())
 }
 
-/// -1, 0 or 1, as the one duration is less than the other, the same, or greater.
+/// Compares two durations: -1 for less, 0 for equal, 1 for greater.
 #[unsafe(no_mangle)]
 pub extern "C" fn fots_duration_compare(duration: Duration, other: Duration) -> NumberResult
     ensures bad_duration { ¬ (IsDurationPair duration × IsDurationPair other)

@@ -1,4 +1,4 @@
-//! Moments made, and shown at other offsets.
+//! Constructors of moments, and other offsets.
 ghost use Rattle.std.specs.Prelude.{◌≡◌};
 ghost use Rattle.cal_time.specs.Time.{IsTime};
 ghost use Rattle.cal_time.specs.UtcOffset.{IsOffset};
@@ -14,7 +14,7 @@ use crate::values::{date_of, offset_of, time_of};
 use cal_datetime::OffsetDateTime;
 use cal_time::UtcOffset;
 
-/// The moment of a date and a time, which a clock shows at that offset.
+/// Creates a moment from a local date, a local time of day and an offset.
 #[unsafe(no_mangle)]
 pub extern "C" fn fots_moment_new(date: i32, time: u64, offset: i32) -> MomentResult
     ensures bad_date { ¬ IsJulianDay date → result ≡ moment_refused bad_date }
@@ -30,7 +30,7 @@ pub extern "C" fn fots_moment_new(date: i32, time: u64, offset: i32) -> MomentRe
     MomentResult::of(OffsetDateTime::new_in_offset(date, time, offset))
 }
 
-/// The same instant, as a clock at that offset shows it, or none where that is past the range.
+/// Converts to another offset, at the same instant. Fails if the local result is out of range.
 #[unsafe(no_mangle)]
 pub extern "C" fn fots_moment_to_offset(moment: Moment, offset: i32) -> MomentResult
     ensures bad_moment { ¬ IsMoment moment → result ≡ moment_refused bad_moment }
@@ -43,7 +43,7 @@ pub extern "C" fn fots_moment_to_offset(moment: Moment, offset: i32) -> MomentRe
     shown_at(moment, offset)
 }
 
-/// The same instant at another offset.
+/// Converts a moment to another offset.
 fn shown_at(moment: OffsetDateTime, offset: UtcOffset) -> MomentResult
     ensures { IsMomentOr past_range (local_at (instant moment) offset) offset result }
 {
@@ -54,7 +54,7 @@ fn shown_at(moment: OffsetDateTime, offset: UtcOffset) -> MomentResult
     MomentResult::of(shown)
 }
 
-/// The moment at which a clock at that offset shows the same date and time.
+/// Replaces the offset and keeps the local date and time of day.
 #[unsafe(no_mangle)]
 pub extern "C" fn fots_moment_replace_offset(moment: Moment, offset: i32) -> MomentResult
     ensures bad_moment { ¬ IsMoment moment → result ≡ moment_refused bad_moment }

@@ -1,4 +1,4 @@
-//! Moments moved on and back, compared, and the durations between them.
+//! Moments plus and minus durations, comparison, and the durations between moments.
 ghost use Rattle.std.specs.Prelude.{◌≡◌, pos, neg_ℤ, ◌+ℤ◌, ◌-ℤ◌, ◌<ℤ◌};
 ghost use Rattle.cal_datetime.specs.DateTime.{nearest};
 ghost use Rattle.cal_datetime.specs.OffsetDateTime.{instant};
@@ -14,7 +14,7 @@ use crate::values::duration_of;
 use cal_datetime::OffsetDateTime;
 use cal_time::SignedDuration;
 
-/// The moment that much later, to the nanosecond and at the same offset, or none where that is past the range.
+/// Adds a duration and keeps the offset. Fails if the local result is out of range.
 #[unsafe(no_mangle)]
 pub extern "C" fn fots_moment_checked_add(moment: Moment, duration: Duration) -> MomentResult
     ensures bad_moment { ¬ IsMoment moment → result ≡ moment_refused bad_moment }
@@ -28,7 +28,7 @@ pub extern "C" fn fots_moment_checked_add(moment: Moment, duration: Duration) ->
     later(moment, duration)
 }
 
-/// The moment that much later.
+/// Adds a duration.
 fn later(moment: OffsetDateTime, duration: SignedDuration) -> MomentResult
     ensures { IsMomentOr past_range (moment.local +ℤ duration) moment.offset result }
 {
@@ -39,7 +39,7 @@ fn later(moment: OffsetDateTime, duration: SignedDuration) -> MomentResult
     MomentResult::of(moved)
 }
 
-/// The moment that much earlier, to the nanosecond and at the same offset, or none where that is past the range.
+/// Subtracts a duration and keeps the offset. Fails if the local result is out of range.
 #[unsafe(no_mangle)]
 pub extern "C" fn fots_moment_checked_sub(moment: Moment, duration: Duration) -> MomentResult
     ensures bad_moment { ¬ IsMoment moment → result ≡ moment_refused bad_moment }
@@ -53,7 +53,7 @@ pub extern "C" fn fots_moment_checked_sub(moment: Moment, duration: Duration) ->
     earlier(moment, duration)
 }
 
-/// The moment that much earlier.
+/// Subtracts a duration.
 fn earlier(moment: OffsetDateTime, duration: SignedDuration) -> MomentResult
     ensures { IsMomentOr past_range (moment.local -ℤ duration) moment.offset result }
 {
@@ -64,7 +64,7 @@ fn earlier(moment: OffsetDateTime, duration: SignedDuration) -> MomentResult
     MomentResult::of(moved)
 }
 
-/// The moment that much later, or the end of the range that is nearest to it on the clock at its offset.
+/// Adds a duration and keeps the offset. A local result out of range is clamped.
 #[unsafe(no_mangle)]
 pub extern "C" fn fots_moment_saturating_add(moment: Moment, duration: Duration) -> MomentResult
     ensures bad_moment { ¬ IsMoment moment → result ≡ moment_refused bad_moment }
@@ -81,7 +81,7 @@ pub extern "C" fn fots_moment_saturating_add(moment: Moment, duration: Duration)
     MomentResult::of(moment.saturating_add(duration))
 }
 
-/// The moment that much earlier, or the end of the range that is nearest to it on the clock at its offset.
+/// Subtracts a duration and keeps the offset. A local result out of range is clamped.
 #[unsafe(no_mangle)]
 pub extern "C" fn fots_moment_saturating_sub(moment: Moment, duration: Duration) -> MomentResult
     ensures bad_moment { ¬ IsMoment moment → result ≡ moment_refused bad_moment }
@@ -98,7 +98,7 @@ pub extern "C" fn fots_moment_saturating_sub(moment: Moment, duration: Duration)
     MomentResult::of(moment.saturating_sub(duration))
 }
 
-/// The duration from the other instant to that of the moment, below zero where the other one is later.
+/// Returns the duration from the instant of `other` to this one, negative if `other` is later.
 #[unsafe(no_mangle)]
 pub extern "C" fn fots_moment_duration_since(moment: Moment, other: Moment) -> DurationResult
     ensures bad_moment { ¬ (IsMoment moment × IsMoment other)
@@ -111,7 +111,7 @@ pub extern "C" fn fots_moment_duration_since(moment: Moment, other: Moment) -> D
     DurationResult::of(moment - other)
 }
 
-/// -1, 0 or 1, as the instant of the one moment is before that of the other, the same, or after it.
+/// Compares two moments by instant: -1 for earlier, 0 for equal, 1 for later.
 #[unsafe(no_mangle)]
 pub extern "C" fn fots_moment_compare(moment: Moment, other: Moment) -> NumberResult
     ensures bad_moment { ¬ (IsMoment moment × IsMoment other) → result ≡ number_refused bad_moment }

@@ -1,4 +1,4 @@
-//! Moments and their Unix times.
+//! Moments as Unix times.
 ghost use Rattle.std.specs.Prelude.{◌≡◌, pos, ◌+ℤ◌, ◌*ℤ◌};
 ghost use Rattle.cal_time.specs.SignedDuration.{second};
 ghost use Rattle.cal_datetime.specs.OffsetDateTime.{instant, unix_epoch, unix_nanoseconds, unix_seconds};
@@ -14,7 +14,7 @@ use crate::values::duration_of;
 use cal_datetime::OffsetDateTime;
 use cal_time::SignedDuration;
 
-/// The moment at UTC so many seconds after 1970-01-01 0:00, or before where they are below zero. Refused as `timestamp`.
+/// Creates a moment at UTC from Unix seconds. Returns the error `timestamp` out of range.
 #[unsafe(no_mangle)]
 pub extern "C" fn fots_moment_from_unix_timestamp(seconds: i64) -> MomentResult
     ensures { IsMomentOr timestamp_refused (unix_epoch +ℤ seconds *ℤ pos second) (pos 0) result }
@@ -24,7 +24,7 @@ pub extern "C" fn fots_moment_from_unix_timestamp(seconds: i64) -> MomentResult
     MomentResult::of(moment)
 }
 
-/// The moment at UTC of a Unix time. Refused as `timestamp`.
+/// Creates a moment at UTC from a Unix time. Returns the error `timestamp` out of range.
 #[unsafe(no_mangle)]
 pub extern "C" fn fots_moment_from_unix_time(duration: Duration) -> MomentResult
     ensures bad_duration { ¬ IsDurationPair duration → result ≡ moment_refused bad_duration }
@@ -35,7 +35,7 @@ pub extern "C" fn fots_moment_from_unix_time(duration: Duration) -> MomentResult
     at_unix_time(duration)
 }
 
-/// The moment at UTC of a Unix time.
+/// Creates a moment at UTC from a Unix time.
 fn at_unix_time(duration: SignedDuration) -> MomentResult
     ensures { IsMomentOr timestamp_refused (unix_epoch +ℤ duration) (pos 0) result }
 {
@@ -44,7 +44,7 @@ fn at_unix_time(duration: SignedDuration) -> MomentResult
     MomentResult::of(moment)
 }
 
-/// The whole seconds of the Unix time, rounded toward the past: half a second before 1970-01-01 0:00 UTC it is -1.
+/// Returns the Unix timestamp in seconds, rounded down. Half a second before 1970 it is -1.
 #[unsafe(no_mangle)]
 pub extern "C" fn fots_moment_unix_timestamp(moment: Moment) -> LongResult
     ensures bad_moment { ¬ IsMoment moment → result ≡ long_refused bad_moment }
@@ -55,7 +55,7 @@ pub extern "C" fn fots_moment_unix_timestamp(moment: Moment) -> LongResult
     LongResult::of(moment.unix_timestamp())
 }
 
-/// The Unix time, to the nanosecond.
+/// Returns the Unix time, exact to the nanosecond.
 #[unsafe(no_mangle)]
 pub extern "C" fn fots_moment_unix_time(moment: Moment) -> DurationResult
     ensures bad_moment { ¬ IsMoment moment → result ≡ duration_refused bad_moment }

@@ -16,7 +16,7 @@ use cal_schedule::{
     last_of_month, last_of_quarter, last_of_year, quarter,
 };
 
-/// The first day of the month. That of 2451604, 2000-02-29, is 2451576.
+/// Returns the first day of the month. For 2451604, 2000-02-29, it is 2451576.
 #[unsafe(no_mangle)]
 pub extern "C" fn fots_date_first_of_month(date: i32) -> DateResult
     ensures bad_date { ¬ IsJulianDay date → result ≡ date_refused bad_date }
@@ -27,7 +27,7 @@ pub extern "C" fn fots_date_first_of_month(date: i32) -> DateResult
     DateResult::of(first_of_month(date))
 }
 
-/// The last day of the month. That of 2451576, 2000-02-01, is 2451604.
+/// Returns the last day of the month. For 2451576, 2000-02-01, it is 2451604.
 #[unsafe(no_mangle)]
 pub extern "C" fn fots_date_last_of_month(date: i32) -> DateResult
     ensures bad_date { ¬ IsJulianDay date → result ≡ date_refused bad_date }
@@ -39,7 +39,7 @@ pub extern "C" fn fots_date_last_of_month(date: i32) -> DateResult
     DateResult::of(last_of_month(date))
 }
 
-/// The quarter of the year, from 1 to 4. That of 2451604, 2000-02-29, is 1.
+/// Returns the quarter of the year, from 1 to 4. For 2451604, 2000-02-29, it is 1.
 #[unsafe(no_mangle)]
 pub extern "C" fn fots_date_quarter(date: i32) -> NumberResult
     ensures bad_date { ¬ IsJulianDay date → result ≡ number_refused bad_date }
@@ -49,7 +49,7 @@ pub extern "C" fn fots_date_quarter(date: i32) -> NumberResult
     NumberResult::of(i32::from(quarter(date)))
 }
 
-/// The first day of the quarter. That of 2451604, 2000-02-29, is 2451545, 2000-01-01.
+/// Returns the first day of the quarter. For 2451604, 2000-02-29, it is 2451545, 2000-01-01.
 #[unsafe(no_mangle)]
 pub extern "C" fn fots_date_first_of_quarter(date: i32) -> DateResult
     ensures bad_date { ¬ IsJulianDay date → result ≡ date_refused bad_date }
@@ -60,7 +60,7 @@ pub extern "C" fn fots_date_first_of_quarter(date: i32) -> DateResult
     DateResult::of(first_of_quarter(date))
 }
 
-/// The last day of the quarter. That of 2451604, 2000-02-29, is 2451635, 2000-03-31.
+/// Returns the last day of the quarter. For 2451604, 2000-02-29, it is 2451635, 2000-03-31.
 #[unsafe(no_mangle)]
 pub extern "C" fn fots_date_last_of_quarter(date: i32) -> DateResult
     ensures bad_date { ¬ IsJulianDay date → result ≡ date_refused bad_date }
@@ -72,7 +72,7 @@ pub extern "C" fn fots_date_last_of_quarter(date: i32) -> DateResult
     DateResult::of(last_of_quarter(date))
 }
 
-/// The first day of the year. That of 2451604, 2000-02-29, is 2451545, 2000-01-01.
+/// Returns the first day of the year. For 2451604, 2000-02-29, it is 2451545, 2000-01-01.
 #[unsafe(no_mangle)]
 pub extern "C" fn fots_date_first_of_year(date: i32) -> DateResult
     ensures bad_date { ¬ IsJulianDay date → result ≡ date_refused bad_date }
@@ -83,7 +83,7 @@ pub extern "C" fn fots_date_first_of_year(date: i32) -> DateResult
     DateResult::of(first_of_year(date))
 }
 
-/// The last day of the year. That of 2451604, 2000-02-29, is 2451910, 2000-12-31.
+/// Returns the last day of the year. For 2451604, 2000-02-29, it is 2451910, 2000-12-31.
 #[unsafe(no_mangle)]
 pub extern "C" fn fots_date_last_of_year(date: i32) -> DateResult
     ensures bad_date { ¬ IsJulianDay date → result ≡ date_refused bad_date }
@@ -94,7 +94,7 @@ pub extern "C" fn fots_date_last_of_year(date: i32) -> DateResult
     DateResult::of(last_of_year(date))
 }
 
-/// The Monday of the ISO week. That of 2451604, 2000-02-29, is 2451603.
+/// Returns the Monday of the ISO week. For 2451604, 2000-02-29, it is 2451603.
 #[unsafe(no_mangle)]
 pub extern "C" fn fots_date_first_of_iso_week(date: i32) -> DateResult
     ensures bad_date { ¬ IsJulianDay date → result ≡ date_refused bad_date }
@@ -105,8 +105,8 @@ pub extern "C" fn fots_date_first_of_iso_week(date: i32) -> DateResult
     DateResult::of(first_of_iso_week(date))
 }
 
-/// The Sunday of the ISO week, or none where the range ends before it, which is so of its last five days alone. That of 2451604,
-/// 2000-02-29, is 2451609.
+/// Returns the Sunday of the ISO week. Fails for the last five days of the range. For 2451604,
+/// 2000-02-29, it is 2451609.
 #[unsafe(no_mangle)]
 pub extern "C" fn fots_date_last_of_iso_week(date: i32) -> DateResult
     ensures bad_date { ¬ IsJulianDay date → result ≡ date_refused bad_date }

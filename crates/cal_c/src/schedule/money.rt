@@ -1,4 +1,4 @@
-//! The fraction of a year that interest is counted by.
+//! Fractions of a year for interest.
 ghost use Rattle.std.specs.Prelude.{◌≡◌, MatchOption};
 ghost use Rattle.cal_schedule.specs.declared.money.DayCount.{DayCount};
 ghost use Rattle.cal_schedule.specs.Money.{counted_days, year_counts};
@@ -11,7 +11,7 @@ use crate::status::{BAD_CONVENTION, BAD_DATE};
 use crate::values::date_of;
 use cal_schedule::{DayCount, day_count};
 
-/// The day count that has the number, from actual/360, 1.
+/// Returns the day count convention with a number, from 1 for actual/360, or `None`.
 fn day_count_of(number: u32) -> Option<DayCount>
     ensures { MatchOption result (¬ IsDayCount number)
         (λ found. IsDayCount number × (day_count_number found ≡ number)) }
@@ -26,9 +26,9 @@ fn day_count_of(number: u32) -> Option<DayCount>
     }
 }
 
-/// The fraction of a year from the date to the other by a convention: the days that it counts, over those of its year. From 1 for
-/// actual/360, 2 is actual/365 (fixed), 3 is 30/360 (bond basis), 4 is 30E/360, and 5 is actual/actual (ISDA). From 2452945,
-/// 2003-11-01, to 2453127, 2004-05-01, by 5 it is 66491 over 133590.
+/// Returns the fraction of a year from `date` to `other` by a convention: 1 is actual/360, 2
+/// actual/365 (fixed), 3 30/360 (bond basis), 4 30E/360, and 5 actual/actual (ISDA). From 2452945,
+/// 2003-11-01, to 2453127, 2004-05-01, it is 66491/133590 by 5.
 #[unsafe(no_mangle)]
 pub extern "C" fn fots_date_day_count(date: i32, other: i32, convention: u32) -> YearFractionResult
     ensures bad_date { ¬ (IsJulianDay date × IsJulianDay other)

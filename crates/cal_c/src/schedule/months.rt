@@ -1,4 +1,4 @@
-//! Days moved by months and years.
+//! Arithmetic with months and years.
 ghost use Rattle.std.specs.Prelude.{◌≡◌, pos, ◌+ℤ◌, ◌*ℤ◌, ◌<ℤ◌, ◌≤ℤ◌};
 ghost use Rattle.cal_time.specs.Date.{first_julian_day, first_year, last_day, last_year, julian_day_at, year_at, IsYear};
 ghost use Rattle.cal_schedule.specs.Months.{month_number_at, IsMonthNumber, IsMonthsLater};
@@ -12,9 +12,9 @@ use crate::status::BAD_DATE;
 use crate::values::date_of;
 use cal_schedule::{checked_add_months, checked_add_years, saturating_add_months};
 
-/// The day so many months later, or earlier where they are below zero: in that month the same day of the month, or the last day
-/// where the month has no such day. None where that month is past an end of the range. One month after 2451575, 2000-01-31, is
-/// 2451604, 2000-02-29.
+/// Adds months, or subtracts them if the number is negative. The day of the month stays, or becomes
+/// the last day if the month is shorter. Fails if the resulting month is out of range. One month
+/// after 2451575, 2000-01-31, is 2451604, 2000-02-29.
 #[unsafe(no_mangle)]
 pub extern "C" fn fots_date_add_months(date: i32, months: i32) -> DateResult
     ensures { IsDateMonthsLater date months result }
@@ -23,7 +23,8 @@ pub extern "C" fn fots_date_add_months(date: i32, months: i32) -> DateResult
     DateResult::of_option(checked_add_months(date, months))
 }
 
-/// The same, but the end of the range that is nearest where that month is past it. A month after 366963559, the last day, is 366963559.
+/// Adds months like `fots_date_add_months`, but returns the first or the last date of the range if
+/// the resulting month is out of range. A month after 366963559, the last day, is 366963559.
 #[unsafe(no_mangle)]
 pub extern "C" fn fots_date_saturating_add_months(date: i32, months: i32) -> DateResult
     ensures bad_date { ¬ IsJulianDay date → result ≡ date_refused bad_date }
@@ -39,9 +40,9 @@ pub extern "C" fn fots_date_saturating_add_months(date: i32, months: i32) -> Dat
     DateResult::of(saturating_add_months(date, months))
 }
 
-/// The day so many years later, or earlier where they are below zero: the same month and day of the month, but 28 February for the
-/// 29th in a year that has none. None where that year is past an end of the range. One year after 2451604, 2000-02-29, is 2451969,
-/// 2001-02-28.
+/// Adds years, or subtracts them if the number is negative. 29 February becomes the 28th in a
+/// common year. Fails if the resulting year is out of range. One year after 2451604, 2000-02-29, is
+/// 2451969, 2001-02-28.
 #[unsafe(no_mangle)]
 pub extern "C" fn fots_date_add_years(date: i32, years: i32) -> DateResult
     ensures bad_date { ¬ IsJulianDay date → result ≡ date_refused bad_date }

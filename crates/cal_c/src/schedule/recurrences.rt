@@ -1,7 +1,6 @@
-//! Days that come back, by the rules of RFC 5545.
+//! Recurrence rules of RFC 5545.
 //!
-//! A rule is a struct of its parts, of which the months, the days of the month and the weekdays are arrays: at most 64 months and as many
-//! weekdays.
+//! A rule is a struct of its parts. It has at most 64 months and at most 64 weekdays.
 ghost use Rattle.std.specs.Prelude.{◌≡◌, pos, slice_get, if◌then◌else◌};
 ghost use Rattle.cal_schedule.specs.Rule.{days_after, days_of, is_on};
 ghost use Rattle.cal_schedule.specs.declared.rule.kinds.Rule.{Rule};
@@ -31,8 +30,8 @@ use cal_time::Date;
 use parts::RuleParts;
 use reading::Recurrence;
 
-/// The first day of the rule, or none where the range has none. That of each month's last Friday from 2460311, 2024-01-01, is 2460336,
-/// 2024-01-26.
+/// Returns the first day of a rule. Fails if the range has none. For the last Friday of each month
+/// from 2460311, 2024-01-01, it is 2460336, 2024-01-26.
 #[unsafe(no_mangle)]
 pub extern "C" fn fots_rule_first(rule: &RuleParts<'_>) -> DateResult
     ensures refused { ¬ IsRule rule.now
@@ -44,8 +43,8 @@ pub extern "C" fn fots_rule_first(rule: &RuleParts<'_>) -> DateResult
     DateResult::of_option(found.rule().days().next())
 }
 
-/// The first day of the rule after the date, or none where the range has none. That of each month's last Friday after 2460336,
-/// 2024-01-26, is 2460364, 2024-02-23.
+/// Returns the first day of a rule after a date. Fails if the range has none. For the last Friday
+/// of each month after 2460336, 2024-01-26, it is 2460364, 2024-02-23.
 #[unsafe(no_mangle)]
 pub extern "C" fn fots_rule_next_after(rule: &RuleParts<'_>, date: i32) -> DateResult
     ensures refused { ¬ IsRule rule.now
@@ -60,7 +59,7 @@ pub extern "C" fn fots_rule_next_after(rule: &RuleParts<'_>, date: i32) -> DateR
     DateResult::of_option(found.rule().next_after(date))
 }
 
-/// Whether the date is one of the rule's days: 1 where it is, else 0.
+/// Returns 1 if a date is a day of the rule, else 0.
 #[unsafe(no_mangle)]
 pub extern "C" fn fots_rule_contains(rule: &RuleParts<'_>, date: i32) -> NumberResult
     ensures refused { ¬ IsRule rule.now
@@ -75,8 +74,8 @@ pub extern "C" fn fots_rule_contains(rule: &RuleParts<'_>, date: i32) -> NumberR
     NumberResult::of(i32::from(found.rule().contains(date)))
 }
 
-/// The days of the rule after the date, in order, as many as the array has room for; and how many they are. What is past them in the
-/// array stays as it was.
+/// Writes the days of a rule after a date, in ascending order, as many as fit in the array, and
+/// returns their number. The rest of the array stays as it is.
 #[unsafe(no_mangle)]
 pub extern "C" fn fots_rule_days_after(
     rule: &RuleParts<'_>,
@@ -97,7 +96,7 @@ pub extern "C" fn fots_rule_days_after(
     DaysResult::of(write_days(&found.rule(), date, days))
 }
 
-/// Writes the days of the rule after the date, in order and as many as there is room for: so many.
+/// Writes the days of a rule after a date, as many as fit in the array, and returns their number.
 fn write_days(rule: &Rule<'_>, date: Date, days: &mut [i32]) -> usize
     ensures { AreWritten (days_after rule.now date) days.old days.new result }
 {

@@ -1,4 +1,4 @@
-//! What the calls of schedules answer besides a date and a number.
+//! Results of the calls for schedules.
 ghost use Rattle.std.specs.Prelude.{◌≡◌};
 ghost use Rattle.cal_c.specs.Recurrences.{days_done, days_refused};
 ghost use Rattle.cal_c.specs.Schedule.{period_done, period_refused, year_fraction_done, year_fraction_refused};
@@ -16,7 +16,7 @@ pub struct PeriodResult {
     pub days: i32,
 }
 
-/// A fraction of a year: what was counted, over what a year counts.
+/// A fraction of a year: the days counted, over the days of a year.
 #[repr(C)]
 #[derive(Clone, Copy)]
 pub struct YearFractionResult {
@@ -25,7 +25,7 @@ pub struct YearFractionResult {
     pub numerator: i64,
 }
 
-/// How many days were written.
+/// The number of days written.
 #[repr(C)]
 #[derive(Clone, Copy)]
 pub struct DaysResult {

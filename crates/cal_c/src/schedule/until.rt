@@ -12,8 +12,8 @@ use crate::status::BAD_DATE;
 use crate::values::date_of;
 use cal_schedule::{months_until, period_until, years_until};
 
-/// The whole months from the date to the other: the greatest number of months that does not lead past it, or where it comes before
-/// the date the least that does not lead before it. From 2451575, 2000-01-31, to 2451604, 2000-02-29, it is 1.
+/// Returns the whole months from `date` to `other`, truncated toward zero: as many as possible
+/// without passing `other`. From 2451575, 2000-01-31, to 2451604, 2000-02-29, it is 1.
 #[unsafe(no_mangle)]
 pub extern "C" fn fots_date_months_until(date: i32, other: i32) -> NumberResult
     ensures bad_date { ¬ (IsJulianDay date × IsJulianDay other) → result ≡ number_refused bad_date }
@@ -27,8 +27,8 @@ pub extern "C" fn fots_date_months_until(date: i32, other: i32) -> NumberResult
     NumberResult::of(months_until(date, other))
 }
 
-/// The whole years from the date to the other, as an age is counted: the greatest number of years that does not lead past it, or
-/// where it comes before the date the least that does not lead before it. From 2451604, 2000-02-29, to 2451969, 2001-02-28, it is 1.
+/// Returns the whole years from `date` to `other`, such as an age, truncated toward zero. From
+/// 2451604, 2000-02-29, to 2451969, 2001-02-28, it is 1.
 #[unsafe(no_mangle)]
 pub extern "C" fn fots_date_years_until(date: i32, other: i32) -> NumberResult
     ensures bad_date { ¬ (IsJulianDay date × IsJulianDay other) → result ≡ number_refused bad_date }
@@ -44,9 +44,9 @@ pub extern "C" fn fots_date_years_until(date: i32, other: i32) -> NumberResult
     NumberResult::of(years_until(date, other))
 }
 
-/// The years, months and days that lead from the date to the other: as many months as `fots_date_months_until` says, twelve of them
-/// a year, and then the days that are left. All are of one sign, and the months fewer than 12. From 2451575, 2000-01-31, to 2451971,
-/// 2001-03-02, it is 1, 1 and 2.
+/// Returns the years, months and days from `date` to `other`: as many whole months as
+/// `fots_date_months_until` returns, then the remaining days, all of one sign. From 2451575,
+/// 2000-01-31, to 2451971, 2001-03-02, it is 1, 1 and 2.
 #[unsafe(no_mangle)]
 pub extern "C" fn fots_date_period_until(date: i32, other: i32) -> PeriodResult
     ensures bad_date { ¬ (IsJulianDay date × IsJulianDay other) → result ≡ period_refused bad_date }

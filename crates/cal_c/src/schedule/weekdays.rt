@@ -1,4 +1,4 @@
-//! The weekdays of a month, and those next to a date.
+//! The weekdays of a month, and weekdays near a date.
 ghost use Rattle.std.specs.Prelude.{◌≡◌, ◌-◌, ◌<◌, ◌≤◌, ℕ, slice_get};
 ghost use Rattle.cal_time.specs.Date.{julian_day_at, IsDate, IsYear, NoDate};
 ghost use Rattle.cal_schedule.specs.Weekdays.{IsNthWeekday, IsLastWeekday, occurrences_from, occurrences_upto};
@@ -11,8 +11,8 @@ use crate::status::{BAD_COUNT, BAD_DATE, BAD_WEEKDAY, MONTH};
 use crate::values::{date_of, month_of, weekday_of};
 use cal_schedule::{last_weekday_of_month, nth_weekday_of_month, on_or_after, on_or_before};
 
-/// The n-th day of a month that has the weekday, counted from 1, or none where the month has no such day. Counts go up to 255. The
-/// fifth Tuesday of 2000, 2 is 2451604, 2000-02-29.
+/// Returns the n-th day with a weekday in a month, counted from 1. Returns the error `year`, or
+/// else `weekday` if no day is the n-th. The fifth Tuesday of 2000, 2 is 2451604, 2000-02-29.
 #[unsafe(no_mangle)]
 pub extern "C" fn fots_date_nth_weekday_of_month(
     year: i32,
@@ -44,7 +44,8 @@ pub extern "C" fn fots_date_nth_weekday_of_month(
     )
 }
 
-/// The last day of a month that has the weekday. The last Friday of 2000, 2 is 2451600, 2000-02-25.
+/// Returns the last day with a weekday in a month. Returns the error `year` if it is out of range.
+/// The last Friday of 2000, 2 is 2451600, 2000-02-25.
 #[unsafe(no_mangle)]
 pub extern "C" fn fots_date_last_weekday_of_month(year: i32, month: u32, weekday: u32) -> DateResult
     ensures month { ¬ IsMonth month → result ≡ date_refused month_refused }
@@ -60,8 +61,8 @@ pub extern "C" fn fots_date_last_weekday_of_month(year: i32, month: u32, weekday
     made_or_refused!(DateResult, last_weekday_of_month(year, month, weekday))
 }
 
-/// The first day from the date on that has the weekday, or none where it is past the range. The Friday on or after 2451604,
-/// 2000-02-29, is 2451607.
+/// Returns the first day with a weekday on or after a date. Fails if it is out of range. The Friday
+/// on or after 2451604, 2000-02-29, is 2451607.
 #[unsafe(no_mangle)]
 pub extern "C" fn fots_date_on_or_after(date: i32, weekday: u32) -> DateResult
     ensures bad_date { ¬ IsJulianDay date → result ≡ date_refused bad_date }
@@ -75,8 +76,8 @@ pub extern "C" fn fots_date_on_or_after(date: i32, weekday: u32) -> DateResult
     DateResult::of_option(on_or_after(date, weekday))
 }
 
-/// The last day up to the date that has the weekday, or none where it is before the range. The Friday on or before 2451604,
-/// 2000-02-29, is 2451600.
+/// Returns the last day with a weekday on or before a date. Fails if it is out of range. The Friday
+/// on or before 2451604, 2000-02-29, is 2451600.
 #[unsafe(no_mangle)]
 pub extern "C" fn fots_date_on_or_before(date: i32, weekday: u32) -> DateResult
     ensures bad_date { ¬ IsJulianDay date → result ≡ date_refused bad_date }

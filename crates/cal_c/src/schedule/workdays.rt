@@ -1,7 +1,7 @@
-//! Working days: those of the days of the week that are marked, but for the holidays.
+//! Working days: the days with a marked weekday, except the holidays.
 //!
-//! The marks of the week are a number, the sum of 1 for Monday, 2 for Tuesday, 4, 8, 16, 32 and 64 for Sunday. The holidays are dates
-//! that rise, at most 1024 of them.
+//! The marks of a week are a sum of 1 for Monday, 2 for Tuesday, 4, 8, 16, 32, and 64 for Sunday;
+//! 31 is Monday to Friday. The holidays are dates in ascending order, at most 1024.
 ghost use Rattle.std.specs.Prelude.{◌≡◌, ◌+◌, ◌<◌, ◌≤◌, length, pos, slice_get, IfErr, IfOk, MatchOption, if◌then◌else◌};
 ghost use Rattle.cal_schedule.specs.declared.workdays.convention.Convention.{Convention};
 ghost use Rattle.cal_schedule.specs.Workdays.{is_workday, nth_workday, workdays_back, workdays_from};
@@ -21,8 +21,8 @@ use crate::values::date_of;
 use cal_schedule::Convention;
 use calendar::Calendar;
 
-/// Whether the date is a working day: 1 where its day of the week is marked and it is no holiday, else 0. Where the marks are 31,
-/// Monday to Friday, that of 2451604, a Tuesday, is 1.
+/// Returns 1 if a date is a working day, else 0. For 2451604, a Tuesday, it is 1 with the marks 31
+/// and without holidays.
 #[unsafe(no_mangle)]
 pub extern "C" fn fots_date_is_workday(date: i32, week: u32, holidays: &[i32]) -> NumberResult
     ensures bad_date { ¬ IsJulianDay date → result ≡ number_refused bad_date }
@@ -42,8 +42,8 @@ pub extern "C" fn fots_date_is_workday(date: i32, week: u32, holidays: &[i32]) -
     NumberResult::of(i32::from(calendar.workdays().is_workday(date)))
 }
 
-/// The first working day after the date, or none where the range has none. That after 2451607, a Friday, is 2451610 where the marks
-/// are 31 and there are no holidays.
+/// Returns the first working day after a date. Fails if the range has none. For 2451607, a Friday,
+/// it is 2451610 with the marks 31 and without holidays.
 #[unsafe(no_mangle)]
 pub extern "C" fn fots_date_next_workday(date: i32, week: u32, holidays: &[i32]) -> DateResult
     ensures bad_date { ¬ IsJulianDay date → result ≡ date_refused bad_date }
@@ -62,8 +62,8 @@ pub extern "C" fn fots_date_next_workday(date: i32, week: u32, holidays: &[i32])
     DateResult::of_option(calendar.workdays().next_workday(date))
 }
 
-/// The last working day before the date, or none where the range has none. That before 2451610, a Monday, is 2451607 where the marks
-/// are 31 and there are no holidays.
+/// Returns the last working day before a date. Fails if the range has none. For 2451610, a Monday,
+/// it is 2451607 with the marks 31 and without holidays.
 #[unsafe(no_mangle)]
 pub extern "C" fn fots_date_previous_workday(date: i32, week: u32, holidays: &[i32]) -> DateResult
     ensures bad_date { ¬ IsJulianDay date → result ≡ date_refused bad_date }
@@ -82,9 +82,9 @@ pub extern "C" fn fots_date_previous_workday(date: i32, week: u32, holidays: &[i
     DateResult::of_option(calendar.workdays().previous_workday(date))
 }
 
-/// The working day so many working days after the date, or before it where they are below zero; for 0 the date itself, or where it is
-/// no working day, the first one after it. None where the range has no such day. Ten after 2451604 is 2451618 where the marks are 31
-/// and there are no holidays.
+/// Adds working days, or subtracts them if the number is negative. 0 gives the date itself, or the
+/// first working day after it. Fails if the range has no such day. Ten after 2451604 is 2451618
+/// with the marks 31 and without holidays.
 #[unsafe(no_mangle)]
 pub extern "C" fn fots_date_add_workdays(
     date: i32,
@@ -97,7 +97,7 @@ pub extern "C" fn fots_date_add_workdays(
     workdays_later(date, days, &Calendar::of(week, holidays))
 }
 
-/// The working day so many working days after the date, of a calendar that was read.
+/// Adds working days of a calendar.
 fn workdays_later(date: i32, days: i32, calendar: &Result<Calendar, i32>) -> DateResult
     ensures bad_date { ¬ IsJulianDay date → result ≡ date_refused bad_date }
     ensures refused { IsJulianDay date
@@ -114,11 +114,9 @@ fn workdays_later(date: i32, days: i32, calendar: &Result<Calendar, i32>) -> Dat
     }
 }
 
-/// Counts the working days from the earlier date on, without the later one; negative if the other
-/// comes first.
-///
-/// From 2451545, 2000-01-01, to 2451911, 2001-01-01, it is 260 if the marks are 31 and there are no
-/// holidays.
+/// Counts the working days from the earlier date on, without the later one. The number is negative
+/// or 0 if `other` comes first. From 2451545, 2000-01-01, to 2451911, 2001-01-01, it is 260 with
+/// the marks 31 and without holidays.
 #[unsafe(no_mangle)]
 pub extern "C" fn fots_date_workdays_between(
     date: i32,
@@ -131,7 +129,7 @@ pub extern "C" fn fots_date_workdays_between(
     workdays_to(date, other, &Calendar::of(week, holidays))
 }
 
-/// How many working days there are from the date to the day before the other, of a calendar that was read.
+/// Counts the working days of a calendar from `date` to `other`.
 fn workdays_to(date: i32, other: i32, calendar: &Result<Calendar, i32>) -> NumberResult
     ensures bad_date { ¬ (IsJulianDay date × IsJulianDay other) → result ≡ number_refused bad_date }
     ensures refused { IsJulianDay date → IsJulianDay other
@@ -146,7 +144,7 @@ fn workdays_to(date: i32, other: i32, calendar: &Result<Calendar, i32>) -> Numbe
     NumberResult::of(calendar.workdays().workdays_between(date, other))
 }
 
-/// The convention that has the number, from `Unadjusted`, 0.
+/// Returns the convention with a number, from 0 for `Unadjusted`, or `None`.
 fn convention_of(number: u32) -> Option<Convention>
     ensures { MatchOption result (¬ IsConvention number)
         (λ found. IsConvention number × (convention_number found ≡ number)) }
@@ -161,9 +159,9 @@ fn convention_of(number: u32) -> Option<Convention>
     }
 }
 
-/// The working day that the date is moved to by a convention, or none where the range has no such day. From 0 for unadjusted, 1 is
-/// following, 2 is modified following, 3 is preceding, and 4 is modified preceding. That of 2451664, Saturday 2000-04-29, is 2451666
-/// by 1 and 2451663 by 2 where the marks are 31 and there are no holidays.
+/// Moves a date by a convention: 0 is unadjusted, 1 following, 2 modified following, 3 preceding,
+/// and 4 modified preceding. Fails if the range has no such day. 2451664, Saturday 2000-04-29,
+/// moves to 2451666 by 1 and to 2451663 by 2, with the marks 31 and without holidays.
 #[unsafe(no_mangle)]
 pub extern "C" fn fots_date_adjusted(
     date: i32,

@@ -20,7 +20,7 @@ use cal_text::date::{CalendarText, OrdinalText, WeekText};
 use cal_text::julian_day::JulianText;
 use cal_text::{rfc3339, unix};
 
-/// The calendar date of a day, as `2024-02-29`.
+/// Returns the calendar date in text, such as `2024-02-29`.
 #[unsafe(no_mangle)]
 pub extern "C" fn fots_date_calendar_text(date: i32) -> TextResult
     ensures bad_date { ¬ IsJulianDay date → result ≡ text_refused bad_date }
@@ -30,7 +30,7 @@ pub extern "C" fn fots_date_calendar_text(date: i32) -> TextResult
     TextResult::of(CalendarText(date).text().as_bytes())
 }
 
-/// The ordinal date of a day, as `2024-060`.
+/// Returns the ordinal date in text, such as `2024-060`.
 #[unsafe(no_mangle)]
 pub extern "C" fn fots_date_ordinal_text(date: i32) -> TextResult
     ensures bad_date { ¬ IsJulianDay date → result ≡ text_refused bad_date }
@@ -40,7 +40,7 @@ pub extern "C" fn fots_date_ordinal_text(date: i32) -> TextResult
     TextResult::of(OrdinalText(date).text().as_bytes())
 }
 
-/// The week date of a day, as `2024-W09-4`.
+/// Returns the week date in text, such as `2024-W09-4`.
 #[unsafe(no_mangle)]
 pub extern "C" fn fots_date_week_text(date: i32) -> TextResult
     ensures bad_date { ¬ IsJulianDay date → result ≡ text_refused bad_date }
@@ -50,7 +50,7 @@ pub extern "C" fn fots_date_week_text(date: i32) -> TextResult
     TextResult::of(WeekText(date).text().as_bytes())
 }
 
-/// The Julian day of a day after a letter J, as `J2460370`.
+/// Returns the letter J and the Julian day in text, such as `J2460370`.
 #[unsafe(no_mangle)]
 pub extern "C" fn fots_date_julian_text(date: i32) -> TextResult
     ensures bad_date { ¬ IsJulianDay date → result ≡ text_refused bad_date }
@@ -60,9 +60,8 @@ pub extern "C" fn fots_date_julian_text(date: i32) -> TextResult
     TextResult::of(JulianText(date).text().as_bytes())
 }
 
-/// The text of RFC 3339 of a date, a time and an offset, as `2024-02-29T23:59:59.25+01:00`.
-///
-/// Past the range where RFC 3339 has no text: a year outside 0 to 9999, an offset with seconds, or of a day and more.
+/// Returns a date, a time and an offset in RFC 3339, such as `2024-02-29T23:59:59.25+01:00`. Fails
+/// for a year outside 0 to 9999, and for an offset of 24 hours or more or with seconds.
 #[unsafe(no_mangle)]
 pub extern "C" fn fots_moment_text(date: i32, time: u64, offset: i32) -> TextResult
     ensures bad_date { ¬ IsJulianDay date → result ≡ text_refused bad_date }
@@ -82,7 +81,7 @@ pub extern "C" fn fots_moment_text(date: i32, time: u64, offset: i32) -> TextRes
     text_of(OffsetDateTime::new_in_offset(date, time, offset))
 }
 
-/// The text of RFC 3339 of a moment, or past the range where it has none.
+/// Returns a moment in RFC 3339, or fails if it has no text.
 fn text_of(moment: OffsetDateTime) -> TextResult
     ensures past_range { ¬ HasMomentText moment → result ≡ text_refused past_range }
     ensures value { HasMomentText moment → result ≡ text_done (moment_text moment) }
@@ -91,7 +90,7 @@ fn text_of(moment: OffsetDateTime) -> TextResult
     TextResult::of(text.text().as_bytes())
 }
 
-/// The Unix time of a date and a time at an offset, as `@1709164800.5`.
+/// Returns the Unix time of a date and a time at an offset, such as `@1709164800.5`.
 #[unsafe(no_mangle)]
 pub extern "C" fn fots_unix_text(date: i32, time: u64, offset: i32) -> TextResult
     ensures bad_date { ¬ IsJulianDay date → result ≡ text_refused bad_date }
@@ -107,14 +106,14 @@ pub extern "C" fn fots_unix_text(date: i32, time: u64, offset: i32) -> TextResul
     unix_text_of(OffsetDateTime::new_in_offset(date, time, offset))
 }
 
-/// The Unix time of a moment.
+/// Returns the Unix time of a moment in text.
 fn unix_text_of(moment: OffsetDateTime) -> TextResult
     ensures { result ≡ text_done (unix_text (unix_nanoseconds (instant moment))) }
 {
     TextResult::of(unix::Text::new(moment).text().as_bytes())
 }
 
-/// The English name of a month. Refused as `month`. That of 2 is February.
+/// Returns the English name of a month, or the error `month`. For 2 it is February.
 #[tactic(auto, using(crate::proofs::TextBytes::names))]
 #[unsafe(no_mangle)]
 pub extern "C" fn fots_month_name(month: u32) -> TextResult
@@ -125,7 +124,7 @@ pub extern "C" fn fots_month_name(month: u32) -> TextResult
     TextResult::of(month.name().as_bytes())
 }
 
-/// The English name of a weekday. That of 4 is Thursday.
+/// Returns the English name of a weekday. For 4 it is Thursday.
 #[tactic(auto, using(crate::proofs::TextBytes::names))]
 #[unsafe(no_mangle)]
 pub extern "C" fn fots_weekday_name(weekday: u32) -> TextResult

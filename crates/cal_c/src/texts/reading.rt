@@ -1,4 +1,4 @@
-//! What texts read as.
+//! Parsing dates, moments and Unix times.
 ghost use Rattle.std.specs.Prelude.{◌≡◌, ◌+ℤ◌, ℕ};
 ghost use Rattle.cal_time.specs.Date.{IsDate};
 ghost use Rattle.cal_time.specs.Time.{IsTime};
@@ -25,7 +25,7 @@ use cal_datetime::OffsetDateTime;
 use cal_text::{date, julian_day, rfc3339, unix};
 use cal_time::UtcOffset;
 
-/// The day whose calendar date, ordinal date or week date the text is, as `2024-02-29`, `2024-060` or `2024-W09-4`.
+/// Parses a calendar, ordinal or week date: `2024-02-29`, `2024-060` or `2024-W09-4`.
 #[unsafe(no_mangle)]
 pub extern "C" fn fots_date_read(text: &[u8]) -> ReadDateResult
     ensures date { (n : ℕ) → IsDate n → IsDateText text.now n → result ≡ read_date_done n }
@@ -37,7 +37,7 @@ pub extern "C" fn fots_date_read(text: &[u8]) -> ReadDateResult
     ReadDateResult::of(date)
 }
 
-/// The day whose Julian day the text is, after a letter J, as `J2460370`.
+/// Parses the letter J and a Julian day, such as `J2460370`.
 #[unsafe(no_mangle)]
 pub extern "C" fn fots_julian_day_read(text: &[u8]) -> ReadDateResult
     ensures date { (n : ℕ) → IsDate n → text.now ≡ julian_text n → result ≡ read_date_done n }
@@ -50,7 +50,7 @@ pub extern "C" fn fots_julian_day_read(text: &[u8]) -> ReadDateResult
     ReadDateResult::of(date)
 }
 
-/// The date, the time and the offset of a text of RFC 3339, as `2024-02-29T23:59:59.25+01:00`.
+/// Parses a date, a time and an offset in RFC 3339, such as `2024-02-29T23:59:59.25+01:00`.
 #[unsafe(no_mangle)]
 pub extern "C" fn fots_moment_read(text: &[u8]) -> ReadMomentResult
     ensures moment { (m : Shown) → IsMomentText text.now m → result ≡ read_moment_done m }
@@ -62,7 +62,7 @@ pub extern "C" fn fots_moment_read(text: &[u8]) -> ReadMomentResult
     ReadMomentResult::of(moment)
 }
 
-/// The date and the time, at UTC, whose Unix time the text is, as `@1709164800.5`.
+/// Parses a Unix time, such as `@1709164800.5`, to a date and a time at UTC.
 #[unsafe(no_mangle)]
 pub extern "C" fn fots_unix_read(text: &[u8]) -> ReadMomentResult
     ensures moment { (m : Shown) → IsUnixText text.now m → result ≡ read_moment_done m }
@@ -75,7 +75,7 @@ pub extern "C" fn fots_unix_read(text: &[u8]) -> ReadMomentResult
     ReadMomentResult::of(moment)
 }
 
-/// The Unix time of a date and a time, which a clock shows at that offset.
+/// Returns the Unix time of a local date and time at an offset.
 #[unsafe(no_mangle)]
 pub extern "C" fn fots_unix_time(date: i32, time: u64, offset: i32) -> DurationResult
     ensures bad_date { ¬ IsJulianDay date → result ≡ duration_refused bad_date }
@@ -92,7 +92,7 @@ pub extern "C" fn fots_unix_time(date: i32, time: u64, offset: i32) -> DurationR
     DurationResult::of(moment - OffsetDateTime::unix_epoch())
 }
 
-/// The date and the time of a Unix time, as a clock shows them at that offset, or none where that date is past the range.
+/// Returns the local date and time of a Unix time at an offset. Fails if they are out of range.
 #[unsafe(no_mangle)]
 pub extern "C" fn fots_unix_pair(duration: Duration, offset: i32) -> PairResult
     ensures bad_duration { ¬ IsDurationPair duration → result ≡ pair_refused bad_duration }
@@ -114,11 +114,11 @@ pub extern "C" fn fots_unix_pair(duration: Duration, offset: i32) -> PairResult
     PairResult::of_option(Some((moment.date(), moment.time())))
 }
 
-/// 1970-01-01 0:00 UTC, as a clock at that offset shows it.
+/// Returns 1970-01-01 0:00 UTC at an offset.
 fn epoch_at(offset: UtcOffset) -> OffsetDateTime
     ensures { result ≡ record { local = local_at unix_epoch offset; offset = offset } }
 {
-    // That the offset is in its range is known from calls alone. This costs nothing.
+    // This call states that the offset is in its range. It costs nothing.
     let _ = offset.whole_seconds();
     let epoch = OffsetDateTime::unix_epoch();
     match epoch.checked_to_offset(offset) {

@@ -1,4 +1,4 @@
-//! Times made.
+//! Constructors of times of day.
 ghost use Rattle.std.specs.Prelude.{◌≡◌, ◌*◌, ◌<◌, ◌≤◌};
 ghost use Rattle.cal_time.specs.Time.{time_of};
 ghost use Rattle.cal_c.specs.Results.{time_done, time_refused};
@@ -8,9 +8,8 @@ use crate::results::TimeResult;
 use crate::values::{byte_of, short_of};
 use cal_time::Time;
 
-/// The time of an hour, a minute and a second.
-///
-/// Refused as `hour`, `minute` or `second`. That of 1, 2 and 3 is 3723000000000.
+/// Creates a time from an hour, a minute and a second. Returns the first error that applies:
+/// `hour`, `minute` or `second`. 1, 2 and 3 give 3723000000000.
 #[unsafe(no_mangle)]
 pub extern "C" fn fots_time_from_hms(hour: u32, minute: u32, second: u32) -> TimeResult
     ensures hour { 23 < hour → result ≡ time_refused hour_refused }
@@ -25,9 +24,8 @@ pub extern "C" fn fots_time_from_hms(hour: u32, minute: u32, second: u32) -> Tim
     )
 }
 
-/// The time of an hour, a minute, a second and the milliseconds past it.
-///
-/// Refused as `hour`, `minute`, `second` or `millisecond`. That of 1, 2, 3 and 4 is 3723004000000.
+/// Creates a time from an hour, a minute, a second and a millisecond. Returns the first error that
+/// applies: `hour`, `minute`, `second` or `millisecond`. 1, 2, 3 and 4 give 3723004000000.
 #[unsafe(no_mangle)]
 pub extern "C" fn fots_time_from_hms_milli(
     hour: u32,
@@ -54,9 +52,8 @@ pub extern "C" fn fots_time_from_hms_milli(
     )
 }
 
-/// The time of an hour, a minute, a second and the microseconds past it.
-///
-/// Refused as `hour`, `minute`, `second` or `microsecond`. That of 1, 2, 3 and 4005 is 3723004005000.
+/// Creates a time from an hour, a minute, a second and a microsecond. Returns the first error that
+/// applies: `hour`, `minute`, `second` or `microsecond`. 1, 2, 3 and 4005 give 3723004005000.
 #[unsafe(no_mangle)]
 pub extern "C" fn fots_time_from_hms_micro(
     hour: u32,
@@ -78,9 +75,8 @@ pub extern "C" fn fots_time_from_hms_micro(
     )
 }
 
-/// The time of an hour, a minute, a second and the nanoseconds past it.
-///
-/// Refused as `hour`, `minute`, `second` or `nanosecond`. That of 1, 2, 3 and 4005006 is 3723004005006.
+/// Creates a time from an hour, a minute, a second and a nanosecond. Returns the first error that
+/// applies: `hour`, `minute`, `second` or `nanosecond`. 1, 2, 3 and 4005006 give 3723004005006.
 #[unsafe(no_mangle)]
 pub extern "C" fn fots_time_from_hms_nano(
     hour: u32,

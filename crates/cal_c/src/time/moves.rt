@@ -1,4 +1,4 @@
-//! Times moved on and back, and the durations between times.
+//! Times plus and minus durations, and the durations between times.
 ghost use Rattle.std.specs.Prelude.{◌≡◌, pos, ◌+ℤ◌, ◌-ℤ◌};
 ghost use Rattle.cal_time.specs.Time.{IsTime, modulo_day};
 ghost use Rattle.cal_c.specs.Results.{time_done, time_refused, duration_done, duration_refused, adjusted_time_refused, IsAddAdjusted, IsSubAdjusted};
@@ -9,7 +9,7 @@ use crate::results::{AdjustedTimeResult, Duration, DurationResult, TimeResult};
 use crate::status::{BAD_DURATION, BAD_TIME};
 use crate::values::{duration_of, time_of};
 
-/// The time that much later, round the clock as often as it takes.
+/// Adds a duration, modulo a day.
 #[unsafe(no_mangle)]
 pub extern "C" fn fots_time_add(time: u64, duration: Duration) -> TimeResult
     ensures bad_time { ¬ IsTime time → result ≡ time_refused bad_time }
@@ -23,7 +23,7 @@ pub extern "C" fn fots_time_add(time: u64, duration: Duration) -> TimeResult
     TimeResult::of(time + duration)
 }
 
-/// The time that much later, and the carry in days beyond the whole days of the duration.
+/// Adds a duration. The carry is the days beyond the whole days of the duration.
 #[unsafe(no_mangle)]
 pub extern "C" fn fots_time_adjusting_add(time: u64, duration: Duration) -> AdjustedTimeResult
     ensures bad_time { ¬ IsTime time → result ≡ adjusted_time_refused bad_time }
@@ -41,7 +41,7 @@ pub extern "C" fn fots_time_adjusting_add(time: u64, duration: Duration) -> Adju
     AdjustedTimeResult::of(adjustment, time)
 }
 
-/// The time that much earlier, round the clock as often as it takes.
+/// Subtracts a duration, modulo a day.
 #[unsafe(no_mangle)]
 pub extern "C" fn fots_time_sub(time: u64, duration: Duration) -> TimeResult
     ensures bad_time { ¬ IsTime time → result ≡ time_refused bad_time }
@@ -55,7 +55,7 @@ pub extern "C" fn fots_time_sub(time: u64, duration: Duration) -> TimeResult
     TimeResult::of(time - duration)
 }
 
-/// The time that much earlier, and the carry in days beyond the whole days of the duration.
+/// Subtracts a duration. The carry is the days beyond the whole days of the duration.
 #[unsafe(no_mangle)]
 pub extern "C" fn fots_time_adjusting_sub(time: u64, duration: Duration) -> AdjustedTimeResult
     ensures bad_time { ¬ IsTime time → result ≡ adjusted_time_refused bad_time }
@@ -73,7 +73,7 @@ pub extern "C" fn fots_time_adjusting_sub(time: u64, duration: Duration) -> Adju
     AdjustedTimeResult::of(adjustment, time)
 }
 
-/// The way forward to the other time, from zero to below a day.
+/// Returns the duration forward to the other time, from 0 to less than a day.
 #[unsafe(no_mangle)]
 pub extern "C" fn fots_time_duration_until(time: u64, other: u64) -> DurationResult
     ensures bad_time { ¬ (IsTime time × IsTime other) → result ≡ duration_refused bad_time }
@@ -85,7 +85,7 @@ pub extern "C" fn fots_time_duration_until(time: u64, other: u64) -> DurationRes
     DurationResult::of(time.duration_until(other))
 }
 
-/// The way forward from the other time, from zero to below a day.
+/// Returns the duration forward from the other time, from 0 to less than a day.
 #[unsafe(no_mangle)]
 pub extern "C" fn fots_time_duration_since(time: u64, other: u64) -> DurationResult
     ensures bad_time { ¬ (IsTime time × IsTime other) → result ≡ duration_refused bad_time }
@@ -97,7 +97,7 @@ pub extern "C" fn fots_time_duration_since(time: u64, other: u64) -> DurationRes
     DurationResult::of(time.duration_since(other))
 }
 
-/// The time between the other time and this one on the same day, below zero where the other comes later.
+/// Returns the duration from `other` to this time on the same day, negative if `other` is later.
 #[unsafe(no_mangle)]
 pub extern "C" fn fots_time_difference(time: u64, other: u64) -> DurationResult
     ensures bad_time { ¬ (IsTime time × IsTime other) → result ≡ duration_refused bad_time }

@@ -1,4 +1,4 @@
-//! What times have.
+//! The components of times of day.
 ghost use Rattle.std.specs.Prelude.{◌≡◌, pos};
 ghost use Rattle.cal_time.specs.Time.{IsTime, hour_of, minute_of, second_of, millisecond_of, microsecond_of, nanosecond_of};
 ghost use Rattle.cal_c.specs.Results.{number_done, number_refused, clock_done, clock_refused};
@@ -8,7 +8,7 @@ use crate::results::{ClockResult, NumberResult};
 use crate::status::{BAD_TIME, DONE};
 use crate::values::time_of;
 
-/// The hour, the minute, the second and the nanosecond of a time. Those of 3723004005006 are 1, 2, 3 and 4005006.
+/// Returns the hour, minute, second and nanosecond. For 3723004005006: 1, 2, 3 and 4005006.
 #[unsafe(no_mangle)]
 pub extern "C" fn fots_time_as_hms_nano(time: u64) -> ClockResult
     ensures bad_time { ¬ IsTime time → result ≡ clock_refused bad_time }
@@ -25,7 +25,7 @@ pub extern "C" fn fots_time_as_hms_nano(time: u64) -> ClockResult
     }
 }
 
-/// The hour of a time, from 0 to 23. That of 3723004005006 is 1.
+/// Returns the hour, from 0 to 23. For 3723004005006 it is 1.
 #[unsafe(no_mangle)]
 pub extern "C" fn fots_time_hour(time: u64) -> NumberResult
     ensures bad_time { ¬ IsTime time → result ≡ number_refused bad_time }
@@ -35,7 +35,7 @@ pub extern "C" fn fots_time_hour(time: u64) -> NumberResult
     NumberResult::of(i32::from(time.hour()))
 }
 
-/// The minute of a time, from 0 to 59. That of 3723004005006 is 2.
+/// Returns the minute, from 0 to 59. For 3723004005006 it is 2.
 #[unsafe(no_mangle)]
 pub extern "C" fn fots_time_minute(time: u64) -> NumberResult
     ensures bad_time { ¬ IsTime time → result ≡ number_refused bad_time }
@@ -45,7 +45,7 @@ pub extern "C" fn fots_time_minute(time: u64) -> NumberResult
     NumberResult::of(i32::from(time.minute()))
 }
 
-/// The second of a time, from 0 to 59. That of 3723004005006 is 3.
+/// Returns the second, from 0 to 59. For 3723004005006 it is 3.
 #[unsafe(no_mangle)]
 pub extern "C" fn fots_time_second(time: u64) -> NumberResult
     ensures bad_time { ¬ IsTime time → result ≡ number_refused bad_time }
@@ -55,7 +55,7 @@ pub extern "C" fn fots_time_second(time: u64) -> NumberResult
     NumberResult::of(i32::from(time.second()))
 }
 
-/// The whole milliseconds of the second, from 0 to 999. Those of 3723004005006 are 4.
+/// Returns the millisecond of the second, from 0 to 999. For 3723004005006 it is 4.
 #[unsafe(no_mangle)]
 pub extern "C" fn fots_time_millisecond(time: u64) -> NumberResult
     ensures bad_time { ¬ IsTime time → result ≡ number_refused bad_time }
@@ -65,7 +65,7 @@ pub extern "C" fn fots_time_millisecond(time: u64) -> NumberResult
     NumberResult::of(i32::from(time.millisecond()))
 }
 
-/// The whole microseconds of the second, from 0 to 999999. Those of 3723004005006 are 4005.
+/// Returns the microsecond of the second, from 0 to 999999. For 3723004005006 it is 4005.
 #[unsafe(no_mangle)]
 pub extern "C" fn fots_time_microsecond(time: u64) -> NumberResult
     ensures bad_time { ¬ IsTime time → result ≡ number_refused bad_time }
@@ -75,7 +75,7 @@ pub extern "C" fn fots_time_microsecond(time: u64) -> NumberResult
     NumberResult::of(time.microsecond() as i32)
 }
 
-/// The nanoseconds of the second, from 0 to 999999999. Those of 3723004005006 are 4005006.
+/// Returns the nanosecond of the second, from 0 to 999999999. For 3723004005006 it is 4005006.
 #[unsafe(no_mangle)]
 pub extern "C" fn fots_time_nanosecond(time: u64) -> NumberResult
     ensures bad_time { ¬ IsTime time → result ≡ number_refused bad_time }

@@ -1,4 +1,4 @@
-//! Times with one component replaced.
+//! Times of day with a component replaced.
 ghost use Rattle.std.specs.Prelude.{◌≡◌, ◌*◌, ◌<◌, ◌≤◌};
 ghost use Rattle.cal_time.specs.Time.{IsTime, time_of, hour_of, minute_of, second_of, nanosecond_of};
 ghost use Rattle.cal_c.specs.Results.{time_done, time_refused};
@@ -8,7 +8,7 @@ use crate::results::TimeResult;
 use crate::status::BAD_TIME;
 use crate::values::{byte_of, short_of, time_of};
 
-/// The time with another hour, from 0 to 23, and everything else the same. Refused as `hour`.
+/// Replaces the hour. Returns the error `hour` above 23.
 #[unsafe(no_mangle)]
 pub extern "C" fn fots_time_replace_hour(time: u64, hour: u32) -> TimeResult
     ensures bad_time { ¬ IsTime time → result ≡ time_refused bad_time }
@@ -20,7 +20,7 @@ pub extern "C" fn fots_time_replace_hour(time: u64, hour: u32) -> TimeResult
     made_or_refused!(TimeResult, time.replace_hour(byte_of(hour)))
 }
 
-/// The time with another minute, from 0 to 59, and everything else the same. Refused as `minute`.
+/// Replaces the minute. Returns the error `minute` above 59.
 #[unsafe(no_mangle)]
 pub extern "C" fn fots_time_replace_minute(time: u64, minute: u32) -> TimeResult
     ensures bad_time { ¬ IsTime time → result ≡ time_refused bad_time }
@@ -32,7 +32,7 @@ pub extern "C" fn fots_time_replace_minute(time: u64, minute: u32) -> TimeResult
     made_or_refused!(TimeResult, time.replace_minute(byte_of(minute)))
 }
 
-/// The time with another second, from 0 to 59, and everything else the same. Refused as `second`.
+/// Replaces the second. Returns the error `second` above 59.
 #[unsafe(no_mangle)]
 pub extern "C" fn fots_time_replace_second(time: u64, second: u32) -> TimeResult
     ensures bad_time { ¬ IsTime time → result ≡ time_refused bad_time }
@@ -44,7 +44,7 @@ pub extern "C" fn fots_time_replace_second(time: u64, second: u32) -> TimeResult
     made_or_refused!(TimeResult, time.replace_second(byte_of(second)))
 }
 
-/// The time with so many milliseconds, from 0 to 999, in place of all below its second. Refused as `millisecond`.
+/// Sets the fraction of the second in milliseconds. Returns the error `millisecond` above 999.
 #[unsafe(no_mangle)]
 pub extern "C" fn fots_time_replace_millisecond(time: u64, millisecond: u32) -> TimeResult
     ensures bad_time { ¬ IsTime time → result ≡ time_refused bad_time }
@@ -58,7 +58,7 @@ pub extern "C" fn fots_time_replace_millisecond(time: u64, millisecond: u32) -> 
     made_or_refused!(TimeResult, time.replace_millisecond(short_of(millisecond)))
 }
 
-/// The time with so many microseconds, from 0 to 999999, in place of all below its second. Refused as `microsecond`.
+/// Sets the fraction of the second in microseconds. Returns the error `microsecond` above 999999.
 #[unsafe(no_mangle)]
 pub extern "C" fn fots_time_replace_microsecond(time: u64, microsecond: u32) -> TimeResult
     ensures bad_time { ¬ IsTime time → result ≡ time_refused bad_time }
@@ -72,7 +72,7 @@ pub extern "C" fn fots_time_replace_microsecond(time: u64, microsecond: u32) -> 
     made_or_refused!(TimeResult, time.replace_microsecond(microsecond))
 }
 
-/// The time with so many nanoseconds, from 0 to 999999999, in place of all below its second. Refused as `nanosecond`.
+/// Sets the fraction of the second in nanoseconds. Returns the error `nanosecond` above 999999999.
 #[unsafe(no_mangle)]
 pub extern "C" fn fots_time_replace_nanosecond(time: u64, nanosecond: u32) -> TimeResult
     ensures bad_time { ¬ IsTime time → result ≡ time_refused bad_time }

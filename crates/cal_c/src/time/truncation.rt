@@ -1,4 +1,4 @@
-//! Times cut to a whole unit.
+//! Truncated times of day.
 ghost use Rattle.std.specs.Prelude.{◌≡◌, ◌*◌};
 ghost use Rattle.cal_time.specs.Time.{IsTime, time_of, hour_of, minute_of, second_of, millisecond_of, microsecond_of};
 ghost use Rattle.cal_c.specs.Results.{time_done, time_refused};
@@ -8,7 +8,7 @@ use crate::results::TimeResult;
 use crate::status::BAD_TIME;
 use crate::values::time_of;
 
-/// The time at the start of its hour.
+/// Truncates to the hour. 3723004005006 becomes 3600000000000.
 #[unsafe(no_mangle)]
 pub extern "C" fn fots_time_truncate_to_hour(time: u64) -> TimeResult
     ensures bad_time { ¬ IsTime time → result ≡ time_refused bad_time }
@@ -18,7 +18,7 @@ pub extern "C" fn fots_time_truncate_to_hour(time: u64) -> TimeResult
     TimeResult::of(time.truncate_to_hour())
 }
 
-/// The time at the start of its minute.
+/// Truncates to the minute. 3723004005006 becomes 3720000000000.
 #[unsafe(no_mangle)]
 pub extern "C" fn fots_time_truncate_to_minute(time: u64) -> TimeResult
     ensures bad_time { ¬ IsTime time → result ≡ time_refused bad_time }
@@ -28,7 +28,7 @@ pub extern "C" fn fots_time_truncate_to_minute(time: u64) -> TimeResult
     TimeResult::of(time.truncate_to_minute())
 }
 
-/// The time at the start of its second.
+/// Truncates to the second. 3723004005006 becomes 3723000000000.
 #[unsafe(no_mangle)]
 pub extern "C" fn fots_time_truncate_to_second(time: u64) -> TimeResult
     ensures bad_time { ¬ IsTime time → result ≡ time_refused bad_time }
@@ -39,7 +39,7 @@ pub extern "C" fn fots_time_truncate_to_second(time: u64) -> TimeResult
     TimeResult::of(time.truncate_to_second())
 }
 
-/// The time with nothing below its millisecond.
+/// Truncates to the millisecond. 3723004005006 becomes 3723004000000.
 #[unsafe(no_mangle)]
 pub extern "C" fn fots_time_truncate_to_millisecond(time: u64) -> TimeResult
     ensures bad_time { ¬ IsTime time → result ≡ time_refused bad_time }
@@ -51,7 +51,7 @@ pub extern "C" fn fots_time_truncate_to_millisecond(time: u64) -> TimeResult
     TimeResult::of(time.truncate_to_millisecond())
 }
 
-/// The time with nothing below its microsecond.
+/// Truncates to the microsecond. 3723004005006 becomes 3723004005000.
 #[unsafe(no_mangle)]
 pub extern "C" fn fots_time_truncate_to_microsecond(time: u64) -> TimeResult
     ensures bad_time { ¬ IsTime time → result ≡ time_refused bad_time }

@@ -1,4 +1,4 @@
-//! Columns of values that are printed into one array.
+//! Columns of values in text.
 ghost use Rattle.std.specs.Prelude.{◌≡◌, ◌+◌, ◌≤◌, ◌<◌, ◌↔◌, IsTrue, length, take, drop, [], pos};
 ghost use Rattle.std.specs.List.{between};
 ghost use Rattle.cal_text.specs.Rfc3339.{HasMomentText, moment_text};
@@ -14,13 +14,14 @@ use cal_datetime::OffsetDateTime;
 use cal_text::rfc3339;
 use cal_time::ShortText;
 
-/// The bytes of the longest calendar date.
+/// The maximum length of a calendar date in bytes.
 const LONGEST_DATE: usize = 13;
 
-/// No fewer bytes than the longest text of a moment has.
+/// The maximum length of a moment in bytes.
 const LONGEST_MOMENT: usize = 38;
 
-/// The calendar dates of a column, one after another, row by row as `fots_date_calendar_text`, and how many rows have none.
+/// Writes the calendar dates of dates, like `fots_date_calendar_text`. Writes nothing if the bytes
+/// lack room for 13 bytes a row, or a bound may not fit in an `i32`.
 #[unsafe(no_mangle)]
 pub extern "C" fn fots_dates_calendar_texts(
     dates: &[i32],
@@ -52,7 +53,7 @@ pub extern "C" fn fots_dates_calendar_texts(
     refused_in(statuses)
 }
 
-/// Whether the bytes have room for rows of that length, and the last bound is one of 32 bits.
+/// Returns `true` if the bytes have room for rows of this length, and the bounds fit in an `i32`.
 fn has_room(rows: usize, longest: usize, bytes: &[u8]) -> bool
     requires { 0 < longest }
     ensures { IsTrue result ↔ HasRoomFor longest rows (length bytes.now) }
@@ -60,7 +61,7 @@ fn has_room(rows: usize, longest: usize, bytes: &[u8]) -> bool
     rows <= bytes.len() / longest && rows <= i32::MAX as usize / longest
 }
 
-/// Writes the text behind the first bytes, and returns how many there are then.
+/// Writes a text at `end`, and returns the new end.
 fn put(bytes: &mut [u8], end: usize, text: &[u8]) -> usize
     requires { end + length text.now ≤ length bytes.old }
     ensures end { result ≡ end + length text.now }
@@ -75,7 +76,7 @@ fn put(bytes: &mut [u8], end: usize, text: &[u8]) -> usize
     last
 }
 
-/// The calendar date, which has no bytes where there is none, and the status.
+/// Returns the calendar date of a date, or an empty text, and the status.
 fn text_of_date(date: i32) -> (ShortText, u8)
     ensures text { IsTextOfDate date result.0 result.1 }
     ensures short { length result.0 ≤ 13 }
@@ -86,8 +87,8 @@ fn text_of_date(date: i32) -> (ShortText, u8)
     }
 }
 
-/// The texts of RFC 3339 of columns of dates, times and offsets, one after another, row by row as `fots_moment_text`, and how many rows
-/// have none.
+/// Writes moments in RFC 3339, like `fots_moment_text`. Writes nothing if the bytes lack room for
+/// 38 bytes a row, or a bound may not fit in an `i32`.
 #[unsafe(no_mangle)]
 pub extern "C" fn fots_moments_texts(
     dates: &[i32],
@@ -126,7 +127,7 @@ pub extern "C" fn fots_moments_texts(
     refused_in(statuses)
 }
 
-/// The text of RFC 3339, which has no bytes where there is none, and the status.
+/// Returns a moment in RFC 3339, or an empty text, and the status.
 fn text_of_moment(date: i32, time: u64, offset: i32) -> (ShortText, u8)
     ensures text { IsTextOfMoment date time offset result.0 result.1 }
     ensures short { length result.0 ≤ 38 }
@@ -137,7 +138,7 @@ fn text_of_moment(date: i32, time: u64, offset: i32) -> (ShortText, u8)
     text_of(OffsetDateTime::new_in_offset(date, time, offset))
 }
 
-/// The text of RFC 3339 of a moment, and the status.
+/// Returns a moment in RFC 3339, or an empty text, and the status.
 fn text_of(moment: OffsetDateTime) -> (ShortText, u8)
     ensures past_range { ¬ HasMomentText moment → (result.0 ≡ []) × (pos result.1 ≡ past_range) }
     ensures value { HasMomentText moment → (result.0 ≡ moment_text moment) × (pos result.1 ≡ done) }

@@ -1,4 +1,4 @@
-//! Columns of texts that are read.
+//! Columns of texts to parse.
 ghost use Rattle.std.specs.Prelude.{◌≡◌, ◌↔◌, ◌+◌, length, IsTrue, MatchOption};
 ghost use Rattle.cal_c.specs.Columns.{date_row, int_at, nat_at, AreAnswered};
 ghost use Rattle.cal_c.specs.TextColumns.{ArePartOf, Bounded2, Bounded4, IsDateOfPart, IsDateOfText, IsMomentOfPart, IsMomentOfText, moment_row, part};
@@ -8,7 +8,7 @@ use crate::columns::{NOTHING, UNLIKE, refused_in};
 use crate::results::{Moment, MomentResult};
 use crate::texts::reading::{fots_date_read, fots_moment_read};
 
-/// The dates of a column of texts, row by row as `fots_date_read`, and how many rows have none.
+/// Parses dates, like `fots_date_read`.
 #[unsafe(no_mangle)]
 pub extern "C" fn fots_dates_read(
     bytes: &[u8],
@@ -34,7 +34,7 @@ pub extern "C" fn fots_dates_read(
     refused_in(statuses)
 }
 
-/// The dates, the times and the offsets of a column of texts, row by row as `fots_moment_read`, and how many rows have none.
+/// Parses dates, times and offsets, like `fots_moment_read`.
 #[unsafe(no_mangle)]
 pub extern "C" fn fots_moments_read(
     bytes: &[u8],
@@ -70,14 +70,14 @@ pub extern "C" fn fots_moments_read(
     refused_in(statuses)
 }
 
-/// Whether there is one bound more than there are rows.
+/// Returns `true` if there is one bound more than rows.
 pub(super) fn are_bounds(bounds: &[i32], rows: usize) -> bool
     ensures { IsTrue result ↔ (length bounds.now ≡ rows + 1) }
 {
     bounds.len() > rows && bounds.len() - 1 == rows
 }
 
-/// The bytes from the one bound to the other, where both lie in the array, one after the other.
+/// Returns the bytes between two bounds, or `None` if the bounds are invalid.
 fn part(bytes: &[u8], from: i32, to: i32) -> Option<&[u8]>
     ensures { MatchOption result (¬ ArePartOf bytes.now from to)
         (λ text. ArePartOf bytes.now from to × (text.now ≡ part bytes.now from to)) }
@@ -91,7 +91,7 @@ fn part(bytes: &[u8], from: i32, to: i32) -> Option<&[u8]>
     }
 }
 
-/// The date of the text between the bounds, and the status.
+/// Returns the row of the date between two bounds.
 fn date_in(bytes: &[u8], from: i32, to: i32) -> (i32, u8)
     ensures { IsDateOfPart bytes.now from to (date_row result.0 result.1) }
 {
@@ -101,7 +101,7 @@ fn date_in(bytes: &[u8], from: i32, to: i32) -> (i32, u8)
     }
 }
 
-/// The date of the text, and the status.
+/// Returns the row of a date in text.
 fn date_of_text(text: &[u8]) -> (i32, u8)
     ensures { IsDateOfText text.now (date_row result.0 result.1) }
 {
@@ -109,7 +109,7 @@ fn date_of_text(text: &[u8]) -> (i32, u8)
     (read.date, byte_of(read.status))
 }
 
-/// The moment of the text between the bounds, and the status.
+/// Returns the row of the moment between two bounds.
 fn moment_in(bytes: &[u8], from: i32, to: i32) -> (Moment, u8)
     ensures { IsMomentOfPart bytes.now from to
         (moment_row result.0.date result.0.time result.0.offset result.1) }
@@ -120,7 +120,7 @@ fn moment_in(bytes: &[u8], from: i32, to: i32) -> (Moment, u8)
     }
 }
 
-/// The moment of the text, and the status.
+/// Returns the row of a moment in text.
 fn moment_of_text(text: &[u8]) -> (Moment, u8)
     ensures { IsMomentOfText text.now
         (moment_row result.0.date result.0.time result.0.offset result.1) }

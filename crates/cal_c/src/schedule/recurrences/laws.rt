@@ -1,11 +1,11 @@
-//! Laws: the clauses of the call that reads the text of a recurrence leave one answer.
+//! Laws: the clauses of the call for recurrences in text allow only one result.
 ghost use Rattle.std.specs.Prelude.{◌≡◌};
 
 use super::results::RecurrenceResult;
 use super::texts::fots_recurrence_days;
 use crate::values::date_of;
 
-/// Two calls over arrays that are alike answer the same, and leave the arrays alike.
+/// Makes the same call over two equal arrays. The results and the arrays are equal afterwards.
 pub fn days_twice(
     text: &[u8],
     start: i32,

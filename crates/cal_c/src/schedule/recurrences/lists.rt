@@ -1,4 +1,4 @@
-//! The lists of a recurrence, in place: as many values as there are, and zeros after them.
+//! The lists of a recurrence: the values, then zeros.
 ghost use Rattle.std.specs.Prelude.{◌≡◌, ◌≤◌, length, map, pos};
 ghost use Rattle.cal_time.specs.Month.{number};
 ghost use Rattle.cal_recurrence.specs.Values.{most_values};
@@ -8,7 +8,7 @@ use super::parts::RuleWeekday;
 use cal_schedule::ByDay;
 use cal_time::{Cycle, Month};
 
-/// The most values of a list.
+/// The maximum number of values of a list.
 pub(super) const MOST: usize = 62;
 
 pub(super) const NO_WEEKDAY: RuleWeekday = RuleWeekday {
@@ -16,7 +16,7 @@ pub(super) const NO_WEEKDAY: RuleWeekday = RuleWeekday {
     weekday: 0,
 };
 
-/// The numbers of the months from January, 1.
+/// Returns the numbers of months, from 1 for January.
 pub(super) fn numbers_of_months(months: &[Month]) -> [u8; MOST]
     requires { length months.now ≤ most_values }
     ensures { result ≡ filled 0 (map number months.now) }
@@ -28,7 +28,7 @@ pub(super) fn numbers_of_months(months: &[Month]) -> [u8; MOST]
     numbers
 }
 
-/// The days of the month.
+/// Returns the days of the month.
 pub(super) fn all_month_days(days: &[i8]) -> [i8; MOST]
     requires { length days.now ≤ most_values }
     ensures { result ≡ filled (pos 0) days.now }
@@ -38,7 +38,7 @@ pub(super) fn all_month_days(days: &[i8]) -> [i8; MOST]
     all
 }
 
-/// The parts of a weekday: its number in the month or the year, or 0, and that of itself from Monday, 1.
+/// Returns the number of a weekday, or 0 for every such weekday, and the weekday from 1.
 fn parts_of_weekday(by: ByDay) -> RuleWeekday
     ensures { result ≡ parts_of_weekday by }
 {
@@ -54,7 +54,7 @@ fn parts_of_weekday(by: ByDay) -> RuleWeekday
     }
 }
 
-/// The parts of the weekdays.
+/// Returns the parts of weekdays.
 pub(super) fn parts_of_weekdays(weekdays: &[ByDay]) -> [RuleWeekday; MOST]
     requires { length weekdays.now ≤ most_values }
     ensures { result ≡ filled no_weekday (map parts_of_weekday weekdays.now) }

@@ -1,4 +1,4 @@
-//! The months of a rule, in place.
+//! The months of a rule.
 ghost use Rattle.std.specs.Prelude.{◌≡◌, ◌≤◌, SomeIff, length};
 ghost use Rattle.cal_c.specs.Recurrences.{months_in, most_months, AreMonths};
 
@@ -6,10 +6,10 @@ use crate::values::month_of;
 use cal_time::Month;
 use std::marker::Model;
 
-/// As many months as a rule takes.
+/// The maximum number of months of a rule.
 pub(super) const MOST: usize = 64;
 
-/// Months, seen as the list of them.
+/// A list of months. Contracts see the list.
 #[derive(Drop)]
 pub(super) struct Months {
     months: [Month; MOST],
@@ -29,7 +29,7 @@ impl Model for Months {
 }
 
 impl Months {
-    /// The months of the numbers, from January, 1, or `None` where one of them is of no month.
+    /// Returns the months with these numbers, from 1 for January, or `None` if one is invalid.
     pub(super) fn of(numbers: &[u8]) -> Option<Self>
         requires { length numbers.now ≤ most_months }
         ensures { SomeIff result (AreMonths numbers.now) (months_in numbers.now) }
@@ -44,7 +44,7 @@ impl Months {
         })
     }
 
-    /// The months, in order.
+    /// Returns the months in order.
     pub(super) fn as_slice(&self) -> &[Month]
         ensures { result.now ≡ self.now }
     {

@@ -1,4 +1,4 @@
-//! A recurrence as it crosses, by its parts.
+//! The parts of a recurrence, for C.
 ghost use Rattle.std.specs.Prelude.{◌≡◌};
 ghost use Rattle.cal_c.specs.RecurrenceParts.{count_in, no_parts, parts_of, until_in};
 ghost use Rattle.cal_c.specs.Recurrences.{frequency_number};
@@ -8,17 +8,17 @@ use super::parts::RuleWeekday;
 use cal_recurrence::{Recurrence, RuleEnd};
 use cal_schedule::Frequency;
 
-/// The parts of a recurrence. Each list is as many values as its length says, and zeros after them.
+/// The parts of a recurrence. A list has as many values as its length says, then zeros.
 #[repr(C)]
 #[derive(Clone, Copy)]
 pub struct RecurrenceParts {
-    /// From 1 for daily, 2 is weekly, 3 is monthly, and 4 is yearly.
+    /// 1 for daily, 2 for weekly, 3 for monthly, 4 for yearly.
     pub frequency: u32,
     pub interval: u32,
     pub week_start: u32,
-    /// The last day, or the least number where none is given.
+    /// The last day (`UNTIL`), or `i32::MIN`.
     pub until: i32,
-    /// The number of times, or 0 where none is given.
+    /// The number of days (`COUNT`), or 0.
     pub count: u32,
     pub months_length: u32,
     pub month_days_length: u32,
@@ -79,7 +79,7 @@ impl RecurrenceParts {
         }
     }
 
-    /// What stands in the place of the parts where the text is none of a recurrence.
+    /// Returns the parts for a text that is not a recurrence.
     pub(super) fn none() -> Self
         ensures { result ≡ no_parts }
     {

@@ -1,4 +1,4 @@
-//! The text of a recurrence, read into its parts.
+//! Parsing a recurrence to its parts.
 ghost use Rattle.std.specs.Prelude.{◌≡◌};
 ghost use Rattle.cal_recurrence.specs.Text.{recurrence_of};
 ghost use Rattle.cal_c.specs.RecurrenceParts.{parsed_as};
@@ -8,20 +8,20 @@ use super::results::{part_of, reason_status};
 use crate::status::DONE;
 use cal_recurrence::parse;
 
-/// A recurrence that was read, or the first part of the text that is at fault.
+/// A parsed recurrence, or the first wrong part of the text.
 #[repr(C)]
 #[derive(Clone, Copy)]
 pub struct ReadRecurrenceResult {
     pub status: i32,
-    /// The part at fault by its number from `FREQ`, 1, or 0 where it has none.
+    /// The number of the wrong part, from 1 for `FREQ`, or 0.
     pub part: u32,
-    /// Where the part at fault begins.
+    /// The position of the wrong part.
     pub position: usize,
     pub recurrence: RecurrenceParts,
 }
 
-/// The recurrence that a text says, or the first part that is at fault. `FREQ=MONTHLY;BYDAY=-1FR;COUNT=3` says the frequency 3, the
-/// interval 1, weeks that begin with 1, no last day, 3 times, and one weekday, -1 and 5.
+/// Parses a recurrence. `FREQ=MONTHLY;BYDAY=-1FR;COUNT=3` gives the frequency 3, the interval 1,
+/// weeks from 1, no last day, the count 3, and one weekday, -1 and 5.
 #[unsafe(no_mangle)]
 pub extern "C" fn fots_recurrence_parse(text: &[u8]) -> ReadRecurrenceResult
     ensures { result ≡ parsed_as (recurrence_of text.now) }

@@ -4,19 +4,19 @@
 #[repr(C)]
 #[derive(Clone, Copy)]
 pub struct RuleWeekday {
-    /// The so-and-so-many-th of the month or the year, from the end where it is below zero, or 0 for each one.
+    /// The number in the month or the year, negative from the end, or 0 for each such weekday.
     pub number: i8,
-    /// Its number from Monday, 1.
+    /// The weekday, from 1 for Monday.
     pub weekday: u8,
 }
 
-/// The parts of a rule: dates as their Julian days, and where an array is empty no day is left out for it.
+/// The parts of a rule, with dates as Julian days. An empty array allows every day.
 #[repr(C)]
 #[derive(Clone, Copy)]
 pub struct RuleParts<'a> {
     pub start: i32,
     pub until: i32,
-    /// From 1 for daily, 2 is weekly, 3 is monthly, and 4 is yearly.
+    /// 1 for daily, 2 for weekly, 3 for monthly, 4 for yearly.
     pub frequency: u32,
     pub interval: u32,
     pub week_start: u32,

@@ -1,4 +1,4 @@
-//! The rule of the parts that C passes.
+//! The rule with the parts that C passes.
 ghost use Rattle.std.specs.Prelude.{◌≡◌, IfErr, IfOk, MatchOption};
 ghost use Rattle.cal_c.specs.Recurrences.{frequency_number, months_in, weekdays_in, ArePlain, IsFrequency, IsPlainRuleOf, IsRule, IsRuleOf, IsRuleStatus};
 ghost use Rattle.cal_c.specs.declared.schedule.recurrences.parts.RuleParts.{RuleParts};
@@ -10,7 +10,7 @@ use crate::status::{BAD_DATE, BAD_FREQUENCY, BAD_WEEKDAY, MANY_PARTS, MONTH};
 use crate::values::{date_of, weekday_of};
 use cal_schedule::{Frequency, Rule};
 
-/// A rule, and the months and the weekdays that it has.
+/// A rule without its months and weekdays, and these.
 #[derive(Drop)]
 pub(super) struct Recurrence<'a> {
     plain: Rule<'a>,
@@ -18,7 +18,7 @@ pub(super) struct Recurrence<'a> {
     weekdays: Weekdays,
 }
 
-/// The frequency that has the number, from daily, 1.
+/// Returns the frequency with a number, from 1 for daily, or `None`.
 fn frequency_of(number: u32) -> Option<Frequency>
     ensures { MatchOption result (¬ IsFrequency number)
         (λ found. IsFrequency number × (frequency_number found ≡ number)) }
@@ -32,7 +32,7 @@ fn frequency_of(number: u32) -> Option<Frequency>
     }
 }
 
-/// The rule of the parts but for its months and its weekdays, or the status that they are refused with.
+/// Returns the rule without its months and weekdays, or the status of the first invalid part.
 fn plain_rule_of<'a>(parts: &RuleParts<'a>) -> Result<Rule<'a>, i32>
     ensures refused { IfErr result (λ status.
         (¬ IsRule parts.now) × IsRuleStatus parts.now status) }
@@ -55,7 +55,7 @@ fn plain_rule_of<'a>(parts: &RuleParts<'a>) -> Result<Rule<'a>, i32>
 }
 
 impl<'a> Recurrence<'a> {
-    /// What the parts stand for, or the status that they are refused with.
+    /// Checks and converts the parts, or returns the status of the first invalid one.
     pub(super) fn of(parts: &RuleParts<'a>) -> Result<Self, i32>
         ensures refused { IfErr result
             (λ status. (¬ IsRule parts.now) × IsRuleStatus parts.now status) }
@@ -77,7 +77,7 @@ impl<'a> Recurrence<'a> {
         })
     }
 
-    /// The rule.
+    /// Returns the rule.
     pub(super) fn rule(&self) -> Rule<'_>
         ensures { (p : RuleParts) → IsPlainRuleOf p self.now.plain
             → self.now.months ≡ months_in p.months.now

@@ -1,19 +1,19 @@
-//! What the text of a recurrence gives.
+//! Results of calls for recurrences in text.
 ghost use Rattle.std.specs.Prelude.{◌≡◌};
 ghost use Rattle.cal_c.specs.RecurrenceTexts.{recurrence_done, recurrence_refused, recurrence_unread, part_number, part_of, reason_status};
 
 use crate::status::{DONE, MANY_VALUES, NO_FREQUENCY, PART_TWICE, PART_VALUE, UNKNOWN_PART};
 use cal_recurrence::{RuleFault, RulePart, RuleReason};
 
-/// How many days were written, or the first part of the text that is at fault.
+/// The number of days written, or the first wrong part of the text.
 #[repr(C)]
 #[derive(Clone, Copy)]
 pub struct RecurrenceResult {
     pub status: i32,
-    /// The part at fault by its number from `FREQ`, 1, or 0 where it has none.
+    /// The number of the wrong part, from 1 for `FREQ`, or 0.
     pub part: u32,
     pub length: usize,
-    /// Where the part at fault begins.
+    /// The position of the wrong part.
     pub position: usize,
 }
 

@@ -1,4 +1,4 @@
-//! Days that come back, by the text of a recurrence.
+//! The days of recurrences in text.
 ghost use Rattle.std.specs.Prelude.{◌≡◌, Err, List, Ok, false, filter, nat_le, ℕ};
 ghost use Rattle.cal_recurrence.specs.Days.{AreDays, up_to_end};
 ghost use Rattle.cal_recurrence.specs.Text.{recurrence_of};
@@ -17,11 +17,11 @@ use cal_recurrence::{Recurrence, RuleEnd, parse};
 use cal_schedule::RuleDays;
 use cal_time::Date;
 
-/// The days of the recurrence that the text says and that has this start, from a date on, in order, as many as the array has room for;
-/// and how many they are. What is past them in the array stays as it was.
+/// Writes the days of a recurrence in text with this start, from the date `from` on, in ascending
+/// order, as many as fit in the array. Returns their number. The rest of the array stays as it is.
 ///
-/// `COUNT` counts from the start. Those of `FREQ=MONTHLY;BYDAY=-1FR;COUNT=3` with the start 2460311, 2024-01-01, from 2460350 on are
-/// 2460364 and 2460399.
+/// `COUNT` counts from the start. For `FREQ=MONTHLY;BYDAY=-1FR;COUNT=3` with the start 2460311,
+/// 2024-01-01, the days from 2460350 on are 2460364 and 2460399.
 #[unsafe(no_mangle)]
 pub extern "C" fn fots_recurrence_days(
     text: &[u8],
@@ -47,14 +47,14 @@ pub extern "C" fn fots_recurrence_days(
     RecurrenceResult::of(write_days_from(&recurrence, start, from, days))
 }
 
-/// Whether it ends after a number of times, and so may not take all days of its rule.
+/// Returns `true` if the recurrence ends after a number of days.
 fn is_counted(recurrence: &Recurrence) -> bool
     ensures { result ≡ false → (days : List ℕ) → up_to_end recurrence.now.end days ≡ days }
 {
     matches!(recurrence.end, RuleEnd::Count(_))
 }
 
-/// Writes the days of the recurrence from a date on, in order and as many as there is room for: so many.
+/// Writes the days of a recurrence from a date on, as many as fit, and returns their number.
 fn write_days_from(recurrence: &Recurrence, start: Date, from: Date, days: &mut [i32]) -> usize
     ensures { (all : List ℕ) × AreDays recurrence.now start all
         × AreWritten (filter (nat_le from) all) days.old days.new result }
@@ -68,7 +68,7 @@ fn write_days_from(recurrence: &Recurrence, start: Date, from: Date, days: &mut 
     }
 }
 
-/// Writes those days of the walk that do not come before the date, in order and as many as there is room for: so many.
+/// Writes the days of an iterator from a date on, as many as fit, and returns their number.
 fn write_late(mut walk: RuleDays<'_>, from: Date, days: &mut [i32]) -> usize
     ensures { AreWritten (filter (nat_le from) walk.entry) days.old days.new result }
 {

@@ -1,4 +1,4 @@
-//! The weekdays of a rule, in place.
+//! The weekdays of a rule.
 ghost use Rattle.std.specs.Prelude.{◌≡◌, ◌≤◌, SomeIff, length};
 ghost use Rattle.cal_c.specs.Recurrences.{weekday_in, weekdays_in, most_weekdays, AreWeekdays};
 ghost use Rattle.cal_c.specs.Values.{IsWeekday};
@@ -9,10 +9,10 @@ use cal_schedule::ByDay;
 use cal_time::Weekday;
 use std::marker::Model;
 
-/// As many weekdays as a rule takes.
+/// The maximum number of weekdays of a rule.
 pub(super) const MOST: usize = 64;
 
-/// Weekdays, seen as the list of them.
+/// A list of weekdays. Contracts see the list.
 #[derive(Drop)]
 pub(super) struct Weekdays {
     weekdays: [ByDay; MOST],
@@ -31,7 +31,7 @@ impl Model for Weekdays {
     ghost invariant = { λ w. w.number ≤ most_weekdays };
 }
 
-/// The weekday of its parts.
+/// Returns the weekday with these parts, or `None` if it is invalid.
 fn by_day_of(parts: RuleWeekday) -> Option<ByDay>
     ensures { SomeIff result (IsWeekday parts.weekday) (weekday_in parts) }
 {
@@ -44,7 +44,7 @@ fn by_day_of(parts: RuleWeekday) -> Option<ByDay>
 }
 
 impl Weekdays {
-    /// The weekdays of the parts, or `None` where one of them is of no weekday.
+    /// Returns the weekdays with these parts, or `None` if one is invalid.
     pub(super) fn of(parts: &[RuleWeekday]) -> Option<Self>
         requires { length parts.now ≤ most_weekdays }
         ensures { SomeIff result (AreWeekdays parts.now) (weekdays_in parts.now) }
@@ -59,7 +59,7 @@ impl Weekdays {
         })
     }
 
-    /// The weekdays, in order.
+    /// Returns the weekdays in order.
     pub(super) fn as_slice(&self) -> &[ByDay]
         ensures { result.now ≡ self.now }
     {

@@ -1,4 +1,4 @@
-//! The text of a recurrence, in the one way that it is written.
+//! The text of a recurrence, in one order.
 ghost use Rattle.std.specs.Prelude.{◌≡◌, ◌≤◌, length};
 ghost use Rattle.cal_recurrence.specs.RecurrenceText.{capacity};
 ghost use Rattle.cal_recurrence.specs.Text.{recurrence_of};
@@ -8,17 +8,17 @@ use super::results::{part_of, reason_status};
 use crate::status::DONE;
 use cal_recurrence::parse;
 
-/// The bytes of a struct of a text: as many as that of a recurrence has room for, and zero bytes after them.
+/// The bytes of a text: enough for the longest recurrence, and zero bytes.
 const CAPACITY: usize = 1404;
 
-/// A text in ASCII, and zero bytes after it, or the first part of the text that was passed that is at fault.
+/// A text in ASCII, followed by zero bytes, or the first wrong part of the text that was passed.
 #[repr(C)]
 #[derive(Clone, Copy)]
 pub struct RecurrenceTextResult {
     pub status: i32,
-    /// The part at fault by its number from `FREQ`, 1, or 0 where it has none.
+    /// The number of the wrong part, from 1 for `FREQ`, or 0.
     pub part: u32,
-    /// Where the part at fault begins.
+    /// The position of the wrong part.
     pub position: usize,
     pub length: u32,
     pub bytes: [u8; CAPACITY],
@@ -41,8 +41,8 @@ impl RecurrenceTextResult {
     }
 }
 
-/// The text of the recurrence that a text says, with its parts in one order, or the first part that is at fault. That of
-/// `byday=-01fr;count=3;freq=monthly` is `FREQ=MONTHLY;COUNT=3;BYDAY=-1FR`.
+/// Parses a recurrence and writes it with its parts in one order.
+/// `byday=-01fr;count=3;freq=monthly` becomes `FREQ=MONTHLY;COUNT=3;BYDAY=-1FR`.
 #[unsafe(no_mangle)]
 pub extern "C" fn fots_recurrence_text(text: &[u8]) -> RecurrenceTextResult
     ensures { result ≡ written_as (recurrence_of text.now) }

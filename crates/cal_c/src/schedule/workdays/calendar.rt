@@ -9,7 +9,7 @@ use cal_schedule::Workdays;
 use cal_time::is_rising;
 use std::marker::Model;
 
-/// The marks of a week and the holidays, seen as the working days that they are.
+/// The marks of a week and the holidays. Contracts see the working week.
 #[derive(Drop)]
 pub struct Calendar {
     marks: [bool; 7],
@@ -28,7 +28,7 @@ impl Model for Calendar {
     ghost invariant = { λ c. IsRising julian_day_at c.holidays };
 }
 
-/// The marks that the number is the sum of.
+/// Returns the marks of a number, or `None` if it is above 127.
 fn marks_of(week: u32) -> Option<[bool; 7]>
     ensures { SomeIff result (IsMarks week) (marks_in week) }
 {
@@ -47,7 +47,7 @@ fn marks_of(week: u32) -> Option<[bool; 7]>
 }
 
 impl Calendar {
-    /// The working days of the marks and the holidays, or the status that they are refused with.
+    /// Checks and converts the marks and the holidays, or returns the status of the first error.
     pub fn of(week: u32, holidays: &[i32]) -> Result<Self, i32>
         ensures bad_week { ¬ IsMarks week → result ≡ Err bad_week }
         ensures many { IsMarks week → most_holidays < length holidays.now
@@ -65,7 +65,7 @@ impl Calendar {
         Ok(Calendar { marks, holidays })
     }
 
-    /// The working days.
+    /// Returns the working days.
     pub(super) fn workdays(&self) -> Workdays<'_>
         ensures { result ≡ self.now }
     {
@@ -76,7 +76,7 @@ impl Calendar {
     }
 }
 
-/// The working days of a calendar that was read, or the status that it was refused with.
+/// Returns the working days of a calendar, or its status.
 pub fn workdays_of(calendar: &Result<Calendar, i32>) -> Result<Workdays<'_>, i32>
     ensures { result ≡ calendar.now }
 {

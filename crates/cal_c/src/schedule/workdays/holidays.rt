@@ -1,4 +1,4 @@
-//! Holidays in place.
+//! A list of holidays.
 ghost use Rattle.std.specs.Prelude.{◌≡◌, ◌<◌, ◌≤◌, ◌++◌, [], ◌∷◌, All, Ok, Err, length};
 ghost use Rattle.cal_c.specs.Statuses.{bad_holidays, many_holidays};
 ghost use Rattle.cal_c.specs.Values.{IsJulianDay};
@@ -9,10 +9,10 @@ use crate::values::date_of;
 use cal_time::Date;
 use std::marker::Model;
 
-/// As many holidays as a call takes.
+/// The maximum number of holidays.
 const MOST: usize = 1024;
 
-/// Holidays, seen as their numbers.
+/// A list of holidays. Contracts see their numbers.
 #[derive(Drop)]
 pub(super) struct Holidays {
     days: [Date; MOST],
@@ -31,7 +31,7 @@ impl Model for Holidays {
 }
 
 impl Holidays {
-    /// No holidays.
+    /// Creates an empty list.
     fn new() -> Self
         ensures { result ≡ [] }
     {
@@ -41,7 +41,7 @@ impl Holidays {
         }
     }
 
-    /// Appends a day.
+    /// Appends a holiday.
     fn push(&mut self, date: Date)
         requires { length self.old < most_holidays }
         ensures { self.new ≡ self.old ++ date ∷ [] }
@@ -50,14 +50,14 @@ impl Holidays {
         self.number += 1;
     }
 
-    /// The days, in order.
+    /// Returns the holidays in order.
     pub(super) fn as_slice(&self) -> &[Date]
         ensures { result.now ≡ self.now }
     {
         &self.days[..self.number]
     }
 
-    /// The days of the Julian days.
+    /// Creates a list from Julian days, or returns the status for too many or an invalid one.
     #[tactic(auto, using(crate::proofs::Holidays::days_more, crate::proofs::Holidays::dates_more, crate::proofs::Holidays::all_days, crate::proofs::Holidays::all_dates, crate::proofs::Holidays::no_date))]
     pub(super) fn of(julian_days: &[i32]) -> Result<Self, i32>
         ensures many { most_holidays < length julian_days.now → result ≡ Err many_holidays }
