@@ -5,12 +5,12 @@ ghost use Rattle.caltool.specs.Ending.{Says, status_of, words_of_end};
 use crate::fault::Fault;
 use crate::output::write_all;
 use crate::retries::Retries;
-use std::io::Write;
+use crate::streams::Sink;
 
 /// Tells why the run ended early, in one line, and returns the status: 0 after a run that answered all of its input, else 2.
 ///
 /// Where the writer fails, a beginning of the line was written, and the status alone tells the rest.
-pub fn end<W: Write>(outcome: Result<(), Fault>, writer: &mut W) -> u8
+pub fn end<W: Sink>(outcome: Result<(), Fault>, writer: &mut W) -> u8
     ensures status { result ≡ status_of outcome }
     ensures told { Says (words_of_end outcome) (W.contents writer.old) (W.contents writer.new) }
 {
