@@ -12,10 +12,11 @@ use Rattle.caltool.proofs.run.write_answers.Goals as goal
 
 pub loop-line-preserved : goal.loop-line-preserved
 loop-line-preserved g c =
-    let gone = c.in_ok-make_room.ensures.ok in
-    (one_more _ _ _ c.args.input.now c.loop-line.rest.now c.in-Some.after.now c.in-Some.line.now c.loop-line.buffer c.make_room.new.buffer gone.0 c.reply.new.buffer
-    c.loop-line.invariant.0 c.in-Some.ensures.line gone.1 c.reply.ensures gone.2,
-    calls_then _ _ _ _ _ _ _ _ _ c.loop-line.invariant.1 c.in_ok-make_room.ensures.writes)
+    let gone = c.in_ok-make_room.ensures.ok in (
+      one_more _ _ _ c.args.input.now c.loop-line.rest.now c.in-Some.after.now c.in-Some.line.now c.loop-line.buffer c.make_room.new.buffer gone.0 c.reply.new.buffer
+          c.loop-line.invariant.0 c.in-Some.ensures.line gone.1 c.reply.ensures gone.2,
+      calls_then _ _ _ _ _ _ _ _ _ c.loop-line.invariant.1 c.in_ok-make_room.ensures.writes,
+    )
 
 pub returns-in_err-make_room-clause-front : goal.returns-in_err-make_room-clause-front
 returns-in_err-make_room-clause-front g c =
