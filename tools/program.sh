@@ -1,10 +1,11 @@
-# Runs a program, and builds it before if a source has changed. The caller sets top, name and hint,
-# which is printed if standard input is a terminal. Only the program writes to standard output, and
-# the status is its own.
+# The body of the scripts that run a program of this repository. They set top, the folder of the repository; name, the name of the program
+# and of its crate; look, how to try it without a proof from the crate's folder; and hint, what is said if standard input is a terminal.
+#
+# The first time, and when one of its sources has changed, the program is proved and built before. Standard input, standard output,
+# arguments and the status are the program's; all else goes to standard error.
 
 crate=$top/crates/$name
 program=$crate/out/$name
-# The marker has the crates of the program, and a time before the build.
 marker=$crate/out/$name.built
 
 say() {
@@ -16,7 +17,7 @@ fail() {
     exit 1
 }
 
-. "$top/tools/built.sh"
+. "$top/tools/marker.sh"
 if ! is_built; then
     make=run
     . "$top/tools/build.sh"
