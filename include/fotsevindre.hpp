@@ -1,9 +1,7 @@
-// The calendar of Fotsevindre for C++17 and later: small classes over the calls of fotsevindre.h, with nothing of their own to link.
-//
-// Values compare, copy as plain numbers and have no default. A call that has no answer throws an error, which says why; one that returns a
-// std::optional returns an empty one past the range. What each call takes and refuses is said at the call of the same name in
-// fotsevindre.h; the calls of PlainDateTime and OffsetDateTime are those of fots_moment, those of Rule of fots_rule, and those of Recurrence
-// of fots_recurrence.
+// Classes over the calls of fotsevindre.h for C++17 and later. The call of the same name there
+// documents ranges and errors: fots_moment_* for PlainDateTime and OffsetDateTime, fots_rule_* for
+// Rule, fots_recurrence_* for Recurrence. A call without a result throws an error, or returns an
+// empty std::optional if the result is out of range.
 #ifndef FOTSEVINDRE_HPP
 #define FOTSEVINDRE_HPP
 
@@ -28,7 +26,7 @@
 
 namespace fotsevindre {
 
-// Why a call has no answer: a component out of its range, a result past the range, or a text of no form that is read.
+// Thrown by a call without a result. status() says why.
 class error : public std::runtime_error {
 public:
     explicit error(std::int32_t status, std::size_t position = SIZE_MAX)
@@ -36,17 +34,17 @@ public:
     {
     }
 
-    // The status of the call, as FOTS_DAY.
+    // Returns the status of the call, such as FOTS_DAY.
     std::int32_t status() const noexcept { return status_; }
 
-    // The name of the status: that of the component for a refusal, as "day".
+    // Returns the name of the status: the component, such as "day", or a few words.
     const char *name() const noexcept { return fots_status_name(status_); }
 
-    // Whether the range of the component depends on other components.
+    // Returns whether the range of the component depends on other components.
     bool is_conditional() const noexcept { return fots_status_is_conditional(status_) != 0; }
 
-    // Where the status is FOTS_UNREADABLE, the position of the first byte that no text has there; where it is FOTS_UNEXPECTED_END, the
-    // length of the text; of a rule_fault that of the part.
+    // Returns the position of the first wrong byte for FOTS_UNREADABLE, the length of the text for
+    // FOTS_UNEXPECTED_END, and the position of the part for a rule_fault.
     std::size_t position() const noexcept { return position_; }
 
 private:
@@ -68,12 +66,12 @@ private:
     std::size_t position_;
 };
 
-// The first part at fault of a text that is none of a recurrence.
+// Thrown by Recurrence::parse: the first wrong part of a text.
 class rule_fault : public error {
 public:
     rule_fault(std::int32_t status, std::size_t position, std::uint32_t part) : error(status, position), part_(part) {}
 
-    // The part, as FOTS_RULE_BYDAY, or 0 where the status is FOTS_UNKNOWN_PART or FOTS_NO_FREQUENCY.
+    // Returns the part, such as FOTS_RULE_BYDAY, or 0 for FOTS_UNKNOWN_PART and FOTS_NO_FREQUENCY.
     std::uint32_t part() const noexcept { return part_; }
 
 private:
@@ -82,10 +80,10 @@ private:
 
 namespace detail {
 
-// Marks a value that a call has answered, and that is not looked at again.
+// Marks a valid value from a call, which is not checked again.
 struct Answered {};
 
-// The result, where there is an answer.
+// Returns the result, or throws an error.
 template <class Result> Result done(Result result)
 {
     if (result.status != FOTS_DONE) {
@@ -102,7 +100,7 @@ template <class Result> Result read(Result result)
     return result;
 }
 
-// The answer of a call that reads the text of a recurrence.
+// Returns the result of a call that parses a recurrence, or throws a rule_fault.
 template <class Result> Result parsed(Result result)
 {
     if (result.status != FOTS_DONE) {
@@ -111,7 +109,7 @@ template <class Result> Result parsed(Result result)
     return result;
 }
 
-// Whether there is an answer, or none as it is past the range.
+// Returns whether there is a result, false for FOTS_PAST_RANGE, or throws an error.
 template <class Result> bool is_in_range(Result result)
 {
     return result.status != FOTS_PAST_RANGE && (done(result), true);
@@ -122,7 +120,7 @@ inline std::string text(fots_text_result result)
     return std::string(done(result).bytes, result.length);
 }
 
-// Comparison and equality by a key.
+// Compares by a key.
 template <class Value> struct Ordered {
     friend bool operator==(const Value &one, const Value &other) { return one.key() == other.key(); }
     friend bool operator!=(const Value &one, const Value &other) { return one.key() != other.key(); }
@@ -145,10 +143,10 @@ inline std::string to_string(Weekday weekday) { return detail::text(fots_weekday
 inline std::ostream &operator<<(std::ostream &out, Month month) { return out << to_string(month); }
 inline std::ostream &operator<<(std::ostream &out, Weekday weekday) { return out << to_string(weekday); }
 
-// A signed length of time, exact to the nanosecond.
+// A signed length of time in nanoseconds.
 class Duration : public detail::Ordered<Duration> {
 public:
-    // The duration of a struct of C; throws where it is none.
+    // Converts a duration of C, or throws FOTS_BAD_DURATION.
     explicit Duration(fots_duration value) : value_(value) { detail::done(fots_duration_whole_seconds(value)); }
     Duration(fots_duration value, detail::Answered) noexcept : value_(value) {}
 
@@ -186,10 +184,10 @@ private:
     fots_duration value_;
 };
 
-// A time of day, exact to the nanosecond.
+// A time of day in nanoseconds.
 class Time : public detail::Ordered<Time> {
 public:
-    // The time of nanoseconds since midnight.
+    // Converts nanoseconds since midnight, or throws FOTS_BAD_TIME.
     explicit Time(fots_time value) : value_(value) { detail::done(fots_time_hour(value)); }
     Time(fots_time value, detail::Answered) noexcept : value_(value) {}
 
@@ -207,10 +205,10 @@ public:
     std::uint32_t second() const { return detail::done(fots_time_second(value_)).number; }
     std::uint32_t nanosecond() const { return detail::done(fots_time_nanosecond(value_)).number; }
 
-    // The time so much later, or earlier, round the clock.
+    // Moves the time by a duration, modulo 24 hours. 23:00 plus 2 h is 1:00.
     friend Time operator+(Time time, Duration duration) { return Time(detail::done(fots_time_add(time.value_, duration.c())).time, {}); }
     friend Time operator-(Time time, Duration duration) { return Time(detail::done(fots_time_sub(time.value_, duration.c())).time, {}); }
-    // The plain difference, below zero where the time is earlier.
+    // Subtracts on the same day: 0:00 minus 23:00 is -23 h.
     friend Duration operator-(Time time, Time other)
     {
         return Duration(detail::done(fots_time_difference(time.value_, other.value_)).duration, {});
@@ -223,7 +221,7 @@ private:
     fots_time value_;
 };
 
-// An offset from UTC, exact to the second, above 0 to the east.
+// An offset from UTC in seconds, positive to the east.
 class UtcOffset : public detail::Ordered<UtcOffset> {
 public:
     explicit UtcOffset(fots_offset value) : value_(value) { detail::done(fots_offset_whole_hours(value)); }
@@ -240,7 +238,7 @@ public:
     }
 
     std::int32_t whole_seconds() const noexcept { return value_.seconds; }
-    // The hours, the minutes past them and the seconds past these, of one sign.
+    // Returns the hours, minutes and seconds, with one sign.
     std::tuple<std::int32_t, std::int32_t, std::int32_t> as_hms() const
     {
         const fots_offset_parts_result parts = detail::done(fots_offset_as_hms(value_));
@@ -255,7 +253,7 @@ private:
     fots_offset value_;
 };
 
-// Years, months and days, all of one sign.
+// Years, months and days, all positive or 0, or all negative or 0.
 struct Period {
     std::int32_t years, months, days;
 
@@ -265,7 +263,7 @@ struct Period {
     }
 };
 
-// A fraction of a year: what was counted, over what a year counts.
+// A fraction of a year.
 struct YearFraction {
     std::int64_t numerator;
     std::uint32_t denominator;
@@ -279,7 +277,7 @@ enum class DayCount : std::uint32_t {
     ActualActual = FOTS_ACTUAL_ACTUAL
 };
 
-// A day of the proleptic Gregorian calendar, from -999999-01-01 to 999999-12-31.
+// A date of the proleptic Gregorian calendar, from -999999-01-01 to 999999-12-31.
 class Date : public detail::Ordered<Date> {
 public:
     explicit Date(fots_date value) : value_(value) { detail::done(fots_date_year(value)); }
@@ -301,7 +299,7 @@ public:
     {
         return from(fots_date_from_iso_week_date(year, week, static_cast<std::uint32_t>(weekday)));
     }
-    // The date of a calendar date, an ordinal date or an ISO week date in text.
+    // Parses a calendar date, an ordinal date or an ISO week date, such as "2024-W09-4".
     static Date read(std::string_view text) { return Date(detail::read(fots_date_read(data(text), text.size())).date, {}); }
 
     std::int32_t to_julian_day() const noexcept { return value_.julian_day; }
@@ -393,7 +391,7 @@ public:
         return if_any(fots_date_on_or_before(value_, static_cast<std::uint32_t>(weekday)));
     }
 
-    // The day so many whole days of the duration later, or earlier, cut toward zero.
+    // Moves the date by the whole days of a duration, truncated toward zero.
     friend Date operator+(Date date, Duration duration) { return from(fots_date_checked_add(date.value_, duration.c())); }
     friend Date operator-(Date date, Duration duration) { return from(fots_date_checked_sub(date.value_, duration.c())); }
     friend Duration operator-(Date date, Date other)
@@ -401,25 +399,25 @@ public:
         return Duration(detail::done(fots_date_duration_since(date.value_, other.value_)).duration, {});
     }
 
-    // The calendar date in text, as 2024-02-29, the ordinal date, as 2024-060, and the ISO week date, as 2024-W09-4.
+    // Return texts of ISO 8601: 2024-02-29, 2024-060, 2024-W09-4.
     std::string calendar_text() const { return detail::text(fots_date_calendar_text(value_)); }
     std::string ordinal_text() const { return detail::text(fots_date_ordinal_text(value_)); }
     std::string week_text() const { return detail::text(fots_date_week_text(value_)); }
 
 #if __cplusplus >= 202002L
-    // The date of a day of <chrono>; FOTS_JULIAN_DAY where no date has it.
+    // Converts a day of <chrono>, or throws FOTS_JULIAN_DAY.
     static Date from_sys_days(std::chrono::sys_days day)
     {
         return from_julian_day(std::int64_t{day.time_since_epoch().count()} + unix_epoch);
     }
-    // The day of <chrono>, which has every date.
+    // Converts to a day of <chrono>.
     std::chrono::sys_days to_sys_days() const
     {
         return std::chrono::sys_days(std::chrono::days(value_.julian_day - unix_epoch));
     }
 #endif
 
-    // The date of a result of C, or none past the range.
+    // Converts a result of C, which is empty for FOTS_PAST_RANGE.
     static std::optional<Date> if_any(fots_date_result result)
     {
         return detail::is_in_range(result) ? std::optional<Date>(Date(result.date, {})) : std::nullopt;
@@ -449,18 +447,18 @@ enum class Convention : std::uint32_t {
     ModifiedPreceding = FOTS_MODIFIED_PRECEDING
 };
 
-// The working days of a week, but for the holidays: these rise, and are at most FOTS_MOST_HOLIDAYS.
+// The days of a week without holidays: at most FOTS_MOST_HOLIDAYS, in strictly ascending order.
 class Workdays {
 public:
-    // Monday to Friday.
+    // Takes Monday to Friday.
     explicit Workdays(const std::vector<Date> &holidays = {}) : Workdays({true, true, true, true, true, false, false}, holidays) {}
-    // The days that are marked, from Monday to Sunday.
+    // Takes the days that are marked, from Monday to Sunday.
     Workdays(std::array<bool, 7> marks, const std::vector<Date> &holidays) : week_(0)
     {
         for (std::size_t index = 0; index < marks.size(); ++index) {
             week_ |= std::uint32_t{marks[index]} << index;
         }
-        // One more than there are, so that the array is there.
+        // One more than needed, so that data() is not null.
         holidays_.reserve(holidays.size() + 1);
         for (const Date holiday : holidays) {
             holidays_.push_back(holiday.c());
@@ -501,7 +499,7 @@ private:
 
 namespace detail {
 
-// The dates that a call has written, so many.
+// Returns the first dates of an array.
 inline std::vector<Date> first_dates(const std::vector<fots_date> &written, std::size_t length)
 {
     std::vector<Date> dates;
@@ -516,7 +514,7 @@ inline std::vector<Date> first_dates(const std::vector<fots_date> &written, std:
 
 enum class Frequency : std::uint32_t { Daily = FOTS_DAILY, Weekly = FOTS_WEEKLY, Monthly = FOTS_MONTHLY, Yearly = FOTS_YEARLY };
 
-// A weekday of a rule: each one, or the so-and-so-many-th, from the end where the number is below 0; 0 stands for each one.
+// A weekday of a rule: every one if number is 0, else the n-th, or from the end if negative.
 struct ByDay {
     ByDay(Weekday each) : number(0), weekday(each) {}
     ByDay(std::int8_t nth, Weekday day) : number(nth), weekday(day) {}
@@ -525,8 +523,8 @@ struct ByDay {
     Weekday weekday;
 };
 
-// Days that come back, as RFC 5545 writes them in a RRULE: a part that is empty leaves out no day, and of the others a day of the rule
-// passes each. At most FOTS_MOST_MONTHS months and FOTS_MOST_WEEKDAYS weekdays, else a call throws FOTS_MANY_PARTS.
+// A recurrence rule of RFC 5545, with at most FOTS_MOST_MONTHS months and FOTS_MOST_WEEKDAYS
+// weekdays; else the calls throw FOTS_MANY_PARTS. An empty list excludes no day.
 class Rule {
 public:
     Rule(Date its_start, Frequency its_frequency) : start(its_start), frequency(its_frequency) {}
@@ -549,16 +547,16 @@ public:
     {
         return detail::done(with([date](const fots_rule *rule) { return fots_rule_contains(rule, date.c()); })).number == 1;
     }
-    // The days after the date, in order: so many, or fewer where the range has no more.
+    // Returns the first days after a date, in order: `count` of them, or fewer if no more follow.
     std::vector<Date> days_after(Date date, std::size_t count) const
     {
-        // One more than there are, so that the array is there.
+        // One more than needed, so that data() is not null.
         std::vector<fots_date> room(count + 1);
         const fots_days_result written = detail::done(
             with([&](const fots_rule *rule) { return fots_rule_days_after(rule, date.c(), room.data(), count); }));
         return detail::first_dates(room, written.length);
     }
-    // The first days of the rule: a rule that ends after a number of times.
+    // Returns the first days of the rule, in order: `count` of them, or fewer if no more follow.
     std::vector<Date> first_days(std::size_t count) const
     {
         const std::optional<Date> one = first();
@@ -571,7 +569,7 @@ public:
     }
 
 private:
-    // What the call answers that is given the rule of C, whose arrays are there until it returns.
+    // Calls with a rule of C, whose arrays live until the call returns.
     template <class Call> auto with(Call call) const -> decltype(call(static_cast<const fots_rule *>(nullptr)))
     {
         fots_rule rule = fots_rule_of(start.c(), static_cast<std::uint32_t>(frequency));
@@ -586,7 +584,7 @@ private:
         for (const ByDay by : weekdays) {
             parts.push_back(fots_rule_weekday{by.number, static_cast<std::uint8_t>(by.weekday)});
         }
-        // An empty array stays that of fots_rule_of.
+        // An empty array stays as fots_rule_of set it.
         if (!numbers.empty()) {
             rule.months = numbers.data();
             rule.months_length = numbers.size();
@@ -603,13 +601,13 @@ private:
     }
 };
 
-// What RFC 5545 writes behind RRULE:, as "FREQ=MONTHLY;BYDAY=-1FR;COUNT=12".
+// The text of a rule in RFC 5545, such as "FREQ=MONTHLY;BYDAY=-1FR;COUNT=12".
 class Recurrence {
 public:
-    // What the text says. It throws a rule_fault.
+    // Parses a text, or throws a rule_fault.
     static Recurrence parse(std::string_view text) { return Recurrence(std::string(text)); }
 
-    // Its text, with its parts in one order.
+    // Returns the text with its parts in one order.
     const std::string &text() const noexcept { return text_; }
 
     Frequency frequency() const noexcept { return static_cast<Frequency>(parts_.frequency); }
@@ -633,14 +631,14 @@ public:
         }
         return weekdays;
     }
-    // The last day, or the number of times, where it is given.
+    // Return the last day or the number of times, if given.
     std::optional<Date> until() const
     {
         return parts_.until.julian_day == FOTS_NOTHING ? std::nullopt : std::optional(Date(parts_.until, {}));
     }
     std::optional<std::uint32_t> count() const { return parts_.count == 0 ? std::nullopt : std::optional(parts_.count); }
 
-    // Its rule from a start on, without its number of times.
+    // Returns the rule from a start, without the number of times.
     Rule rule(Date start) const
     {
         Rule rule(start, frequency());
@@ -653,19 +651,19 @@ public:
         return rule;
     }
 
-    // The days from a start on, in order: so many, or fewer where there are no more.
+    // Returns the first days from a start: `count` of them, or fewer if no more follow.
     std::vector<Date> days(Date start, std::size_t count) const { return days_from(start, start, count); }
-    // Those of them from a date on.
+    // Returns the first of these days that are not before `from`.
     std::vector<Date> days_from(Date start, Date from, std::size_t count) const
     {
-        // One more than there are, so that the array is there.
+        // One more than needed, so that data() is not null.
         std::vector<fots_date> room(count + 1);
         const fots_recurrence_result written = detail::parsed(
             fots_recurrence_days(text_.data(), text_.size(), start.c(), from.c(), room.data(), count));
         return detail::first_dates(room, written.length);
     }
 
-    // Two are equal where their parts are, which their texts say.
+    // Compare the parts, by their texts.
     friend bool operator==(const Recurrence &one, const Recurrence &other) { return one.text_ == other.text_; }
     friend bool operator!=(const Recurrence &one, const Recurrence &other) { return one.text_ != other.text_; }
 
@@ -682,41 +680,40 @@ private:
 
 inline std::ostream &operator<<(std::ostream &out, const Recurrence &recurrence) { return out << recurrence.text(); }
 
-// The date and the time so much later, to the nanosecond, or none past the range.
+// Moves a date and time by a duration. The result is empty out of range.
 inline std::optional<std::pair<Date, Time>> add_to_pair(Date date, Time time, Duration duration)
 {
     const fots_pair_result pair = fots_add_to_pair(date.c(), time.c(), duration.c());
     return detail::is_in_range(pair) ? std::optional(std::pair(Date(pair.date, {}), Time(pair.time, {}))) : std::nullopt;
 }
 
-// The same, earlier.
 inline std::optional<std::pair<Date, Time>> sub_from_pair(Date date, Time time, Duration duration)
 {
     const fots_pair_result pair = fots_sub_from_pair(date.c(), time.c(), duration.c());
     return detail::is_in_range(pair) ? std::optional(std::pair(Date(pair.date, {}), Time(pair.time, {}))) : std::nullopt;
 }
 
-// The text of RFC 3339, as 2024-02-29T23:59:59.25+01:00, or none where it has none.
+// Returns the text in RFC 3339, such as 2024-02-29T23:59:59.25+01:00; empty if it has none.
 inline std::optional<std::string> rfc3339_text(Date date, Time time, UtcOffset offset)
 {
     const fots_text_result text = fots_moment_text(date.c(), time.c(), offset.c());
     return detail::is_in_range(text) ? std::optional(std::string(text.bytes, text.length)) : std::nullopt;
 }
 
-// The date, the time and the offset of a text of RFC 3339.
+// Parses a date, a time of day and an offset in RFC 3339.
 inline std::tuple<Date, Time, UtcOffset> read_rfc3339(std::string_view text)
 {
     const fots_read_moment_result found = detail::read(fots_moment_read(text.empty() ? "" : text.data(), text.size()));
     return {Date(found.date, {}), Time(found.time, {}), UtcOffset(found.offset, {})};
 }
 
-// The Unix time, as a duration from 1970-01-01 00:00 UTC on.
+// Returns the Unix time: the duration from 1970-01-01 0:00 UTC.
 inline Duration unix_duration(Date date, Time time, UtcOffset offset)
 {
     return Duration(detail::done(fots_unix_time(date.c(), time.c(), offset.c())).duration, {});
 }
 
-// The date and the time of a Unix time, as a clock shows them at the offset, or none where no day of the range has it.
+// Returns the date and time of a Unix time at an offset; empty out of range.
 inline std::optional<std::pair<Date, Time>> unix_pair(Duration duration, UtcOffset offset)
 {
     const fots_pair_result pair = fots_unix_pair(duration.c(), offset.c());
@@ -725,7 +722,7 @@ inline std::optional<std::pair<Date, Time>> unix_pair(Duration duration, UtcOffs
 
 class OffsetDateTime;
 
-// A date and a time of day, with no offset.
+// A date and a time of day without an offset.
 class PlainDateTime : public detail::Ordered<PlainDateTime> {
 public:
     PlainDateTime(Date date, Time time) : value_(detail::done(fots_moment_new(date.c(), time.c(), fots_offset{0})).moment) {}
@@ -753,7 +750,7 @@ public:
         return Duration(detail::done(fots_moment_duration_since(one.value_, other.value_)).duration, {});
     }
 
-    // The same clock at an offset.
+    // Return this date and time at an offset.
     OffsetDateTime assume_offset(UtcOffset offset) const;
     OffsetDateTime assume_utc() const;
 
@@ -767,11 +764,11 @@ private:
         return detail::is_in_range(result) ? std::optional<PlainDateTime>(PlainDateTime(result.moment)) : std::nullopt;
     }
 
-    // That of UTC.
+    // At offset 0.
     fots_moment value_;
 };
 
-// What a clock at an offset from UTC shows. Compared by the instant, so two that show different clocks can be equal.
+// A date and a time of day at an offset from UTC. Compares by instant.
 class OffsetDateTime : public detail::Ordered<OffsetDateTime> {
 public:
     explicit OffsetDateTime(fots_moment value) : value_(value) { detail::done(fots_moment_unix_timestamp(value)); }
@@ -790,16 +787,16 @@ public:
     UtcOffset offset() const noexcept { return UtcOffset(value_.offset, {}); }
     PlainDateTime local() const { return {date(), time()}; }
 
-    // The Unix time in whole seconds, rounded toward the past, and exactly.
+    // Return the Unix time in whole seconds, rounded down, or as a duration.
     std::int64_t unix_timestamp() const { return detail::done(fots_moment_unix_timestamp(value_)).number; }
     Duration unix_duration() const { return Duration(detail::done(fots_moment_unix_time(value_)).duration, {}); }
 
-    // The same instant, as a clock at that offset shows it.
+    // Return the same instant at another offset.
     std::optional<OffsetDateTime> checked_to_offset(UtcOffset offset) const { return if_any(fots_moment_to_offset(value_, offset.c())); }
     OffsetDateTime to_offset(UtcOffset offset) const { return from(fots_moment_to_offset(value_, offset.c())); }
     std::optional<OffsetDateTime> checked_to_utc() const { return checked_to_offset(UtcOffset::utc()); }
     OffsetDateTime to_utc() const { return to_offset(UtcOffset::utc()); }
-    // The same clock at another offset, so another instant.
+    // Returns the same date and time at another offset, which is another instant.
     OffsetDateTime replace_offset(UtcOffset offset) const { return from(fots_moment_replace_offset(value_, offset.c())); }
 
     std::optional<OffsetDateTime> checked_add(Duration duration) const { return if_any(fots_moment_checked_add(value_, duration.c())); }

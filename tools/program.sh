@@ -1,12 +1,11 @@
-# The body of the scripts that run a program of this repository, which name it: top, the folder of the repository; name, that of the
-# program and its crate; hint, what is said where standard input is a terminal, or nothing.
+# The body of the scripts that run a program of this repository. They set top, the folder of the repository; name, the name of the program
+# and of its crate; look, how to try it without a proof from the crate's folder; and hint, what is said if standard input is a terminal.
 #
 # The first time, and when one of its sources has changed, the program is proved and built before. Standard input, standard output,
 # arguments and the status are the program's; all else goes to standard error.
 
 crate=$top/crates/$name
 program=$crate/out/$name
-# It names the crates that the program was built from, and bears the time before that build.
 marker=$crate/out/$name.built
 
 say() {
@@ -18,7 +17,7 @@ fail() {
     exit 1
 }
 
-. "$top/tools/built.sh"
+. "$top/tools/marker.sh"
 if ! is_built; then
     make=run
     . "$top/tools/build.sh"

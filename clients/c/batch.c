@@ -1,4 +1,5 @@
-/* The calls on columns against the single calls, row by row: drawn rows, borders, and columns that are not of one length. */
+/* Compares column calls with single calls on random rows and limits, and tries different
+ * lengths. */
 #include <string.h>
 
 #include "fotsevindre.h"
@@ -11,12 +12,12 @@ static int64_t days[ROWS];
 static uint8_t months[ROWS], month_days[ROWS], weeks[ROWS], weekdays[ROWS];
 static uint16_t ordinals[ROWS];
 
-/* What the calls write. */
+/* The output columns. */
 static int32_t found[ROWS];
 static uint8_t firsts[ROWS], seconds[ROWS], statuses[ROWS];
 static uint16_t found_ordinals[ROWS];
 
-/* The bytes of texts, their bounds, and the rest of moments. */
+/* Bytes of texts, their bounds, and the rest of moments. */
 static char bytes[ROWS * FOTS_MOMENT_ROOM + 1];
 static int32_t bounds[ROWS + 1], offsets[ROWS], found_offsets[ROWS];
 static uint64_t times[ROWS], found_times[ROWS];
@@ -30,20 +31,20 @@ static uint64_t drawn(void)
     return state;
 }
 
-/* Drawn bits, cut to a drawn length. */
+/* Returns random bits, cut to a random length. */
 static int64_t drawn_bits(void)
 {
     uint64_t bits = drawn();
     return (int64_t)bits >> (drawn() & 63);
 }
 
-/* A number from 0 to most, or any bits. */
+/* Returns a number from 0 to `most`, or any bits. */
 static uint16_t part(int value, uint16_t most)
 {
     return (uint16_t)(value ? drawn() % (most + 1u) : drawn());
 }
 
-/* Both ends of the range, moved past them and to them. */
+/* Moves both ends of the range past them and to them. */
 static void ends(void)
 {
     static const int32_t moves[] = {0, 1, -1, 23999987, -23999987, 23999988, -23999988, 521774738, -521774738, INT32_MAX, INT32_MIN};
@@ -55,7 +56,7 @@ static void ends(void)
     }
 }
 
-/* Half of the rows are values mostly, and the others any bits. */
+/* Fills half of the rows mostly with valid values, the others with any bits. */
 static void draw(void)
 {
     for (int k = 0; k < ROWS; k++) {
@@ -82,7 +83,7 @@ static void draw(void)
     ends();
 }
 
-/* Row k is that of the single call: its status, and the parts. */
+/* Checks that row k has the status and the parts of the single call. */
 #define SAME(call, status_of_one, parts) \
     do { \
         check(statuses[k] == (status_of_one), call, (long long)k, statuses[k]); \
@@ -90,7 +91,7 @@ static void draw(void)
         refused += statuses[k] == FOTS_DONE ? 0 : 1; \
     } while (0)
 
-/* Each row is that of the single call, and those with no answer are counted. */
+/* Checks each row against the single call, and the number of rows without a result. */
 #define COLUMN(call, one, parts) \
     do { \
         size_t refused = 0, counted = call; \
@@ -130,7 +131,7 @@ static void columns(size_t n)
         fots_date_result single = fots_date_add_months(date_at(dates[k]), numbers[k]), DATES_FOUND);
 }
 
-/* The working days of these marks and holidays. */
+/* Checks the working days of a week and holidays. */
 static void of_workdays(size_t n, uint32_t week, const fots_date *holidays, size_t length)
 {
     COLUMN(fots_dates_add_workdays(dates, n, numbers, n, week, holidays, length, found, n, statuses, n),
@@ -140,7 +141,7 @@ static void of_workdays(size_t n, uint32_t week, const fots_date *holidays, size
         found[k] == single.number);
 }
 
-/* Weeks with all marks, with some and with none, and holidays near both ends and every hundredth day; and what is refused. */
+/* Takes weeks, holidays near both ends and on every hundredth day, and invalid ones. */
 static void workdays(void)
 {
     static fots_date holidays[FOTS_MOST_HOLIDAYS + 1];
@@ -164,7 +165,7 @@ static void workdays(void)
     of_workdays(0, FOTS_MONDAY_TO_FRIDAY, holidays, 2);
 }
 
-/* From calendar dates to ISO week dates at once, and by the dates: the same rows, with the status of the first refusal. */
+/* Compares the conversion to ISO week dates at once with the one by dates. */
 static void chained(size_t n)
 {
     static int32_t iso_years[ROWS];
@@ -181,7 +182,7 @@ static void chained(size_t n)
     }
 }
 
-/* Columns that are not of one length: nothing is written. */
+/* Checks that different lengths write nothing. */
 static void unlike(void)
 {
     found[0] = 77;
@@ -200,7 +201,7 @@ static void unlike(void)
     check(found[0] == 77 && statuses[0] == 77, "what stood there", found[0], statuses[0]);
 }
 
-/* Row k of the texts is that of the single call: its status, and the bytes between its bounds. */
+/* Checks that row k of the texts has the status and the bytes of the single call. */
 static size_t same_text(size_t k, fots_text_result single)
 {
     size_t text_length = (size_t)(bounds[k + 1] - bounds[k]);
@@ -209,7 +210,7 @@ static size_t same_text(size_t k, fots_text_result single)
     return single.status == FOTS_DONE ? 0 : 1;
 }
 
-/* The texts of the bytes, read one after another and at once. */
+/* Parses texts one after another and at once. */
 static void read_back(size_t n, size_t bytes_length)
 {
     size_t refused = 0, counted = fots_dates_read(bytes, bytes_length, bounds, n + 1, found, n, statuses, n);
@@ -230,7 +231,7 @@ static void read_back(size_t n, size_t bytes_length)
     check(counted == refused, "the texts of no moment", (long long)counted, (long long)refused);
 }
 
-/* One byte of some texts is another one. */
+/* Changes a byte in some texts. */
 static void spoil(size_t bytes_length)
 {
     static const char others_of_forms[] = "0129-+:TtzZW. \xff";
@@ -239,7 +240,7 @@ static void spoil(size_t bytes_length)
     }
 }
 
-/* Dates and moments printed, read back, and read where some bytes are others. */
+/* Prints and parses dates and moments, also with changed bytes. */
 static void texts(size_t n)
 {
     bytes[n * FOTS_DATE_ROOM] = 77;
@@ -267,7 +268,7 @@ static void texts(size_t n)
     read_back(n, (size_t)bounds[n]);
 }
 
-/* Bounds that do not lie in the bytes, one after the other, and columns with no room. */
+/* Takes bounds out of range, descending bounds, and columns without room. */
 static void bad_texts(void)
 {
     static const char text[] = "2024-02-292024-02-30";

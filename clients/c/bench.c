@@ -1,5 +1,5 @@
-/* The least that a call costs: the cheapest calls, and a row of a column, beside a loop over the same values with no call. It prints
- * the median of the rounds, in nanoseconds of processor time a value. Nothing tests what it prints. */
+/* Times the cheapest calls and the rows of columns beside a loop without a call. Prints the
+ * median in nanoseconds of processor time for each value. Nothing tests it. */
 #include <stdio.h>
 #include <stdlib.h>
 #include <time.h>
@@ -21,7 +21,7 @@ static fots_calendar_date_result calendars[VALUES];
 static int32_t julian_days[VALUES], years[VALUES], found[VALUES];
 static uint8_t months[VALUES], month_days[VALUES], weeks[VALUES], weekdays[VALUES], statuses[VALUES];
 
-/* The compiler can't tell what becomes of the number, nor that the memory stays as it is. */
+/* Hides the number and the memory from the optimizer. */
 static void keep(int32_t number)
 {
     __asm__ volatile("" : : "r"(number) : "memory");
@@ -36,7 +36,7 @@ static uint32_t drawn(void)
     return (uint32_t)(state >> 32);
 }
 
-/* Dates of the years 1 to 9999, offsets, and moves of up to 10000 days. */
+/* Fills in dates of the years 1 to 9999, offsets, and moves of up to 10000 days. */
 static void draw(void)
 {
     for (int k = 0; k < VALUES; k++) {

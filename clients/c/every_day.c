@@ -1,8 +1,8 @@
-/* Every day of the range, through the calls, against a count of one day at a time. */
+/* Compares the calls on every day of the range with a count of one day at a time. */
 #include "fotsevindre.h"
 #include "testing.h"
 
-/* A day of the count: all that it has. */
+/* A day of the count. */
 struct day {
     int32_t julian_day, year, iso_year;
     uint32_t month, day, ordinal, iso_week, weekday, sundays, mondays;
@@ -22,8 +22,8 @@ static uint32_t length_of_month(int32_t year, uint32_t month)
     }
 }
 
-/* The day after. A week belongs to the year that has its Thursday, so a Monday opens week 1 where its Thursday is among the first
- * seven days of a year. */
+/* Returns the next day. A Monday starts week 1 if its Thursday is one of the first seven days of
+ * a year. */
 static struct day day_after(struct day it)
 {
     it.julian_day++;
@@ -57,7 +57,7 @@ static struct day day_after(struct day it)
     return it;
 }
 
-/* What a day is made of leads to it. */
+/* Checks that each form of the day makes its date. */
 static int is_made(struct day it)
 {
     fots_date_result by_calendar = fots_date_from_calendar_date(it.year, it.month, it.day);
@@ -70,7 +70,7 @@ static int is_made(struct day it)
         && by_julian_day.status == FOTS_DONE && by_julian_day.date.julian_day == it.julian_day;
 }
 
-/* A day gives back all that it has. */
+/* Checks that the date of the day returns each form. */
 static int has_all(struct day it)
 {
     fots_calendar_date_result calendar = fots_date_to_calendar_date(date_at(it.julian_day));
@@ -91,7 +91,7 @@ static int is_part(fots_part_result result, uint32_t number)
     return result.status == FOTS_DONE && result.number == number;
 }
 
-/* The parts one by one: on a day in a few, as each of them is a conversion. */
+/* Checks the parts one by one, only for some days, because each is a conversion. */
 static int has_parts(struct day it)
 {
     fots_date date = date_at(it.julian_day);
@@ -101,7 +101,7 @@ static int has_parts(struct day it)
         && is_part(fots_date_sunday_based_week(date), it.sundays) && is_part(fots_date_monday_based_week(date), it.mondays);
 }
 
-/* The days beside a day, of which the first and the last one have one alone. */
+/* Checks the next and the previous day, if the range has them. */
 static int has_neighbours(struct day it)
 {
     fots_date_result next = fots_date_next_day(date_at(it.julian_day)), previous = fots_date_previous_day(date_at(it.julian_day));
@@ -111,7 +111,7 @@ static int has_neighbours(struct day it)
             && previous.date.julian_day == (first ? FOTS_NOTHING : it.julian_day - 1);
 }
 
-/* What no day has, beside the end of a month and of a year. */
+/* Checks that the days past the end of a month and a year are errors. */
 static int refuses_beside(struct day it)
 {
     if (it.day == 1 || it.ordinal == 1) {
@@ -137,13 +137,13 @@ static void check_day(struct day it, int in_parts)
     }
 }
 
-/* With 'low' the days before this one are checked, and with 'high' the others: the count goes over all of them. */
+/* Checks the days before this one for 'low', the others for 'high'. The count goes over all. */
 #define HALF 1721243
 
 int main(int count, char **arguments)
 {
     int low = count < 2 || arguments[1][0] == 'l', high = count < 2 || arguments[1][0] == 'h';
-    /* -999999-01-01 is a Monday, of week 1. */
+    /* -999999-01-01 is a Monday, in week 1. */
     struct day it = {FOTS_MIN_JULIAN_DAY, FOTS_MIN_YEAR, FOTS_MIN_YEAR, 1, 1, 1, 1, 1, 0, 1};
     uint32_t drawn = 1;
     for (;;) {

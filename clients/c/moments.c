@@ -1,4 +1,4 @@
-/* Moments: worked rows, wrong values in each parameter, and drawn values against numbers of 128 bits. */
+/* Checks moments: worked rows, invalid arguments, and random values with 128-bit numbers. */
 #include "fotsevindre.h"
 #include "testing.h"
 
@@ -27,7 +27,7 @@ static fots_duration duration_of(int64_t seconds, int32_t nanoseconds)
     return duration;
 }
 
-/* The moment of a calendar date, an hour, a minute, a second and its nanoseconds, at whole hours from UTC. */
+/* Returns the moment of a calendar date, a time and whole hours from UTC. */
 static fots_moment shown(int32_t year, uint32_t month, uint32_t day, uint32_t hour, uint32_t minute, uint32_t second, uint32_t nanosecond,
     int32_t hours)
 {
@@ -67,7 +67,7 @@ static void is_no_duration(fots_duration_result result, int32_t status, const ch
         result.status, result.duration.seconds);
 }
 
-/* The answer of a comparison, and the opposite one the other way round. */
+/* Checks a comparison, and its opposite with the parameters swapped. */
 static void is_order(fots_moment one, fots_moment other, int32_t order, const char *what)
 {
     fots_number_result there = fots_moment_compare(one, other);
@@ -143,7 +143,7 @@ static void ends_of_the_range(void)
     is_no_moment(fots_moment_from_unix_timestamp(fots_moment_unix_timestamp(last).number + 1), FOTS_TIMESTAMP, "after the last");
 }
 
-/* ---- wrong values */
+/* ---- invalid values */
 
 static void wrong_parts(void)
 {
@@ -155,7 +155,7 @@ static void wrong_parts(void)
     is_moment(fots_moment_new(date, FOTS_MAX_TIME, offset), moment_at(2460370, 3600, FOTS_MAX_TIME), "of right parts");
 }
 
-/* Each call refuses a moment that is none, before another argument that is none. */
+/* Checks that each call rejects an invalid moment before another invalid argument. */
 static void wrong_moment(fots_moment wrong, const char *what)
 {
     const fots_moment right = moment_at(0, 0, 0);
@@ -205,7 +205,7 @@ static void wrong_values(void)
     }
 }
 
-/* ---- drawn values */
+/* ---- random values */
 
 static uint64_t drawn(void)
 {
@@ -216,13 +216,13 @@ static uint64_t drawn(void)
     return state;
 }
 
-/* A number from 0 to below the other. */
+/* Returns a number from 0 to below the other. */
 static int64_t below(uint64_t number)
 {
     return (int64_t)(drawn() % number);
 }
 
-/* One moment in four lies at an end of the range. */
+/* Returns a moment, at an end of the range for one in four. */
 static fots_moment drawn_moment(void)
 {
     const uint64_t days = (uint64_t)((int64_t)FOTS_MAX_JULIAN_DAY - FOTS_MIN_JULIAN_DAY + 1);
@@ -237,7 +237,7 @@ static fots_moment drawn_moment(void)
     return moment_at((int32_t)(FOTS_MIN_JULIAN_DAY + day), offset, time);
 }
 
-/* A duration of any size, of days or of seconds. */
+/* Returns a duration of any size, of days or of seconds. */
 static fots_duration drawn_duration(void)
 {
     static const uint64_t sizes[] = {100000, UINT64_C(100000000000000), INT64_MAX};
@@ -246,7 +246,7 @@ static fots_duration drawn_duration(void)
     return below(2) ? duration_of(seconds, nanoseconds) : duration_of(-seconds, -nanoseconds);
 }
 
-/* The local date-time and the instant, in nanoseconds since the first day of the range. */
+/* Return the local date-time and the instant, in nanoseconds from the first day of the range. */
 static wide local_of(fots_moment moment)
 {
     return (wide)(moment.date.julian_day - (int64_t)FOTS_MIN_JULIAN_DAY) * DAY + (wide)moment.time;
@@ -267,7 +267,7 @@ static wide last_local(void)
     return local_of(moment_at(FOTS_MAX_JULIAN_DAY, 0, FOTS_MAX_TIME));
 }
 
-/* The answer is the moment of that local date-time, or refused where there is none. */
+/* Checks that the result is the moment of this local date-time, or an error if there is none. */
 static void is_at(fots_moment_result result, wide local, int32_t offset, int32_t refused, const char *what)
 {
     if (local < 0 || local > last_local()) {

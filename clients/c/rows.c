@@ -1,4 +1,4 @@
-/* Worked rows of dates, weeks, the ends of the range, durations, times, offsets and texts, as tables. */
+/* Checks worked rows of dates, durations, times, offsets and texts. */
 #include <string.h>
 
 #include "fotsevindre.h"
@@ -101,7 +101,7 @@ static void is_read(fots_read_date_result result, fots_date date, const char *wh
         result.date.julian_day);
 }
 
-/* What is refused, with its position where it is unreadable or ends too early. */
+/* Checks an error, with the position of FOTS_UNREADABLE and FOTS_UNEXPECTED_END. */
 static void is_not_read(fots_read_date_result result, int32_t status, size_t position, const char *what)
 {
     check(result.status == status && result.date.julian_day == FOTS_NOTHING && result.position == position, what, result.status,
@@ -125,7 +125,7 @@ static fots_time clock_of(uint32_t hour, uint32_t minute, uint32_t second, uint3
     return ((hour * 60ULL + minute) * 60ULL + second) * 1000000000ULL + nanosecond;
 }
 
-/* Days by all that they have. */
+/* Days with all their parts. */
 static void days(void)
 {
     static const struct {
@@ -181,7 +181,7 @@ static void days(void)
     is_part(fots_date_monday_based_week(day_of(2020, 12, 31)), 52, "Mondays");
 }
 
-/* What is refused, and by which name. */
+/* Errors with their names. */
 static void refusals(void)
 {
     is_no_date(fots_date_from_julian_day(-363521075), FOTS_JULIAN_DAY, "before the first day");
@@ -219,7 +219,7 @@ static void refusals(void)
     is_date(fots_date_replace_ordinal(day_of(2022, 2, 18), 1), day_of(2022, 1, 1), "1 January");
 }
 
-/* Days moved. */
+/* Moved days. */
 static void moves(void)
 {
     fots_date first = date_at(FOTS_MIN_JULIAN_DAY), last = date_at(FOTS_MAX_JULIAN_DAY);
@@ -313,7 +313,7 @@ static void durations(void)
     is_number(fots_duration_compare(nanoseconds(1), nanoseconds(-1)), 1, "1 ns and -1 ns");
 }
 
-/* Times of day, and a date with a time. */
+/* Times of day, and dates with times. */
 static void times(void)
 {
     fots_time noon = clock_of(12, 0, 0, 0), one = clock_of(1, 2, 3, 4005006);
@@ -416,7 +416,7 @@ static void cycles(void)
     check(fots_weeks_in_year(2020) == 53 && fots_weeks_in_year(2019) == 52, "weeks of a year", 0, 0);
 }
 
-/* Days in text, printed and read. */
+/* Texts of days, printed and parsed. */
 static void texts_of_days(void)
 {
     static const struct {
@@ -448,7 +448,7 @@ static void texts_of_days(void)
     is_no_text(fots_date_calendar_text(date_at(FOTS_MAX_JULIAN_DAY + 1)), FOTS_BAD_DATE, "the text of no date");
 }
 
-/* Texts that are no days: where they are wrong, or which component. */
+/* Texts that are not days, with the position or the component. */
 static void refused_texts_of_days(void)
 {
     static const struct {
@@ -483,7 +483,7 @@ static void refused_texts_of_days(void)
     }
 }
 
-/* Moments of RFC 3339: the examples of the standard come first. */
+/* Moments of RFC 3339, with the examples of the standard first. */
 static void texts_of_moments(void)
 {
     static const struct {
@@ -535,7 +535,7 @@ static void texts_of_moments(void)
         "no offset before what has no text");
 }
 
-/* Unix times, as durations and in text. */
+/* Unix times as durations and texts. */
 static void unix_times(void)
 {
     static const struct {
@@ -594,7 +594,7 @@ static void unix_times(void)
     is_no_duration(fots_unix_time(date_at(FOTS_NOTHING), FOTS_NO_TIME, offset_at(0)), FOTS_BAD_DATE, "the Unix time of no date");
 }
 
-/* The names of months and weekdays. */
+/* Names of months and weekdays. */
 static void names_of_cycles(void)
 {
     static const char *const months[] = {"January", "February", "March", "April", "May", "June", "July", "August", "September",
@@ -612,7 +612,7 @@ static void names_of_cycles(void)
     is_no_text(fots_weekday_name(0), FOTS_BAD_WEEKDAY, "weekday 0");
 }
 
-/* The names of the statuses. */
+/* Names of statuses. */
 static void names(void)
 {
     check(strcmp(fots_status_name(FOTS_DAY), "day") == 0, "the name of a refusal", FOTS_DAY, 0);
@@ -626,7 +626,7 @@ static void names(void)
     check(fots_status_is_conditional(FOTS_WEEK) && !fots_status_is_conditional(FOTS_YEAR), "the marks", 0, 0);
 }
 
-/* What was not looked at, and where it goes. */
+/* Error results that are passed on. */
 static void refused_next(void)
 {
     fots_calendar_date_result calendar = fots_date_to_calendar_date(fots_date_from_calendar_date(2023, 2, 29).date);

@@ -1,5 +1,5 @@
-/* Months, the ends of periods, working days, recurrences and day counts: rows whose values are not from this library, wrong values, and
- * drawn values against a count of one day at a time. */
+/* Checks months, periods, working days, recurrences and day counts: rows from other sources,
+ * invalid values, and random values against a count of one day at a time. */
 #include <stdlib.h>
 #include <string.h>
 
@@ -33,7 +33,7 @@ static void refuses(fots_date_result result, int32_t status, const char *what)
     check(result.status == status && result.date.julian_day == FOTS_NOTHING, what, status, result.status);
 }
 
-/* The end of February, as the calendar has it. */
+/* The ends of February. */
 static void months(void)
 {
     is_day(fots_date_add_months(day(2023, 1, 31), 1), day(2023, 2, 28), "a month after 31 January 2023");
@@ -48,7 +48,7 @@ static void months(void)
     is_day(fots_date_saturating_add_months(day(999999, 12, 1), 1), date_at(FOTS_MAX_JULIAN_DAY), "the last day in place of the next month");
     is_day(fots_date_saturating_add_months(day(-999999, 1, 1), INT32_MIN), date_at(FOTS_MIN_JULIAN_DAY), "the first day");
 
-    /* An age rises on the birthday. */
+    /* An age increases on the birthday. */
     check(fots_date_years_until(day(1980, 6, 1), day(2024, 5, 31)).number == 43, "the age on the day before", 0, 0);
     check(fots_date_years_until(day(1980, 6, 1), day(2024, 6, 1)).number == 44, "the age on the birthday", 0, 0);
     check(fots_date_months_until(day(2023, 1, 31), day(2023, 2, 27)).number == 0, "months to 27 February", 0, 0);
@@ -71,7 +71,7 @@ static void ends(void)
     refuses(fots_date_last_of_iso_week(date_at(FOTS_MAX_JULIAN_DAY)), FOTS_PAST_RANGE, "the Sunday past the last day");
     check(fots_date_quarter(day(2024, 3, 31)).number == 1 && fots_date_quarter(day(2024, 4, 1)).number == 2, "the quarter", 0, 0);
 
-    /* The last Fridays of 2024, and Thanksgivings, the fourth Thursdays of November, from a calendar. */
+    /* The last Fridays of 2024 and Thanksgivings, from a calendar. */
     static const uint32_t fridays[12] = {26, 23, 29, 26, 31, 28, 26, 30, 27, 25, 29, 27};
     for (uint32_t month = 1; month <= 12; month++) {
         is_day(fots_date_last_weekday_of_month(2024, month, 5), day(2024, month, fridays[month - 1]), "the last Friday");
@@ -90,7 +90,7 @@ static void ends(void)
     refuses(fots_date_on_or_after(date_at(FOTS_MAX_JULIAN_DAY), 6), FOTS_PAST_RANGE, "a Saturday past the last day, a Friday");
 }
 
-/* The examples of the memorandum of the ISDA on actual/actual, and the 31st of the two conventions of 30 days. */
+/* The examples of ISDA's memorandum on actual/actual, and 31sts in the 30-day conventions. */
 static void day_counts(void)
 {
     static const struct {
@@ -122,7 +122,7 @@ static void day_counts(void)
     check(none.status == FOTS_BAD_CONVENTION && none.denominator == 0 && none.numerator == INT64_MIN, "no convention", none.status, 0);
 }
 
-/* Drawn months against the calendar date, and drawn periods added again. */
+/* Compares random months with the calendar date, and adds random periods again. */
 static void drawn_months(void)
 {
     for (int turn = 0; turn < DRAWN; turn++) {
@@ -178,7 +178,7 @@ static void workdays(void)
     many[7] = date_at(INT32_MAX);
     refuses(fots_date_next_workday(day(2024, 8, 30), week, many, 8), FOTS_BAD_HOLIDAYS, "a holiday that is no date");
 
-    /* Drawn weeks and moves, against a count of one day at a time. */
+    /* Compares random weeks and moves with a count of one day at a time. */
     for (int turn = 0; turn < DRAWN; turn++) {
         const uint32_t marks = (uint32_t)(drawn() % 127) + 1;
         const fots_date date = date_at(holidays[0].julian_day - 40 + (int32_t)(drawn() % 440));
@@ -197,14 +197,14 @@ static void workdays(void)
     }
 }
 
-/* The weekdays and the parts of a row, up to a weekday of 0 and a part of 0. */
+/* A row: its weekdays end with a weekday of 0, and its other lists with 0. */
 typedef struct {
     const char *text;
     uint32_t frequency, interval, week_start;
     uint8_t months[4];
     int8_t month_days[14];
     fots_rule_weekday weekdays[8];
-    int32_t start, until; /* as 19970902, and 0 for no end */
+    int32_t start, until; /* such as 19970902; 0 for no end */
     int32_t days[12]; /* the first ones, up to a 0 */
     int ends; /* whether these are all */
 } recurrence;
@@ -214,7 +214,7 @@ static fots_date of_number(int32_t number)
     return day(number / 10000, (uint32_t)(number / 100 % 100), (uint32_t)(number % 100));
 }
 
-/* The examples of RFC 5545, each with its first days. */
+/* The examples of RFC 5545 with their first days. */
 static const recurrence recurrences[] = {
     {"FREQ=DAILY;INTERVAL=10;COUNT=5", FOTS_DAILY, 10, 1, {0}, {0}, {{0, 0}}, 19970902, 0, {19970902, 19970912, 19970922, 19971002, 19971012}, 0},
     {"FREQ=DAILY;UNTIL=19970905", FOTS_DAILY, 1, 1, {0}, {0}, {{0, 0}}, 19970902, 19970905, {19970902, 19970903, 19970904, 19970905}, 1},
@@ -246,7 +246,7 @@ static fots_recurrence_result of_text(const char *text, fots_date start, fots_da
     return fots_recurrence_days(text, strlen(text), start, from, days, length);
 }
 
-/* The same by its text: all from the start on, up to its COUNT, and each of them from the day after the one before. */
+/* Checks the text of a row: all days to COUNT, and each one from the day after the previous. */
 static void by_its_text(const recurrence *its)
 {
     const fots_date start = of_number(its->start);
@@ -273,7 +273,7 @@ static void by_its_text(const recurrence *its)
     }
 }
 
-/* The parts that its text says, and the rule of them. */
+/* Checks the parts of its text, and their rule. */
 static void by_its_parts(const recurrence *its, const fots_rule *rule)
 {
     const fots_read_recurrence_result read = fots_recurrence_parse(its->text, strlen(its->text));
@@ -292,7 +292,7 @@ static void by_its_parts(const recurrence *its, const fots_rule *rule)
     }
 }
 
-/* Against the first day, the next ones, a column of them, and whether each day in between is one. */
+/* Checks the first day, the next ones, a column of them, and the days in between. */
 static void recurrences_of_the_rfc(void)
 {
     for (int row = 0; row < COUNT(recurrences); row++) {
@@ -373,7 +373,7 @@ static void recurrences_refused(void)
     rule.months_length = 64;
     rule.weekdays_length = 64;
     is_day(fots_rule_first(&rule), day(2024, 1, 1), "as many parts as there can be");
-    /* From the last part to the first, each is wrong before those that are wrong already. */
+    /* From the last part to the first, each is wrong before the parts that are wrong already. */
     weekdays[63].weekday = 8;
     refuses(fots_rule_first(&rule), FOTS_BAD_WEEKDAY, "weekday 8");
     weekdays[63].weekday = 0;
@@ -407,7 +407,7 @@ static void recurrences_refused(void)
     check(fots_rule_days_after(&rule, daily.start, days, 3).status == FOTS_BAD_DATE && days[0].julian_day == 1, "days from no date", 0, 0);
 }
 
-/* The text of what a text says, which is read as the same; the longest one last, whose values are those of full lists. */
+/* Checks the written text, which parses as the same. The last one has full lists. */
 static void texts_in_one_order(void)
 {
     static char words[1024] = "FREQ=MONTHLY;INTERVAL=4294967295;COUNT=4294967295", *at;
@@ -449,7 +449,7 @@ static void texts_in_one_order(void)
     refuses(fots_rule_first(&rule), FOTS_PAST_RANGE, "no 53rd Wednesday of a month");
 }
 
-/* The first part of a text that is at fault, where it stands and why; and one value more than there may be. */
+/* Checks the first wrong part, its position and its reason, and one value too many. */
 static void texts_refused(void)
 {
     static const struct {

@@ -1,4 +1,4 @@
-/* Counts what holds and what does not. */
+/* Counts checks and failures. */
 #ifndef TESTING_H
 #define TESTING_H
 
@@ -8,7 +8,7 @@
 
 static unsigned long long passed, failed;
 
-/* Counts a fact, and says where it does not hold. */
+/* Counts a check, and prints it if it fails. */
 static int check(int holds, const char *what, long long first, long long second)
 {
     if (holds) {
@@ -31,7 +31,7 @@ static inline fots_offset offset_at(int32_t seconds)
     return offset;
 }
 
-/* Says how many facts held, and whether all did. */
+/* Prints the number of checks, and returns whether all passed. */
 static int ended(const char *name)
 {
     printf("%s: %llu facts, %llu failed\n", name, passed + failed, failed);

@@ -1,6 +1,6 @@
-/* Tries invalid arguments, drawn or with every bit pattern: each call returns the status of the
- * first one at fault and no value, and valid arguments never give that status. Tries bytes that
- * are not a text, or nearly one, too. */
+/* Tries invalid arguments, random or with every bit pattern. A call returns the status of the
+ * first one and no value. Valid arguments never give that status. Also tries bytes that are not
+ * a text. */
 #include <string.h>
 
 #include "fotsevindre.h"
@@ -49,7 +49,7 @@ static int is_month(uint32_t month)
     return month >= 1 && month <= 12;
 }
 
-/* The status that the first argument that is no value has, or FOTS_DONE where all are values. */
+/* Return the status of the first invalid argument, or FOTS_DONE. */
 static int32_t of_date(fots_date date)
 {
     return is_date(date) ? FOTS_DONE : FOTS_BAD_DATE;
@@ -75,7 +75,7 @@ static int32_t first_of(int32_t one, int32_t other)
     return one != FOTS_DONE ? one : other;
 }
 
-/* The status is the wanted one, or where all arguments are values one that no wrong value has. A refused answer has no value. */
+/* Checks the expected status, or for valid arguments one that no invalid argument gives. */
 static void status_is(int32_t wanted, int32_t status, int has_value, const char *what, long long first, long long second)
 {
     int fits = wanted != FOTS_DONE ? status == wanted
@@ -85,7 +85,7 @@ static void status_is(int32_t wanted, int32_t status, int has_value, const char 
     check((status == FOTS_DONE) == has_value, what, first, second);
 }
 
-/* The bytes of a text, which are ASCII with zero bytes after them; or -1 where it is no such text. */
+/* Returns the length of a text, or -1 if it is not ASCII and then zero bytes. */
 static int bytes_of_text(const fots_text_result *result)
 {
     size_t k = 0;
@@ -141,7 +141,7 @@ static int bytes_of_text(const fots_text_result *result)
         status_is(wanted, result.status, is_duration(result.duration), #call, (long long)(first), result.status); \
     } while (0)
 
-/* Every 32 bits as a date: a status of its own exactly outside the range, and years in order within it. */
+/* Takes every 32 bits as a date: an error outside the range, and years in order inside. */
 static void every_date(int32_t from, int32_t to)
 {
     int32_t year = INT32_MIN;
@@ -159,7 +159,7 @@ static void every_date(int32_t from, int32_t to)
     }
 }
 
-/* Every 32 bits as an offset. */
+/* Takes every 32 bits as an offset. */
 static void every_offset(int32_t from, int32_t to)
 {
     for (int64_t bits = from; bits <= to; bits++) {
@@ -264,7 +264,7 @@ static void workdays(int32_t julian_day, uint32_t number, int32_t count)
         julian_day);
     DATE(first_of(first_of(of_date(date), no_convention), no_week), fots_date_adjusted(date, (uint32_t)count, number, rising, 2));
     DATE(first_of(wrong, FOTS_BAD_HOLIDAYS), fots_date_next_workday(date, number, falling, 2));
-    /* So many are refused before one of them is looked at, so the array has them not. */
+    /* Their number is checked before they are read, so the array may be shorter. */
     DATE(first_of(wrong, FOTS_MANY_HOLIDAYS), fots_date_next_workday(date, number, rising, FOTS_MOST_HOLIDAYS + 1));
 }
 
@@ -293,7 +293,7 @@ static void rules(int32_t julian_day, uint32_t number, int32_t count)
     DATE(first_of(wrong, FOTS_MANY_PARTS), fots_rule_first(&rule));
 }
 
-/* Of each day, the first one from a date on is that date, or the start where that comes later. */
+/* A daily rule has the date as its first day from there on, or the start if that is later. */
 static void recurrences(int32_t julian_day, int32_t from)
 {
     fots_date start = date_at(julian_day), day = date_at(FOTS_NOTHING);
@@ -417,7 +417,7 @@ static void cycles(uint32_t number, uint32_t count)
     check(fots_weeks_in_year(year) == 52 || fots_weeks_in_year(year) == 53, "weeks_in_year", year, 0);
 }
 
-/* RFC 3339 has the years 0 to 9999, and offsets of whole minutes and less than a day. */
+/* RFC 3339 has the years 0 to 9999, and offsets of whole minutes below 24 hours. */
 static int has_moment_text(int32_t julian_day, int32_t seconds)
 {
     return julian_day >= 1721060 && julian_day <= 5373484 && seconds % 60 == 0 && seconds > -86400 && seconds < 86400;
@@ -444,8 +444,7 @@ static void moments(int32_t julian_day, fots_time time, int32_t seconds, fots_du
     }
 }
 
-/* A status that a call that reads has, and a position exactly where it is unreadable, that of a byte of the text, or ends too early, its
- * length. */
+/* Checks the status and the position of a text: a byte of it, its length, or SIZE_MAX. */
 static void reads(int32_t status, size_t position, size_t length, int is_listed, int has_value, const char *what)
 {
     check(status == FOTS_DONE || status == FOTS_UNREADABLE || status == FOTS_UNEXPECTED_END || is_listed, what, status, (long long)length);
@@ -465,7 +464,7 @@ static int reads_as_date(fots_text_result text, fots_date date)
     return read.status == FOTS_DONE && read.date.julian_day == date.julian_day;
 }
 
-/* What is read as a date is one of its three texts, and each of these reads as it. */
+/* Checks that a parsed date prints the text in one form, and that its three texts parse. */
 static void read_date(const char *bytes, size_t length)
 {
     fots_read_date_result read = fots_date_read(bytes, length);
@@ -561,7 +560,7 @@ static void read_all(const char *bytes, size_t length)
 
 #define LONGEST 64
 
-/* Right texts, and each with a byte changed, left out or put in, and cut at each length. */
+/* Takes valid texts, cut at each length, and with a byte changed, removed or inserted. */
 static void nearly_texts(void)
 {
     static const char *const texts[] = {"2024-02-29", "+12024-02-29", "-999999-01-01", "2024-060", "+999999-365", "2024-W09-4",
@@ -587,7 +586,7 @@ static void nearly_texts(void)
     }
 }
 
-/* Drawn bytes of each length, half of them of those that texts have. */
+/* Takes random bytes of each length, half of them from texts. */
 static void drawn_texts(void)
 {
     static const char used[] = "0123456789-+:.TtZzW J@0011223344";
@@ -603,10 +602,10 @@ static void drawn_texts(void)
     }
 }
 
-/* How many of the texts were those of a recurrence. */
+/* The number of texts that were recurrences. */
 static unsigned long long recurrences_read;
 
-/* The parts and the text answer as the days do; where they are those of a recurrence, the text is read as these parts, whose rule has the days. */
+/* Checks the parts, the text and the rule against the days. */
 static void spelled(const char *bytes, size_t length, fots_recurrence_result found, fots_date start, const fots_date *days)
 {
     const fots_read_recurrence_result read = fots_recurrence_parse(bytes, length);
@@ -629,7 +628,7 @@ static void spelled(const char *bytes, size_t length, fots_recurrence_result fou
     }
 }
 
-/* Days in order, or a part at fault, which begins the text or follows a semicolon, after parts that are right; and no day. */
+/* Checks days in order; or a wrong part after valid ones, and no day. */
 static void read_recurrence(const char *bytes, size_t length)
 {
     const fots_date start = date_at(2460311);
@@ -660,7 +659,7 @@ static void read_recurrence(const char *bytes, size_t length)
     check(before == FOTS_DONE || before == FOTS_NO_FREQUENCY, "the parts before", before, (long long)found.position);
 }
 
-/* Right texts of recurrences, each cut at each length, and with a byte changed, left out or put in; and drawn parts, one after another. */
+/* Takes texts of recurrences in the same way, and random parts. */
 static void recurrence_texts(void)
 {
     static const char *const texts[] = {"FREQ=MONTHLY;COUNT=12;BYDAY=-1FR", "freq=yearly;until=20261231;bymonth=2,11;bymonthday=-1,29",
@@ -719,7 +718,7 @@ static const int32_t border_offsets[] = {INT32_MIN, -93600, -93599, -86400, -863
     86400,
     93599, 93600, INT32_MAX};
 
-/* Drawn bits, cut to a drawn length, with their sign or without one. */
+/* Returns random bits, cut to a random length, with or without a sign. */
 static int64_t drawn_signed(void)
 {
     uint64_t bits = drawn();
@@ -770,7 +769,7 @@ static int32_t drawn_offset(int k)
     return k < COUNT(border_offsets) ? border_offsets[k] : drawn_short();
 }
 
-/* Each border against each other one, and drawn ones beside them. */
+/* Takes each limit with each other limit, and random values. */
 static void everything(void)
 {
     for (int k = 0; k < DRAWN; k++) {
@@ -820,7 +819,7 @@ static void everything(void)
     recurrence_texts();
 }
 
-/* With no argument everything but the walks over all 32 bits, which 'low' and 'high' make, of the numbers below 0 and the others. */
+/* Tests all 32 bits with 'low' for negative numbers and 'high', and all else without. */
 int main(int count, char **arguments)
 {
     if (count > 1) {

@@ -1,4 +1,4 @@
-// The header in C++: a few calls, and a refusal by its name.
+// Checks the C header in C++: some calls, and an error by its name.
 #include <cstdio>
 #include <cstring>
 
@@ -16,7 +16,7 @@ void check(bool holds, const char *what)
     }
 }
 
-// The numbers of one call go into the next, with no cast: each into the call that makes, replaces or moves by it.
+// Passes the numbers of each call to the next one without a cast.
 void chained()
 {
     const fots_date date = fots_date_from_julian_day(2460370).date;

@@ -1,4 +1,4 @@
-// The classes of fotsevindre.hpp: worked rows, the order of values, what is thrown and what is none, and days of <chrono> both ways.
+// Checks the classes of fotsevindre.hpp: worked rows, order, errors, empty results, and <chrono>.
 #include <array>
 #include <cstdio>
 #include <initializer_list>
@@ -24,7 +24,7 @@ void check(bool holds, const char *what)
     }
 }
 
-// What the call throws: its status, its words and its position.
+// Checks the error of a call: its status and its words.
 template <class Call> void throws(Call call, std::int32_t status, const std::string &words, const char *what)
 {
     try {
@@ -278,7 +278,7 @@ void days_of_chrono()
     throws([] { Date::from_sys_days(Date::max().to_sys_days() + days(1)); }, FOTS_JULIAN_DAY, "julian_day was not in range",
         "past the last day");
     throws([] { Date::from_sys_days(sys_days::max()); }, FOTS_JULIAN_DAY, "julian_day was not in range", "the last day of chrono");
-    // Each day of the years that chrono has, one in 89, by the calendar of chrono.
+    // Every 89th day of the years of chrono, compared with chrono.
     for (sys_days day = sys_days(year::min() / January / 1); day <= sys_days(year::max() / December / 31); day += days(89)) {
         const year_month_day calendar(day);
         const auto [found, month, of_month] = Date::from_sys_days(day).to_calendar_date();

@@ -1,8 +1,7 @@
-"""The calendar of Fotsevindre for Python: dates, times of day, date-times, offsets from UTC, durations, months and weekdays.
+"""Dates, times of day, date-times, offsets from UTC, durations, months, weekdays, working days and recurrences.
 
-The names are those of the Rust crate `time`. Each answer comes from the library of Fotsevindre, which is proved, through its C calls;
-this file is the caller alone, and it is tested. It takes the shared object that the variable FOTSEVINDRE_LIBRARY names, or else
-libfotsevindre.so beside this file, or else the one that the system finds as `fotsevindre`.
+The names are those of the Rust crate `time`. The results come from a proved library through its C calls. It is the shared object that
+FOTSEVINDRE_LIBRARY names, else libfotsevindre.so beside this file, else the system's `fotsevindre`.
 
     >>> from fotsevindre import Date, Month, SignedDuration
     >>> Date.from_calendar_date(2024, Month.February, 29) + SignedDuration.days(366)
@@ -11,12 +10,11 @@ libfotsevindre.so beside this file, or else the one that the system finds as `fo
     Traceback (most recent call last):
     fotsevindre.ComponentRange: day was not in range
 
-A component out of its range raises `ComponentRange`, and a text of no form that is read raises `Unreadable`. Calls whose name begins with
-`checked_`, and the few others that say so, return `None` past the end of the range; operators and the rest raise `OverflowError` there. A
-value of the wrong type raises `TypeError`. No number wraps, however great it is.
+A component out of range raises `ComponentRange`, an invalid text `Unreadable` or `RuleFault`. If a result is out of range, calls named
+`checked_*`, and others that say so, return `None`, and operators and other calls raise `OverflowError`. A value of the wrong type raises
+`TypeError`. Ints of any size are safe: none wraps around.
 
-Values are immutable. They compare and hash as their number, a date-time at an offset as its instant, and `str` and `repr` give the text of
-the library.
+Values are immutable. They compare and hash by their number, date-times at an offset by instant. `str` and `repr` are the same text.
 """
 
 from __future__ import annotations
@@ -331,9 +329,9 @@ _FIRST_CONDITIONAL = 64
 
 
 class ComponentRange(ValueError):
-    """A component was outside its range: `name` says which, and `is_conditional` whether its range depends on other components.
+    """A component is out of range. `name` is its name, and `is_conditional` says whether its range depends on other components.
 
-    That of a day depends on the month and the year, that of an hour on nothing.
+    The range of a day depends on the month and the year, and the range of an hour on nothing.
 
     >>> try:
     ...     Date.from_calendar_date(2023, 2, 29)
@@ -355,9 +353,9 @@ class ComponentRange(ValueError):
 
 
 class Unreadable(ValueError):
-    """A text has no form that is read: `position` is that, from 0, of the first character that no text of the forms has there.
+    """A text that a call cannot parse. `position` is the first wrong character, from 0.
 
-    Where the text ends too early, so that some more characters make one that is read, `is_end` is true, and `position` its length.
+    If the text ends too early, and more characters could complete it, `is_end` is true, and `position` is its length.
 
     >>> Date.read("2024x")
     Traceback (most recent call last):
@@ -647,8 +645,7 @@ _OF_DATETIME = (datetime.date, datetime.time, datetime.timedelta, datetime.tzinf
 
 
 class _Value:
-    """A value that is known by its key: order, equality and hash are those of the key. It has no other attribute, and no call sets that one
-    but where the value is made."""
+    """An immutable value. It compares and hashes by its only attribute, the key."""
 
     __slots__ = ("_key",)
 
@@ -720,7 +717,7 @@ def _cut(number: int, divisor: int) -> Tuple[int, int]:
     return (quotient, rest) if number >= 0 else (-quotient, -rest)
 
 
-# What calls returned, as values. A number that is none tells that there is a status to look at: no date, offset or time is that.
+# The values of calls. One of these numbers, which no date, offset or time has, means that the status is an error.
 _NOTHING = -2**31
 _NO_TIME = 2**64 - 1
 
@@ -1583,7 +1580,7 @@ class Date(_Value):
         return _date(_C.date_replace_ordinal(self._key, _component(ordinal)))
 
     def checked_add_months(self, months: SupportsIndex) -> Optional[Date]:
-        """The day so many months later, or the last day of that month where it has no such day; `None` past the range.
+        """Return the day some months later, the last one in a shorter month; `None` out of range.
 
         >>> Date.from_calendar_date(2024, 1, 31).checked_add_months(1)
         2024-02-29
@@ -1591,23 +1588,23 @@ class Date(_Value):
         return _date_or_none(_C.date_add_months(self._key, _nearest(months)))
 
     def saturating_add_months(self, months: SupportsIndex) -> Date:
-        """The same, but the nearest end of the range where that month is past it."""
+        """Return the day some months later, or the nearest end of the range."""
         return _date(_C.date_saturating_add_months(self._key, _nearest(months)))
 
     def checked_add_years(self, years: SupportsIndex) -> Optional[Date]:
-        """The day so many years later, 28 February for the 29th where there is none; `None` past the range."""
+        """Return the day some years later, 28 February instead of the 29th in a common year; `None` out of range."""
         return _date_or_none(_C.date_add_years(self._key, _nearest(years)))
 
     def months_until(self, other: Date) -> int:
-        """The greatest number of months that does not lead past the other day; the least that does not lead before an earlier one."""
+        """Return the largest number of months that doesn't pass the other day, or back to an earlier day, negative or 0."""
         return _number(_C.date_months_until(self._key, _is(other, Date)._key))
 
     def years_until(self, other: Date) -> int:
-        """The same of years, as an age is counted."""
+        """Return the largest number of years that doesn't pass the other day, or back, negative or 0: an age."""
         return _number(_C.date_years_until(self._key, _is(other, Date)._key))
 
     def period_until(self, other: Date) -> Period:
-        """The years, months and days that lead to the other day."""
+        """Return the years, months and days to the other day."""
         result = _done(_C.date_period_until(self._key, _is(other, Date)._key))
         return Period(result.years, result.months, result.days)
 
@@ -1649,7 +1646,7 @@ class Date(_Value):
 
     @classmethod
     def nth_weekday_of_month(cls, year: SupportsIndex, month: SupportsIndex, weekday: Weekday, n: SupportsIndex) -> Date:
-        """The n-th day of a month that has the weekday, counted from 1 to 255; `ComponentRange` as `month`, `year`, or `weekday` where there is none."""
+        """Return the n-th day with a weekday in a month, n from 1 to 255; `ComponentRange` as `month`, `year` or `weekday`."""
         return _date(_C.date_nth_weekday_of_month(_signed(year), _component(month), _weekday(weekday), _component(n)))
 
     @classmethod
@@ -1712,7 +1709,7 @@ Date.MAX = Date.from_julian_day(366_963_559)
 
 
 def _whole_days(delta: datetime.timedelta) -> SignedDuration:
-    """The duration of whole days. `datetime` cuts others down, and a duration is cut toward zero: so others have to be converted."""
+    """Return the duration of whole days. Others must be converted, because `datetime` rounds them down, and durations truncate."""
     if delta.seconds or delta.microseconds:
         raise ValueError("a timedelta of whole days expected: SignedDuration.from_timedelta takes others")
     return SignedDuration.days(delta.days)
@@ -1809,7 +1806,7 @@ class DayCount(enum.IntEnum):
 
 
 class Convention(enum.IntEnum):
-    """How a day that is no working day is moved to one, by the names of financial contracts."""
+    """How a day moves to a working day, with the names of the ISDA Definitions."""
 
     Unadjusted = 0
     Following = 1
@@ -1819,12 +1816,14 @@ class Convention(enum.IntEnum):
 
 
 def _nearest(number: SupportsIndex) -> int:
-    """The number itself, or the nearest in 32 bits with a sign: so many months, years or working days lead past the range."""
+    """Return the nearest number with 32 bits. As many months, years or working days are out of range too."""
     return min(max(operator.index(number), -2**31), 2**31 - 1)
 
 
 class Workdays:
-    """The working days of the weekdays that are given, but for the holidays, which rise: `ValueError` where they do not, or are more than 1024.
+    """The given weekdays without holidays, by default Monday to Friday.
+
+    `ValueError` unless the holidays are in strictly ascending order, and at most 1024.
 
     >>> Workdays().checked_add_workdays(Date.from_calendar_date(2024, 2, 29), 10)
     2024-03-14
@@ -1842,7 +1841,7 @@ class Workdays:
         self.is_workday(Date.MIN)
 
     def is_workday(self, date: Date) -> bool:
-        """Whether the day is of one of the weekdays, and no holiday."""
+        """Return whether the day is a working day."""
         return bool(_number(_C.date_is_workday(_is(date, Date)._key, self._week, self._holidays, len(self._holidays))))
 
     def next_workday(self, date: Date) -> Optional[Date]:
@@ -1854,9 +1853,9 @@ class Workdays:
         return _date_or_none(_C.date_previous_workday(_is(date, Date)._key, self._week, self._holidays, len(self._holidays)))
 
     def checked_add_workdays(self, date: Date, days: SupportsIndex) -> Optional[Date]:
-        """The working day so many after the day, or before it where they are below 0, or `None` where the range has no such day.
+        """Return the n-th working day after the day, or before it if `days` is negative; `None` out of range.
 
-        For 0 it is the day itself, or where it is no working day, the first one after it.
+        For 0 it is the day itself, or the first working day after it.
         """
         return _date_or_none(_C.date_add_workdays(_is(date, Date)._key, _nearest(days), self._week, self._holidays, len(self._holidays)))
 
@@ -1870,7 +1869,7 @@ class Workdays:
 
 
 class Frequency(enum.IntEnum):
-    """What a rule counts by: its interval is so many of them, and a rule that names no day takes that of its start."""
+    """The unit of the interval of a rule."""
 
     Daily = 1
     Weekly = 2
@@ -1884,12 +1883,11 @@ _DAYS_AT_ONCE = 64
 
 @dataclasses.dataclass(frozen=True)
 class Rule:
-    """Days that come back, as RFC 5545 writes them in a `RRULE`: an iteration gives them in order.
+    """A recurrence rule in a subset of RFC 5545. An iteration returns its days in order.
 
-    They are each so-many-th day, week, month or year from the start on, of those months, days of the month and weekdays, where these are
-    named: at most 64 months and as many weekdays, and else `ValueError`. A day of the month is counted from the end where it is below 0. A
-    weekday alone is each one, and with a number before it the so-many-th of the month, or of the year in a yearly rule that names no month,
-    from the end where the number is below 0.
+    A day is in every n-th day, week, month or year from the start, and in each list that isn't empty: `months`, `month_days`, where -1 is
+    the last day of the month, and `weekdays`. A `Weekday` is every one, and `(-1, Weekday.Friday)` the last Friday of the month, or of the
+    year in a yearly rule without months. `ValueError` for more than 64 months or 64 weekdays.
 
     >>> last_fridays = Rule(Date.read("2024-01-01"), Frequency.Monthly, weekdays=[(-1, Weekday.Friday)])
     >>> last_fridays.first_days(2), last_fridays.next_after(Date.read("2024-08-30")), Date.read("2024-05-31") in last_fridays
@@ -1928,7 +1926,7 @@ class Rule:
         return self._walk(_is(date, Date)._key)
 
     def first_days(self, count: SupportsIndex) -> List[Date]:
-        """The first days of the rule, so many where there are so many: a rule that ends after a number of times."""
+        """Return the first `count` days of the rule."""
         return list(itertools.islice(self, operator.index(count)))
 
     def __iter__(self) -> Iterator[Date]:
@@ -1956,7 +1954,7 @@ class Rule:
 
 
 class RuleReason(enum.Enum):
-    """Why a text is none of a recurrence."""
+    """Why a part of the text of a recurrence is wrong."""
 
     Unknown = "unknown part"
     Twice = "part twice"
@@ -1971,9 +1969,9 @@ _PARTS = (None, "FREQ", "INTERVAL", "WKST", "BYMONTH", "BYMONTHDAY", "BYDAY", "U
 
 
 class RuleFault(ValueError):
-    """A text is none of a recurrence: `reason` says why, of the first part that is at fault, and `position`, from 0, where that begins.
+    """The text of a recurrence is invalid. `reason` and `position`, from 0, are those of the first wrong part.
 
-    `part` is its name, or `None` where the reason is `Unknown` or `Missing`.
+    `part` is its name, or `None` for the reasons `Unknown` and `Missing`.
 
     >>> Recurrence.parse("FREQ=DAILY;UNTIL=20241231;COUNT=3")
     Traceback (most recent call last):
@@ -1996,10 +1994,10 @@ class RuleFault(ValueError):
 
 @dataclasses.dataclass(frozen=True)
 class Recurrence:
-    """What RFC 5545 writes behind `RRULE:`, which `parse` reads: its text, with the parts in one order, and the parts.
+    """A recurrence in the text of RFC 5545 after `RRULE:`, and its parts.
 
-    Two are equal where their parts are. A list of no values leaves out no day; `until` is the last day, or `count` the number of times, where it
-    is given.
+    `text` has the parts in one order. Recurrences with the same parts are equal. An empty list excludes no day. `until` is the last day and
+    `count` the number of times, if given.
 
     >>> last_fridays = Recurrence.parse("byday=-1fr;count=3;freq=monthly")
     >>> list(last_fridays.days(Date.read("2024-01-01")))
@@ -2046,19 +2044,19 @@ class Recurrence:
 
     @classmethod
     def parse(cls, text: str) -> "Recurrence":
-        """What the text says; `RuleFault` where it is none of a recurrence."""
+        """Parse a text, or raise `RuleFault`."""
         return cls(text)
 
     def rule(self, start: Date) -> Rule:
-        """Its rule from a start on, without its number of times."""
+        """Return the rule from a start, without the number of times."""
         return Rule(start, self.frequency, self.interval, self.week_start, self.months, self.month_days, self.weekdays, self.until)
 
     def days(self, start: Date) -> Iterator[Date]:
-        """Its days from a start on, in order, up to its end."""
+        """Iterate over the days from a start to the end."""
         return self.days_from(start, start)
 
     def days_from(self, start: Date, date: Date) -> Iterator[Date]:
-        """Those of its days from a start on that do not come before the date."""
+        """Iterate over the days from a start, without the days before the date."""
         return self._walk(_is(start, Date)._key, _is(date, Date)._key)
 
     def _walk(self, start: int, key: int) -> Iterator[Date]:
@@ -2798,9 +2796,9 @@ def dates_add_workdays(dates: object, days: object, workdays: Workdays) -> DateC
 
 
 def dates_workdays_between(dates: object, others: object, workdays: Workdays) -> NumberColumns:
-    """How many working days there are from each date of a column to the day before that of another, as `Workdays.workdays_between` counts.
+    """Count the working days between the dates of two columns, like `Workdays.workdays_between`.
 
-    Both are in 32 bits with a sign. Where there is no answer, the number is the least one.
+    Both are in 32 bits with a sign. A row without a result has -2147483648.
 
     >>> import array
     >>> dates_workdays_between(array.array("i", [2451545]), array.array("i", [2451911]), Workdays())
@@ -2842,9 +2840,7 @@ def _over_texts(name: str, texts: object, bounds: object) -> Tuple[Any, ...]:
 
 
 def dates_read(texts: object, bounds: object) -> DateColumns:
-    """The dates of texts that stand one after another in a buffer of bytes, between bounds in 32 bits with a sign, as `Date.read` reads them.
-
-    There is one bound more than there are rows.
+    """Parse texts in a buffer of bytes like `Date.read`. Text k is the bytes from bound k to bound k + 1, in 32 bits with a sign.
 
     >>> import array
     >>> dates_read(b"2024-02-292024-0602024-02-30", array.array("i", [0, 10, 18, 28]))
@@ -2854,7 +2850,7 @@ def dates_read(texts: object, bounds: object) -> DateColumns:
 
 
 def moments_read(texts: object, bounds: object) -> MomentColumns:
-    """The moments of such texts, as `read_rfc3339` reads them."""
+    """Parse such texts like `read_rfc3339`."""
     return MomentColumns(*_over_texts("moments_read", texts, bounds))
 
 

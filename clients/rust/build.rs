@@ -1,5 +1,5 @@
-//! Finds the static library: in the folder that `FOTSEVINDRE_ARCHIVE` names, or else in `lib` beside this file, where a package has it, or
-//! else by `pkg-config`. Where there is none it warns: the crate can be checked, and does not link.
+//! Links `libfotsevindre.a` from the folder in `FOTSEVINDRE_ARCHIVE`, else from `lib` in this
+//! crate, else from the folder that `pkg-config` names. Without an archive it only warns.
 
 use std::env;
 use std::path::PathBuf;
@@ -7,14 +7,14 @@ use std::process::Command;
 
 const ARCHIVE: &str = "libfotsevindre.a";
 
-/// The folders that may have the archive.
+/// Returns the folders to search.
 fn folders() -> Vec<PathBuf> {
     if let Some(folder) = env::var_os("FOTSEVINDRE_ARCHIVE") {
         let folder = PathBuf::from(folder);
         if folder.is_absolute() {
             return vec![folder];
         }
-        // This runs in the folder of the crate, and the name was given in that of the caller.
+        // This runs in the folder of the crate, and the name is relative to the caller's folder.
         println!("cargo:rerun-if-env-changed=PWD");
         return vec![env::var_os("PWD").map_or_else(PathBuf::new, PathBuf::from).join(folder)];
     }

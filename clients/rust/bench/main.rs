@@ -1,5 +1,5 @@
-//! Times each call of the client, and that of each crate beside it, in turn, over the same drawn dates of the years 1 to 9999. It
-//! prints the median of the rounds, in nanoseconds of processor time a call.
+//! Times each call of the client and of the other crates, in turn, over random dates of the years 1
+//! to 9999. Prints the median of the rounds in nanoseconds of processor time for each call.
 #![allow(unexpected_cfgs)]
 
 use std::hint::black_box;
@@ -8,7 +8,7 @@ const DRAWN: usize = 4096;
 const PASSES: usize = 25;
 const ROUNDS: usize = 21;
 
-/// A drawn date, by the numbers that the calls take.
+/// A random date, with the numbers for the calls.
 struct Drawn {
     julian_day: i32,
     year: i32,
@@ -18,7 +18,7 @@ struct Drawn {
     days: i64,
 }
 
-/// Numbers drawn one after another.
+/// Random numbers.
 struct Draw(u64);
 
 impl Draw {
@@ -43,10 +43,10 @@ fn drawn() -> Vec<Drawn> {
         .collect()
 }
 
-/// A call, and who makes it.
+/// A call, and its crate.
 type Timed<'a> = (&'static str, Box<dyn Fn() + 'a>);
 
-/// The call, over each of the values.
+/// The call for each value.
 fn over<'a, T, R>(values: &'a [T], call: impl Fn(&T) -> R + 'a) -> Box<dyn Fn() + 'a> {
     Box::new(move || {
         for value in values {
@@ -55,7 +55,7 @@ fn over<'a, T, R>(values: &'a [T], call: impl Fn(&T) -> R + 'a) -> Box<dyn Fn() 
     })
 }
 
-/// The calendar dates of a column.
+/// Columns of calendar dates.
 fn column_of_calendar_dates(dates: &[fotsevindre::Date]) -> Box<dyn Fn() + '_> {
     Box::new(move || {
         let (mut years, mut months, mut days, mut statuses) = ([0; DRAWN], [0; DRAWN], [0; DRAWN], [0; DRAWN]);
@@ -69,7 +69,7 @@ extern "C" {
     fn clock() -> std::ffi::c_long;
 }
 
-/// The processor time of this program, in seconds. POSIX has a million clocks a second.
+/// Returns the processor time of this program in seconds. POSIX has a million clocks a second.
 fn processor_time() -> f64 {
     (unsafe { clock() }) as f64 / 1e6
 }

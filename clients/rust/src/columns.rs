@@ -1,10 +1,10 @@
-//! Whole columns at once: each call answers row by row what its call of one value does.
+//! Calls over whole columns, with the result and the status of the single call for each row.
 //!
-//! A column is one slice for each part of a value: Julian days and years as `i32`, ordinals as `u16`, months, days of the month, weeks and
-//! weekdays by number as `u8`. A call writes its answer into slices of the caller's, with a status byte for each row, and returns how many
-//! rows have none. Such a row has numbers that the next call refuses too: `i32::MIN` for a date, a year, an offset or a count of working
-//! days, `u64::MAX` for a time, and 0 for a part in 8 or 16 bits.
-//! [`refusal`] says what a status means. So what one call writes is what the next one takes:
+//! A column is a slice for each part of a value: Julian days and years as `i32`, ordinals as `u16`,
+//! months, days of the month, weeks and weekdays as `u8`. A call writes into your slices, and
+//! returns the number of rows without a result. These have numbers that the next call rejects:
+//! `i32::MIN` for a date, a year, an offset or a count of working days, `u64::MAX` for a time, and
+//! 0 for a part with 8 or 16 bits. [`refusal`] explains a status.
 //!
 //! ```
 //! use fotsevindre::columns::{self, Refusal};
@@ -24,88 +24,84 @@
 //!
 //! # Panics
 //!
-//! Each call panics where its slices are not all of one length, as `copy_from_slice` does. Nothing is written then.
+//! If the slices of a call differ in length, as in `copy_from_slice`. Nothing is written then.
 
 use crate::error::ComponentRange;
 use crate::ffi;
 use crate::{Date, Workdays};
 
-/// Why a row has no answer.
+/// Why a row has no result.
 #[derive(Clone, Copy, Debug, PartialEq, Eq, Hash)]
 pub enum Refusal {
-    /// The Julian day that the row was to be answered for is none of a date.
+    /// The number is not a date.
     NoDate,
-    /// The day is before the first date or after the last.
+    /// The date is out of range.
     PastRange,
     /// The component is out of range.
     OutOfRange(ComponentRange),
-    /// The nanoseconds since midnight are none of a time.
+    /// The number is not a time of day.
     NoTime,
-    /// The seconds are none of an offset.
+    /// The number is not an offset.
     NoOffset,
-    /// The text has none of the forms that the call reads: a byte is wrong.
+    /// The text has a byte that no text of the form has there.
     Unreadable,
-    /// The text ends too early: some more bytes make one that the call reads.
+    /// The text ends too early: more bytes could complete it.
     UnexpectedEnd,
 }
 
-/// Why a row with this status has no answer, or `None` where it has one.
+/// Returns why a row with this status has no result, or `None` if it has one.
 ///
 /// # Panics
 ///
-/// Where no call over columns writes the status.
+/// If no call over columns writes the status.
 pub fn refusal(status: u8) -> Option<Refusal> {
     ffi::refusal_of(i32::from(status))
 }
 
-/// The Julian days of these dates, as they lie.
+/// Returns the Julian days of dates, in place.
 pub fn julian_days(dates: &[Date]) -> &[i32] {
     ffi::julian_days(dates)
 }
 
-/// The dates of these Julian days. A row is refused as [`Date::from_julian_day`] refuses it.
+/// Converts Julian days to dates, with the errors of [`Date::from_julian_day`].
 #[track_caller]
 pub fn dates_from_julian_days(julian_days: &[i64], dates: &mut [i32], statuses: &mut [u8]) -> usize {
     ffi::fots_dates_from_julian_days(julian_days, dates, statuses)
 }
 
-/// The dates of these years, months and days of the month.
-///
-/// A row is refused as [`Date::from_calendar_date`] refuses it, and first of all as `month`, unconditionally, where its number is none
-/// from 1 to 12.
+/// Converts calendar dates, with the errors of [`Date::from_calendar_date`], and first of all
+/// `month`, unconditionally, outside 1 to 12.
 #[track_caller]
 pub fn dates_from_calendar_dates(years: &[i32], months: &[u8], days: &[u8], dates: &mut [i32], statuses: &mut [u8]) -> usize {
     ffi::fots_dates_from_calendar_dates(years, months, days, dates, statuses)
 }
 
-/// The dates of these years and ordinals. A row is refused as [`Date::from_ordinal_date`] refuses it.
+/// Converts ordinal dates, with the errors of [`Date::from_ordinal_date`].
 #[track_caller]
 pub fn dates_from_ordinal_dates(years: &[i32], ordinals: &[u16], dates: &mut [i32], statuses: &mut [u8]) -> usize {
     ffi::fots_dates_from_ordinal_dates(years, ordinals, dates, statuses)
 }
 
-/// The dates of these ISO years, weeks and weekdays from Monday, 1.
-///
-/// A row is refused as [`Date::from_iso_week_date`] refuses it, and first of all as `weekday`, unconditionally, where its number is none
-/// from 1 to 7.
+/// Converts ISO week dates, with the errors of [`Date::from_iso_week_date`], and first of all
+/// `weekday`, unconditionally, outside 1 (Monday) to 7.
 #[track_caller]
 pub fn dates_from_iso_week_dates(years: &[i32], weeks: &[u8], weekdays: &[u8], dates: &mut [i32], statuses: &mut [u8]) -> usize {
     ffi::fots_dates_from_iso_week_dates(years, weeks, weekdays, dates, statuses)
 }
 
-/// The years, months and days of the month of these dates.
+/// Returns the years, months and days of the month.
 #[track_caller]
 pub fn dates_to_calendar_dates(dates: &[i32], years: &mut [i32], months: &mut [u8], days: &mut [u8], statuses: &mut [u8]) -> usize {
     ffi::fots_dates_to_calendar_dates(dates, years, months, days, statuses)
 }
 
-/// The years and ordinals of these dates.
+/// Returns the years and ordinals.
 #[track_caller]
 pub fn dates_to_ordinal_dates(dates: &[i32], years: &mut [i32], ordinals: &mut [u16], statuses: &mut [u8]) -> usize {
     ffi::fots_dates_to_ordinal_dates(dates, years, ordinals, statuses)
 }
 
-/// The ISO years, weeks and weekdays of these dates.
+/// Returns the ISO years, weeks and weekdays.
 #[track_caller]
 pub fn dates_to_iso_week_dates(
     dates: &[i32],
@@ -117,14 +113,13 @@ pub fn dates_to_iso_week_dates(
     ffi::fots_dates_to_iso_week_dates(dates, years, weeks, weekdays, statuses)
 }
 
-/// The weekdays of these dates, from Monday, 1.
+/// Returns the weekdays, from 1 (Monday).
 #[track_caller]
 pub fn dates_weekdays(dates: &[i32], weekdays: &mut [u8], statuses: &mut [u8]) -> usize {
     ffi::fots_dates_weekdays(dates, weekdays, statuses)
 }
 
-/// The ISO years, weeks and weekdays of these years, months and days of the month. A row is refused as by
-/// [`dates_from_calendar_dates`].
+/// Converts calendar dates to ISO week dates, with the errors of [`dates_from_calendar_dates`].
 #[track_caller]
 pub fn calendar_dates_to_iso_week_dates(
     years: &[i32],
@@ -138,26 +133,25 @@ pub fn calendar_dates_to_iso_week_dates(
     ffi::fots_calendar_dates_to_iso_week_dates(years, months, days, iso_years, weeks, weekdays, statuses)
 }
 
-/// The day so many days later than each of these dates, or earlier where they are below 0.
+/// Adds days, or subtracts if negative.
 #[track_caller]
 pub fn dates_add_days(dates: &[i32], days: &[i64], moved: &mut [i32], statuses: &mut [u8]) -> usize {
     ffi::fots_dates_add_days(dates, days, moved, statuses)
 }
 
-/// The day so many months later than each of these dates, or earlier where they are below 0, as [`Date::checked_add_months`] moves it.
+/// Adds months, like [`Date::checked_add_months`].
 #[track_caller]
 pub fn dates_add_months(dates: &[i32], months: &[i32], moved: &mut [i32], statuses: &mut [u8]) -> usize {
     ffi::fots_dates_add_months(dates, months, moved, statuses)
 }
 
-/// The working day so many working days after each of these dates, or before it, as [`Workdays::checked_add_workdays`] finds it.
+/// Adds working days, like [`Workdays::checked_add_workdays`].
 #[track_caller]
 pub fn dates_add_workdays(dates: &[i32], days: &[i32], workdays: &Workdays, moved: &mut [i32], statuses: &mut [u8]) -> usize {
     ffi::fots_dates_add_workdays(dates, days, workdays.week, workdays.holidays, moved, statuses)
 }
 
-/// How many working days there are from each of these dates to the day before the other one, as [`Workdays::workdays_between`] counts them.
-/// A row with no answer has `i32::MIN`.
+/// Counts working days, like [`Workdays::workdays_between`].
 #[track_caller]
 pub fn dates_workdays_between(
     dates: &[i32],
@@ -175,10 +169,10 @@ pub const DATE_ROOM: usize = 13;
 /// The bytes for each row of [`moments_texts`].
 pub const MOMENT_ROOM: usize = 38;
 
-/// The dates of texts that stand one after another in the bytes, as [`text::date::read`](crate::text::date::read) reads them.
+/// Parses texts, like [`text::date::read`](crate::text::date::read).
 ///
-/// There is one bound more than there are rows: the text of row `k` is `bytes[bounds[k]..bounds[k + 1]]`, and a row whose bounds do not
-/// lie there is refused as `bounds`, unconditionally.
+/// The text of row `k` is `bytes[bounds[k]..bounds[k + 1]]`, so there is one bound more than rows.
+/// If the bounds of a row are out of range or descend, its error is `bounds`.
 ///
 /// ```
 /// use fotsevindre::columns;
@@ -192,8 +186,8 @@ pub fn dates_read(bytes: &[u8], bounds: &[i32], dates: &mut [i32], statuses: &mu
     ffi::fots_dates_read(bytes, bounds, dates, statuses)
 }
 
-/// The dates, the nanoseconds since midnight and the seconds of the offsets of such texts, as
-/// [`text::rfc3339::read`](crate::text::rfc3339::read) reads them. A row with no answer has `u64::MAX` for a time.
+/// Parses texts, like [`text::rfc3339::read`](crate::text::rfc3339::read), to dates, nanoseconds
+/// since midnight and offsets in seconds.
 #[track_caller]
 pub fn moments_read(
     bytes: &[u8],
@@ -206,21 +200,20 @@ pub fn moments_read(
     ffi::fots_moments_read(bytes, bounds, dates, times, offsets, statuses)
 }
 
-/// The calendar dates of these dates, one after another in the bytes, with no byte between them, and their bounds.
-///
-/// A row with no answer has no bytes. The bytes after the last bound stay as they are.
+/// Writes calendar dates one after another, and their bounds. A row without a result has no bytes.
+/// Bytes after the last bound stay as they are.
 ///
 /// # Panics
 ///
-/// Also where the bytes have no room of [`DATE_ROOM`] for each row, or all of it is more than `i32::MAX`.
+/// Also if there are fewer than [`DATE_ROOM`] bytes for each row, or these are more than
+/// `i32::MAX`.
 #[track_caller]
 pub fn dates_calendar_texts(dates: &[i32], bytes: &mut [u8], bounds: &mut [i32], statuses: &mut [u8]) -> usize {
     ffi::fots_dates_calendar_texts(dates, bytes, bounds, statuses)
 }
 
-/// The texts of RFC 3339 of these moments likewise, with room of [`MOMENT_ROOM`] for each row.
-///
-/// A row is refused as [`Refusal::PastRange`] where RFC 3339 has no text.
+/// Writes moments in RFC 3339, in the same way, with [`MOMENT_ROOM`] bytes for each row. A moment
+/// without a text is [`Refusal::PastRange`].
 #[track_caller]
 pub fn moments_texts(
     dates: &[i32],

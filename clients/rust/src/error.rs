@@ -1,12 +1,12 @@
-//! What calls refuse.
+//! Errors of calls.
 
 use crate::ffi::unexpected;
 use core::fmt;
 
-/// A component, such as a month or an hour, was outside its range.
+/// A component, such as a month or an hour, is out of range.
 ///
-/// It carries the name of the component, and whether the range depends on other components: that of a day depends on the month
-/// and the year, that of an hour on nothing. It prints `<name> was not in range`, such as `hour was not in range`.
+/// It has the name of the component, and whether its range depends on other components: it does for
+/// `day`, and not for `hour`. It prints as `day was not in range`.
 ///
 /// ```
 /// use fotsevindre::{Date, Month};
@@ -21,11 +21,11 @@ pub struct ComponentRange {
     is_conditional: bool,
 }
 
-/// The least status whose component has a range that depends on others.
+/// The minimum status of a component with a range that depends on others.
 const FIRST_CONDITIONAL: i32 = 64;
 
 impl ComponentRange {
-    /// The refusal that a status stands for.
+    /// Returns the error of a status.
     #[cold]
     pub(crate) fn of_status(status: i32) -> Self {
         let name = match status {
@@ -54,18 +54,18 @@ impl ComponentRange {
         Self { name, is_conditional }
     }
 
-    /// The refusal of a number that is none of a month.
+    /// An invalid month number.
     pub(crate) const MONTH: Self = Self { name: "month", is_conditional: false };
 
-    /// The refusal of a number that is none of a weekday.
+    /// An invalid weekday number.
     pub(crate) const WEEKDAY: Self = Self { name: "weekday", is_conditional: false };
 
-    /// The name of the component, such as `day`.
+    /// Returns the name of the component, such as `day`.
     pub const fn name(self) -> &'static str {
         self.name
     }
 
-    /// Whether the range of the component depends on other components: it does for `day`, and not for `hour`.
+    /// Returns whether the range depends on other components, as for `day`.
     pub const fn is_conditional(self) -> bool {
         self.is_conditional
     }
@@ -79,17 +79,16 @@ impl fmt::Display for ComponentRange {
 
 impl core::error::Error for ComponentRange {}
 
-/// A text is not one of those that a call reads.
+/// A text that a call cannot parse.
 ///
-/// It prints `unexpected byte at 4` where a byte is wrong, `unexpected end at 9` where the text ends too early, and as the error of the
-/// component where a component is out of range: `day was not in range`.
+/// It prints as `unexpected byte at 4`, `unexpected end at 9` or `day was not in range`.
 #[derive(Clone, Copy, Debug, PartialEq, Eq, Hash)]
 pub enum Unreadable {
-    /// The text has no form that is read. This is the position, from 0, of the first byte that no text of the forms has there.
+    /// No text of the form has the byte at this position, from 0.
     UnexpectedByte(usize),
-    /// The text ends too early: some more bytes make a text of the forms. This is its length.
+    /// The text ends too early, with this length: more bytes could complete it.
     UnexpectedEnd(usize),
-    /// The text has a form that is read, and this component of it is out of range.
+    /// The text has the form, and this component is out of range.
     OutOfRange(ComponentRange),
 }
 
@@ -105,9 +104,9 @@ impl fmt::Display for Unreadable {
 
 impl core::error::Error for Unreadable {}
 
-/// A duration was outside the range of the type that it was to be converted to.
+/// A duration is outside the range of the target type.
 ///
-/// It prints `Source value is out of range for the target type`.
+/// It prints as `Source value is out of range for the target type`.
 #[derive(Clone, Copy, Debug, PartialEq, Eq, Hash)]
 pub struct ConversionRange;
 
@@ -119,9 +118,9 @@ impl fmt::Display for ConversionRange {
 
 impl core::error::Error for ConversionRange {}
 
-/// A text was not the exact English name of a month or a weekday.
+/// A text is not the exact English name of a month or a weekday.
 ///
-/// It prints `value was not a valid variant`.
+/// It prints as `value was not a valid variant`.
 #[derive(Clone, Copy, Debug, PartialEq, Eq, Hash)]
 pub struct InvalidVariant;
 

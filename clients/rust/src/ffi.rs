@@ -1,9 +1,8 @@
-//! The calls of the library, each declared as in `fotsevindre.h`, and each behind a safe function of the same name.
+//! The calls of the library, declared as in `fotsevindre.h`, each behind a safe function.
 //!
-//! A call of one value takes numbers and returns numbers. It takes no pointer, answers for each argument whatever its bits, and keeps
-//! no state. A call that reads a text, a rule, columns or holidays takes slices, each of them passed on with its own length. So each is safe
-//! to call wherever the declaration here is that of the header. Those of one value are `#[inline]`, as are the methods of a date: else
-//! a program would make a call to make the call.
+//! Calls of one value take and return numbers, accept every number, and have no state. Other calls
+//! take slices, each passed with its own length. So all are safe if the declarations match the
+//! header. Calls of one value and methods of dates are `#[inline]`, which saves a call.
 
 use crate::columns::Refusal;
 use crate::error::{ComponentRange, Unreadable};
@@ -11,27 +10,27 @@ use crate::recurrence::RuleFault;
 use crate::rule::{ByDay, Rule};
 use crate::Date;
 
-/// The status of a call that has an answer.
+/// Success.
 const DONE: i32 = 0;
-/// The status of a call whose exact result is outside the range of its type.
+/// The result does not exist, or is outside its type.
 const PAST_RANGE: i32 = 1;
-/// The status of a call that was given a number that is not a date.
+/// A number is not a date.
 const BAD_DATE: i32 = 2;
-/// The status of a call that was given a number that is not a time of day.
+/// A number is not a time of day.
 const BAD_TIME: i32 = 3;
-/// The status of a call that was given a number that is not an offset.
+/// A number is not an offset.
 const BAD_OFFSET: i32 = 4;
-/// The status of a call that was given a number that is not a weekday.
+/// A number is not a weekday.
 const BAD_WEEKDAY: i32 = 6;
-/// The status of a call that was given bytes in none of its forms.
+/// A byte of a text is wrong.
 const UNREADABLE: i32 = 8;
-/// The status of a call that was given bytes that end before the form does.
+/// A text ends too early.
 const UNEXPECTED_END: i32 = 31;
 
-/// What a call over columns returns where these are not of one length.
+/// The result of a column call if lengths differ.
 const UNLIKE: usize = usize::MAX;
 
-/// A duration as it crosses.
+/// A duration of C.
 #[repr(C)]
 #[derive(Clone, Copy)]
 pub(crate) struct CDuration {
@@ -39,7 +38,7 @@ pub(crate) struct CDuration {
     pub(crate) nanoseconds: i32,
 }
 
-/// A date and a time of day at an offset, as they cross.
+/// A moment of C.
 #[repr(C)]
 #[derive(Clone, Copy)]
 pub(crate) struct CMoment {
@@ -48,7 +47,7 @@ pub(crate) struct CMoment {
     pub(crate) time: u64,
 }
 
-/// A weekday of a rule as it crosses: its number is 0 for each one.
+/// A weekday of a rule of C: every one if `number` is 0.
 #[repr(C)]
 #[derive(Clone, Copy)]
 pub(crate) struct CRuleWeekday {
@@ -56,7 +55,7 @@ pub(crate) struct CRuleWeekday {
     pub(crate) weekday: u8,
 }
 
-/// A rule as it crosses.
+/// A rule of C.
 #[repr(C)]
 pub(crate) struct CRule {
     pub(crate) start: i32,
@@ -72,7 +71,7 @@ pub(crate) struct CRule {
     pub(crate) weekdays_length: usize,
 }
 
-/// A recurrence as it crosses: as many values of each list as its length says.
+/// A recurrence of C. The lengths say how many values of the lists are used.
 #[repr(C)]
 #[derive(Clone, Copy)]
 pub(crate) struct CRecurrence {
@@ -89,21 +88,21 @@ pub(crate) struct CRecurrence {
     pub(crate) weekdays: [CRuleWeekday; 62],
 }
 
-/// What a call returned: its answer, or a status that is not [`DONE`].
+/// The value of a call, or a status that is not [`DONE`].
 pub(crate) type Answer<T> = Result<T, i32>;
 
-/// Ends a call whose status none of its values can have.
+/// Panics for a status that a call cannot return.
 #[cold]
 pub(crate) fn unexpected(status: i32) -> ! {
     unreachable!("status {status} for values of the library's own")
 }
 
-/// The answer of a call that has one for each value of its types.
+/// Returns the value of a call without errors.
 pub(crate) fn certain<T>(answer: Answer<T>) -> T {
     answer.unwrap_or_else(|status| unexpected(status))
 }
 
-/// The answer of a call, or `None` where it is past the range.
+/// Returns the value of a call, or `None` out of range.
 pub(crate) fn or_none<T>(answer: Answer<T>) -> Option<T> {
     match answer {
         Err(PAST_RANGE) => None,
@@ -111,7 +110,7 @@ pub(crate) fn or_none<T>(answer: Answer<T>) -> Option<T> {
     }
 }
 
-/// The answer of a call, or the component that it refuses.
+/// Returns the value of a call, or the component that is out of range.
 pub(crate) fn or_refused<T>(answer: Answer<T>) -> Result<T, ComponentRange> {
     answer.map_err(|status| match status {
         BAD_WEEKDAY => ComponentRange::WEEKDAY,
@@ -119,7 +118,7 @@ pub(crate) fn or_refused<T>(answer: Answer<T>) -> Result<T, ComponentRange> {
     })
 }
 
-/// Structs that begin with a status, and the value that each has where that is [`DONE`].
+/// Defines structs with a status, and the value if that is [`DONE`].
 macro_rules! results {
     ($($name:ident { $($field:ident: $kind:ty),* } => $value:ty;)*) => {
         $(
@@ -146,7 +145,7 @@ macro_rules! results {
     };
 }
 
-/// What a call returns, as a safe function passes it on.
+/// The struct that a call returns.
 pub(crate) trait Returned {
     type Value;
 
@@ -179,7 +178,7 @@ results! {
     ReadMomentResult { date: i32, time: u64, offset: i32, position: usize } => (i32, u64, i32, usize);
 }
 
-/// Calls that return a struct with a status.
+/// Defines calls that return a struct with a status.
 macro_rules! calls {
     ($($name:ident($($argument:ident: $kind:ty),*) -> $result:ident;)*) => {
         mod declared {
@@ -341,7 +340,7 @@ calls! {
     fots_moment_unix_time(moment: CMoment) -> DurationResult;
 }
 
-/// Calls of working days: each takes the sum of the marks of a week, and the holidays with their number.
+/// Defines calls of working days, with a week and holidays.
 macro_rules! calls_of_workdays {
     ($($name:ident($($argument:ident: $kind:ty),*; week, holidays) -> $result:ident;)*) => {
         mod declared_of_workdays {
@@ -387,12 +386,12 @@ mod declared_alone {
     }
 }
 
-/// The version of the library.
+/// Returns the version of the library.
 pub(crate) fn fots_version() -> u32 {
     unsafe { declared_alone::fots_version() }
 }
 
-/// How many days of the recurrence that the text says were written, of those from a date on.
+/// Writes days of a recurrence from a date on, and returns their number.
 pub(crate) fn fots_recurrence_days(text: &[u8], start: i32, from: i32, days: &mut [i32]) -> Result<usize, RuleFault> {
     let result =
         unsafe { declared_alone::fots_recurrence_days(text.as_ptr(), text.len(), start, from, days.as_mut_ptr(), days.len()) };
@@ -400,7 +399,7 @@ pub(crate) fn fots_recurrence_days(text: &[u8], start: i32, from: i32, days: &mu
     result.answer().map(|(_, length, _)| length).map_err(|status| RuleFault::of_status(status, part, position))
 }
 
-/// Calls that read the text of a recurrence, and nothing else.
+/// Defines calls that parse the text of a recurrence.
 macro_rules! calls_of_recurrences {
     ($($name:ident -> $result:ident;)*) => {
         mod declared_of_recurrences {
@@ -426,7 +425,7 @@ calls_of_recurrences! {
     fots_recurrence_text -> RecurrenceTextResult;
 }
 
-/// Calls of rules.
+/// Defines calls of rules.
 macro_rules! calls_of_rules {
     ($($name:ident(rule: *const CRule $(, $argument:ident: $kind:ty)*) -> $result:ident;)*) => {
         mod declared_of_rules {
@@ -452,8 +451,7 @@ calls_of_rules! {
     fots_rule_contains(rule: *const CRule, date: i32) -> PartResult;
 }
 
-/// What a call answers that is given the parts of the rule, which lie there until it returns. A rule of more months or weekdays than the
-/// library takes panics.
+/// Calls with the parts of a rule, which live until the call returns. Panics with too many of them.
 fn with_parts<T>(rule: &Rule<'_>, call: impl FnOnce(*const CRule) -> T) -> T {
     assert!(rule.months.len() <= Rule::MOST_MONTHS, "a rule has more than {} months", Rule::MOST_MONTHS);
     assert!(rule.weekdays.len() <= Rule::MOST_WEEKDAYS, "a rule has more than {} weekdays", Rule::MOST_WEEKDAYS);
@@ -465,7 +463,7 @@ fn with_parts<T>(rule: &Rule<'_>, call: impl FnOnce(*const CRule) -> T) -> T {
     for (parts, by) in weekdays.iter_mut().zip(rule.weekdays) {
         *parts = match by {
             ByDay::Every(weekday) => CRuleWeekday { number: 0, weekday: weekday.number_from_monday() },
-            // No weekday is the 0th, nor the 127th.
+            // No weekday is the 0th or the 127th.
             ByDay::Nth(0, weekday) => CRuleWeekday { number: i8::MAX, weekday: weekday.number_from_monday() },
             ByDay::Nth(number, weekday) => CRuleWeekday { number: *number, weekday: weekday.number_from_monday() },
         };
@@ -485,7 +483,7 @@ fn with_parts<T>(rule: &Rule<'_>, call: impl FnOnce(*const CRule) -> T) -> T {
     })
 }
 
-/// Calls of years, which answer for each.
+/// Defines calls of years, which accept every year.
 macro_rules! calls_of_years {
     ($($name:ident;)*) => {
         mod declared_of_years {
@@ -509,7 +507,7 @@ calls_of_years! {
     fots_weeks_in_year;
 }
 
-/// Calls that read a text.
+/// Defines calls that parse a text.
 macro_rules! calls_that_read {
     ($($name:ident -> $result:ident;)*) => {
         mod declared_reading {
@@ -542,7 +540,7 @@ calls_that_read! {
     fots_unix_read -> ReadMomentResult;
 }
 
-/// Calls over columns: what each is called, and the slices that it takes and writes.
+/// Defines column calls by their names, the slices to read and the slices to write.
 macro_rules! calls_over_columns {
     ($($name:ident($($column:ident: $kind:ty),*) -> ($($written:ident: $to:ty),*);)*) => {
         mod declared_over_columns {
@@ -552,7 +550,7 @@ macro_rules! calls_over_columns {
         }
 
         $(
-            /// How many rows have no answer.
+            /// Returns the number of rows without a result.
             #[allow(clippy::too_many_arguments)]
             #[track_caller]
             #[inline]
@@ -587,7 +585,7 @@ calls_over_columns! {
     fots_moments_texts(dates: i32, times: u64, offsets: i32) -> (bytes: u8, bounds: i32, statuses: u8);
 }
 
-/// The same of working days: the marks of the week and the holidays come after the columns.
+/// Defines column calls of working days, with a week and holidays after the columns.
 macro_rules! calls_over_columns_of_workdays {
     ($($name:ident($($column:ident: $kind:ty),*; week, holidays) -> ($($written:ident: $to:ty),*);)*) => {
         mod declared_over_columns_of_workdays {
@@ -599,7 +597,7 @@ macro_rules! calls_over_columns_of_workdays {
         }
 
         $(
-            /// How many rows have no answer.
+            /// Returns the number of rows without a result.
             #[track_caller]
             #[inline]
             pub(crate) fn $name($($column: &[$kind],)* week: u32, holidays: &[Date], $($written: &mut [$to]),*) -> usize {
@@ -625,12 +623,12 @@ calls_over_columns_of_workdays! {
     fots_dates_workdays_between(dates: i32, others: i32; week, holidays) -> (numbers: i32, statuses: u8);
 }
 
-/// The Julian days of dates. A date is its Julian day alone, so they lie there as such.
+/// Returns the Julian days of dates. A `Date` is one, so they have the same layout.
 pub(crate) fn julian_days(dates: &[Date]) -> &[i32] {
     unsafe { core::slice::from_raw_parts(dates.as_ptr().cast(), dates.len()) }
 }
 
-/// Why a row of a column with this status has no answer.
+/// Returns why a row with this status has no result.
 pub(crate) fn refusal_of(status: i32) -> Option<Refusal> {
     match status {
         DONE => None,

@@ -1,12 +1,12 @@
-//! Walks over days, months and weekdays.
+//! Iterators over days, months and weekdays.
 
 use crate::{Date, Month, Weekday};
 use core::iter::FusedIterator;
 
-/// A walk over the days from one to another, from both ends.
+/// An iterator over the days from one to another, from both ends.
 ///
-/// It gives the days in order from the front or in reverse from the back. Two walks are equal where their front days are, and their
-/// back days; a walk with no days left keeps its front day and has no back day.
+/// Two iterators are equal if their next days from the front and from the back are. An empty one
+/// keeps its front day.
 ///
 /// ```
 /// use fotsevindre::{Date, Month};
@@ -27,7 +27,7 @@ pub struct DateIter {
 }
 
 impl DateIter {
-    /// The walk from `start` to `end`, both included; it has no days where `start` comes after `end`.
+    /// Creates an iterator from `start` to `end`, both included. It is empty if `end` is earlier.
     pub fn new(start: Date, end: Date) -> Self {
         Self { front: start, back: (start <= end).then_some(end) }
     }
@@ -98,13 +98,13 @@ impl ExactSizeIterator for DateIter {}
 
 impl FusedIterator for DateIter {}
 
-/// An endless walk turned round: the start, then each value before it, round and round.
+/// An endless iterator backward: the start, and then each value before it.
 #[derive(Clone, Debug, PartialEq, Eq)]
 pub struct Rev<I> {
     walk: I,
 }
 
-/// An endless walk, its values and their number.
+/// Defines endless iterators over values and their number.
 macro_rules! endless_walks {
     ($($(#[$about:meta])* $walk:ident of $length:literal $item:ident;)*) => {
         $(
@@ -115,12 +115,12 @@ macro_rules! endless_walks {
             }
 
             impl $walk {
-                /// A walk that begins at `start`.
+                /// Creates an iterator that starts at `start`.
                 pub fn new(start: $item) -> Self {
                     Self { at: start }
                 }
 
-                /// The walk backwards, which begins at the value that `next` would have given.
+                /// Reverses the iterator. It starts at the next value.
                 pub fn rev(self) -> Rev<Self> {
                     Rev { walk: self }
                 }
@@ -170,8 +170,8 @@ macro_rules! endless_walks {
 }
 
 endless_walks! {
-    /// An endless walk over the months, so use it through a limit: from June, `take(3)` gives June, July and August.
+    /// An endless iterator over months. From June, `take(3)` gives June, July and August.
     MonthIter of 12 Month;
-    /// An endless walk over the weekdays, so use it through a limit: from Sunday, `take(2)` gives Sunday and Monday.
+    /// An endless iterator over weekdays. From Sunday, `take(2)` gives Sunday and Monday.
     WeekdayIter of 7 Weekday;
 }

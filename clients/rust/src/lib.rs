@@ -1,8 +1,5 @@
-//! The calendar of Fotsevindre for Rust: dates, times of day, date-times, offsets from UTC, durations, months, weekdays, working days and
-//! recurrences, under the names of the crate `time` where it has them.
-//!
-//! Each answer comes from the library of Fotsevindre, which is proved, through its C calls. This crate is the caller alone: it is
-//! safe but for one module that declares these calls, and it is tested, not proved.
+//! Dates, times of day, date-times, offsets from UTC, durations, months, weekdays, working days and
+//! recurrences, with the names of the crate `time`, over the C calls of a proved library.
 //!
 //! ```
 //! use fotsevindre::{Date, Duration, Month};
@@ -13,8 +10,9 @@
 //! # Ok::<(), fotsevindre::error::ComponentRange>(())
 //! ```
 //!
-//! A call panics where that of `time` does: an operator past the range, `Duration::days` and the like past the greatest duration,
-//! and an occurrence that the range has not. Beside each of these but the makers of durations is a checked form.
+//! The same calls panic as in `time`: an operator out of range, an occurrence that does not exist,
+//! and a new duration out of range, such as `Duration::days`. All except the last have a checked
+//! form.
 #![no_std]
 #![deny(missing_docs)]
 #![deny(unsafe_code)]
@@ -56,13 +54,14 @@ pub use utc_offset::UtcOffset;
 pub use weekday::Weekday;
 pub use workdays::{Convention, Workdays};
 
-/// The version of the library that is linked: `(0, 1, 0)` is 0.1.0, which is that of this crate.
+/// Returns the version of the linked library, which is the version of this crate. `(0, 1, 0)` is
+/// 0.1.0.
 pub fn version() -> (u32, u32, u32) {
     let number = ffi::fots_version();
     (number / 1_000_000, number / 1_000 % 1_000, number % 1_000)
 }
 
-/// The page of the guide, whose examples are tested with those of the crate.
+/// The page for Rust. Its examples are tested too.
 #[cfg(doctest)]
 #[doc = include_str!("../../../docs/RUST.md")]
 struct Page;

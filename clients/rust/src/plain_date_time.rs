@@ -7,9 +7,9 @@ use crate::{Date, Month, OffsetDateTime, SignedDuration, Time, UtcOffset, Weekda
 use core::fmt::{self, Write};
 use core::str::FromStr;
 
-/// A date and a time of day, exact to the nanosecond, from -999999-01-01 0:00:00.0 to 999999-12-31 23:59:59.999999999.
+/// A date and a time of day without an offset, in nanoseconds.
 ///
-/// It prints both with a space between, as `2024-02-29 23:59:59.25`. Under a width the whole text is padded. `Debug` prints the same.
+/// It prints as `2024-02-29 23:59:59.25`. A width pads the whole text. `Debug` prints the same.
 ///
 /// ```
 /// use fotsevindre::{PlainDateTime, SignedDuration};
@@ -25,96 +25,96 @@ pub struct PlainDateTime {
 }
 
 impl PlainDateTime {
-    /// The first one, -999999-01-01 0:00:00.0.
+    /// The minimum, -999999-01-01 0:00:00.0.
     pub const MIN: Self = Self::new(Date::MIN, Time::MIDNIGHT);
 
-    /// The last one, 999999-12-31 23:59:59.999999999.
+    /// The maximum, 999999-12-31 23:59:59.999999999.
     pub const MAX: Self = Self::new(Date::MAX, Time::MAX);
 
-    /// The date-time of that date and that time of day.
+    /// Creates a date-time from a date and a time of day.
     pub const fn new(date: Date, time: Time) -> Self {
         Self { date, time }
     }
 
-    /// The date-time that the library answered.
+    /// Converts from the struct of C.
     fn of_c(moment: CMoment) -> Self {
         Self::new(Date::of_c(moment.date), Time::of_c(moment.time))
     }
 
-    /// The date-time as it crosses: at the offset 0.
+    /// Converts to the struct of C, at the offset 0.
     fn to_c(self) -> CMoment {
         self.assume_utc().to_c()
     }
 
-    /// The date-time of that date and that time of day.
+    /// Replaces date and time.
     fn with(self, date: Date, time: Time) -> Self {
         Self::new(date, time)
     }
 
-    /// The date: that of 2024-02-29 23:59:59.25 is 2024-02-29.
+    /// Returns the date.
     pub fn date(self) -> Date {
         self.date
     }
 
-    /// The time of day: that of 2024-02-29 23:59:59.25 is 23:59:59.25.
+    /// Returns the time of day.
     pub fn time(self) -> Time {
         self.time
     }
 
-    /// The same clock at UTC.
+    /// Returns this date and time at UTC.
     pub fn assume_utc(self) -> OffsetDateTime {
         self.assume_offset(UtcOffset::UTC)
     }
 
-    /// The same clock at that offset.
+    /// Returns this date and time at an offset.
     pub fn assume_offset(self, offset: UtcOffset) -> OffsetDateTime {
         OffsetDateTime::new_in_offset(self.date, self.time, offset)
     }
 }
 
 impl Date {
-    /// The date-time at the start of this day: that of 2024-02-29 is 2024-02-29 0:00:00.0.
+    /// Returns the start of the day: 2024-02-29 0:00:00.0.
     pub const fn midnight(self) -> PlainDateTime {
         self.with_time(Time::MIDNIGHT)
     }
 
-    /// The date-time of this day and that time of day.
+    /// Adds a time of day.
     pub const fn with_time(self, time: Time) -> PlainDateTime {
         PlainDateTime::new(self, time)
     }
 
-    /// The date-time of this day and that hour, minute and second.
+    /// Adds an hour, minute and second.
     ///
     /// # Errors
     ///
-    /// As [`Time::from_hms`].
+    /// The errors of [`Time::from_hms`].
     pub fn with_hms(self, hour: u8, minute: u8, second: u8) -> Result<PlainDateTime, ComponentRange> {
         Ok(self.with_time(Time::from_hms(hour, minute, second)?))
     }
 
-    /// The date-time of this day and that hour, minute, second and millisecond.
+    /// Adds an hour, minute, second and millisecond.
     ///
     /// # Errors
     ///
-    /// As [`Time::from_hms_milli`].
+    /// The errors of [`Time::from_hms_milli`].
     pub fn with_hms_milli(self, hour: u8, minute: u8, second: u8, millisecond: u16) -> Result<PlainDateTime, ComponentRange> {
         Ok(self.with_time(Time::from_hms_milli(hour, minute, second, millisecond)?))
     }
 
-    /// The date-time of this day and that hour, minute, second and microsecond.
+    /// Adds an hour, minute, second and microsecond.
     ///
     /// # Errors
     ///
-    /// As [`Time::from_hms_micro`].
+    /// The errors of [`Time::from_hms_micro`].
     pub fn with_hms_micro(self, hour: u8, minute: u8, second: u8, microsecond: u32) -> Result<PlainDateTime, ComponentRange> {
         Ok(self.with_time(Time::from_hms_micro(hour, minute, second, microsecond)?))
     }
 
-    /// The date-time of this day and that hour, minute, second and nanosecond.
+    /// Adds an hour, minute, second and nanosecond.
     ///
     /// # Errors
     ///
-    /// As [`Time::from_hms_nano`].
+    /// The errors of [`Time::from_hms_nano`].
     pub fn with_hms_nano(self, hour: u8, minute: u8, second: u8, nanosecond: u32) -> Result<PlainDateTime, ComponentRange> {
         Ok(self.with_time(Time::from_hms_nano(hour, minute, second, nanosecond)?))
     }
@@ -133,11 +133,11 @@ impl fmt::Display for PlainDateTime {
 impl FromStr for PlainDateTime {
     type Err = Unreadable;
 
-    /// The date-time of a date as [`Date`] reads it, a space, and a time as [`Time`] reads it: `2024-02-29 23:59:59.25`.
+    /// Parses a [`Date`], a space and a [`Time`]: `2024-02-29 23:59:59.25`.
     ///
     /// # Errors
     ///
-    /// `UnexpectedByte` or `UnexpectedEnd` where the text has not this form; otherwise `OutOfRange` for the first component at fault.
+    /// `UnexpectedByte` or `UnexpectedEnd`, else `OutOfRange` for the first component out of range.
     fn from_str(text: &str) -> Result<Self, Unreadable> {
         let (date, time) = both(text, text.find(' '))?;
         Ok(Self::new(date, time))

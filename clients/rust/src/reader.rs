@@ -1,9 +1,9 @@
-//! Texts of this crate's own, read byte by byte.
+//! Parses texts of this crate byte by byte.
 
 use crate::error::Unreadable;
 use core::str::FromStr;
 
-/// What is left of a text.
+/// The rest of a text.
 pub(crate) struct Reader<'a> {
     bytes: &'a [u8],
     position: usize,
@@ -14,7 +14,7 @@ impl<'a> Reader<'a> {
         Self { bytes: text.as_bytes(), position: 0 }
     }
 
-    /// The refusal of the byte that comes next, or of the end.
+    /// Returns the error of the next byte, or of the end.
     pub(crate) fn unexpected(&self) -> Unreadable {
         if self.position < self.bytes.len() {
             Unreadable::UnexpectedByte(self.position)
@@ -23,14 +23,14 @@ impl<'a> Reader<'a> {
         }
     }
 
-    /// Takes the byte that comes next where it is this one.
+    /// Skips the next byte if it is this one.
     pub(crate) fn takes(&mut self, byte: u8) -> bool {
         let is_next = self.bytes.get(self.position) == Some(&byte);
         self.position += usize::from(is_next);
         is_next
     }
 
-    /// Takes this byte.
+    /// Skips this byte, or returns an error.
     pub(crate) fn byte(&mut self, byte: u8) -> Result<(), Unreadable> {
         if self.takes(byte) {
             Ok(())
@@ -39,21 +39,21 @@ impl<'a> Reader<'a> {
         }
     }
 
-    /// The digit that comes next, which is then taken, or `None`.
+    /// Returns the next digit and skips it.
     pub(crate) fn digit(&mut self) -> Option<u8> {
         let digit = self.bytes.get(self.position).filter(|byte| byte.is_ascii_digit())?;
         self.position += 1;
         Some(digit - b'0')
     }
 
-    /// The number of two digits.
+    /// Returns the number of two digits.
     pub(crate) fn two_digits(&mut self) -> Result<u8, Unreadable> {
         let tens = self.digit().ok_or_else(|| self.unexpected())?;
         let ones = self.digit().ok_or_else(|| self.unexpected())?;
         Ok(tens * 10 + ones)
     }
 
-    /// That nothing is left.
+    /// Returns an error unless the text has ended.
     pub(crate) fn end(&self) -> Result<(), Unreadable> {
         if self.position == self.bytes.len() {
             Ok(())
@@ -63,8 +63,8 @@ impl<'a> Reader<'a> {
     }
 }
 
-/// What the parts of a text before and after that space read as. A byte that no form has there comes first, and else the first component
-/// out of range. A text without the space ends too early.
+/// Parses the parts before and after a space. Unexpected bytes come first, then the first component
+/// out of range. Without the space the text ends too early.
 pub(crate) fn both<A, B>(text: &str, space: Option<usize>) -> Result<(A, B), Unreadable>
 where
     A: FromStr<Err = Unreadable>,
@@ -73,7 +73,7 @@ where
     let end = space.unwrap_or(text.len());
     let first = text[..end].parse();
     match first {
-        // Where the first part ends too early, the space is wrong.
+        // If the first part ends too early, the space is wrong.
         Err(Unreadable::UnexpectedEnd(_)) if space.is_some() => return Err(Unreadable::UnexpectedByte(end)),
         Err(error @ (Unreadable::UnexpectedByte(_) | Unreadable::UnexpectedEnd(_))) => return Err(error),
         Ok(_) | Err(Unreadable::OutOfRange(_)) => {}

@@ -1,4 +1,4 @@
-//! Recurrences by their texts, after RFC 5545: what stands behind `RRULE:`.
+//! Recurrences as texts: the part of an `RRULE` of RFC 5545 after the colon.
 //!
 //! ```
 //! use fotsevindre::{recurrence, Date, Month};
@@ -21,10 +21,10 @@ use parts::Parts;
 
 pub use text::RecurrenceText;
 
-/// How many days a walk asks for at once.
+/// The days in one call of an iterator.
 const AT_ONCE: usize = 64;
 
-/// A part of the text of a recurrence, of those that are read.
+/// A part of the text of a recurrence.
 #[derive(Clone, Copy, Debug, PartialEq, Eq, Hash)]
 pub enum RulePart {
     /// `FREQ`
@@ -46,37 +46,37 @@ pub enum RulePart {
 }
 
 impl RulePart {
-    /// In the order of their numbers, from 1.
+    /// The parts by their numbers, from 1.
     const ALL: [Self; 8] =
         [Self::Frequency, Self::Interval, Self::WeekStart, Self::Months, Self::MonthDays, Self::Weekdays, Self::Until, Self::Count];
 }
 
-/// What is at fault.
+/// Why a part is wrong.
 #[derive(Clone, Copy, Debug, PartialEq, Eq, Hash)]
 pub enum RuleReason {
-    /// The part has no name of those that are read, as `BYSETPOS=1`.
+    /// The part has another name, such as `BYSETPOS=1`.
     Unknown,
-    /// A part of this name comes before it. `UNTIL` and `COUNT` both say where the rule ends, and count as one.
+    /// The part is there twice, or is a second end after `UNTIL` or `COUNT`.
     Twice(RulePart),
-    /// The value of the part has more than 62 words with commas between them.
+    /// The part has more than 62 values.
     TooMany(RulePart),
-    /// The part has no value of those that are read, as `FREQ=HOURLY`.
+    /// The part has an invalid value, such as `FREQ=HOURLY`.
     Value(RulePart),
-    /// No part says the frequency.
+    /// `FREQ` is missing.
     Missing,
 }
 
-/// The first part that is at fault. It prints as `part value at 11`.
+/// The first wrong part. It prints as `part value at 11`.
 #[derive(Clone, Copy, Debug, PartialEq, Eq, Hash)]
 pub struct RuleFault {
-    /// The position of its first byte, counted from 0. A part that is missing has the position at the end of the text.
+    /// The position of the part, from 0, or the length of the text if a part is missing.
     pub position: usize,
-    /// What is at fault.
+    /// Why the part is wrong.
     pub reason: RuleReason,
 }
 
 impl RuleFault {
-    /// That of a status, and of the number of a part.
+    /// Converts from a status and the number of a part.
     pub(crate) fn of_status(status: i32, part: u32, position: usize) -> Self {
         let part = || RulePart::ALL[part as usize - 1];
         let reason = match status {
@@ -106,20 +106,20 @@ impl fmt::Display for RuleFault {
 
 impl core::error::Error for RuleFault {}
 
-/// Where a recurrence ends.
+/// The end of a recurrence.
 #[derive(Clone, Copy, Debug, PartialEq, Eq)]
 pub enum RuleEnd {
-    /// Nowhere before the end of the range.
+    /// No end.
     Never,
-    /// With this day, which is one of its days where the rule has it.
+    /// The last possible day.
     Until(Date),
-    /// After so many days.
+    /// The number of days.
     Count(u32),
 }
 
-/// What a text says, which it borrows: a rule but for its start, and where it ends. Two are equal where their parts are.
+/// A parsed text, which it borrows. Recurrences with the same parts are equal.
 ///
-/// It prints as its text, and pads the whole under a width.
+/// It prints its text with the parts in one order. A width pads the whole text.
 ///
 /// ```
 /// use fotsevindre::recurrence::{parse, RuleEnd};
@@ -137,7 +137,7 @@ pub struct Recurrence<'a> {
     parts: Parts,
 }
 
-/// The recurrence that a text says, as `FREQ=MONTHLY;BYDAY=-1FR;COUNT=12`, or the first part that is at fault.
+/// Parses a text such as `FREQ=MONTHLY;BYDAY=-1FR;COUNT=12`, or returns the first wrong part.
 ///
 /// ```
 /// use fotsevindre::recurrence::{parse, RulePart, RuleReason};
@@ -165,12 +165,12 @@ impl fmt::Display for Recurrence<'_> {
 }
 
 impl<'a> Recurrence<'a> {
-    /// Its text, with its parts in one order: `FREQ=MONTHLY;COUNT=3;BYDAY=-1FR`.
+    /// Returns the text with its parts in one order: `FREQ=MONTHLY;COUNT=3;BYDAY=-1FR`.
     pub fn text(&self) -> RecurrenceText {
         RecurrenceText::of_c(ffi::fots_recurrence_text(self.text).expect("the text was read"))
     }
 
-    /// Its rule from a start on, without a number of times, which is no part of a rule.
+    /// Returns the rule from a start, without `COUNT`.
     pub fn rule(&self, start: Date) -> Rule<'_> {
         Rule {
             start,
@@ -187,58 +187,58 @@ impl<'a> Recurrence<'a> {
         }
     }
 
-    /// What the interval counts.
+    /// Returns the frequency.
     pub fn frequency(&self) -> Frequency {
         self.parts.frequency
     }
 
-    /// Each so-many-th day, week, month or year from that of the start on.
+    /// Returns the interval: every n-th day, week, month or year.
     pub fn interval(&self) -> u32 {
         self.parts.interval
     }
 
-    /// The weekday that a week begins with.
+    /// Returns the first weekday of a week.
     pub fn week_start(&self) -> Weekday {
         self.parts.week_start
     }
 
-    /// The months.
+    /// Returns the months.
     pub fn months(&self) -> &[Month] {
         self.parts.months.as_slice()
     }
 
-    /// The days of the month, from 1 on, or from the end by -1 for the last one.
+    /// Returns the days of the month, from 1, or from -1 at the end of the month.
     pub fn month_days(&self) -> &[i8] {
         self.parts.month_days.as_slice()
     }
 
-    /// The weekdays.
+    /// Returns the weekdays.
     pub fn weekdays(&self) -> &[ByDay] {
         self.parts.weekdays.as_slice()
     }
 
-    /// Where it ends.
+    /// Returns the end.
     pub fn end(&self) -> RuleEnd {
         self.parts.end
     }
 
-    /// The walk over its days from a start on, up to its end.
+    /// Returns an iterator over the days from a start.
     pub fn days(self, start: Date) -> RecurrenceDays<'a> {
         self.days_from(start, start)
     }
 
-    /// The walk over those of its days from a start on that do not come before another date.
+    /// Returns an iterator over the days from a start that are not before `from`.
     pub fn days_from(self, start: Date, from: Date) -> RecurrenceDays<'a> {
         RecurrenceDays { text: self.text, start, from: Some(from), days: [0; AT_ONCE], next: 0, length: 0 }
     }
 }
 
-/// A walk over the days of a recurrence, in order.
+/// An iterator over the days of a recurrence, in order.
 #[derive(Clone, Debug)]
 pub struct RecurrenceDays<'a> {
     text: &'a [u8],
     start: Date,
-    /// Where it goes on after the days that were asked for, if there may be others.
+    /// The start of the next call, if there may be more days.
     from: Option<Date>,
     days: [i32; AT_ONCE],
     next: usize,

@@ -1,10 +1,10 @@
-//! Rules of days that come back, after RFC 5545.
+//! Recurrence rules of RFC 5545.
 
 use crate::ffi::{self, certain, or_none};
 use crate::{Date, Month, Weekday};
 use core::iter::{FusedIterator, Take};
 
-/// What a rule counts by: its interval is so many of them, and a rule that names no day takes that of its start.
+/// The unit of the interval of a rule.
 #[derive(Clone, Copy, Debug, PartialEq, Eq)]
 #[allow(missing_docs)]
 pub enum Frequency {
@@ -15,10 +15,10 @@ pub enum Frequency {
 }
 
 impl Frequency {
-    /// Those of the numbers, from 1.
+    /// The frequencies by their numbers, from 1.
     const ALL: [Self; 4] = [Self::Daily, Self::Weekly, Self::Monthly, Self::Yearly];
 
-    /// That of a number that a call has answered.
+    /// Converts from a number of C.
     pub(crate) fn of_number(number: u32) -> Self {
         Self::ALL[number as usize - 1]
     }
@@ -27,17 +27,17 @@ impl Frequency {
 /// A weekday of a rule.
 #[derive(Clone, Copy, Debug, PartialEq, Eq)]
 pub enum ByDay {
-    /// Each one.
+    /// Every one.
     Every(Weekday),
-    /// The so-and-so-many-th of the month, or of the year in a yearly rule that names no month: from 1 on, or from the end by -1 for the
-    /// last one. A month may have no fifth; none is the 0th.
+    /// The n-th in the month, or in the year in a yearly rule without months; negative from the
+    /// end.
     Nth(i8, Weekday),
 }
 
-/// Days that come back, as RFC 5545 writes them in a `RRULE`.
+/// A recurrence rule in a subset of RFC 5545. A day matches if it matches all parts; an empty slice
+/// excludes no day. A rule without days of the month and weekdays takes the day of its start.
 ///
-/// A part that is an empty slice leaves out no day. Of the parts that are given, a day of the rule passes each. A call panics where the
-/// rule has more than [`Rule::MOST_MONTHS`] months or [`Rule::MOST_WEEKDAYS`] weekdays.
+/// Calls panic with more than [`Rule::MOST_MONTHS`] months or [`Rule::MOST_WEEKDAYS`] weekdays.
 ///
 /// ```
 /// use fotsevindre::{ByDay, Date, Frequency, Month, Rule, Weekday};
@@ -50,32 +50,32 @@ pub enum ByDay {
 /// ```
 #[derive(Clone, Copy, Debug, PartialEq, Eq)]
 pub struct Rule<'a> {
-    /// The first day that may be one of the rule; it is one where it passes the other parts.
+    /// The first possible day. It counts only if it matches.
     pub start: Date,
-    /// What the interval counts.
+    /// The unit of the interval.
     pub frequency: Frequency,
-    /// Each so-many-th day, week, month or year from that of the start on; 0 counts as 1.
+    /// Every n-th day, week, month or year, counted from the start; 0 counts as 1.
     pub interval: u32,
-    /// The weekday that a week begins with.
+    /// The first weekday of a week.
     pub week_start: Weekday,
     /// The months.
     pub months: &'a [Month],
-    /// The days of the month, from 1 on, or from the end by -1 for the last one. None is the 0th.
+    /// The days of the month, from 1, or from -1 at the end of the month. 0 matches no day.
     pub month_days: &'a [i8],
     /// The weekdays.
     pub weekdays: &'a [ByDay],
-    /// The last day that may be one of the rule, if there is one.
+    /// The last possible day.
     pub until: Option<Date>,
 }
 
 impl<'a> Rule<'a> {
-    /// The greatest number of months.
+    /// The maximum number of months.
     pub const MOST_MONTHS: usize = 64;
 
-    /// The greatest number of weekdays.
+    /// The maximum number of weekdays.
     pub const MOST_WEEKDAYS: usize = 64;
 
-    /// The rule of each day, or the same day of each week, month or year, from the start on. Its weeks begin on Monday.
+    /// Creates the rule of every day, or the same day of every week (from Monday), month or year.
     pub fn new(start: Date, frequency: Frequency) -> Self {
         Self {
             start,
@@ -89,28 +89,28 @@ impl<'a> Rule<'a> {
         }
     }
 
-    /// Whether the day is one of the rule's.
+    /// Returns whether a date is a day of the rule.
     pub fn contains(&self, date: Date) -> bool {
         certain(ffi::fots_rule_contains(self, date.to_c())) == 1
     }
 
-    /// The first day of the rule after this day, or `None` where the range has none.
+    /// Returns the first day of the rule after a date, or `None` if none follows.
     pub fn next_after(&self, date: Date) -> Option<Date> {
         or_none(ffi::fots_rule_next_after(self, date.to_c())).map(Date::of_c)
     }
 
-    /// The walk over the days of the rule, the first one first.
+    /// Returns an iterator over the days of the rule.
     pub fn days<'r>(&'r self) -> RuleDays<'r, 'a> {
         RuleDays { rule: self, front: or_none(ffi::fots_rule_first(self)).map(Date::of_c) }
     }
 
-    /// The walk over the first days of the rule, so many where there are so many: a rule that ends after a number of times.
+    /// Returns an iterator over the first `count` days of the rule.
     pub fn first_days<'r>(&'r self, count: u32) -> Take<RuleDays<'r, 'a>> {
         self.days().take(count as usize)
     }
 }
 
-/// A walk over the days of a rule, in order.
+/// An iterator over the days of a rule, in order.
 #[derive(Clone, Debug)]
 pub struct RuleDays<'r, 'a> {
     rule: &'r Rule<'a>,

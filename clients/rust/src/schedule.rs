@@ -1,21 +1,21 @@
-//! Months, the ends of periods, weekdays of a month, and the days that interest is counted by.
+//! Months, periods, weekdays of a month, and day counts.
 
 use crate::error::ComponentRange;
 use crate::ffi::{self, certain, or_none, or_refused};
 use crate::{Date, Month, Weekday};
 
-/// A number of years, of months and of days, which are all of one sign.
+/// Years, months and days, all positive or 0, or all negative or 0.
 #[derive(Clone, Copy, Debug, PartialEq, Eq)]
 pub struct Period {
-    /// The whole years.
+    /// The years.
     pub years: i32,
-    /// The months past the years, fewer than 12.
+    /// The months past the years, from -11 to 11.
     pub months: i32,
     /// The days past the months.
     pub days: i32,
 }
 
-/// A convention by which the days of interest are counted, under the names of the 2006 ISDA Definitions.
+/// A day count of the 2006 ISDA Definitions.
 #[derive(Clone, Copy, Debug, PartialEq, Eq)]
 pub enum DayCount {
     /// Actual/360.
@@ -26,118 +26,118 @@ pub enum DayCount {
     Thirty360 = 3,
     /// 30E/360, Eurobond basis.
     ThirtyE360 = 4,
-    /// Actual/Actual (ISDA), over 366 times 365.
+    /// Actual/Actual (ISDA), with the denominator 365 times 366.
     ActualActual = 5,
 }
 
-/// A fraction of a year, as two whole numbers.
+/// A fraction of a year.
 #[derive(Clone, Copy, Debug, PartialEq, Eq)]
 pub struct YearFraction {
-    /// What was counted.
+    /// The count between the dates.
     pub numerator: i64,
-    /// What a year counts.
+    /// The count of a year.
     pub denominator: u32,
 }
 
 impl Date {
-    /// The day so many months later, or the last day of that month where it has no such day; `None` past the range. One month after
-    /// 2024-01-31 is 2024-02-29.
+    /// Adds months, or returns `None` out of range. The day is the last one in a shorter month:
+    /// 2024-01-31 plus one month is 2024-02-29.
     pub fn checked_add_months(self, months: i32) -> Option<Self> {
         or_none(ffi::fots_date_add_months(self.to_c(), months)).map(Self::of_c)
     }
 
-    /// The same, but the nearest end of the range where that month is past it.
+    /// Adds months, clamped to the range.
     pub fn saturating_add_months(self, months: i32) -> Self {
         Self::of_c(certain(ffi::fots_date_saturating_add_months(self.to_c(), months)))
     }
 
-    /// The day so many years later, 28 February for the 29th where there is none; `None` past the range.
+    /// Adds years, or returns `None` out of range. 2024-02-29 plus one year is 2025-02-28.
     pub fn checked_add_years(self, years: i32) -> Option<Self> {
         or_none(ffi::fots_date_add_years(self.to_c(), years)).map(Self::of_c)
     }
 
-    /// The greatest number of months that does not lead past the other day; the least that does not lead before an earlier one.
+    /// Returns the largest number of months that doesn't pass `other`, or back, negative or 0.
     pub fn months_until(self, other: Self) -> i32 {
         certain(ffi::fots_date_months_until(self.to_c(), other.to_c()))
     }
 
-    /// The same of years, as an age is counted.
+    /// Returns the largest number of years that doesn't pass `other`: an age.
     pub fn years_until(self, other: Self) -> i32 {
         certain(ffi::fots_date_years_until(self.to_c(), other.to_c()))
     }
 
-    /// The years, months and days that lead to the other day.
+    /// Returns the years, months and days to `other`.
     pub fn period_until(self, other: Self) -> Period {
         let (years, months, days) = certain(ffi::fots_date_period_until(self.to_c(), other.to_c()));
         Period { years, months, days }
     }
 
-    /// The first day of the month.
+    /// Returns the first day of the month.
     pub fn first_of_month(self) -> Self {
         Self::of_c(certain(ffi::fots_date_first_of_month(self.to_c())))
     }
 
-    /// The last day of the month.
+    /// Returns the last day of the month.
     pub fn last_of_month(self) -> Self {
         Self::of_c(certain(ffi::fots_date_last_of_month(self.to_c())))
     }
 
-    /// The first day of the quarter.
+    /// Returns the first day of the quarter.
     pub fn first_of_quarter(self) -> Self {
         Self::of_c(certain(ffi::fots_date_first_of_quarter(self.to_c())))
     }
 
-    /// The last day of the quarter.
+    /// Returns the last day of the quarter.
     pub fn last_of_quarter(self) -> Self {
         Self::of_c(certain(ffi::fots_date_last_of_quarter(self.to_c())))
     }
 
-    /// The first day of the year.
+    /// Returns the first day of the year.
     pub fn first_of_year(self) -> Self {
         Self::of_c(certain(ffi::fots_date_first_of_year(self.to_c())))
     }
 
-    /// The last day of the year.
+    /// Returns the last day of the year.
     pub fn last_of_year(self) -> Self {
         Self::of_c(certain(ffi::fots_date_last_of_year(self.to_c())))
     }
 
-    /// The Monday of the ISO week.
+    /// Returns the Monday of the ISO week.
     pub fn first_of_iso_week(self) -> Self {
         Self::of_c(certain(ffi::fots_date_first_of_iso_week(self.to_c())))
     }
 
-    /// The Sunday of the ISO week, or `None` past the range.
+    /// Returns the Sunday of the ISO week, or `None` out of range.
     pub fn last_of_iso_week(self) -> Option<Self> {
         or_none(ffi::fots_date_last_of_iso_week(self.to_c())).map(Self::of_c)
     }
 
-    /// The quarter of the year, from 1 to 4.
+    /// Returns the quarter, from 1 to 4.
     pub fn quarter(self) -> u8 {
         certain(ffi::fots_date_quarter(self.to_c())) as u8
     }
 
-    /// The n-th day of a month that has the weekday, counted from 1, refused as `year`, or as `weekday` where there is none.
+    /// Returns the n-th date with a weekday in a month, or the error `year` or `weekday`.
     pub fn nth_weekday_of_month(year: i32, month: Month, weekday: Weekday, n: u8) -> Result<Self, ComponentRange> {
         or_refused(ffi::fots_date_nth_weekday_of_month(year, month.number(), weekday.number(), n.into())).map(Self::of_c)
     }
 
-    /// The last day of a month that has the weekday, refused as `year`.
+    /// Returns the last date with a weekday in a month, or the error `year`.
     pub fn last_weekday_of_month(year: i32, month: Month, weekday: Weekday) -> Result<Self, ComponentRange> {
         or_refused(ffi::fots_date_last_weekday_of_month(year, month.number(), weekday.number())).map(Self::of_c)
     }
 
-    /// The first day from this one on that has the weekday, or `None` past the range.
+    /// Returns the first date on or after this one with a weekday, or `None` out of range.
     pub fn on_or_after(self, weekday: Weekday) -> Option<Self> {
         or_none(ffi::fots_date_on_or_after(self.to_c(), weekday.number())).map(Self::of_c)
     }
 
-    /// The last day up to this one that has the weekday, or `None` past the range.
+    /// Returns the last date on or before this one with a weekday, or `None` out of range.
     pub fn on_or_before(self, weekday: Weekday) -> Option<Self> {
         or_none(ffi::fots_date_on_or_before(self.to_c(), weekday.number())).map(Self::of_c)
     }
 
-    /// Returns the fraction of a year to the other day; negative or 0 if that day comes first.
+    /// Returns the fraction of a year to `other`, negative or 0 if that is earlier.
     pub fn day_count(self, other: Self, convention: DayCount) -> YearFraction {
         let (denominator, numerator) = certain(ffi::fots_date_day_count(self.to_c(), other.to_c(), convention as u32));
         YearFraction { numerator, denominator }

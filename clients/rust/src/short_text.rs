@@ -1,11 +1,11 @@
-//! Texts of this crate's own, which are put together before they are padded.
+//! Texts of this crate, completed before padding.
 
 use core::fmt;
 
-/// The most bytes of a text: 13 of a date, 18 of a time and 9 of an offset, and two spaces.
+/// The maximum bytes: 13 for a date, 18 for a time, 9 for an offset, and two spaces.
 const CAPACITY: usize = 42;
 
-/// A text of at most so many bytes.
+/// A text of at most `CAPACITY` bytes.
 pub(crate) struct ShortText {
     bytes: [u8; CAPACITY],
     length: usize,
@@ -18,7 +18,7 @@ impl Default for ShortText {
 }
 
 impl ShortText {
-    /// Writes the text, padded as the formatter asks.
+    /// Writes the text with the padding of the formatter.
     pub(crate) fn pad(&self, f: &mut fmt::Formatter<'_>) -> fmt::Result {
         let text = core::str::from_utf8(&self.bytes[..self.length]).map_err(|_| fmt::Error)?;
         f.pad(text)

@@ -1,7 +1,7 @@
-//! Dates and moments in text, read and printed as the crate `cal_text` does, under the names that it has.
+//! Texts of dates and moments, with the names of the crate `cal_text`.
 //!
-//! Each text is the library's own: a type that prints one has a call `line` for its bytes in place, and under a width the whole
-//! text is padded. A call `read` takes the bytes of a text, and reads just what is printed, or what RFC 3339 allows.
+//! `read` parses the bytes of a text. A type that prints has a call `line` for the text in place,
+//! and a width pads the whole text.
 //!
 //! ```
 //! use fotsevindre::text::{date, rfc3339, unix};
@@ -30,9 +30,8 @@ pub mod unix;
 pub use crate::error::Unreadable;
 pub use any::{read_any, DateOrMoment};
 
-/// What a date or a moment prints, in bytes: ASCII, at most 38 of them, in place and without a formatter.
-///
-/// The types that print give it by their call `line`: `WeekText(date).line().as_str()` is `2024-W09-4`.
+/// A text of a date or a moment in place: at most 38 ASCII bytes. `WeekText(date).line().as_str()`
+/// is `2024-W09-4`.
 #[derive(Clone, Copy, PartialEq, Eq)]
 pub struct Line {
     length: u32,
@@ -40,22 +39,22 @@ pub struct Line {
 }
 
 impl Line {
-    /// The text that the library answered.
+    /// Converts from the result of C.
     pub(crate) fn of_c((length, bytes): (u32, [u8; 40])) -> Self {
         Self { length, bytes }
     }
 
-    /// The text of a call that has one for each value of its types.
+    /// Converts the result of a call without errors.
     fn certain(answer: Answer<(u32, [u8; 40])>) -> Self {
         Self::of_c(certain(answer))
     }
 
-    /// The text.
+    /// Returns the text.
     pub fn as_str(&self) -> &str {
         str::from_utf8(self.as_bytes()).expect("the texts of the library are ASCII")
     }
 
-    /// The bytes of the text, at most 38.
+    /// Returns the bytes.
     pub fn as_bytes(&self) -> &[u8] {
         &self.bytes[..self.length as usize]
     }

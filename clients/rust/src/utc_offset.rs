@@ -6,92 +6,85 @@ use core::fmt::{self, Write};
 use core::ops::Neg;
 use core::str::FromStr;
 
-/// An offset from UTC, exact to the second, from -25:59:59 to +25:59:59.
+/// An offset from UTC in seconds, from -25:59:59 to +25:59:59, positive to the east.
 ///
-/// East of Greenwich it is positive. Offsets are ordered by their seconds, so the order goes from west to east.
-///
-/// It prints its sign, `+` for zero too, and two digits each of hours, minutes and seconds, as `-05:30:00`. Under a
-/// width the whole text is padded. `Debug` prints the same.
+/// It prints with its sign: `-05:30:00`. A width pads the whole text. `Debug` prints the same.
 #[derive(Clone, Copy, PartialEq, Eq, PartialOrd, Ord, Hash)]
 pub struct UtcOffset {
     seconds: i32,
 }
 
 impl UtcOffset {
-    /// UTC itself, the offset zero.
+    /// UTC, the offset 0.
     pub const UTC: Self = Self { seconds: 0 };
 
-    /// The offset that the library answered.
+    /// Converts from the number of C.
     pub(crate) fn of_c(seconds: i32) -> Self {
         Self { seconds }
     }
 
-    /// The offset of that many hours, minutes and seconds.
-    ///
-    /// The first of them that is not zero gives the sign, and the magnitudes are added up under it: `from_hms(1, -2, -3)` is one
-    /// hour, two minutes and three seconds.
+    /// Creates an offset from hours (-25 to 25), minutes and seconds (-59 to 59). The first one
+    /// that is not zero gives the sign of all: `from_hms(1, -2, -3)` is +01:02:03.
     ///
     /// # Errors
     ///
-    /// The first component out of range, unconditionally: `offset hour` outside -25 to 25, else `offset minute` outside
-    /// -59 to 59, else `offset second` outside -59 to 59.
+    /// The first one out of range: `offset hour`, `offset minute` or `offset second`.
     pub fn from_hms(hours: i8, minutes: i8, seconds: i8) -> Result<Self, ComponentRange> {
         let made = ffi::fots_offset_from_hms(hours.into(), minutes.into(), seconds.into());
         or_refused(made).map(Self::of_c)
     }
 
-    /// The offset of that many seconds: `from_whole_seconds(3723)` is +01:02:03.
+    /// Creates an offset from seconds. `from_whole_seconds(3723)` is +01:02:03.
     ///
     /// # Errors
     ///
-    /// `seconds`, unconditional, outside -93599 to 93599.
+    /// `seconds` outside -93599 to 93599.
     pub fn from_whole_seconds(seconds: i32) -> Result<Self, ComponentRange> {
         or_refused(ffi::fots_offset_from_whole_seconds(seconds.into())).map(Self::of_c)
     }
 
-    /// The whole hours, the minutes past them and the seconds past these, all of one sign: those of -01:30:00 are -1, -30
-    /// and 0.
+    /// Returns the hours, minutes and seconds, with one sign. For -01:30:00: -1, -30, 0.
     pub fn as_hms(self) -> (i8, i8, i8) {
         let (hours, minutes, seconds) = certain(ffi::fots_offset_as_hms(self.seconds));
         (hours as i8, minutes as i8, seconds as i8)
     }
 
-    /// The whole hours, cut toward zero: from -25 to 25. Those of -01:30:00 are -1.
+    /// Returns the whole hours, from -25 to 25. For -01:30:00: -1.
     pub fn whole_hours(self) -> i8 {
         certain(ffi::fots_offset_whole_hours(self.seconds)) as i8
     }
 
-    /// The whole minutes, cut toward zero: from -1559 to 1559. Those of -01:30:00 are -90.
+    /// Returns the whole minutes, from -1559 to 1559. For -01:30:00: -90.
     pub fn whole_minutes(self) -> i16 {
         certain(ffi::fots_offset_whole_minutes(self.seconds)) as i16
     }
 
-    /// The whole minutes past the whole hours, with the sign of the offset: from -59 to 59. Those of -01:30:00 are -30.
+    /// Returns the minutes past the hours, from -59 to 59. For -01:30:00: -30.
     pub fn minutes_past_hour(self) -> i8 {
         certain(ffi::fots_offset_minutes_past_hour(self.seconds)) as i8
     }
 
-    /// The seconds, from -93599 to 93599. Those of -01:30:00 are -5400.
+    /// Returns the seconds, from -93599 to 93599. For -01:30:00: -5400.
     pub const fn whole_seconds(self) -> i32 {
         self.seconds
     }
 
-    /// The seconds past the whole minutes, with the sign of the offset: from -59 to 59. Those of +01:02:03 are 3.
+    /// Returns the seconds past the minutes, from -59 to 59. For +01:02:03: 3.
     pub fn seconds_past_minute(self) -> i8 {
         certain(ffi::fots_offset_seconds_past_minute(self.seconds)) as i8
     }
 
-    /// Whether the offset is zero, as [`Self::UTC`] alone is.
+    /// Returns whether the offset is zero.
     pub const fn is_utc(self) -> bool {
         self.seconds == 0
     }
 
-    /// Whether the offset is above zero, east of UTC.
+    /// Returns whether the offset is positive, east of UTC.
     pub const fn is_positive(self) -> bool {
         self.seconds > 0
     }
 
-    /// Whether the offset is below zero, west of UTC.
+    /// Returns whether the offset is negative, west of UTC.
     pub const fn is_negative(self) -> bool {
         self.seconds < 0
     }
@@ -100,7 +93,7 @@ impl UtcOffset {
 impl Neg for UtcOffset {
     type Output = Self;
 
-    /// The offset as far on the other side of UTC: that of -05:30:00 is +05:30:00.
+    /// Negates. For -05:30:00: +05:30:00.
     fn neg(self) -> Self {
         Self::of_c(certain(ffi::fots_offset_negated(self.seconds)))
     }
@@ -125,13 +118,13 @@ impl fmt::Debug for UtcOffset {
 impl FromStr for UtcOffset {
     type Err = Unreadable;
 
-    /// The offset of a text as it is printed, or as RFC 3339 has it: a sign, two digits each of the hours and the minutes, and perhaps of
-    /// the seconds, as `-05:30:00` and `+01:00`, or `Z` or `z` for UTC. Nothing may come before or after.
+    /// Parses an offset: a sign, two digits each of hours and minutes and optionally of seconds,
+    /// such as `-05:30:00` and `+01:00`, or `Z` or `z`.
     ///
     /// # Errors
     ///
-    /// `UnexpectedByte` or `UnexpectedEnd` where the text has not this form; otherwise `OutOfRange` for `offset hour` above 25, `offset minute` or
-    /// `offset second`.
+    /// `UnexpectedByte` or `UnexpectedEnd`, else `OutOfRange` for `offset hour` above 25, `offset
+    /// minute` or `offset second`.
     fn from_str(text: &str) -> Result<Self, Unreadable> {
         let mut reader = Reader::new(text);
         if reader.takes(b'Z') || reader.takes(b'z') {

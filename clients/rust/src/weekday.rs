@@ -6,8 +6,8 @@ use core::str::FromStr;
 
 /// A day of the week.
 ///
-/// `Weekday::Friday as u8` is the number of days since Monday, 4. As a week may be taken to begin on Monday or on Sunday, weekdays
-/// have no order. A weekday prints its English name, as `Friday`.
+/// `Weekday::Friday as u8` is the number of days since Monday, 4. Weekdays have no order, because
+/// weeks start on Monday or on Sunday. It prints its English name, `Friday`.
 #[derive(Clone, Copy, Debug, PartialEq, Eq, Hash)]
 #[repr(u8)]
 #[allow(missing_docs)]
@@ -21,75 +21,71 @@ pub enum Weekday {
     Sunday,
 }
 
-/// The weekdays, from Monday on.
+/// The weekdays, from Monday.
 const WEEKDAYS: [Weekday; 7] =
     [Weekday::Monday, Weekday::Tuesday, Weekday::Wednesday, Weekday::Thursday, Weekday::Friday, Weekday::Saturday, Weekday::Sunday];
 
 impl Weekday {
-    /// The weekday with this number, which is from Monday, 1, to Sunday, 7.
+    /// Converts from a number, 1 (Monday) to 7 (Sunday).
     #[inline]
     pub(crate) fn of_number(number: u32) -> Self {
         WEEKDAYS[number as usize - 1]
     }
 
-    /// The number, from Monday, 1, to Sunday, 7, as it crosses.
+    /// Converts to a number, 1 (Monday) to 7 (Sunday).
     #[inline]
     pub(crate) fn number(self) -> u32 {
         self as u32 + 1
     }
 
-    /// The weekday before. That of Monday is Sunday.
+    /// Returns the previous weekday. For Monday: Sunday.
     pub fn previous(self) -> Self {
         self.nth_prev(1)
     }
 
-    /// The weekday after. That of Sunday is Monday.
+    /// Returns the next weekday. For Sunday: Monday.
     pub fn next(self) -> Self {
         self.nth_next(1)
     }
 
-    /// The weekday `n` days after, round the week as often as it takes.
-    ///
-    /// `Weekday::Sunday.nth_next(10)` is Wednesday.
+    /// Returns the weekday `n` days after this one. For Sunday and 10: Wednesday.
     pub fn nth_next(self, n: u8) -> Self {
         Self::of_number(certain(ffi::fots_weekday_nth_next(self.number(), n.into())))
     }
 
-    /// The weekday `n` days before, round the week as often as it takes.
-    ///
-    /// `Weekday::Sunday.nth_prev(10)` is Thursday.
+    /// Returns the weekday `n` days before this one. For Sunday and 10: Thursday.
     pub fn nth_prev(self, n: u8) -> Self {
         Self::of_number(certain(ffi::fots_weekday_nth_prev(self.number(), n.into())))
     }
 
-    /// The number of the weekday from Monday, 1, to Sunday, 7, as in ISO 8601. That of Friday is 5.
+    /// Returns the number of ISO 8601, from 1 (Monday) to 7 (Sunday). For Friday: 5.
     #[inline]
     pub fn number_from_monday(self) -> u8 {
         self as u8 + 1
     }
 
-    /// The number of the weekday from Sunday, 1, to Saturday, 7. That of Friday is 6.
+    /// Returns the number from 1 (Sunday) to 7 (Saturday). For Friday: 6.
     pub fn number_from_sunday(self) -> u8 {
         certain(ffi::fots_weekday_number_from_sunday(self.number())) as u8
     }
 
-    /// The number of days since Monday, from Monday, 0, to Sunday, 6. On Friday it is 4.
+    /// Returns the days since Monday, from 0 to 6. For Friday: 4.
     #[inline]
     pub fn number_days_from_monday(self) -> u8 {
         self as u8
     }
 
-    /// The number of days since Sunday, from Sunday, 0, to Saturday, 6. On Friday it is 5.
+    /// Returns the days since Sunday, from 0 to 6. For Friday: 5.
     pub fn number_days_from_sunday(self) -> u8 {
         self.number_from_sunday() - 1
     }
 
-    /// An endless walk over the weekdays from `start` on: from Saturday it gives Saturday, Sunday, Monday, and so on.
+    /// Returns an endless iterator from a weekday on. From Saturday: Saturday, Sunday, Monday, ..
     pub fn iter_from(start: Self) -> WeekdayIter {
         WeekdayIter::new(start)
     }
 
-    /// The English name.
+    /// Returns the English name.
     fn name(self) -> &'static str {
         match self {
             Self::Monday => "Monday",
@@ -112,7 +108,7 @@ impl fmt::Display for Weekday {
 impl FromStr for Weekday {
     type Err = InvalidVariant;
 
-    /// The weekday of exactly this English name, as `Friday`; `InvalidVariant` for every other text, as `friday` or `Fri`.
+    /// Parses the exact English name: `Friday`, not `friday` or `Fri`.
     fn from_str(text: &str) -> Result<Self, InvalidVariant> {
         WEEKDAYS.into_iter().find(|weekday| weekday.name() == text).ok_or(InvalidVariant)
     }

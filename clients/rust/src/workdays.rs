@@ -1,24 +1,24 @@
-//! Working days: those of the days of the week that are worked on, but for the holidays.
+//! Working days: days of the week without holidays.
 
 use crate::ffi::{self, certain, or_none};
 use crate::Date;
 
-/// How a day that is no working day is moved to one, under the names of financial contracts.
+/// How a date moves to a working day, with the names of the ISDA Definitions.
 #[derive(Clone, Copy, Debug, PartialEq, Eq)]
 pub enum Convention {
-    /// The day itself, whether or not it is a working day.
+    /// The date itself.
     Unadjusted = 0,
-    /// The first working day from the day on.
+    /// The first working day on or after the date.
     Following = 1,
-    /// As `Following`, but where that is in another month, as `Preceding`.
+    /// `Following`; `Preceding` if that is in another month.
     ModifiedFollowing = 2,
-    /// The last working day up to the day.
+    /// The last working day on or before the date.
     Preceding = 3,
-    /// As `Preceding`, but where that is in another month, as `Following`.
+    /// `Preceding`; `Following` if that is in another month.
     ModifiedPreceding = 4,
 }
 
-/// The working days of a calendar: the days of the week that are marked, but for the holidays.
+/// The working days of a calendar: the marked days of the week without the holidays.
 ///
 /// ```
 /// use fotsevindre::{Date, Month, Workdays};
@@ -29,20 +29,20 @@ pub enum Convention {
 /// ```
 #[derive(Clone, Copy, Debug)]
 pub struct Workdays<'a> {
-    /// The sum of the marks, from 1 for Monday to 64 for Sunday.
+    /// 1 for Monday, 2 for Tuesday, up to 64 for Sunday, added up.
     pub(crate) week: u32,
     pub(crate) holidays: &'a [Date],
 }
 
 impl<'a> Workdays<'a> {
-    /// The marks of a week that is worked on from Monday to Friday.
+    /// The marks of Monday to Friday.
     pub const MONDAY_TO_FRIDAY: [bool; 7] = [true, true, true, true, true, false, false];
 
-    /// The greatest number of holidays.
+    /// The maximum number of holidays.
     pub const MOST_HOLIDAYS: usize = 1024;
 
-    /// The working days of a week with these marks, from Monday to Sunday, but for the holidays. `None` where the holidays do not rise,
-    /// or are more than [`Self::MOST_HOLIDAYS`].
+    /// Takes the marks from Monday to Sunday, and holidays. Returns `None` unless these are in
+    /// strictly ascending order, and at most [`Self::MOST_HOLIDAYS`].
     pub fn new(marks: [bool; 7], holidays: &'a [Date]) -> Option<Self> {
         if holidays.len() > Self::MOST_HOLIDAYS || holidays.windows(2).any(|next| next[0] >= next[1]) {
             return None;
@@ -51,33 +51,33 @@ impl<'a> Workdays<'a> {
         Some(Self { week, holidays })
     }
 
-    /// Whether the day is a working day: its day of the week is marked, and it is no holiday.
+    /// Returns whether a date is a working day.
     pub fn is_workday(&self, date: Date) -> bool {
         certain(ffi::fots_date_is_workday(date.to_c(), self.week, self.holidays)) == 1
     }
 
-    /// The first working day after the day, or `None` where the range has none.
+    /// Returns the first working day after a date, or `None` out of range.
     pub fn next_workday(&self, date: Date) -> Option<Date> {
         or_none(ffi::fots_date_next_workday(date.to_c(), self.week, self.holidays)).map(Date::of_c)
     }
 
-    /// The last working day before the day, or `None` where the range has none.
+    /// Returns the last working day before a date, or `None` out of range.
     pub fn previous_workday(&self, date: Date) -> Option<Date> {
         or_none(ffi::fots_date_previous_workday(date.to_c(), self.week, self.holidays)).map(Date::of_c)
     }
 
-    /// The working day so many working days after the day, or before it where they are below zero. For 0 it is the day itself, or where
-    /// it is no working day, the first one after it. `None` where the range has no such day.
+    /// Returns the n-th working day after a date, or before it if negative; for 0 the date itself,
+    /// or the first working day after it. Returns `None` out of range.
     pub fn checked_add_workdays(&self, date: Date, days: i32) -> Option<Date> {
         or_none(ffi::fots_date_add_workdays(date.to_c(), days, self.week, self.holidays)).map(Date::of_c)
     }
 
-    /// Counts the working days from the earlier day, without the later; negative if `to` is first.
+    /// Counts the working days from the earlier date, without the later; negative if `to` is first.
     pub fn workdays_between(&self, from: Date, to: Date) -> i32 {
         certain(ffi::fots_date_workdays_between(from.to_c(), to.to_c(), self.week, self.holidays))
     }
 
-    /// The day that the convention moves this one to, or `None` where the range has no such day.
+    /// Returns the working day that a date moves to, or `None` out of range.
     pub fn adjusted(&self, date: Date, convention: Convention) -> Option<Date> {
         or_none(ffi::fots_date_adjusted(date.to_c(), convention as u32, self.week, self.holidays)).map(Date::of_c)
     }

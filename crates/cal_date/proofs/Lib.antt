@@ -3,6 +3,7 @@ pub mod CallersLaws
 pub mod DateIters
 pub mod Dates
 pub mod DateTexts
+pub mod DistinctTexts
 pub mod IsoForms
 pub mod IsoWeeks
 pub mod MonthForms

@@ -1,6 +1,5 @@
-//! The tests of `cal_date`, by its public items only.
-//!
-//! They are a crate of their own, since the gate proves a crate with tests a second time.
+//! The tests of `cal_date`, by its public items only. They are a crate of their own, because the
+//! gate proves a crate with tests twice.
 #![tactic(auto)]
 
 #[cfg(test)]

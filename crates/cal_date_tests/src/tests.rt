@@ -1,4 +1,4 @@
-//! Callers that know only a stated condition; the limits, clones and weeks. Worked values are in the tests of `cal_time`.
+//! Callers that know only a condition; limits, clones and weeks. `cal_time` has worked values.
 ghost use Rattle.std.specs.Prelude.{◌≡◌, pos, ◌+ℤ◌, ◌-ℤ◌, IsSome};
 ghost use Rattle.cal_span.specs.SignedDuration.{whole_days};
 ghost use Rattle.cal_units.specs.Weekday.{index};
@@ -17,7 +17,7 @@ mod every_day;
 mod kernels;
 mod packed;
 
-/// Stops the test unless the two are equal. One function for all is proved once, where `assert_eq!` is proved at each place.
+/// Checks that two values are equal. This function is proved once, and `assert_eq!` at each place.
 fn same<T: Copy + Debug + PartialEq>(rt: &impl Abort, found: T, wanted: T) {
     assert!(rt; found == wanted, "{found:?} and not {wanted:?}");
 }

@@ -3,6 +3,7 @@ use Rattle.std.proofs.Common.{◌≡◌, ◌≢◌, ◌⊎◌, ℕ, ◌+◌, ◌
 use Rattle.std.proofs.lemmas.Bool.{cases_lt}
 use Rattle.std.proofs.lemmas.List.{append_assoc, get_or_append_left, length-take-le, take-append-drop, take-append-le, take_at}
 use Rattle.cal_time.specs.DateText.{digits_at_least, date_digits}
+use Rattle.cal_time.proofs.DistinctTexts.{year-plain}
 use Rattle.cal_text.specs.AnyForm.{HasAnyForm}
 use Rattle.cal_text.specs.DateForms.{HasForm}
 use Rattle.cal_text.specs.JulianForm.{IsJulianForm}
@@ -16,7 +17,6 @@ use Rattle.cal_text.specs.declared.rfc3339.numbers.Numbers.{Numbers}
 use Rattle.cal_text.proofs.AnyForms.{of_four, julian-any, unix-any}
 use Rattle.cal_text.proofs.Positions.{begins_less, carried}
 use Rattle.cal_text.proofs.Shapes.{moment-shape, julian-first, unix-first, date_digits-long}
-use Rattle.cal_text.proofs.YearTexts.{year-plain}
 
 -- Each longer beginning of the text has the same byte at i.
 at_same : (text more : List ℕ) (i q : ℕ) → i < q → q ≤ length text → get_or (take q text ++ more) i 0 ≡ get_or text i 0

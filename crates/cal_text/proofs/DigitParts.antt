@@ -8,8 +8,9 @@ use Rattle.std.proofs.lemmas.List.{append_assoc}
 use Rattle.std.proofs.lemmas.Str.{digit_value_digit}
 use Rattle.std.proofs.lemmas.Str.Parse.{digit_from_value}
 use Rattle.cal_time.specs.DateText.{digits_at_least}
+use Rattle.cal_time.proofs.DistinctTexts.{digits_at_least-digits, digits_at_least-value}
 use Rattle.cal_text.specs.Shape.{Shape, left, Byte, Digits, UpTo, SomeDigits, AtLeast, ReadsDigits}
-use Rattle.cal_text.proofs.DigitTexts.{below-nine, digits-printed, digits_at_least-digits, digits_at_least-value, digits_at_least-length}
+use Rattle.cal_text.proofs.DigitTexts.{below-nine, digits-printed, digits_at_least-length}
 use Rattle.cal_text.proofs.Parts.{IsPart, Splits, HasAfter, BeginsOutside, left-outside, same_pair, renamed, byte_part}
 use Rattle.cal_text.proofs.Positions.{IsShapeOf}
 use Rattle.cal_text.proofs.Stops.{IsIn, in_or_out, left-in, left-out, left-end, left-branch_in, left-branch_out, left-branch_end}

@@ -4,29 +4,11 @@ use Rattle.std.proofs.Common.{◌≡◌, ◌≢◌, ℕ, zero, suc, ◌+◌, ◌
 use Rattle.std.specs.Prelude.{decimal}
 use Rattle.std.specs.Str.Parse.{AllDigits, digits_value}
 use Rattle.std.proofs.lemmas.Bool.{cases_eq, cases_lt}
-use Rattle.std.proofs.lemmas.Fmt.{decimal-digits_value, decimal_is_IsNumeral, length-decimal-le, first_decimal}
+use Rattle.std.proofs.lemmas.Fmt.{decimal-digits_value, length-decimal-le, first_decimal}
 use Rattle.std.proofs.lemmas.Int.Digits.{digits_value-lt}
 use Rattle.std.proofs.lemmas.List.{length-append, length-replicate}
 use Rattle.std.proofs.lemmas.Str.Parse.{IsNumeralModel, numerals_by_value, tells_digits, digits_value_short}
 use Rattle.cal_time.specs.DateText.{digits_at_least}
-
--- zeros at the front
-zeros-digits : (k : ℕ) (ds : List ℕ) → AllDigits 10 ds → AllDigits 10 (replicate k 48 ++ ds)
-zeros-digits zero ds h = h
-zeros-digits (suc k) ds h = (lit< tt, zeros-digits k ds h)
-
-zeros-value : (k : ℕ) (ds : List ℕ) → digits_value 10 (replicate k 48 ++ ds) ≡ digits_value 10 ds
-zeros-value zero ds = refl
-zeros-value (suc k) ds = zeros-value k ds
-
--- a number below 10 ^ 9 is one of 64 bits
-pub digits_at_least-digits : (width n : ℕ) → n < 10 ^ 9 → AllDigits 10 (digits_at_least width n)
-digits_at_least-digits width n h =
-    zeros-digits (width - length (decimal n)) (decimal n) (decimal_is_IsNumeral n (omega arith)).0.1
-
-pub digits_at_least-value : (width n : ℕ) → n < 10 ^ 9 → digits_value 10 (digits_at_least width n) ≡ n
-digits_at_least-value width n h =
-    zeros-value (width - length (decimal n)) (decimal n) ∙ (decimal_is_IsNumeral n (omega arith)).1
 
 pub digits_at_least-length : (width n : ℕ) → 0 < width → n < 10 ^ width → n < 10 ^ 9 → length (digits_at_least width n) ≡ width
 digits_at_least-length width n some below h =

@@ -5,11 +5,12 @@ use Rattle.std.proofs.lemmas.Int.Digits.{digits_push, digits_value_push}
 use Rattle.std.proofs.lemmas.List.{append_assoc, length-append}
 use Rattle.std.proofs.lemmas.Str.{digit_value_digit}
 use Rattle.cal_time.specs.DateText.{digits_at_least}
+use Rattle.cal_time.proofs.DistinctTexts.{digits_at_least-digits, digits_at_least-value}
 use Rattle.cal_text.specs.declared.date_numbers.DateNumbers.{DateNumbers}
 use Rattle.cal_text.specs.declared.date_numbers.DateNumbers.TheVariants.{Calendar, Ordinal, Week}
 use Rattle.cal_text.specs.DateForms.{year_text, month_and_day_text, year_of, rest_of, IsWrittenYear, DigitsFit, HasForm}
 use Rattle.cal_text.specs.Shape.{ReadsDigits}
-use Rattle.cal_text.proofs.DigitTexts.{digits-printed, digits_at_least-digits, digits_at_least-length, digits_at_least-value}
+use Rattle.cal_text.proofs.DigitTexts.{digits-printed, digits_at_least-length}
 use Rattle.cal_text.proofs.NumberTexts.{one_digit}
 use Rattle.cal_text.proofs.Parts.{at_end}
 use Rattle.cal_text.proofs.ReadDigits.{printed, one_more}

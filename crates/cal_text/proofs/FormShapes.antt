@@ -3,11 +3,12 @@ use Rattle.std.proofs.Common.{◌≡◌, ℕ, ◌+◌, ◌-◌, ◌*◌, ◌/◌
 use Rattle.std.proofs.lemmas.List.{append-nil, append_assoc}
 use Rattle.std.specs.Str.Parse.{AllDigits}
 use Rattle.cal_time.specs.DateText.{digits_at_least}
+use Rattle.cal_time.proofs.DistinctTexts.{digits_at_least-digits}
 use Rattle.cal_text.specs.declared.date_numbers.DateNumbers.{DateNumbers}
 use Rattle.cal_text.specs.declared.date_numbers.DateNumbers.TheVariants.{Calendar, Ordinal, Week}
 use Rattle.cal_text.specs.DateForms.{year_text, IsWrittenYear, HasForm}
 use Rattle.cal_text.specs.Shape.{date, week, month_or_ordinal, after_year, Digits, Done}
-use Rattle.cal_text.proofs.DigitTexts.{digits_at_least-digits, digits_at_least-length}
+use Rattle.cal_text.proofs.DigitTexts.{digits_at_least-length}
 use Rattle.cal_text.proofs.DigitParts.{number_part, is_digit}
 use Rattle.cal_text.proofs.FormReads.{put_form, three_digits-split}
 use Rattle.cal_text.proofs.NumberTexts.{one_digit}

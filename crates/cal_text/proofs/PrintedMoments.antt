@@ -10,6 +10,7 @@ use Rattle.cal_time.specs.Date.{year_at, month_at, day_of_month_at}
 use Rattle.cal_time.specs.DateText.{digits_at_least}
 use Rattle.cal_time.specs.Digits.{decimals}
 use Rattle.cal_time.specs.Time.{hour_of, minute_of, second_of, nanosecond_of}
+use Rattle.cal_time.proofs.DistinctTexts.{year-plain}
 use Rattle.cal_datetime.specs.DateTime.{IsDateTime, date_at, time_at}
 use Rattle.cal_datetime.specs.DateTimeLaws.{IsTime-time_at}
 use Rattle.cal_datetime.specs.OffsetDateTime.{Shown}
@@ -20,7 +21,6 @@ use Rattle.cal_text.specs.Rfc3339.{fraction_text, offset_text, moment_text, HasM
 use Rattle.cal_text.specs.Rfc3339Form.{IsFraction, IsTimeOffset, IsOffsetOf, IsMomentText}
 use Rattle.cal_text.proofs.Ranges.{month_at-below, day_of_month_at-below}
 use Rattle.cal_text.proofs.PrintedDecimals.{decimals-digits, decimals-nanoseconds}
-use Rattle.cal_text.proofs.YearTexts.{year-plain}
 
 -- the fraction
 digits-some : (ns : ℕ) → ns < 1000000000 → 0 < ns → IsFraction (46 ∷ decimals ns) ns

@@ -6,6 +6,7 @@ use Rattle.std.proofs.lemmas.List.{append_assoc, length-append, get_or_append_le
 use Rattle.std.proofs.lemmas.Str.Parse.{digit_at}
 use Rattle.cal_time.specs.Date.{IsDate}
 use Rattle.cal_time.specs.DateText.{digits_at_least, date_digits}
+use Rattle.cal_time.proofs.DistinctTexts.{digits_at_least-digits, year-plain, year-plus}
 use Rattle.cal_text.specs.declared.date_numbers.DateNumbers.{DateNumbers}
 use Rattle.cal_text.specs.declared.date_numbers.DateNumbers.TheVariants.{Calendar, Ordinal, Week}
 use Rattle.cal_text.specs.declared.rfc3339.numbers.Numbers.{Numbers}
@@ -14,8 +15,7 @@ use Rattle.cal_text.specs.JulianForm.{IsJulianForm}
 use Rattle.cal_text.specs.Rfc3339Form.{IsSeparator, HasMomentForm, clock_digits}
 use Rattle.cal_text.specs.UnixText.{HasUnixForm}
 use Rattle.cal_text.proofs.DayForms.{form-of-day}
-use Rattle.cal_text.proofs.DigitTexts.{digits_at_least-digits, digits_at_least-length}
-use Rattle.cal_text.proofs.YearTexts.{year-plain, year-plus}
+use Rattle.cal_text.proofs.DigitTexts.{digits_at_least-length}
 
 -- ---- the bytes of a date, and 0 past their end
 abbrev IsDateByte : ℕ → Type 0

@@ -9,10 +9,11 @@ use Rattle.std.proofs.lemmas.Fmt.{decimal_digit}
 use Rattle.std.proofs.lemmas.Int.Digits.{digits_value-lt}
 use Rattle.std.proofs.lemmas.List.{append_assoc, length-append}
 use Rattle.cal_time.specs.DateText.{digits_at_least}
+use Rattle.cal_time.proofs.DistinctTexts.{year-plain}
 use Rattle.cal_text.specs.DateForms.{year_text, IsWrittenYear}
 use Rattle.cal_text.specs.Shape.{ReadsDigits, ReadsMore}
 use Rattle.cal_text.proofs.DigitTexts.{IsMagnitude, magnitude-printed, digits-printed, digits_at_least-length, below-nine}
-use Rattle.cal_text.proofs.YearTexts.{year-plain, plain-cast}
+use Rattle.cal_text.proofs.YearTexts.{plain-cast}
 use Rattle.cal_text.proofs.ReadDigits.{value-append, all-append, value-of}
 
 -- ---- digits of a year are those that its number prints

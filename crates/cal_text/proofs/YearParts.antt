@@ -4,14 +4,14 @@ use Rattle.std.specs.Str.Parse.{AllDigits, digits_value}
 use Rattle.std.proofs.lemmas.Bool.{cases_lt}
 use Rattle.std.proofs.lemmas.Int.Digits.{digits_value-lt}
 use Rattle.cal_time.specs.DateText.{digits_at_least}
+use Rattle.cal_time.proofs.DistinctTexts.{digits_at_least-digits, digits_at_least-value, year-minus, year-plain, year-plus}
 use Rattle.cal_text.specs.DateForms.{year_text, IsWrittenYear}
 use Rattle.cal_text.specs.Shape.{Above, Below, Unsigned, Year, AtLeast, Byte, SomeDigits}
-use Rattle.cal_text.proofs.DigitTexts.{digits_at_least-digits, digits_at_least-value, digits_at_least-magnitude, digits_at_least-length}
+use Rattle.cal_text.proofs.DigitTexts.{digits_at_least-magnitude, digits_at_least-length}
 use Rattle.cal_text.proofs.DigitParts.{IsCount, IsSome, hyphened, count_part, some_part, is_digit, digit_is}
 use Rattle.cal_text.proofs.Parts.{IsPart, Told, BeginsOutside, IsOther, text_other, from_part, byte_part, both, renamed, other}
 use Rattle.cal_text.proofs.Stops.{in_or_out}
 use Rattle.cal_text.proofs.YearDigits.{IsSpelled, spelled-below, spelled-printed, spelled-large, spelled-some, four-spelled}
-use Rattle.cal_text.proofs.YearTexts.{year-plain, year-plus, year-minus}
 
 abbrev number_hyphen : ℕ → List ℕ
 number_hyphen n = digits_at_least 4 n ++ 45 ∷ []

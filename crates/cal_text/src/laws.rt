@@ -1,28 +1,17 @@
 //! Consequences of the parsers: a text has at most one date, one form and one moment.
-ghost use Rattle.std.specs.Prelude.{◌≡◌, ℕ};
-ghost use Rattle.cal_time.specs.Date.{IsDate};
+ghost use Rattle.std.specs.Prelude.{◌≡◌};
 ghost use Rattle.cal_datetime.specs.OffsetDateTime.{Shown};
 ghost use Rattle.cal_text.specs.declared.date_numbers.DateNumbers.{DateNumbers};
 ghost use Rattle.cal_text.specs.declared.any.DateOrMoment.{DateOrMoment};
 ghost use Rattle.cal_text.specs.AnyForm.{IsTextOf};
-ghost use Rattle.cal_text.specs.DateForms.{IsDateText, HasForm};
+ghost use Rattle.cal_text.specs.DateForms.{HasForm};
 ghost use Rattle.cal_text.specs.Rfc3339Form.{IsMomentText};
 
 use crate::any::{DateOrMoment, read_any};
-use crate::date::read;
 use crate::date_numbers::{DateNumbers, form_of};
 use crate::error::Unreadable;
 use crate::rfc3339;
 use cal_datetime::OffsetDateTime;
-use cal_time::Date;
-
-/// Parses a date. No two days have the same text.
-pub(crate) fn one_day(text: &[u8]) -> Result<Date, Unreadable>
-    ensures { (m n : ℕ) → IsDate m → IsDate n → IsDateText text.now m → IsDateText text.now n
-        → m ≡ n }
-{
-    read(text)
-}
 
 /// Returns the form of a date. A text has at most one form, with one set of numbers.
 #[tactic(auto, using(crate::proofs::DayForms::same_form))]

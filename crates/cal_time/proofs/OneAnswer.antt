@@ -1,4 +1,4 @@
--- Where a contract leaves one answer, and search does not find why.
+-- Contracts that leave one result, if search doesn't find why.
 use Rattle.std.proofs.Common.{◌≡◌, ℕ, suc, ◌+◌, ◌-◌, ◌*◌, ◌/◌, ◌%◌, ◌<◌, ◌≤◌, ◌⊎◌, List, [], ◌∷◌, ◌++◌, length, Option, Some, None, inl, inr, refl, sym, ap, subst, ◌∙◌, arith, ℤ, pos, ◌+ℤ◌, ◌*ℤ◌, Bool, true, false, Result, Ok, Err}
 use Rattle.std.proofs.lemmas.Bool.{cases_lt}
 use Rattle.std.proofs.lemmas.Int.{ints}
@@ -18,7 +18,7 @@ use Rattle.cal_date.specs.Date.{IsDate, julian_day_at}
 use Rattle.cal_time.specs.Pair.{HasPairNumber, PairAt}
 use Rattle.cal_time.proofs.Pairs.{same_number}
 
--- a call that is refused for a reason is refused for it alone
+-- An error with a reason is the error of this reason.
 refused-err : {V : Type 0} (why : ComponentRange) (r : Result V ComponentRange) → IsRefused why r → r ≡ Err why
 refused-err why (Ok v) h = absurd h
 refused-err why (Err e) h = ap Err h
@@ -27,7 +27,7 @@ same_refusal : {V : Type 0} (why : ComponentRange) (Says : Type 0) (r s : Result
     → (IsRefused why r ↔ Says) → (IsRefused why s ↔ Says) → IsRefused why s → r ≡ s
 same_refusal why Says r s h k refused = refused-err why r (h.1 (k.0 refused)) ∙ sym (refused-err why s refused)
 
--- the day that has what was asked for, or one of two refusals, each exactly where its clause says
+-- The day that was asked for, or one of two errors, each exactly as its clause says.
 pub of_two_refusals-one : (Has : ℕ → Type 0) (a b : ComponentRange) (A B : Type 0) (r s : Result ℕ ComponentRange)
     → ((n : ℕ) → IsDate n → Has n → r ≡ Ok n) → IfOk s (λ n. IsDate n × Has n) → IfErr s (λ e. (e ≡ a) ⊎ (e ≡ b))
     → (IsRefused a r ↔ A) → (IsRefused a s ↔ A) → (IsRefused b r ↔ B) → (IsRefused b s ↔ B) → r ≡ s
@@ -38,7 +38,7 @@ of_two_refusals-one Has a b A B r (Err e) every has reason ra sa rb sb =
       | inr second ↦ same_refusal b B r (Err e) rb sb second
     ]
 
--- the same, of three refusals
+-- The same for three errors.
 pub of_three_refusals-one : (Has : ℕ → Type 0) (a b c : ComponentRange) (A B C : Type 0) (r s : Result ℕ ComponentRange)
     → ((n : ℕ) → IsDate n → Has n → r ≡ Ok n) → IfOk s (λ n. IsDate n × Has n) → IfErr s (λ e. (e ≡ a) ⊎ (e ≡ b) ⊎ (e ≡ c))
     → (IsRefused a r ↔ A) → (IsRefused a s ↔ A) → (IsRefused b r ↔ B) → (IsRefused b s ↔ B)
@@ -53,7 +53,7 @@ of_three_refusals-one Has a b c A B C r (Err e) every has reason ra sa rb sb rc 
       ]
     ]
 
--- a value where three numbers keep to their bounds, or else the refusal of the first that does not
+-- A value if three numbers are within their bounds, else the error of the first that isn't.
 pub of_three_bounds-one : {V : Type 0} (a b c : ComponentRange) (x y z i j k : ℕ) (v : V) (r s : Result V ComponentRange)
     → (IsRefused a r ↔ (i < x)) → (IsRefused a s ↔ (i < x))
     → (IsRefused b r ↔ (x ≤ i) × (j < y)) → (IsRefused b s ↔ (x ≤ i) × (j < y))
@@ -71,7 +71,7 @@ of_three_bounds-one a b c x y z i j k v r s ra sa rb sb rc sc rv sv =
       ]
     ]
 
--- a step of the clock: its days and its time are those of one pair
+-- The adjustment and the time of one pair.
 carry-one : (a b : DateAdjustment) → carry a ≡ carry b → a ≡ b
 carry-one a b e = grind (arith, ints)
 
@@ -83,7 +83,7 @@ step-one days one v r s e below f under =
     let steps = carry-one r.0 s.0 (one r.0 s.0 same.0) in
     λ i. (steps i, same.1 i)
 
--- the value that a number of steps back leads to, sa that many steps lead on from it
+-- A number of steps back and the same number of steps forward return to the start.
 come_back : (a n length : ℕ) → a < length → ((a + n) % length + (length - n % length)) % length ≡ a
 come_back a n length below =
     let back = length - n % length in
@@ -94,7 +94,7 @@ come_back a n length below =
     let small = mod-eq_of_lt below in
     cc
 
--- a step back leads to one value, since no two values have one index
+-- A step back has one result, because two values don't have the same index.
 back-one : {C : Type 0} (cycle : Ghosts C)
     → ((x : C) → cycle.index_of x < cycle.LENGTH) → ((x : C) → cycle.value_at (cycle.index_of x) ≡ x)
     → (n : ℕ) (x y z : C) → IsBack cycle n x y → IsBack cycle n x z → y ≡ z
@@ -117,12 +117,12 @@ nth_back-one cycle below at_index n x (Some y, after) (Some z, left) h k =
     let rest : after ≡ left = back-one cycle below at_index 1 z after left (rw items at h.1) k.1 in
     λ i. (Some (items i), rest i)
 
--- the questions of a closure of which each call leaves one answer
+-- The calls of a closure, if each call leaves one result.
 not-itself : (go : Bool) → go ≡ not go → ⊥
 not-itself true e = cc
 not-itself false e = cc
 
--- what the questions from one index on have come to
+-- The state of the calls from one index on.
 abbrev Seen : {F C : Type 0} (cycle : Ghosts C) (calls : F → C → Bool → F → Type 0) (go : Bool) → ℕ → F → Bool → Type 0
 Seen cycle calls go i f r =
     ((i ≡ cycle.LENGTH) × (r ≡ go))
@@ -165,7 +165,7 @@ asked-one cycle calls go one i f r s (goes_on _ _ g _ below call rest) other =
       ]
     ]
 
--- the pair that has a number, or none
+-- The pair with a number, or none.
 pair-one : (z : ℤ) (p q : ℕ × ℕ) → HasPairNumber z p.0 p.1 → HasPairNumber z q.0 q.1 → p ≡ q
 pair-one z p q h k =
     let same = same_number (julian_day_at p.0) (julian_day_at q.0) p.1 q.1 h.time.below_day k.time.below_day (h.number_is ∙ sym k.number_is) in
@@ -178,7 +178,7 @@ pair_at-one z None (Some p) h k = absurd (h p.0 p.1 k)
 pair_at-one z (Some p) None h k = absurd (k p.0 p.1 h)
 pair_at-one z (Some p) (Some q) h k = ap Some (pair-one z p q h k)
 
--- the first minimum and the first maximum of a slice
+-- The first minimum and the first maximum of a slice.
 none-of_empty : {T : Type 0} {P Q : T → Type 0} (items : List T) (x : T) → items ≡ [] → IsItemBetween P Q items x → ⊥
 none-of_empty items x e m = absurd (omega (arith, ap length (sym e ∙ m.place), length-append m.before (x ∷ m.after)))
 

@@ -1,4 +1,4 @@
--- A number is cut into days and a time in one way, so a moved pair is one pair, or none.
+-- A number splits into days and a time in one way, so a moved pair is one pair, or none.
 use Rattle.std.proofs.Common.{◌≡◌, ℕ, ◌*◌, ◌<◌, ◌⊎◌, inl, inr, sym, ap, ◌∙◌, arith, ℤ, pos, negsuc, ◌+ℤ◌, ◌-ℤ◌, ◌*ℤ◌, ◌≤ℤ◌}
 use Rattle.std.proofs.lemmas.Int.{ints}
 use borrow.Author.Differences.{up, down}
@@ -7,24 +7,24 @@ use Rattle.cal_date.specs.Date.{IsDate, julian_day_at}
 use Rattle.cal_date.specs.Move.{IsDateNumber}
 use Rattle.cal_time.specs.Pair.{pair_number, HasPairNumber, NoPair}
 
--- a day times a number
+-- The positive part and the negative part of a number of days in nanoseconds.
 pub times-day : (s : ℤ) → (up (s *ℤ pos day) ≡ day * up s) × (down (s *ℤ pos day) ≡ day * down s)
 times-day (pos n) = (omega (arith, ints), omega (arith, ints))
 times-day (negsuc n) = (omega (arith, ints), omega (arith, ints))
 
--- the whole days of a duration have its sign
+-- The whole days of a duration don't have its opposite sign.
 whole_days-sign : (v : ℤ) → (pos 0 ≤ℤ v → pos 0 ≤ℤ whole_days v) × (v ≤ℤ pos 0 → whole_days v ≤ℤ pos 0)
 whole_days-sign (pos n) = (λ h. omega (arith, ints), λ h. omega (arith, ints))
 whole_days-sign (negsuc n) = (λ h. omega (arith, ints), λ h. omega (arith, ints))
 
--- equal numbers have one day and one time
+-- Equal numbers have the same day and the same time.
 pub same_number : (j k : ℤ) (t u : ℕ) → t < day → u < day → j *ℤ pos day +ℤ pos t ≡ k *ℤ pos day +ℤ pos u → (j ≡ k) × (t ≡ u)
 same_number j k t u a b e =
     let x = times-day j in
     let y = times-day k in
     (omega (arith, ints), omega (arith, ints))
 
--- the number z lies k days on from day n, at the time u
+-- The number z is k days after day n, at the time u.
 pub record LiesAt (z : ℤ) (n : ℕ) (k : ℤ) (u : ℕ) : Type 0 where
   pub time : u < day
   pub number_is : z ≡ (julian_day_at n +ℤ k) *ℤ pos day +ℤ pos u
@@ -58,7 +58,7 @@ no_pair z n k u number at e none m t h =
     let there : pos m ≡ number = omega (arith, ints, same.0) in
     none (record { not_before = omega (arith, ints); not_after = omega (arith, ints, h.date) })
 
--- from day n to the number z and on by c, which never goes back the way that it came
+-- c moves the number z further away from day n, or not at all.
 pub record GoesAlong (n : ℕ) (z c : ℤ) : Type 0 where
   pub one_way : (pos n ≤ℤ z × pos 0 ≤ℤ c) ⊎ (z ≤ℤ pos n × c ≤ℤ pos 0)
 
@@ -70,7 +70,7 @@ pub along-sub : (n : ℕ) (v c : ℤ) → (pos 0 ≤ℤ v → c ≤ℤ pos 0) �
 along-sub n (pos d) c back on = let w = (whole_days-sign (pos d)).0 (omega (arith, ints)) in record { one_way = inr (omega (arith, ints), back (omega (arith, ints))) }
 along-sub n (negsuc d) c back on = let w = (whole_days-sign (negsuc d)).1 (omega (arith, ints)) in record { one_way = inl (omega (arith, ints), on (omega (arith, ints))) }
 
--- so the first stop leaves the range only if the end does
+-- The date after the whole days is out of range only if the result is.
 pub stays_outside : (n : ℕ) (z c : ℤ) → IsDate n → GoesAlong n z c → ¬ IsDateNumber z → ¬ IsDateNumber (z +ℤ c)
 stays_outside n z c h along none both =
     elim along.one_way as (λ _. ⊥) [

@@ -1,4 +1,4 @@
--- How many bytes the texts of numbers have at most, under the names of this crate.
+-- The maximum lengths of the texts of numbers, under the names of this crate.
 pub use Rattle.cal_units.proofs.Decimals.{decimals-few}
 pub use Rattle.cal_units.proofs.TextLengths.{length-signed, length-signed_wide, length-year}
 

@@ -1,4 +1,5 @@
--- Laws for callers: the days of the count as days of the calendar, how they follow one another, and when all comes back.
+-- Laws for callers: the days of the count as days of the calendar, how they follow one another, and
+-- their period of 400 years.
 use Rattle.std.proofs.Common.{◌≡◌, ℕ, zero, suc, ◌+◌, ◌-◌, ◌%◌, ◌<◌, ◌≤◌, ◌↔◌, refl, sym, ap, ◌∙◌, subst, arith, ℤ, pos, ◌+ℤ◌}
 use Rattle.std.proofs.lemmas.Bool.Decides.{nat_tests}
 use Rattle.std.proofs.lemmas.Int.{ints}
@@ -15,25 +16,26 @@ use Rattle.cal_date.proofs.Rising.{Rises-calendar_date}
 use Rattle.cal_date.proofs.Weekdays.{weekday_at-is}
 use Rattle.cal_date.proofs.Years as years
 
--- a month of the year, from January, 1, to December, 12
+-- m is a month, from 1 for January to 12 for December.
 abbrev pub IsMonth : ℕ → Type 0
 IsMonth m = (1 ≤ m) × (m ≤ 12)
 
--- what each day has is a real month, and a day of that month
+-- The month of each day is from 1 to 12, and this month has the day of the month.
 pub month_at-range : (n : ℕ) → IsMonth (month_at n)
 month_at-range n = let at = in_month_of n in (omega (arith, at.month_is), omega (arith, at.month_is, at.stands.month))
 
 pub day_of_month_at-range : (n : ℕ) → IsDayOfMonth (year_at n) (month_at n) (day_of_month_at n)
 day_of_month_at-range n = day_of_month-range n
 
--- the same for a caller's `#[tactic(auto, using(..))]`, which takes no name with a dash
+-- The same for a caller's `#[tactic(auto, using(..))]`, which takes no name with a dash.
 pub ruleset ranges = (month_at-range, day_of_month_at-range)
 
--- a day of the range has a year of the range
+-- A day of the range has a year of the range.
 pub year_at-range : (n : ℕ) → IsDate n → IsYear (year_at n)
 year_at-range n h = (in_range n (year_at n) (ordinal_at n) h (refl, refl)).year
 
--- the first day of the range is 1 January of its first year, and the last one 31 December of its last year
+-- The first day of the range is 1 January of the first year. The last day is 31 December of the
+-- last year.
 pub day_at-first : HasCalendarDate first_year 1 1 0
 unfolding day_at
 day_at-first = refl
@@ -41,7 +43,7 @@ day_at-first = refl
 pub day_at-last : HasCalendarDate last_year 12 31 last_day
 day_at-last = years.day_at-last_day
 
--- each calendar date of the range has its day
+-- Each calendar date of the range has a day.
 pub record IsDayWith (y : ℤ) (m d : ℕ) : Type 0 where
   pub day : ℕ
   pub date : IsDate day
@@ -59,7 +61,7 @@ day_with y m d h f g =
       has = (stands_at y i d h.0 low day).has ∙ ap (λ k. calendar_day y k d) same;
     }
 
--- the three days that may come after a day
+-- The three days that may come after a day.
 in_month : (y : ℤ) (m d : ℕ) → d < days_in_month y m → day_after (calendar_day y m d) ≡ calendar_day y m (d + 1)
 unfolding day_after
 in_month y m d h = grind (arith, nat_tests)
@@ -72,7 +74,7 @@ past_year : (y : ℤ) (m d : ℕ) → days_in_month y m ≤ d → 12 ≤ m → d
 unfolding day_after
 past_year y m d h high = grind (arith, nat_tests)
 
--- a month has its days, one after the other, from the first one on
+-- The days of a month follow one another, from the first day on.
 pub days-follow : (y : ℤ) (m n j : ℕ) → HasCalendarDate y m 1 n → j < days_in_month y m → HasCalendarDate y m (j + 1) (n + j)
 days-follow y m n zero e h = let same : n ≡ n + 0 = omega arith in ap day_at (sym same) ∙ e
 days-follow y m n (suc j) e h =
@@ -80,7 +82,7 @@ days-follow y m n (suc j) e h =
     let days : j + 1 + 1 ≡ suc j + 1 = omega arith in
     ap day_at (sym sums) ∙ day_at-suc (n + j) ∙ ap day_after (days-follow y m n j e (omega arith)) ∙ in_month y m (j + 1) (omega arith) ∙ ap (calendar_day y m) days
 
--- and ends with the day before the next one
+-- The last day of a month comes after its other days.
 days_in_month-least : (y : ℤ) (m : ℕ) → 28 ≤ days_in_month y m
 unfolding days_in_month
 days_in_month-least y m = grind (arith, nat_tests)
@@ -91,7 +93,8 @@ last_of y m n e =
     let same : days_in_month y m - 1 + 1 ≡ days_in_month y m = omega arith in
     days-follow y m n (days_in_month y m - 1) e (omega arith) ∙ ap (calendar_day y m) same
 
--- so the next month of the year begins after the days of this one, and the next year after those of December
+-- The next month of the year begins after the days of a month, and the next year after the days of
+-- December.
 pub month-next : (y : ℤ) (m n : ℕ) → m < 12 → HasCalendarDate y m 1 n → HasCalendarDate y (m + 1) 1 (n + days_in_month y m)
 month-next y m n low e =
     let some = days_in_month-least y m in
@@ -104,11 +107,12 @@ year-next y n e =
     let sums : suc (n + (days_in_month y 12 - 1)) ≡ n + days_in_month y 12 = omega arith in
     ap day_at (sym sums) ∙ day_at-suc _ ∙ ap day_after (last_of y 12 n e) ∙ past_year y 12 (days_in_month y 12) (omega arith) (omega arith)
 
--- days are in the order of their calendar dates
+-- Days have the order of their calendar dates.
 pub calendar_dates-in_order : (m n : ℕ) → (m < n) ↔ IsBefore (calendar_date_at m) (calendar_date_at n)
 calendar_dates-in_order m n = in_order calendar_date_at Rises-calendar_date m n
 
--- 400 years have 146,097 days, which are whole weeks: the day so much later has the same month, day and weekday
+-- 400 years have 146,097 days, which are whole weeks. The day 400 years later has the same month,
+-- day and weekday.
 leap-period : (y : ℤ) → is_leap_year (y +ℤ pos 400) ≡ is_leap_year y
 leap-period y = grind (arith, ints, nat_tests)
 

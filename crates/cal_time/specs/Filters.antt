@@ -1,25 +1,25 @@
--- Laws for callers: the first of the days from one on that passes a test, as a filter of them begins.
+-- Laws for callers: the first day that passes a test, and the list of the days that pass.
 use Rattle.std.proofs.Common.{◌≡◌, ℕ, zero, suc, ◌+◌, ◌-◌, ◌<◌, ◌≤◌, ◌⊎◌, inl, inr, refl, sym, ap, ◌∙◌, arith, List, [], ◌∷◌, filter, slice_get, Option, None, Bool, true, false}
 use Rattle.std.specs.Prelude.{IfSome}
 use Rattle.std.proofs.lemmas.Bool.{cases_lt, cases_Bool, false≢true}
 use Rattle.cal_date.specs.Occurrence.{days_from}
 
--- none of so many days from day n on passes
+-- No day passes the test among `count` days from day n on.
 abbrev pub NoDayPasses : (ℕ → Bool) → ℕ → ℕ → Type 0
 NoDayPasses test n count = (k : ℕ) → n ≤ k → k < n + count → test k ≡ false
 
--- x is the first of them that passes
+-- x is the first of these days that passes.
 pub record IsFirstDay (test : ℕ → Bool) (n count x : ℕ) : Type 0 where
   pub not_before : n ≤ x
   pub within : x < n + count
   pub passes : test x ≡ true
   pub none_before : (k : ℕ) → n ≤ k → k < x → test k ≡ false
 
--- those of them that pass, in order
+-- The days that pass, in order.
 abbrev passing : (ℕ → Bool) → ℕ → ℕ → List ℕ
 passing test n count = filter test (days_from n count)
 
--- one step of the list
+-- One step of the list.
 passing-none : (test : ℕ → Bool) (n : ℕ) → passing test n 0 ≡ []
 unfolding days_from
 passing-none test n = refl
@@ -32,7 +32,7 @@ passing-false : (test : ℕ → Bool) (n count : ℕ) → test n ≡ false → p
 unfolding days_from
 passing-false test n count h = rw h refl
 
--- how it begins: with no day, as none passes, or with the first that does
+-- The list is empty, and no day passes, or it begins with the first day that passes.
 record BeginsEmpty (test : ℕ → Bool) (n count : ℕ) : Type 0 where
   none : NoDayPasses test n count
   days : passing test n count ≡ []
@@ -42,7 +42,7 @@ record BeginsWithDay (test : ℕ → Bool) (n count : ℕ) : Type 0 where
   first : IsFirstDay test n count day
   days : passing test n count ≡ day ∷ passing test (day + 1) (n + count - (day + 1))
 
--- where the first of the days does not pass, it begins as that of the others
+-- If the first day doesn't pass, the list begins like the list of the other days.
 none_after : (test : ℕ → Bool) (n count : ℕ) → test n ≡ false → NoDayPasses test (n + 1) count → NoDayPasses test n (suc count)
 none_after test n count off none k low high =
     elim (cases_lt n k) [
@@ -94,7 +94,7 @@ one_first test n count x y h k =
       ]
     ]
 
--- the first of the filtered days is the first that passes, and where there is none, none passes
+-- The first item of the list is the first day that passes. Without a first item, no day passes.
 pub first_passing : (test : ℕ → Bool) (n count : ℕ) (r : Option ℕ) → r ≡ slice_get (filter test (days_from n count)) 0 → IfSome r (IsFirstDay test n count)
 first_passing test n count r e =
     elim (begins test n count) [
@@ -109,7 +109,7 @@ none_passing test n count e =
       | inr h ↦ let some = rw h.days at e in absurd (cc)
     ]
 
--- so the filter begins with it, and goes on as that of the days after it
+-- The list is the first day that passes, and then the list of the days after it.
 pub filter-first : (test : ℕ → Bool) (n count x : ℕ) → IsFirstDay test n count x
     → filter test (days_from n count) ≡ x ∷ filter test (days_from (x + 1) (n + count - (x + 1)))
 filter-first test n count x h =

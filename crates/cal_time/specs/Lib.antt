@@ -4,7 +4,7 @@ pub mod Laws
 pub mod Pair
 pub mod Parts
 pub mod Walks
--- what the contracts of the calls are said in, for the crates above
+-- The definitions that the contracts of the calls use, for higher crates.
 pub use Rattle.cal_units.specs.Counted
 pub use Rattle.cal_units.specs.Digits
 pub use Rattle.cal_units.specs.Lengths

@@ -1,4 +1,4 @@
--- Laws for callers: what each day has, that it has one of each, and in which order.
+-- Laws for callers: the components of a day, which are unique, and their order.
 use Rattle.std.proofs.Common.{◌≡◌, ℕ, ◌+◌, ◌<◌, ◌≤◌, inl, inr, refl, sym, ap, ◌∙◌, arith, ℤ, pos, ◌+ℤ◌, ◌*ℤ◌, ◌<ℤ◌, ◌≤ℤ◌, suc, [], ◌∷◌}
 use Rattle.std.proofs.lemmas.Bool.{cases_lt}
 use Rattle.std.proofs.lemmas.Int.{ints}
@@ -19,14 +19,14 @@ use Rattle.cal_date.proofs.Order.{in_order}
 use Rattle.cal_date.proofs.Rising.{Rises-calendar_date, Rises-ordinal_date}
 use Rattle.cal_time.specs.Days.{month_at-range}
 
--- the number of a month tells the month, and the index of a weekday the weekday
+-- The number of a month determines the month, and the index of a weekday the weekday.
 pub number-one : (m k : Month) → month.number m ≡ month.number k → m ≡ k
 number-one m k e = sym (month_at-index m) ∙ ap month.month_at (omega (arith, e)) ∙ month_at-index k
 
 pub index-one : (v w : Weekday) → weekday.index v ≡ weekday.index w → v ≡ w
 index-one v w e = sym (weekday_at-index v) ∙ ap weekday.weekday_at e ∙ weekday_at-index w
 
--- a day has one calendar date, and one ISO week date
+-- A day has one calendar date and one ISO week date.
 pub calendar_date-same : (n : ℕ) (r s : ℤ × Month × ℕ) → HasCalendarDate r.0 (month.number r.1) r.2 n → HasCalendarDate s.0 (month.number s.1) s.2 n → r ≡ s
 calendar_date-same n r s e f =
     let years : r.0 ≡ s.0 = ap (λ d. d.year) (sym e ∙ f) in
@@ -41,7 +41,7 @@ iso_week_date-same n r s e f =
     let days : r.2 ≡ s.2 = index-one r.2 s.2 (sym e.2 ∙ f.2) in
     λ i. (years i, weeks i, days i)
 
--- the order of two parts, and of three, by cases
+-- The order of two components, and of three, by cases.
 record InOrder (y z : ℤ) (m k d e : ℕ) : Type 0 where
   years : y ≤ℤ z
   months : y ≡ z → m ≤ k
@@ -75,7 +75,7 @@ by_calendar m n h = three _ _ _ _ _ _ ((in_order calendar_date_at Rises-calendar
 by_week : (m n : ℕ) → m < n → InOrder (iso_year_at m) (iso_year_at n) (iso_week_at m) (iso_week_at n) (weekday_at m) (weekday_at n)
 by_week m n h = three _ _ _ _ _ _ ((in_order iso_week_date_at iso_week_dates-rise m n).0 h)
 
--- of two days the earlier has no later year
+-- An earlier day doesn't have a later year.
 pub year_at-rises : (m n : ℕ) → m ≤ n → year_at m ≤ℤ year_at n
 year_at-rises m n h =
     elim (cases_lt m n) [
@@ -83,7 +83,7 @@ year_at-rises m n h =
       | inr most ↦ let e : m ≡ n = omega arith in omega (arith, ints, ap year_at e)
     ]
 
--- in one year it has the smaller ordinal, and no later month
+-- In one year an earlier day has a smaller ordinal, and doesn't have a later month.
 pub ordinal_at-rises : (m n : ℕ) → m < n → year_at m ≡ year_at n → ordinal_at m < ordinal_at n
 ordinal_at-rises m n h e = (by_ordinal m n h).days e refl
 
@@ -94,15 +94,16 @@ month_at-rises m n h e =
       | inr most ↦ let same : m ≡ n = omega arith in omega (arith, ap month_at same)
     ]
 
--- in one month the smaller day
+-- In one month an earlier day has a smaller day of the month.
 pub day_of_month_at-rises : (m n : ℕ) → m < n → year_at m ≡ year_at n → month_at m ≡ month_at n → day_of_month_at m < day_of_month_at n
 day_of_month_at-rises m n h e f = (by_calendar m n h).days e f
 
--- what rises within a year, and is less on the later day
+-- If a component rises within a year and is smaller on the later day, the year is later.
 later_by : (y z : ℤ) (p q : ℕ) → y ≤ℤ z → (y ≡ z → p ≤ q) → q < p → y <ℤ z
 later_by y z p q h rises less = grind (arith, ints)
 
--- so the later day is of a later year where its month comes before that of the earlier one, or its day in the same month
+-- The later day is in a later year if its month is earlier, or if the month is the same and its day
+-- of the month is earlier.
 pub year_at-later : (m n : ℕ) → m ≤ n → month_at n < month_at m → year_at m <ℤ year_at n
 year_at-later m n h less = later_by (year_at m) (year_at n) (month_at m) (month_at n) (year_at-rises m n h) (month_at-rises m n h) less
 
@@ -113,7 +114,7 @@ year_at-later_in_month m n h same less =
       | inr most ↦ let e : m ≡ n = omega arith in absurd (omega (arith, ap day_of_month_at e))
     ]
 
--- and the same of ISO years, of the weeks of one year, and of the weekdays of one week
+-- The same for ISO years, for the weeks of one ISO year, and for the weekdays of one week.
 pub iso_year_at-rises : (m n : ℕ) → m ≤ n → iso_year_at m ≤ℤ iso_year_at n
 iso_year_at-rises m n h =
     elim (cases_lt m n) [
@@ -131,17 +132,18 @@ iso_week_at-rises m n h e =
 pub weekday_at-rises : (m n : ℕ) → m < n → iso_year_at m ≡ iso_year_at n → iso_week_at m ≡ iso_week_at n → weekday_at m < weekday_at n
 weekday_at-rises m n h e f = (by_week m n h).days e f
 
--- the ordinals of one year are as far apart as its days
+-- The distance of two days of one year is the distance of their ordinals.
 pub ordinals-apart : (m n : ℕ) → year_at m ≡ year_at n → m + ordinal_at n ≡ n + ordinal_at m
 ordinals-apart m n e =
     let here = stands m in
     let there = stands n in
     omega (arith, here.number_is, there.number_is, ap days_before e, here.ordinal.0, there.ordinal.0)
 
--- the same for a caller's `#[tactic(auto, using(..))]`, which takes no name with a dash
+-- The same for a caller's `#[tactic(auto, using(..))]`, which takes no name with a dash.
 pub ruleset days_apart = (ordinals-apart)
 
--- and so are those of a year and of the next one, where the days of the first lie between
+-- The distance of a day and a day of the next year is the distance of their ordinals, plus the
+-- length of the first year.
 days_before-next : (y : ℤ) → first_year ≤ℤ y → days_before (y +ℤ pos 1) ≡ days_before y + days_in_year y
 days_before-next y h =
     let next : years_before (y +ℤ pos 1) ≡ suc (years_before y) = omega (arith, ints) in
@@ -155,7 +157,7 @@ ordinals-apart_a_year y m n e f =
     let late : first_year ≤ℤ y = omega (arith, ints, here.year) in
     omega (arith, here.number_is, there.number_is, ap days_before e, ap days_before f, days_before-next y late, here.ordinal.0, there.ordinal.0)
 
--- counted on from year to year, the month of a later day is no earlier one
+-- A later day doesn't have an earlier month, if months are counted on from year to year.
 months_in_order : (y z : ℤ) (m k : ℕ) → y ≤ℤ z → (y ≡ z → m ≤ k) → m ≤ 12 → 1 ≤ k → (pos 12 *ℤ y +ℤ pos m) ≤ℤ (pos 12 *ℤ z +ℤ pos k)
 months_in_order y z m k years months most least = grind (arith, ints)
 

@@ -1,4 +1,4 @@
--- Laws for callers: the days that a walk gives, by their indexes and in a loop.
+-- Laws for callers: the days that a walk returns, by index and in a loop.
 use Rattle.std.proofs.Common.{◌≡◌, ℕ, ◌+◌, ◌-◌, ◌≤◌, ap, ◌∙◌, refl, arith, List, length, slice_get, Option, Some, None, if◌then◌else◌, nat_le, inl, inr, true}
 use Rattle.std.specs.Iterator.{Yields, YieldsFirst}
 use Rattle.std.proofs.lemmas.Bool.{cases_lt}
@@ -10,7 +10,7 @@ use Rattle.cal_date.specs.DateIter.{Walk, walk, walk_between, days_between, days
 use Rattle.cal_date.proofs.DateIters.{slice_get-days_of}
 use Rattle.cal_time.specs.Laws.{length-walk_between}
 
--- the day so many places on in the walk from a day to another
+-- The day at the index k of the walk from a day to another.
 pub slice_get-walk_between : (m n k : ℕ) → slice_get (days_of (walk_between m n)) k ≡ (if nat_le (m + k) n then Some (m + k) else None)
 slice_get-walk_between m n k =
     elim (cases_lt n (m + k)) [
@@ -20,18 +20,19 @@ slice_get-walk_between m n k =
           ap (λ b. slice_get (days_between m (if b then Some n else None)) k) some ∙ slice_get-days_of (walk m (Some n)) n k refl within ∙ grind (arith, nat_tests)
     ]
 
--- the same, and how many they are, for a caller's `#[tactic(auto, using(..))]`, which takes no name with a dash
+-- The same, and the number of days, for a caller's `#[tactic(auto, using(..))]`, which takes no
+-- name with a dash.
 pub ruleset days_of_walks = (slice_get-walk_between, length-walk_between, nat_tests)
 
--- one call of `next`
+-- One call of `next`.
 abbrev pub GivesDay : Walk → Option ℕ → Walk → Type 0
 GivesDay old day new = YieldsFirst days_of old day new × TakesFirst old day new
 
 pub yields-days : (w : Walk) → YieldsList GivesDay (λ n. n) w (days_of w)
 yields-days w = YieldsList-from_shown GivesDay (λ n. n) days_of (λ s t h. ap length h.0.0) (λ s x t h. h.0) w
 
--- In a loop over the walk from a day to another each day comes as many days after the first one as there were turns before. At the
--- end there was a turn for each day.
+-- In a loop over the walk from a day to another, the day of a turn is the first day plus the number
+-- of turns before. At the end there was a turn for each day.
 pub turn-day : (m n : ℕ) (w t u : Walk) (before : List ℕ) (day : Option ℕ) (x : ℕ) → w ≡ walk_between m n → Yields GivesDay w before t → day ≡ Some x → GivesDay t day u
     → (x ≡ m + length before) × (x ≤ n)
 turn-day m n w t u before day x e run some gives =

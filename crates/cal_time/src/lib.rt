@@ -1,12 +1,13 @@
-//! The calendar: dates, times of day, offsets from UTC, durations, months and weekdays, under the names of the crate `time`.
+//! The calendar: dates, times of day, offsets from UTC, durations, months and weekdays.
 //!
-//! Dates are those of the proleptic Gregorian calendar of ISO 8601, from -999999-01-01 to 999999-12-31, with a year 0 before
-//! the year 1. A duration, a time and an offset are each one whole number. Every call is proved to answer the exact result,
-//! and to refuse exactly what has none.
+//! The names are the names of the crate `time`. Dates are from -999999-01-01 to 999999-12-31, in
+//! the proleptic Gregorian calendar of ISO 8601 with its year 0. Each call is proved to return the
+//! exact result, and to fail if and only if it doesn't exist.
 #![tactic(auto)]
 
 pub mod error;
 pub mod iter;
+mod laws;
 mod pair;
 pub mod util;
 

@@ -1,4 +1,4 @@
-//! Dates and times of day together, moved by durations.
+//! A date and a time of day, moved together by a duration.
 ghost use Rattle.std.specs.Prelude.{pos, ◌+ℤ◌, ◌-ℤ◌, SomeIff};
 ghost use Rattle.cal_clock.specs.Time.{carry};
 ghost use Rattle.cal_date.specs.Date.{IsDate};
@@ -10,11 +10,11 @@ use cal_date::Date;
 use cal_span::SignedDuration;
 use cal_units::util::DateAdjustment;
 
-/// The date and the time of day that come so much later, or `None` where that date is past either end of the range.
+/// Adds a duration to a date and a time of day. Returns `None` if the date is out of range.
 ///
-/// The number of a pair is its Julian day times a day and its time, in nanoseconds. The answer is the pair whose number is
-/// the old one plus the duration: 23:00 on 2020-12-31 and two hours are 1:00 on 2021-01-01. From the last nanosecond of
-/// [`Date::MAX`], one nanosecond more is `None`.
+/// The number of a pair is its Julian day times a day, plus its time, in nanoseconds. The result is
+/// the pair whose number is the old number plus the duration. 23:00 on 2020-12-31 plus two hours is
+/// 1:00 on 2021-01-01. The last nanosecond of [`Date::MAX`] plus 1 ns is `None`.
 pub fn add_to_pair(date: Date, time: Time, duration: SignedDuration) -> Option<(Date, Time)>
     ensures { PairAt (pair_number date time +ℤ duration) result }
 {
@@ -23,10 +23,10 @@ pub fn add_to_pair(date: Date, time: Time, duration: SignedDuration) -> Option<(
     Some((date, time))
 }
 
-/// The date and the time of day that come so much earlier, or `None` where that date is past either end of the range.
+/// Subtracts a duration from a date and a time of day. Returns `None` if the date is out of range.
 ///
-/// The answer is the pair whose number is the old one minus the duration: 1:00 on 2021-01-01 less two hours is 23:00 on
-/// 2020-12-31. From midnight of [`Date::MIN`], one nanosecond less is `None`.
+/// The result is the pair whose number is the old number minus the duration. 1:00 on 2021-01-01
+/// minus two hours is 23:00 on 2020-12-31. Midnight of [`Date::MIN`] minus 1 ns is `None`.
 pub fn sub_from_pair(date: Date, time: Time, duration: SignedDuration) -> Option<(Date, Time)>
     ensures { PairAt (pair_number date time -ℤ duration) result }
 {
@@ -35,7 +35,7 @@ pub fn sub_from_pair(date: Date, time: Time, duration: SignedDuration) -> Option
     Some((date, time))
 }
 
-/// The day that the step of a clock leads to.
+/// Returns the date after the adjustment, or `None` if it is out of range.
 fn adjusted(date: Date, adjustment: DateAdjustment) -> Option<Date>
     requires { IsDate date }
     ensures { SomeIff result (IsDateNumber (pos date +ℤ carry adjustment))

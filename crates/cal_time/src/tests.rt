@@ -1,4 +1,4 @@
-//! Worked values, under the names of this crate alone. Each was computed apart from the code.
+//! Worked values, under the names of this crate only. Each was computed without the code.
 ghost use Rattle.std.specs.Prelude.{◌≡◌};
 ghost use Rattle.std.specs.List.{fold};
 ghost use Rattle.std.specs.Hash.DefaultHasher as hasher;
@@ -27,10 +27,10 @@ mod texts;
 mod times;
 mod walks;
 
-/// The number of a value, or the name and the mark of a refusal.
+/// The number of a value, or the name of an error and whether it is conditional.
 type Told = Result<i128, (&'static str, bool)>;
 
-/// What a constructor tells.
+/// Returns the number or the error of a result.
 fn told<T: Counted>(answer: &Result<T, ComponentRange>) -> Told {
     match answer {
         Ok(value) => Ok(value.number()),
@@ -38,7 +38,7 @@ fn told<T: Counted>(answer: &Result<T, ComponentRange>) -> Told {
     }
 }
 
-/// The day of that year, number of the month and day of the month.
+/// Creates the date with this year, number of the month and day of the month.
 fn date(rt: &impl Abort, year: i32, month: u8, day: u8) -> Date {
     let month = Month::try_from(month).expect(rt, "no month");
     Date::from_calendar_date(year, month, day).expect(rt, "no date")
@@ -52,12 +52,12 @@ fn offset(rt: &impl Abort, hours: i8, minutes: i8, seconds: i8) -> UtcOffset {
     UtcOffset::from_hms(hours, minutes, seconds).expect(rt, "no offset")
 }
 
-/// Stops the test unless the two are equal. One function for all is proved once, where `assert_eq!` is proved at each place.
+/// Checks that two values are equal. This function is proved once, and `assert_eq!` at each place.
 fn same<T: Copy + Debug + PartialEq>(rt: &impl Abort, found: T, wanted: T) {
     assert!(rt; found == wanted, "{found:?} and not {wanted:?}");
 }
 
-/// The same, with the index in a table.
+/// Checks that two values are equal, with the index in a table.
 fn same_at<T: Copy + Debug + PartialEq, P: Copy + Debug>(
     rt: &impl Abort,
     index: P,

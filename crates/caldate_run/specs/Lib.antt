@@ -1,5 +1,6 @@
 pub mod Answers
 pub mod Bounds
+pub mod Calls
 pub mod Complaint
 pub mod Counts
 pub mod Ending

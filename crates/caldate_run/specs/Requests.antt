@@ -82,7 +82,7 @@ count_of word = number_between 1 255 word
 abbrev pub many_of : List ℕ → Option ℕ
 many_of word = number_between 1 4294967295 word
 
-abbrev pub further_form_of : List ℕ → Option Form
+unfoldable pub further_form_of : List ℕ → Option Form
 further_form_of word =
     if bytes_eq word (codes "short-weekday") then Some form.ShortWeekday else
     if bytes_eq word (codes "month") then Some form.Month else
@@ -93,7 +93,7 @@ further_form_of word =
     if bytes_eq word (codes "unix-ns") then Some (form.Unix Nanoseconds) else
     None
 
-abbrev pub form_of : List ℕ → Option Form
+unfoldable pub form_of : List ℕ → Option Form
 form_of word =
     if bytes_eq word (codes "calendar") then Some (form.Date Calendar) else
     if bytes_eq word (codes "ordinal") then Some (form.Date Ordinal) else
@@ -112,7 +112,7 @@ spells word name = str_eq_ignore_ascii_case word name || str_eq_ignore_ascii_cas
 unfoldable pub spells_unit : List ℕ → List ℕ → List ℕ → Bool
 spells_unit word one many = spells word one || str_eq_ignore_ascii_case word many
 
-abbrev pub weekday_of : List ℕ → Option Weekday
+unfoldable pub weekday_of : List ℕ → Option Weekday
 weekday_of word =
     if spells word (codes "Monday") then Some weekday.Monday else
     if spells word (codes "Tuesday") then Some weekday.Tuesday else
@@ -123,7 +123,7 @@ weekday_of word =
     if spells word (codes "Sunday") then Some weekday.Sunday else
     None
 
-abbrev pub period_of : List ℕ → Option Period
+unfoldable pub period_of : List ℕ → Option Period
 period_of word =
     if spells word (codes "week") then Some period.Week else
     if spells word (codes "month") then Some period.Month else
@@ -131,7 +131,7 @@ period_of word =
     if spells word (codes "year") then Some period.Year else
     None
 
-abbrev pub unit_of : List ℕ → Option TimeUnit
+unfoldable pub unit_of : List ℕ → Option TimeUnit
 unit_of word =
     if spells_unit word (codes "day") (codes "days") then Some unit.Days else
     if spells_unit word (codes "week") (codes "weeks") then Some unit.Weeks else
@@ -246,6 +246,17 @@ bounds_at reading words at =
 abbrev pub verb_wanted : ℕ → Wanted
 verb_wanted at = if at == 0 then wanted.Start else wanted.Verb
 
+-- the verbs after those
+abbrev pub further_request_at : (List ℕ → Option DateOrMoment) → List (List ℕ) → ℕ → List ℕ → Result Request Senseless
+further_request_at reading words at word =
+    if bytes_eq word (codes "start") then and_then (only_at words (at + 1) period_of wanted.Period) (λ p. Ok (Move (move.Start p))) else
+    if bytes_eq word (codes "end") then and_then (only_at words (at + 1) period_of wanted.Period) (λ p. Ok (Move (move.End p))) else
+    if bytes_eq word (codes "on-or-after") then and_then (only_at words (at + 1) weekday_of wanted.Weekday) (λ w. Ok (Move (move.OnOrAfter w))) else
+    if bytes_eq word (codes "on-or-before") then and_then (only_at words (at + 1) weekday_of wanted.Weekday) (λ w. Ok (Move (move.OnOrBefore w))) else
+    if bytes_eq word (codes "at") then and_then (only_at words (at + 1) offset_of wanted.Offset) (λ o. Ok (At o)) else
+    if bytes_eq word (codes "keep") then and_then (bounds_at reading words (at + 1)) (λ bounds. Ok (Keep bounds)) else
+    Err (senseless_at at (verb_wanted at))
+
 abbrev pub request_at : (List ℕ → Option DateOrMoment) → List (List ℕ) → ℕ → Result Request Senseless
 request_at reading words at =
     and_then (word_as words at Some (verb_wanted at)) (λ word.
@@ -255,13 +266,7 @@ request_at reading words at =
     if bytes_eq word (codes "last") then and_then (occurrence_at words (at + 1)) (λ o. Ok (Move (move.Last o.0 o.1))) else
     if bytes_eq word (codes "until") then and_then (target_at reading words (at + 1)) (λ t. Ok (Until t.0 t.1)) else
     if bytes_eq word (codes "since") then and_then (target_at reading words (at + 1)) (λ t. Ok (Since t.0 t.1)) else
-    if bytes_eq word (codes "start") then and_then (only_at words (at + 1) period_of wanted.Period) (λ p. Ok (Move (move.Start p))) else
-    if bytes_eq word (codes "end") then and_then (only_at words (at + 1) period_of wanted.Period) (λ p. Ok (Move (move.End p))) else
-    if bytes_eq word (codes "on-or-after") then and_then (only_at words (at + 1) weekday_of wanted.Weekday) (λ w. Ok (Move (move.OnOrAfter w))) else
-    if bytes_eq word (codes "on-or-before") then and_then (only_at words (at + 1) weekday_of wanted.Weekday) (λ w. Ok (Move (move.OnOrBefore w))) else
-    if bytes_eq word (codes "at") then and_then (only_at words (at + 1) offset_of wanted.Offset) (λ o. Ok (At o)) else
-    if bytes_eq word (codes "keep") then and_then (bounds_at reading words (at + 1)) (λ bounds. Ok (Keep bounds)) else
-    Err (senseless_at at (verb_wanted at)))
+    further_request_at reading words at word)
 
 -- ---- lists: `from A to B`, and a pace
 -- the day that a text is the date of

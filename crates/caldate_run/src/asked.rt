@@ -3,7 +3,7 @@ ghost use Rattle.std.specs.Prelude.{◌≡◌, ◌+◌, ◌<◌, ◌^◌, ℕ, L
 ghost use Rattle.cal_text.specs.declared.any.DateOrMoment.{DateOrMoment};
 ghost use Rattle.caldate_run.specs.Lists.{IsAsked};
 ghost use Rattle.caldate_run.specs.Offsets.{offset_of};
-ghost use Rattle.caldate_run.specs.Requests.{IsReading, amount_at, amount_of, arguments_of, asked_of, count_at, duration_of, filter_of, in_unit_at, lines_of, occurrence_at, only_at, request_at, target_at, unit_at, verb_wanted};
+ghost use Rattle.caldate_run.specs.Requests.{IsReading, amount_at, amount_of, arguments_of, asked_of, count_at, duration_of, filter_of, further_request_at, in_unit_at, lines_of, occurrence_at, only_at, request_at, target_at, unit_at, verb_wanted};
 
 use crate::bounds::bounds_at;
 use crate::listing::list_of;
@@ -94,7 +94,18 @@ fn request_at(words: &[u8], at: usize) -> Result<Request, Senseless>
     } else if verb == b"since".as_slice() {
         let (target, unit) = target_at(words, at + 1)?;
         Ok(Request::Since(target, unit))
-    } else if verb == b"start".as_slice() {
+    } else {
+        further_request_at(words, at, verb)
+    }
+}
+
+/// The request of one of the further verbs, which has this index.
+fn further_request_at(words: &[u8], at: usize, verb: &[u8]) -> Result<Request, Senseless>
+    requires { at + 5 < 2 ^ 64 }
+    ensures { (reading : List ℕ → Option DateOrMoment) → IsReading reading (arguments_of words.now)
+        → result ≡ further_request_at reading (arguments_of words.now) at verb.now }
+{
+    if verb == b"start".as_slice() {
         Ok(Request::Move(DayMove::Start(only_at(words, at + 1, period_of, Wanted::Period)?)))
     } else if verb == b"end".as_slice() {
         Ok(Request::Move(DayMove::End(only_at(words, at + 1, period_of, Wanted::Period)?)))
@@ -107,7 +118,7 @@ fn request_at(words: &[u8], at: usize) -> Result<Request, Senseless>
     } else if verb == b"keep".as_slice() {
         Ok(Request::Keep(bounds_at(words, at + 1)?))
     } else {
-        Err(senseless)
+        Err(senseless_at(at, verb_wanted(at)))
     }
 }
 

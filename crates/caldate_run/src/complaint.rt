@@ -1,5 +1,6 @@
 //! The line on arguments that make no sense.
 ghost use Rattle.std.specs.Prelude.{◌≡◌, ◌+◌, ◌≤◌, ◌++◌, [], length};
+ghost use Rattle.caldate_run.specs.Calls.{Writes, write_failure};
 ghost use Rattle.caldate_run.specs.Requests.{arguments_of};
 ghost use Rattle.caldate_run.specs.Runs.{Shown};
 ghost use Rattle.std.specs.Option.{option_copied};
@@ -10,22 +11,24 @@ use crate::fault::Fault;
 use crate::output::write_all;
 use crate::senseless::{Senseless, Wanted};
 use crate::shown::ShownText;
+use crate::streams::Sink;
 use crate::words::word_at;
 use cal_recurrence::parse;
-use std::io::Write;
 
 /// What is said of arguments that have too many bytes.
 pub const TOO_LONG: &[u8] = b"caldate: the arguments have more than 4096 bytes\n";
 
 /// Tells the first word that makes no sense, and what may stand there, in one line, as
 /// `caldate: 'fortnights' is no unit (days, weeks, hours, minutes, seconds)`, and returns what came of the write.
-pub fn complain<W: Write>(
+#[tactic(auto, using(crate::proofs::Calls::sent_all))]
+pub fn complain<W: Sink>(
     arguments: &[u8],
     senseless: Senseless,
     writer: &mut W,
 ) -> Result<(), Fault>
-    ensures { Shown (complaint (arguments_of arguments.now) senseless) result
+    ensures shown { Shown (complaint (arguments_of arguments.now) senseless) result
         (W.contents writer.old) (W.contents writer.new) }
+    ensures writes { Writes W.write_gives writer.old (write_failure result) writer.new }
 {
     let mut line = Buffer::new();
     push_complaint(&mut line, arguments, senseless);

@@ -1,12 +1,13 @@
 //! How the program ends: its status, and its words on standard error.
 ghost use Rattle.std.specs.Prelude.{◌≡◌, ◌++◌, [], codes};
+ghost use Rattle.caldate_run.specs.Calls.{Writes, write_failure};
 ghost use Rattle.caldate_run.specs.Ending.{Tells, status_of, words_of_end};
 ghost use Rattle.caldate_run.specs.Runs.{Shown};
 
 use crate::buffer::Buffer;
 use crate::fault::{Fault, is_closed};
 use crate::output::write_all;
-use std::io::Write;
+use crate::streams::Sink;
 
 /// How the program ends.
 #[derive(Clone, Copy, Debug, PartialEq, Eq)]
@@ -19,8 +20,9 @@ pub struct Ending {
 
 /// Tells why the run ended early, and returns the status: 0 after a run that answered all of its input or whose output was closed,
 /// 1 where a line had no answer, else 2.
-pub fn end<W: Write>(outcome: Result<(), Fault>, writer: &mut W) -> Ending
-    ensures { Tells outcome result (W.contents writer.old) (W.contents writer.new) }
+pub fn end<W: Sink>(outcome: Result<(), Fault>, writer: &mut W) -> Ending
+    ensures tells { Tells outcome result (W.contents writer.old) (W.contents writer.new) }
+    ensures writes { Writes W.write_gives writer.old (write_failure result.told) writer.new }
 {
     Ending {
         status: status_of(outcome),
@@ -30,8 +32,11 @@ pub fn end<W: Write>(outcome: Result<(), Fault>, writer: &mut W) -> Ending
 
 /// Tells why the run ended early, in one line, and returns what came of that: where it fails, a beginning of the line was written, and
 /// never all of it.
-fn tell<W: Write>(outcome: Result<(), Fault>, writer: &mut W) -> Result<(), Fault>
-    ensures { Shown (words_of_end outcome) result (W.contents writer.old) (W.contents writer.new) }
+#[tactic(auto, using(crate::proofs::Calls::sent_all))]
+fn tell<W: Sink>(outcome: Result<(), Fault>, writer: &mut W) -> Result<(), Fault>
+    ensures shown { Shown (words_of_end outcome) result
+        (W.contents writer.old) (W.contents writer.new) }
+    ensures writes { Writes W.write_gives writer.old (write_failure result) writer.new }
 {
     let mut words = Buffer::new();
     push_words(&mut words, outcome);

@@ -1,14 +1,16 @@
 //! What was read and not answered yet.
-ghost use Rattle.std.specs.Prelude.{◌≡◌, ℕ, ◌+◌, ◌-◌, ◌<◌, ◌≤◌, List, [], ◌++◌, length, drop, OnOk, IfOk, IfErr, IsOkAnd};
+ghost use Rattle.std.specs.Prelude.{◌≡◌, ℕ, ◌+◌, ◌-◌, ◌<◌, ◌≤◌, List, [], ◌++◌, length, drop, OnOk, IfOk, IfErr, IsOkAnd, MatchResult};
 ghost use Rattle.std.specs.Io.{ReadsAtMost};
 ghost use Rattle.std.specs.Io.KnownBytes.{ReadConsumes, Consumes, IsAtEnd, Keeps};
-ghost use Rattle.std.specs.IoError.{error_kind};
+ghost use Rattle.std.specs.declared.io.Error.{Error};
+ghost use Rattle.caldate_run.specs.Calls.{Gives, most_retries};
 ghost use Rattle.caldate_run.specs.Room.{capacity};
 ghost use Rattle.caldate_run.specs.Runs.{HasRead};
 
 use crate::fault::Fault;
 use crate::retries::Retries;
-use std::io::{self, ErrorKind, Read};
+use crate::streams::Source;
+use std::io;
 use std::marker::Model;
 
 /// The most bytes that are read and not answered yet.
@@ -60,7 +62,7 @@ impl Input {
 
     /// Appends what one read gives, and returns how many bytes it gave: none at the end alone.
     #[tactic(auto, using(crate::proofs::Known::given_more))]
-    pub fn read_more<R: Read>(&mut self, reader: &mut R) -> Result<usize, Fault>
+    pub fn read_more<R: Source>(&mut self, reader: &mut R) -> Result<usize, Fault>
         requires { length self.old < capacity }
         ensures given { OnOk result (HasRead (R.remaining reader.old)
             (R.remaining reader.new) self.old self.new) }
@@ -69,8 +71,11 @@ impl Input {
             → IsAtEnd (R.remaining reader.new) × (self.new ≡ self.old) }
         ensures err { IfErr result (λ fault.
             (fault ≡ Fault.Read) × Keeps (R.remaining reader.old) (R.remaining reader.new)) }
+        ensures gives { MatchResult result
+            (λ n. Gives R.read_gives most_retries reader.old (Ok n) reader.new)
+            (λ _. (error : Error) × Gives R.read_gives most_retries reader.old (Err error) reader.new) }
     {
-        match read_some(reader, &mut self.bytes[self.filled..], &mut Retries::new()) {
+        match read_some(reader, &mut self.bytes[self.filled..]) {
             Ok(count) => {
                 self.filled += count;
                 Ok(count)
@@ -90,18 +95,19 @@ impl Input {
     }
 }
 
-/// One read, taken again where it was interrupted and a retry is left. So it is interrupted only where no retry is left.
-fn read_some<R: Read>(reader: &mut R, buffer: &mut [u8], retries: &mut Retries) -> io::Result<usize>
+/// Reads once. The read is taken again if it was interrupted and a retry is left.
+fn read_some<R: Source>(reader: &mut R, buffer: &mut [u8]) -> io::Result<usize>
     ensures bound { ReadsAtMost result buffer.new }
     ensures bytes { ReadConsumes (R.remaining reader.old)
         (R.remaining reader.new) result buffer.new }
-    ensures patient { IfErr result (λ error. error_kind error ≡ ErrorKind.Interrupted
-        → retries.new ≡ 0) }
+    ensures gives { Gives R.read_gives most_retries reader.old result reader.new }
 {
+    let mut retries = Retries::new();
     loop {
         match reader.read(buffer) {
+            Ok(count) => return Ok(count),
             Err(error) if retries.allows(&error) => {}
-            other => return other,
+            Err(error) => return Err(error),
         }
     }
 }

@@ -35,5 +35,6 @@ pub mod senseless;
 pub mod shown;
 mod signed;
 mod spelling;
+pub mod streams;
 pub mod unanswered;
 mod words;

@@ -1,6 +1,7 @@
 //! The dates from one to another.
 ghost use Rattle.std.specs.Prelude.{◌≡◌, ◌<◌, ◌≤◌, ◌+◌, ◌++◌, ℕ, length, IfSome, MatchOption};
 ghost use Rattle.cal_time.specs.Date.{IsDate};
+ghost use Rattle.caldate_run.specs.Calls.{Writes, write_failure};
 ghost use Rattle.caldate_run.specs.Lists.{IsAfter, IsStep, IsWithin, Lists, line_of};
 ghost use Rattle.caldate_run.specs.Room.{HasRoom, longest_reply};
 
@@ -9,18 +10,20 @@ use crate::fault::Fault;
 use crate::output::write_all;
 use crate::request::{Listing, StepUnit};
 use crate::run::make_room;
+use crate::streams::Sink;
 use cal_schedule::checked_add_months;
 use cal_text::date::CalendarText;
 use cal_time::Date;
-use std::io::Write;
 
 /// More days, and more months, than lie between any two dates.
 const FAR: u64 = 1_000_000_000;
 
 /// Writes the dates of the list in order, each in the calendar form with a line feed, however many they are.
-pub fn list<W: Write>(listing: &Listing, writer: &mut W) -> Result<(), Fault>
+#[tactic(auto, using(crate::proofs::Calls::sent_all, crate::proofs::Calls::writes_then))]
+pub fn list<W: Sink>(listing: &Listing, writer: &mut W) -> Result<(), Fault>
     requires { IsStep listing.now.step }
-    ensures { Lists listing.now result (W.contents writer.old) (W.contents writer.new) }
+    ensures lists { Lists listing.now result (W.contents writer.old) (W.contents writer.new) }
+    ensures writes { Writes W.write_gives writer.old (write_failure result) writer.new }
 {
     let mut buffer = Buffer::new();
     let mut count = 0;

@@ -1,5 +1,6 @@
 //! What the program does for its arguments.
 ghost use Rattle.std.specs.Prelude.{◌≡◌, ℕ, List, Option, Some, None, Result, Ok, Err};
+ghost use Rattle.caldate_run.specs.Calls.{Reads, Writes, has_read_failure, most_reads, write_failure};
 ghost use Rattle.caldate_run.specs.Ending.{Tells};
 ghost use Rattle.caldate_run.specs.Lists.{Lists};
 ghost use Rattle.caldate_run.specs.Program.{Asks, HasComplaint};
@@ -20,7 +21,7 @@ use crate::output::write_all;
 use crate::recurring::list_occurrences;
 use crate::request::Asked;
 use crate::run::run;
-use std::io::{Read, Write};
+use crate::streams::{Sink, Source};
 
 /// The status where the arguments make no sense.
 const SENSELESS: u8 = 2;
@@ -28,7 +29,8 @@ const SENSELESS: u8 = 2;
 /// Does what the arguments ask for, between which stands a zero byte, and returns the status and what came of the words on
 /// standard error. Where they make no sense, or are `None` since they have too many bytes, nothing is read, one line goes to standard
 /// error, and the status is 2.
-pub fn perform<R: Read, W: Write, E: Write>(
+#[tactic(auto, using(crate::proofs::Calls::sent_all))]
+pub fn perform<R: Source, W: Sink, E: Sink>(
     arguments: Option<&[u8]>,
     reader: &mut R,
     writer: &mut W,
@@ -38,26 +40,33 @@ pub fn perform<R: Read, W: Write, E: Write>(
         → (outcome : Result Unit Fault)
         × Ended filter outcome (R.remaining reader.old) (R.remaining reader.new)
         (W.contents writer.old) (W.contents writer.new)
+        × Reads R.read_gives most_reads reader.old (has_read_failure outcome) reader.new
+        × Writes W.write_gives writer.old (write_failure outcome) writer.new
         × Tells outcome result (E.contents errors.old) (E.contents errors.new) }
     ensures list { (listing : Listing) → Asks arguments.entry (Asked.Dates listing)
         → (reader.new ≡ reader.old) × ((outcome : Result Unit Fault)
         × Lists listing outcome (W.contents writer.old) (W.contents writer.new)
+        × Writes W.write_gives writer.old (write_failure outcome) writer.new
         × Tells outcome result (E.contents errors.old) (E.contents errors.new)) }
     ensures recurring { (dates : Occurrences) → Asks arguments.entry (Asked.Recurring dates)
         → (reader.new ≡ reader.old) × ((outcome : Result Unit Fault)
         × ListsOccurrences dates outcome (W.contents writer.old) (W.contents writer.new)
+        × Writes W.write_gives writer.old (write_failure outcome) writer.new
         × Tells outcome result (E.contents errors.old) (E.contents errors.new)) }
     ensures help { Asks arguments.entry Asked.Help
         → (reader.new ≡ reader.old) × ((outcome : Result Unit Fault)
         × Shown HELP.now outcome (W.contents writer.old) (W.contents writer.new)
+        × Writes W.write_gives writer.old (write_failure outcome) writer.new
         × Tells outcome result (E.contents errors.old) (E.contents errors.new)) }
     ensures version { Asks arguments.entry Asked.Version
         → (reader.new ≡ reader.old) × ((outcome : Result Unit Fault)
         × Shown VERSION.now outcome (W.contents writer.old) (W.contents writer.new)
+        × Writes W.write_gives writer.old (write_failure outcome) writer.new
         × Tells outcome result (E.contents errors.old) (E.contents errors.new)) }
     ensures senseless { (words : List ℕ) → HasComplaint arguments.entry words
         → (reader.new ≡ reader.old) × (writer.new ≡ writer.old) × (result.status ≡ 2)
         × Shown words result.told (E.contents errors.old) (E.contents errors.new) }
+    ensures told { Writes E.write_gives errors.old (write_failure result.told) errors.new }
 {
     let Some(arguments) = arguments else {
         return Ending {

@@ -1,6 +1,7 @@
 //! The dates of a recurrence, from one to another.
 ghost use Rattle.std.specs.Prelude.{◌≡◌, [], ◌∷◌, nat_le, MatchOption};
 ghost use Rattle.std.specs.List.{take_while};
+ghost use Rattle.caldate_run.specs.Calls.{Writes, write_failure};
 ghost use Rattle.caldate_run.specs.Recurring.{ListsOccurrences};
 
 use crate::buffer::Buffer;
@@ -9,13 +10,15 @@ use crate::list::push_line;
 use crate::output::write_all;
 use crate::request::Occurrences;
 use crate::run::make_room;
+use crate::streams::Sink;
 use cal_schedule::RuleDays;
 use cal_time::Date;
-use std::io::Write;
 
 /// Writes the dates of the recurrence in order, each in the calendar form with a line feed, however many they are.
-pub fn list_occurrences<W: Write>(asked: &Occurrences, writer: &mut W) -> Result<(), Fault>
-    ensures { ListsOccurrences asked.now result (W.contents writer.old) (W.contents writer.new) }
+#[tactic(auto, using(crate::proofs::Calls::sent_all, crate::proofs::Calls::writes_then))]
+pub fn list_occurrences<W: Sink>(asked: &Occurrences, writer: &mut W) -> Result<(), Fault>
+    ensures lists { ListsOccurrences asked.now result (W.contents writer.old) (W.contents writer.new) }
+    ensures writes { Writes W.write_gives writer.old (write_failure result) writer.new }
 {
     let mut buffer = Buffer::new();
     let mut days = asked.recurrence.days(asked.first);

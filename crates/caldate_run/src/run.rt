@@ -1,6 +1,7 @@
 //! The run: the answers to the lines of an input of any length.
 ghost use Rattle.std.specs.Prelude.{◌≡◌, ◌≤◌, ◌+◌, ◌-◌, ◌++◌, ℕ, List, [], length, drop, Option, OnOk, OnErr, IfOk, IfErr, IsErrAnd, IsErrOf};
 ghost use Rattle.std.specs.Io.KnownBytes.{Appends};
+ghost use Rattle.caldate_run.specs.Calls.{Reads, Writes, has_read_failure, kind_of, most_reads, write_failure};
 ghost use Rattle.caldate_run.specs.Lines.{ended_lines, lines_of};
 ghost use Rattle.caldate_run.specs.Room.{HasRoom, longest_reply, longest_text};
 ghost use Rattle.caldate_run.specs.Runs.{AppendsFront, Ended, EndsFrom, FailsFrom, IsReplyTo, IsOfWrite, StopsFrom};
@@ -17,8 +18,8 @@ use crate::progress::Progress;
 use crate::reply::take_back;
 use crate::request::Filter;
 use crate::shown::ShownText;
+use crate::streams::{Sink, Source};
 use crate::unanswered::UnansweredLine;
-use std::io::{Read, Write};
 
 /// The most bytes of a line that are kept where it has not ended: those of a text, and a carriage return.
 const MOST_KEPT: usize = 4097;
@@ -26,9 +27,11 @@ const MOST_KEPT: usize = 4097;
 /// Answers the lines of the input, in order, to its end.
 ///
 /// The answers to what one read gave go out before the next read. It gives up as after a failed read once it has read 2^64 - 1 times.
-pub fn run<R: Read, W: Write>(filter: Filter, reader: &mut R, writer: &mut W) -> Result<(), Fault>
-    ensures { Ended filter result (R.remaining reader.old) (R.remaining reader.new)
+pub fn run<R: Source, W: Sink>(filter: Filter, reader: &mut R, writer: &mut W) -> Result<(), Fault>
+    ensures ended { Ended filter result (R.remaining reader.old) (R.remaining reader.new)
         (W.contents writer.old) (W.contents writer.new) }
+    ensures reads { Reads R.read_gives most_reads reader.old (has_read_failure result) reader.new }
+    ensures writes { Writes W.write_gives writer.old (write_failure result) writer.new }
 {
     let mut input = Input::new();
     let mut buffer = Buffer::new();
@@ -67,7 +70,8 @@ pub fn run<R: Read, W: Write>(filter: Filter, reader: &mut R, writer: &mut W) ->
 }
 
 /// Answers the lines that end within the bytes, and returns how many bytes come after them.
-fn answer_lines<W: Write>(
+#[tactic(auto, using(crate::proofs::Calls::no_writes, crate::proofs::Calls::writes_then))]
+fn answer_lines<W: Sink>(
     filter: &Filter,
     progress: &mut Progress,
     buffer: &mut Buffer,
@@ -87,6 +91,7 @@ fn answer_lines<W: Write>(
         → StopsFrom filter.now told ended_lines (W.contents writer.old)
         (W.contents writer.new) buffer.old bytes.now progress.old }
     ensures no_read { IsErrOf result Fault.Read → ⊥ }
+    ensures writes { Writes W.write_gives writer.old (write_failure result) writer.new }
 {
     let mut rest = bytes;
     while let Some((line, after)) = first_line(rest) {
@@ -107,12 +112,14 @@ fn answer_lines<W: Write>(
 }
 
 /// Lets what was answered before a line without an answer go out, and tells that line.
-fn stop<W: Write>(told: UnansweredLine, buffer: &Buffer, writer: &mut W) -> Fault
+#[tactic(auto, using(crate::proofs::Calls::sent_all))]
+fn stop<W: Sink>(told: UnansweredLine, buffer: &Buffer, writer: &mut W) -> Fault
     ensures write { IsOfWrite result
         → AppendsFront (W.contents writer.old) (W.contents writer.new) buffer.now }
     ensures unanswered { (line : UnansweredLine) → result ≡ Fault.Unanswered line → (line ≡ told)
         × Appends (W.contents writer.old) (W.contents writer.new) buffer.now }
     ensures no_read { result ≡ Fault.Read → ⊥ }
+    ensures writes { Writes W.write_gives writer.old (kind_of result) writer.new }
 {
     match write_all(writer, buffer.as_bytes()) {
         Ok(()) => Fault::Unanswered(told),
@@ -121,7 +128,8 @@ fn stop<W: Write>(told: UnansweredLine, buffer: &Buffer, writer: &mut W) -> Faul
 }
 
 /// Answers the last line where it does not end, and lets the answers go out.
-fn answer_last<W: Write>(
+#[tactic(auto, using(crate::proofs::Calls::no_writes, crate::proofs::Calls::sent_all))]
+fn answer_last<W: Sink>(
     filter: &Filter,
     progress: &mut Progress,
     buffer: &mut Buffer,
@@ -139,6 +147,7 @@ fn answer_last<W: Write>(
         → StopsFrom filter.now told lines_of (W.contents writer.old)
         (W.contents writer.new) [] line.now progress.old }
     ensures no_read { IsErrOf result Fault.Read → ⊥ }
+    ensures writes { Writes W.write_gives writer.old (write_failure result) writer.new }
 {
     if line.is_empty() {
         return Ok(());
@@ -170,13 +179,15 @@ fn let_go(input: &mut Input, progress: &mut Progress)
 }
 
 /// Makes room for a reply: where there is none, what was gathered is written.
-pub fn make_room<W: Write>(buffer: &mut Buffer, writer: &mut W) -> Result<(), Fault>
+#[tactic(auto, using(crate::proofs::Calls::no_writes))]
+pub fn make_room<W: Sink>(buffer: &mut Buffer, writer: &mut W) -> Result<(), Fault>
     ensures room { OnOk result (HasRoom longest_reply buffer.new) }
     ensures ok { OnOk result ((written : List ℕ) × (buffer.old ≡ written ++ buffer.new)
         × Appends (W.contents writer.old) (W.contents writer.new) written) }
     ensures front { OnErr result (AppendsFront (W.contents writer.old)
         (W.contents writer.new) buffer.old) }
     ensures err { IfErr result IsOfWrite }
+    ensures writes { Writes W.write_gives writer.old (write_failure result) writer.new }
 {
     if !buffer.has_room_for_a_reply() {
         flush(buffer, writer)?;
@@ -185,12 +196,14 @@ pub fn make_room<W: Write>(buffer: &mut Buffer, writer: &mut W) -> Result<(), Fa
 }
 
 /// Writes what was gathered.
-fn flush<W: Write>(buffer: &mut Buffer, writer: &mut W) -> Result<(), Fault>
+#[tactic(auto, using(crate::proofs::Calls::sent_all))]
+fn flush<W: Sink>(buffer: &mut Buffer, writer: &mut W) -> Result<(), Fault>
     ensures ok { OnOk result (Appends (W.contents writer.old) (W.contents writer.new) buffer.old
         × (buffer.new ≡ [])) }
     ensures front { OnErr result (AppendsFront (W.contents writer.old)
         (W.contents writer.new) buffer.old) }
     ensures err { IfErr result IsOfWrite }
+    ensures writes { Writes W.write_gives writer.old (write_failure result) writer.new }
 {
     write_all(writer, buffer.as_bytes())?;
     buffer.clear();

@@ -48,6 +48,7 @@ pub fn many_of(word: &[u8]) -> Option<u32>
 }
 
 /// The form that a word names.
+#[tactic(auto, unfolding(crate::specs::Requests::form_of))]
 pub fn form_of(word: &[u8]) -> Option<Form>
     ensures { result ≡ form_of word.now }
 {
@@ -71,6 +72,7 @@ pub fn form_of(word: &[u8]) -> Option<Form>
 }
 
 /// The form that a word names, of those that no line is read in.
+#[tactic(auto, unfolding(crate::specs::Requests::further_form_of))]
 fn further_form_of(word: &[u8]) -> Option<Form>
     ensures { result ≡ further_form_of word.now }
 {
@@ -94,6 +96,7 @@ fn further_form_of(word: &[u8]) -> Option<Form>
 }
 
 /// The weekday whose name a word spells: `Friday`, `FRIDAY` and `fri` are one.
+#[tactic(auto, unfolding(crate::specs::Requests::weekday_of))]
 pub fn weekday_of(word: &[u8]) -> Option<Weekday>
     ensures { result ≡ weekday_of word.now }
 {
@@ -117,6 +120,7 @@ pub fn weekday_of(word: &[u8]) -> Option<Weekday>
 }
 
 /// The period that a word spells: `month`, `MONTH` and `mon` are one.
+#[tactic(auto, unfolding(crate::specs::Requests::period_of))]
 pub fn period_of(word: &[u8]) -> Option<Period>
     ensures { result ≡ period_of word.now }
 {
@@ -134,6 +138,7 @@ pub fn period_of(word: &[u8]) -> Option<Period>
 }
 
 /// The unit of time that a word spells: `day`, `Days` and `DAY` are one.
+#[tactic(auto, unfolding(crate::specs::Requests::unit_of))]
 pub fn unit_of(word: &[u8]) -> Option<TimeUnit>
     ensures { result ≡ unit_of word.now }
 {

@@ -1,8 +1,8 @@
 -- The bytes of several reads, and of several writes.
 use Rattle.std.proofs.Common.{arith, length-append, ◌<◌, ◌-◌, ◌≡◌, ℕ, ◌+◌, ◌≤◌, List, ◌++◌, length, take, drop, Option, sym, ap, ◌∙◌, append_assoc, take-append-drop, length-take, subst}
 use borrow.Rule.Slice.PartMut.{put_mid, post_of}
-use Rattle.std.specs.Io.KnownBytes.{Appends, Consumes}
-use Rattle.std.proofs.KnownBytes.{Appends-trans, Consumes-trans}
+use Rattle.std.specs.Io.KnownBytes.{Appends, Consumes, Keeps}
+use Rattle.std.proofs.KnownBytes.{Appends-kept, Appends-trans, Consumes-trans}
 use Rattle.std.proofs.Math.Nat.{min-eq_left}
 use Rattle.std.proofs.Math.Seq.{take-append-add}
 use Rattle.std.proofs.lemmas.List.{take-append-le, take_rest}
@@ -47,6 +47,10 @@ taken_more old mid new bytes rest n p q = record {
   whole = rw take_rest (p.whole ∙ ap (λ l. p.taken ++ l) (sym (take-append-drop n rest)) ∙ sym (append_assoc p.taken (take n rest) (drop n rest)));
   appended = Appends-trans old mid new _ _ p.appended q;
 }
+
+-- a write that was interrupted
+pub taken_kept : (old mid new : Option (List ℕ)) (bytes rest : List ℕ) → HasTaken old mid bytes rest → Keeps mid new → HasTaken old new bytes rest
+taken_kept old mid new bytes rest p kept = record { taken = p.taken; whole = p.whole; appended = Appends-kept old mid new _ p.appended kept }
 
 -- a front of what was left
 pub taken_front : (old mid new : Option (List ℕ)) (bytes rest : List ℕ) → HasTaken old mid bytes rest

@@ -1,4 +1,5 @@
 pub mod Answers
+pub mod Calls
 pub mod Commands
 pub mod Ending
 pub mod Finds

@@ -5,11 +5,11 @@ ghost use Rattle.caltool.specs.Ending.{Says, status_of, words_of_end};
 use crate::fault::Fault;
 use crate::output::write_all;
 use crate::retries::Retries;
-use std::io::Write;
+use crate::streams::Sink;
 
 /// Writes the message of the outcome, if it is an error, and returns the status: 0 for a run that
 /// answered its whole input, else 2. If the writer fails, it took only a prefix of the message.
-pub fn end<W: Write>(outcome: Result<(), Fault>, writer: &mut W) -> u8
+pub fn end<W: Sink>(outcome: Result<(), Fault>, writer: &mut W) -> u8
     ensures status { result ≡ status_of outcome }
     ensures told { Says (words_of_end outcome) (W.contents writer.old) (W.contents writer.new) }
 {

@@ -14,6 +14,7 @@ mod output;
 mod program;
 mod retries;
 mod run;
+mod streams;
 #[cfg(test)]
 mod tests;
 

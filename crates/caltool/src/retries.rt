@@ -1,5 +1,6 @@
 //! Retries of interrupted reads and writes.
-ghost use Rattle.std.specs.Prelude.{◌≡◌, ◌+◌, if◌then◌else◌};
+ghost use Rattle.std.specs.Prelude.{◌≡◌, ◌↔◌, ◌+◌, ◌<◌, IsTrue, if◌then◌else◌};
+ghost use Rattle.std.specs.IoError.{error_kind};
 
 use std::io::{self, ErrorKind};
 use std::marker::Model;
@@ -33,7 +34,9 @@ impl Retries {
 
     /// Returns `true` if the error is an interruption and a retry is left, which is then used.
     pub fn allows(&mut self, error: &io::Error) -> bool
-        ensures { self.old ≡ (if result then self.new + 1 else self.new) }
+        ensures allowed { IsTrue result
+            ↔ (error_kind error.now ≡ ErrorKind.Interrupted) × (0 < self.old) }
+        ensures left { self.old ≡ (if result then self.new + 1 else self.new) }
     {
         if error.kind() != ErrorKind::Interrupted || self.left == 0 {
             return false;

@@ -1,6 +1,7 @@
 //! The run: an input, and the answers to its lines.
 ghost use Rattle.std.specs.Prelude.{◌≡◌, ◌++◌, OnOk, OnErr, IfErr, IsErrOf, List, ℕ};
 ghost use Rattle.std.specs.Io.KnownBytes.{Appends, Keeps};
+ghost use Rattle.caltool.specs.Calls.{Reads, Writes, has_read_failure, has_write_failure, most_retries};
 ghost use Rattle.caltool.specs.Room.{HasRoom, longest_reply};
 ghost use Rattle.caltool.specs.Runs.{AppendsFront, GivesAll, GivesTooMany};
 ghost use Rattle.caltool.specs.Answers.{out};
@@ -12,6 +13,7 @@ use crate::input::{MOST_BYTES, read_all};
 use crate::lines::first_line;
 use crate::output::write_all;
 use crate::retries::Retries;
+use crate::streams::{Sink, Source};
 use std::io::{Read, Write};
 
 /// Reads the whole input, of 4096 bytes at most, and then answers it line by line.
@@ -28,18 +30,42 @@ pub fn run<R: Read, W: Write>(reader: &mut R, writer: &mut W) -> Result<(), Faul
         → GivesTooMany (R.remaining reader.old) (R.remaining reader.new)
         × Keeps (W.contents writer.old) (W.contents writer.new) }
 {
+    run_calls(reader, writer)
+}
+
+/// Does the same over a reader and a writer whose calls a contract can name. A read fails, or a write, exactly if the fault says so, and
+/// nothing is read or written after that.
+fn run_calls<R: Source, W: Sink>(reader: &mut R, writer: &mut W) -> Result<(), Fault>
+    ensures ok { OnOk result ((input : List ℕ)
+        × GivesAll (R.remaining reader.old) (R.remaining reader.new) input
+        × Appends (W.contents writer.old) (W.contents writer.new) (out input)) }
+    ensures write { IsErrOf result Fault.Write → (input : List ℕ)
+        × GivesAll (R.remaining reader.old) (R.remaining reader.new) input
+        × AppendsFront (W.contents writer.old) (W.contents writer.new) (out input) }
+    ensures read { IsErrOf result Fault.Read
+        → Keeps (W.contents writer.old) (W.contents writer.new) }
+    ensures too_long { IsErrOf result Fault.TooLong
+        → GivesTooMany (R.remaining reader.old) (R.remaining reader.new)
+        × Keeps (W.contents writer.old) (W.contents writer.new) }
+    ensures reads { (left : ℕ)
+        × Reads R.read_gives most_retries reader.old (has_read_failure result) left reader.new }
+    ensures writes { (left : ℕ)
+        × Writes W.write_gives most_retries writer.old (has_write_failure result) left writer.new }
+{
     let mut buffer = [0u8; MOST_BYTES];
     let length = read_all(reader, &mut buffer)?;
     write_answers(writer, &buffer[..length])
 }
 
 /// Answers the lines in order. Collects the answers, so that few writes are needed.
-fn write_answers<W: Write>(writer: &mut W, input: &[u8]) -> Result<(), Fault>
+fn write_answers<W: Sink>(writer: &mut W, input: &[u8]) -> Result<(), Fault>
     ensures ok { OnOk result
         (Appends (W.contents writer.old) (W.contents writer.new) (out input.now)) }
     ensures front { OnErr result
         (AppendsFront (W.contents writer.old) (W.contents writer.new) (out input.now)) }
     ensures err { IfErr result (λ fault. fault ≡ Fault.Write) }
+    ensures writes { (left : ℕ)
+        × Writes W.write_gives most_retries writer.old (has_write_failure result) left writer.new }
 {
     let mut retries = Retries::new();
     let mut buffer = Buffer::new();
@@ -53,7 +79,7 @@ fn write_answers<W: Write>(writer: &mut W, input: &[u8]) -> Result<(), Fault>
 }
 
 /// Makes room for a reply, by writing the buffer if it has none.
-fn make_room<W: Write>(
+fn make_room<W: Sink>(
     writer: &mut W,
     buffer: &mut Buffer,
     retries: &mut Retries,
@@ -65,6 +91,8 @@ fn make_room<W: Write>(
     ensures front { OnErr result
         (AppendsFront (W.contents writer.old) (W.contents writer.new) buffer.old) }
     ensures err { IfErr result (λ fault. fault ≡ Fault.Write) }
+    ensures writes { Writes W.write_gives retries.old writer.old
+        (has_write_failure result) retries.new writer.new }
 {
     if !buffer.has_room_for_a_reply() {
         write_all(writer, buffer.as_bytes(), retries)?;

@@ -1,10 +1,9 @@
-//! Values of [`fotsevindre`] as their texts in serde, by `#[serde(with = "fotsevindre_serde::text")]` at a field, or
-//! `"fotsevindre_serde::option"` at one that may be absent: a [`Date`] as `2024-02-29`, a [`Time`] as `9:05:00.12`, a [`UtcOffset`] as
-//! `+01:00:00`, a [`Month`] and a [`Weekday`] by their names, a [`PlainDateTime`] and an [`OffsetDateTime`] as they print. Each reads
-//! what its `FromStr` reads.
+//! Values of [`fotsevindre`] as their texts in serde: `#[serde(with = "fotsevindre_serde::text")]`
+//! at a field, or `"fotsevindre_serde::option"` for an `Option`.
 //!
-//! It is a crate of its own, as cargo looks for an optional dependency in a registry even where its feature is off, and `fotsevindre`
-//! builds without one.
+//! A [`Date`] is `2024-02-29`, a [`Time`] `9:05:00.12`, a [`UtcOffset`] `+01:00:00`, a [`Month`]
+//! and a [`Weekday`] their names, a [`PlainDateTime`] and an [`OffsetDateTime`] what they print.
+//! Values are parsed by `FromStr`.
 //!
 //! ```
 //! use fotsevindre::{Date, Time};
@@ -33,7 +32,7 @@ use fotsevindre::{Date, Month, OffsetDateTime, PlainDateTime, Time, UtcOffset, W
 use serde::de::{Deserializer, Error, Visitor};
 use serde::ser::Serializer;
 
-/// A value that is known by its text.
+/// A value with a text.
 pub trait Text: Display + FromStr<Err: Display> {}
 
 impl Text for Date {}
@@ -44,7 +43,7 @@ impl Text for UtcOffset {}
 impl Text for Month {}
 impl Text for Weekday {}
 
-/// Reads a text.
+/// Parses a text.
 struct OfText<T>(PhantomData<T>);
 
 impl<T: Text> Visitor<'_> for OfText<T> {
@@ -59,7 +58,7 @@ impl<T: Text> Visitor<'_> for OfText<T> {
     }
 }
 
-/// Reads a text, or nothing.
+/// Parses a text, or nothing.
 struct OfOption<T>(PhantomData<T>);
 
 impl<'de, T: Text> Visitor<'de> for OfOption<T> {
@@ -91,17 +90,17 @@ pub mod text {
         serializer.collect_str(value)
     }
 
-    /// Reads the text.
+    /// Parses the text.
     pub fn deserialize<'de, T: Text, D: Deserializer<'de>>(deserializer: D) -> Result<T, D::Error> {
         deserializer.deserialize_str(OfText(PhantomData))
     }
 }
 
-/// A value that may be absent, as its text. With `#[serde(default)]` beside it the field may be left out.
+/// An `Option` as its text. With `#[serde(default)]` the field may be missing.
 pub mod option {
     use super::*;
 
-    /// A value that is there, as its text.
+    /// A present value as its text.
     struct Present<'a, T>(&'a T);
 
     impl<T: Text> serde::Serialize for Present<'_, T> {
@@ -110,7 +109,7 @@ pub mod option {
         }
     }
 
-    /// Writes the text, where there is a value.
+    /// Writes the text of a present value.
     pub fn serialize<T: Text, S: Serializer>(value: &Option<T>, serializer: S) -> Result<S::Ok, S::Error> {
         match value {
             Some(value) => serializer.serialize_some(&Present(value)),
@@ -118,7 +117,7 @@ pub mod option {
         }
     }
 
-    /// Reads the text, where there is one.
+    /// Parses the text of a present value.
     pub fn deserialize<'de, T: Text, D: Deserializer<'de>>(deserializer: D) -> Result<Option<T>, D::Error> {
         deserializer.deserialize_option(OfOption(PhantomData))
     }

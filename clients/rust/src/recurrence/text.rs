@@ -3,7 +3,7 @@
 use core::fmt;
 use core::str;
 
-/// The text of a recurrence, in place and without a formatter: ASCII, at most 1400 bytes.
+/// The text of a recurrence in place: at most 1400 ASCII bytes.
 #[derive(Clone, Copy)]
 pub struct RecurrenceText {
     bytes: [u8; 1404],
@@ -12,22 +12,22 @@ pub struct RecurrenceText {
 
 #[allow(clippy::len_without_is_empty)]
 impl RecurrenceText {
-    /// The text that the library answered.
+    /// Converts from the result of C.
     pub(super) fn of_c((_, _, length, bytes): (u32, usize, u32, [u8; 1404])) -> Self {
         Self { bytes, length: length as usize }
     }
 
-    /// The text.
+    /// Returns the text.
     pub fn as_str(&self) -> &str {
         str::from_utf8(self.as_bytes()).expect("the texts of the library are ASCII")
     }
 
-    /// The bytes of the text.
+    /// Returns the bytes.
     pub fn as_bytes(&self) -> &[u8] {
         &self.bytes[..self.length]
     }
 
-    /// The number of bytes, at most 1400.
+    /// Returns the number of bytes, at most 1400.
     pub fn len(&self) -> usize {
         self.length
     }

@@ -2,10 +2,10 @@
 
 use core::fmt;
 
-/// The most values of a list.
+/// The maximum number of values.
 const MOST: usize = 62;
 
-/// Values in order, in place, with others after them that are not seen.
+/// Values in place, with unused ones after them.
 #[derive(Clone, Copy)]
 pub(super) struct Values<T> {
     items: [T; MOST],
@@ -13,7 +13,7 @@ pub(super) struct Values<T> {
 }
 
 impl<T: Copy> Values<T> {
-    /// What the first items of an array stand for, so many.
+    /// Converts the first items of an array of C.
     pub(super) fn of_c<C: Copy>(items: [C; MOST], length: u32, of_c: impl Fn(C) -> T, filler: T) -> Self {
         let length = length as usize;
         let mut values = Self { items: [filler; MOST], length };

@@ -1,4 +1,4 @@
-//! Dates in text: the three forms of ISO 8601.
+//! Texts of dates in ISO 8601.
 
 use crate::error::Unreadable;
 use crate::ffi;
@@ -6,7 +6,7 @@ use crate::text::Line;
 use crate::Date;
 use core::fmt;
 
-/// Types that print a date, each by its call.
+/// Defines types that print a date by a call.
 macro_rules! texts {
     ($($(#[$about:meta])* $text:ident by $call:ident;)*) => {
         $(
@@ -15,7 +15,7 @@ macro_rules! texts {
             pub struct $text(pub Date);
 
             impl $text {
-                /// The text in bytes.
+                /// Returns the text.
                 pub fn line(self) -> Line {
                     Line::certain(ffi::$call(self.0.to_c()))
                 }
@@ -31,24 +31,21 @@ macro_rules! texts {
 }
 
 texts! {
-    /// A date that prints its calendar date, as `2024-02-29` and as the date itself does. Under a width the whole text is padded.
+    /// Prints a date as a calendar date, `2024-02-29`. A width pads the whole text.
     CalendarText by fots_date_calendar_text;
-    /// A date that prints its ordinal date, as `2024-060`. Under a width the whole text is padded.
+    /// Prints a date as an ordinal date, `2024-060`. A width pads the whole text.
     OrdinalText by fots_date_ordinal_text;
-    /// A date that prints its week date, as `2024-W09-4`. Under a width the whole text is padded.
+    /// Prints a date as a week date, `2024-W09-4`. A width pads the whole text.
     WeekText by fots_date_week_text;
 }
 
-/// The day whose calendar date, ordinal date or week date the text is, as `2024-02-29`, `2024-060` or `2024-W09-4`.
-///
-/// Years are written as [`Date`] prints them: four digits from 0 to 9999, a plus sign and more digits above, a minus sign and four
-/// digits or more below. The weekday is from 1, Monday, to 7. Each text reads as the day that prints it, and no other text is read: no
-/// spaces, no zeros before a year of more than four digits, nothing after the date.
+/// Parses a calendar date, an ordinal date or a week date, exactly as they are printed:
+/// `2024-02-29`, `2024-060`, `2024-W09-4`.
 ///
 /// # Errors
 ///
-/// `UnexpectedByte` or `UnexpectedEnd` where the text has none of these forms; years may have up to nine digits. Otherwise `OutOfRange` for the first
-/// component at fault: `month`, `year` outside -999999 to 999999, `day`, `ordinal`, `week`, or `weekday` after [`Date::MAX`].
+/// `UnexpectedByte` or `UnexpectedEnd`, else `OutOfRange` for the first component out of range:
+/// `month`, `year`, `day`, `ordinal`, `week`, or `weekday` after [`Date::MAX`].
 pub fn read(text: &[u8]) -> Result<Date, Unreadable> {
     ffi::fots_date_read(text).map(|(date, _)| Date::of_c(date))
 }

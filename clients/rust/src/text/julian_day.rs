@@ -1,4 +1,4 @@
-//! Dates in text by their Julian day.
+//! Texts of dates as Julian days.
 
 use crate::error::Unreadable;
 use crate::ffi;
@@ -6,12 +6,12 @@ use crate::text::Line;
 use crate::Date;
 use core::fmt;
 
-/// A date that prints its Julian day after a letter J, as `J2460370`.
+/// Prints a date as a Julian day, `J2460370`.
 #[derive(Clone, Copy, Debug, PartialEq, Eq)]
 pub struct JulianText(pub Date);
 
 impl JulianText {
-    /// The text in bytes.
+    /// Returns the text.
     pub fn line(self) -> Line {
         Line::certain(ffi::fots_date_julian_text(self.0.to_c()))
     }
@@ -23,14 +23,11 @@ impl fmt::Display for JulianText {
     }
 }
 
-/// The day whose Julian day the text is, after a letter J, as `J2460370`.
-///
-/// The number has a minus sign below 0, no plus sign and no zeros before its digits. Each text reads as the day that prints it.
+/// Parses a Julian day, exactly as it is printed: `J2460370`.
 ///
 /// # Errors
 ///
-/// `UnexpectedByte` or `UnexpectedEnd` where the text is none of these; `OutOfRange` for `julian_day` where it has at most nine digits and no day of the
-/// range has it.
+/// `UnexpectedByte` or `UnexpectedEnd`, else `OutOfRange` for `julian_day`.
 pub fn read(text: &[u8]) -> Result<Date, Unreadable> {
     ffi::fots_julian_day_read(text).map(|(date, _)| Date::of_c(date))
 }

@@ -1,4 +1,4 @@
-//! Every day of the years of four digits, and of 400 years at each end of the range, by a date that goes on from day to day.
+//! Every day of the years with four digits, and of 400 years at each end of the range, day by day.
 ghost use Rattle.std.specs.Prelude.{◌≤◌};
 
 use crate::tests::same;
@@ -7,7 +7,7 @@ use std::alloc::Global;
 use std::process::Abort;
 use std::test::Fail;
 
-/// The days of the months, January first, in a year that is no leap year.
+/// The lengths of the months of a common year.
 const LENGTHS: [u8; 12] = [31, 28, 31, 30, 31, 30, 31, 31, 30, 31, 30, 31];
 
 /// A day of the calendar, with a month from 1 to 12.
@@ -19,7 +19,7 @@ struct Day {
 }
 
 impl Day {
-    /// The day after, by the table of lengths alone.
+    /// Returns the day after, from the table of lengths only.
     fn after(self) -> Self {
         let is_leap = self.year % 4 == 0 && (self.year % 100 != 0 || self.year % 400 == 0);
         let length = match LENGTHS.get(usize::from(self.month.wrapping_sub(1))) {
@@ -47,7 +47,7 @@ impl Day {
         }
     }
 
-    /// The text in the last of these bytes, digit by digit, and where it begins.
+    /// Returns the text at the end of these bytes, and the index of its first byte.
     fn text(self) -> ([u8; 13], usize)
         ensures { result.1 ≤ 3 }
     {
@@ -84,12 +84,11 @@ impl Day {
     }
 }
 
-/// The last decimal digit of the number.
 fn last_digit(n: u32) -> u8 {
     b'0' + (n % 10) as u8
 }
 
-/// Takes each day apart and makes it again, from 1 January of the one year to 31 December of the other, and prints it.
+/// Checks the parts, the constructors and the text of each day from one year to another.
 fn check_days(
     rt: &impl Abort,
     alloc: Global,

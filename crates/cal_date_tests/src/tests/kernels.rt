@@ -1,4 +1,4 @@
-//! Kernels and their dates, each computed apart from the code, and callers that know no more than a stated condition.
+//! Kernels and their dates, computed without the code, and callers that know only a condition.
 ghost use Rattle.std.specs.Prelude.{ℕ, ◌-ℤ◌};
 ghost use Rattle.cal_date.specs.ClosedForms.{HasKernel};
 ghost use Rattle.cal_date.specs.Date.{first_julian_day, IsDate};
@@ -36,8 +36,8 @@ fn kernel(
     }
 }
 
-/// The day of the kernel, counted from 1 January -2379600 on: `julian` without the days that it
-/// counts for each century.
+/// Returns the day of the kernel, counted from 1 January -2379600: `julian` without the days that
+/// it counts for each century.
 fn shifted_day(julian_day: i32) -> u32
     requires { IsDateNumber (julian_day -ℤ first_julian_day) }
 {
@@ -84,7 +84,7 @@ fn at_both_ends(rt: HostRuntime) {
     same(&rt, dated(366_963_559), (last, (999_999, 365)));
 }
 
-// On the last of these days the century is one low.
+// On the last of these days the century is one too low.
 #[test]
 fn at_the_first_and_the_last_year_of_four_digits(rt: HostRuntime) {
     let first = kernel(23_696, 43_035_047, 865_496_766, 2_369_601, 10_281_722);
@@ -95,7 +95,8 @@ fn at_the_first_and_the_last_year_of_four_digits(rt: HostRuntime) {
     same(&rt, dated(5_373_485), (next, (10_000, 1)));
 }
 
-// The year is the first of a century that 4 does not divide: on its days the ordinal needs no 1, and on the day after them it does.
+// The year is the first of a century that 4 doesn't divide. On its days the ordinal needs no 1, and
+// on the day after them it does.
 #[test]
 fn around_the_first_year_of_a_century(rt: HostRuntime) {
     let first = kernel(23_815, 25_677, 869_842_876, 2_381_500, 13_228_811);
@@ -106,7 +107,8 @@ fn around_the_first_year_of_a_century(rt: HostRuntime) {
     same(&rt, dated(2_415_386), (next, (1901, 1)));
 }
 
-// On the first of these days the century is one low. On the second its part is below the cut, and 4 divides it.
+// On the first of these days the century is one too low. On the second its part is below the cut,
+// and 4 divides it.
 #[test]
 fn at_the_start_of_four_centuries(rt: HostRuntime) {
     let first = kernel(23_815, 4_294_963_575, 869_879_400, 2_381_600, 1_469_893);

@@ -1,4 +1,4 @@
-//! The packed values. No call returns one, but a date hashes exactly as its packed value does.
+//! The packed values. No call returns one, but a date hashes exactly like its packed value.
 use crate::tests::same;
 use cal_date::Date;
 use std::hash::{DefaultHasher, Hash, Hasher};
@@ -10,7 +10,7 @@ fn hash_of<T: Hash>(value: &T) -> u64 {
     state.finish()
 }
 
-/// Stops the test unless the date has this packed value.
+/// Checks the packed value of a date, by its hash.
 fn is_packed(rt: &impl Abort, date: Date, packed: i32) {
     assert!(rt;
         hash_of(&date) == hash_of(&packed),

@@ -5,7 +5,7 @@ use crate::tests::range::{FIRST_JULIAN_DAY, FIRST_YEAR, LAST_JULIAN_DAY, LAST_YE
 use crate::tests::{date, same_at};
 use crate::util::weeks_in_year;
 
-/// Returns the Julian day of an ordinal date by the years since -999999.
+/// Returns the Julian day of an ordinal date from the years since -999999.
 fn julian_day_of(years: u64, ordinal: u16) -> i64
     requires { years < 2 ^ 32 }
 {
@@ -14,7 +14,8 @@ fn julian_day_of(years: u64, ordinal: u16) -> i64
     days as i64 - 363_521_075
 }
 
-// The columns: the date, the years since -999999, the centuries since then, the days of that many Julian years, and the Julian day.
+// The columns: the date, the years and the centuries since -999999, the days of as many Julian
+// years, and the Julian day.
 #[test]
 fn julian_days(rt: HostRuntime) {
     for (calendar, years, centuries, days, julian_day) in [
@@ -53,7 +54,7 @@ fn iso_week(year: i32, week: u16) -> (i32, u16) {
     }
 }
 
-// The columns: the date, its ordinal o, its weekday w from Monday, which is 1, and (o + 10 - w) / 7.
+// The columns: the date, its ordinal o, its weekday w from 1 for Monday, and (o + 10 - w) / 7.
 #[test]
 fn iso_weeks(rt: HostRuntime) {
     for (calendar, ordinal, weekday, week) in [

@@ -1,4 +1,4 @@
-//! Callers that know no more than the condition that a call states, so a stronger one is refused.
+//! Callers that know only the condition of a call, so the check rejects a stronger one.
 ghost use Rattle.std.specs.Prelude.{◌<◌, pos, neg_ℤ, ◌+ℤ◌, ◌-ℤ◌, ◌*ℤ◌, FitsSigned, length, unsigned_abs};
 ghost use Rattle.std.specs.Fmt.{signed_decimal};
 ghost use Rattle.std.specs.Int.{w64};
@@ -133,7 +133,7 @@ fn push_decimals(text: &mut ShortText, nanoseconds: u32)
     text.push_decimals(nanoseconds);
 }
 
-/// Each of the four on a text of its own, whose room is known by the lengths of such texts alone.
+/// Appends to four new texts. Only the lengths of such texts show that they have room.
 #[tactic(auto, using(cal_units::proofs::TextLengths::text_lengths))]
 fn new_texts(
     number: i32,

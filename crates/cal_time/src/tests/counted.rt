@@ -1,4 +1,4 @@
-//! The bound at a type of the tests.
+//! The bound `Counted` at a type of the tests.
 use crate::tests::laws::values::check_values;
 use crate::tests::same;
 use crate::{Counted, extent, is_rising};

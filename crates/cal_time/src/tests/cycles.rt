@@ -1,4 +1,4 @@
-//! Lengths of years and months, months and weekdays, and endless walks over them.
+//! Lengths of years and months, months and weekdays, and endless iterators over them.
 use crate::error::InvalidVariant;
 use crate::iter::{CycleIter, MonthIter};
 use crate::tests::{same, same_at};
@@ -24,7 +24,7 @@ fn years_have_their_lengths(rt: HostRuntime) {
     }
 }
 
-/// Stops the test unless the month has so many days in common years and in leap years.
+/// Checks the number of days of a month in common years and in leap years.
 fn check_lengths(rt: &impl Abort, month: Month, common: u8, leap: u8) {
     for (year, length) in [
         (1900, common),
@@ -124,8 +124,7 @@ fn cycles_turn_both_ways(rt: HostRuntime) {
     same(&rt, found, (12, 7, sunday));
 }
 
-/// What a walk gives `n` items on and then, what it gives turned round at its start, by the same calls, and turned round where it
-/// stands.
+/// Returns `nth(n)` and `next()` of an iterator and of its reverse, and `next()` after reversing.
 fn walked<C: Cycle>(start: C, n: usize) -> [Option<C>; 5] {
     let mut walk = CycleIter::new(start);
     let mut back = walk.clone().rev();
@@ -133,7 +132,7 @@ fn walked<C: Cycle>(start: C, n: usize) -> [Option<C>; 5] {
     [item, then, back.nth(n), back.next(), walk.rev().next()]
 }
 
-// The greatest step is 3 more than a multiple of 12, and 1 more than one of 7.
+// The maximum step is 3 more than a multiple of 12, and 1 more than a multiple of 7.
 #[test]
 fn walks_go_on_without_end(rt: HostRuntime) {
     for (start, n, numbers) in [
@@ -175,8 +174,7 @@ fn walks_over_the_months_have_bounds(rt: HostRuntime) {
     same(&rt, [walk.is_sorted(), back.is_sorted()], [false, false]);
 }
 
-/// Asks whether all and whether any value has an index between these two, or outside them, and counts the values asked: by a walk
-/// from there and by the same turned round. Then gives the next value of both walks.
+/// Returns the results and the numbers of calls of `all_once` and `any_once`, and the next values.
 fn asked<C: Cycle>(
     start: C,
     (low, high): (u8, u8),
@@ -213,7 +211,7 @@ fn asked<C: Cycle>(
     )
 }
 
-// The questions are counted, as no contract says that none is asked after the deciding answer.
+// The calls are counted, because no contract excludes calls after the deciding value.
 #[test]
 fn values_are_asked_up_to_the_deciding_answer(rt: HostRuntime) {
     for (start, ends, is_between, all, any) in [

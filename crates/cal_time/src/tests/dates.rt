@@ -4,7 +4,8 @@ use crate::tests::{date, same, same_at, told};
 use crate::{Counted, Cycle, Date, Month, Weekday};
 use std::process::Abort;
 
-// The columns: Julian day, calendar date, ordinal, ISO week date, and the weeks of the year from Sunday and from Monday on.
+// The columns: Julian day, calendar date, ordinal, ISO week date, and the weeks of the year from
+// Sunday and from Monday on.
 #[test]
 fn days_in_all_forms(rt: HostRuntime) {
     for (julian_day, calendar, ordinal, iso, weeks) in [
@@ -51,7 +52,7 @@ fn days_in_all_forms(rt: HostRuntime) {
     }
 }
 
-/// Stops the test unless each other form gives the date. The weekdays of the ISO week dates are numbered from Monday, which is 1.
+/// Checks that each form gives the date. ISO weekdays are numbered from 1 for Monday.
 fn check_constructors(
     rt: &impl Abort,
     date: Date,
@@ -69,7 +70,7 @@ fn check_constructors(
     }
 }
 
-/// Stops the test unless the date has these parts, one by one and together.
+/// Checks the parts of a date, one by one and together.
 fn check_parts(
     rt: &impl Abort,
     date: Date,
@@ -113,7 +114,7 @@ fn neighbours(rt: HostRuntime) {
     }
 }
 
-// The first date has a day that the month of the second has, or that is past its end.
+// The first date has a day that the month of the second date has, or a later day.
 #[test]
 fn days_in_other_months(rt: HostRuntime) {
     for ((year, month, day), (other_year, other_month, found)) in [

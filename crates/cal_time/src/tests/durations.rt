@@ -1,4 +1,4 @@
-//! Durations: making, parts, and exact arithmetic.
+//! Durations: constructors, parts, and exact arithmetic.
 use crate::tests::conditions::made;
 use crate::tests::same;
 use crate::{Counted, SignedDuration, extent, is_rising};
@@ -48,7 +48,7 @@ fn making(rt: HostRuntime) {
     }
 }
 
-// The most weeks, days, hours and minutes that are a duration, and the least.
+// The maximum and the minimum numbers of weeks, days, hours and minutes that are a duration.
 #[test]
 fn making_at_the_limits(rt: HostRuntime) {
     let (weeks, days) = (15_250_284_452_471, 106_751_991_167_300);

@@ -1,6 +1,5 @@
-//! Each call at the least and the greatest value of each of its parameters.
-//!
-//! What a row must answer is written out, or worked out in the test by whole numbers of 128 bits.
+//! Each call at the minimum and the maximum of each of its parameters. The expected results are
+//! constants, or the test computes them in 128-bit integers.
 
 mod cycles;
 mod dates;

@@ -1,6 +1,7 @@
-//! The methods of traits, called by name, and as the traits' own or through a bound.
+//! The methods of traits, called by name, and through the trait or a bound.
 //!
-//! A call by name takes a function of the type itself where it has one of that name, and no contract of the trait speaks of that one.
+//! A call by name takes a function of the type with this name, which no contract of the trait
+//! covers.
 use crate::error::{Component, ComponentRange, ConversionRange, InvalidVariant};
 use crate::iter::{DateIter, MonthIter, WeekdayIter};
 use crate::tests::{date, hash_of, offset, same, time};
@@ -27,7 +28,7 @@ fn size_hint<I: Iterator>(walk: &I) -> (usize, Option<usize>) {
     walk.size_hint()
 }
 
-/// What two values tell of each other: equality, order, and the lesser and the greater one.
+/// The comparisons of two values: equality, order, and their minimum and maximum.
 type Compared<T> = ([bool; 2], Ordering, Option<Ordering>, [T; 2]);
 
 fn compared<T: Ord + Copy>(a: T, b: T) -> Compared<T> {
@@ -35,7 +36,7 @@ fn compared<T: Ord + Copy>(a: T, b: T) -> Compared<T> {
     ([a.eq(&b), a.ne(&b)], a.cmp(&b), a.partial_cmp(&b), ends)
 }
 
-/// Stops the test unless the comparisons and the hash of each two values, by name, are those of the traits.
+/// Checks that the comparisons and the hash of each two values, by name, agree with the traits.
 macro_rules! check_compared {
     ($rt:expr, $one:expr, $other:expr) => {
         let (one, other) = ($one, $other);
@@ -50,7 +51,7 @@ macro_rules! check_compared {
     };
 }
 
-/// Stops the test unless the walk gives these items, by name and by the trait, and tells the same of what is left.
+/// Checks the items of an iterator, by name and by the trait, and that both agree on the rest.
 macro_rules! check_walk {
     ($rt:expr, $walk:expr, $items:expr) => {
         let mut by_name = $walk;
@@ -66,7 +67,7 @@ macro_rules! check_walk {
     };
 }
 
-/// Whether the walk gives these three items, by name and through the bounds, and tells the same of what is left.
+/// Returns `true` if three items and the rest of an iterator are right, by name and by the bounds.
 macro_rules! gives {
     ($walk:expr, $items:expr) => {{
         let (mut by_name, mut by_bound) = ($walk, $walk);
@@ -168,7 +169,7 @@ fn equality(rt: HostRuntime) {
     same(&rt, InvalidVariant.eq(&InvalidVariant), true);
 }
 
-/// Stops the test unless the clones of the value, by name and by the trait, are the value.
+/// Checks that the clones of the value, by name and by the trait, are the value.
 macro_rules! check_cloned {
     ($rt:expr, $value:expr) => {
         let value = $value;
@@ -230,7 +231,7 @@ fn conversions(rt: HostRuntime) {
     same(&rt, SignedDuration::default(), zero);
 }
 
-/// The days so much later and so much earlier, by name and by the traits, where both are there.
+/// Returns the dates later and earlier by the duration, by name and by the traits, if both exist.
 fn moved(date: Date, duration: SignedDuration) -> Option<[[Date; 2]; 2]> {
     date.checked_add(duration)?;
     date.checked_sub(duration)?;

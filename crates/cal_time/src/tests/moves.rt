@@ -3,7 +3,7 @@ use crate::tests::range::{DAYS, LAST_YEAR};
 use crate::tests::{date, same, same_at, told};
 use crate::{Counted, Date, Month, SignedDuration, Weekday};
 
-/// The days that a duration moves the day to: checked, by `+` and by `+=`.
+/// Returns the date plus a duration: checked, by `+` and by `+=`.
 fn sums(date: Date, duration: SignedDuration) -> Option<[Date; 3]> {
     let checked = date.checked_add(duration)?;
     let mut moved = date;
@@ -11,7 +11,7 @@ fn sums(date: Date, duration: SignedDuration) -> Option<[Date; 3]> {
     Some([checked, date + duration, moved])
 }
 
-/// The days that a duration moves the day back to: checked, by `-` and by `-=`.
+/// Returns the date minus a duration: checked, by `-` and by `-=`.
 fn differences(date: Date, duration: SignedDuration) -> Option<[Date; 3]> {
     let checked = date.checked_sub(duration)?;
     let mut moved = date;
@@ -19,7 +19,7 @@ fn differences(date: Date, duration: SignedDuration) -> Option<[Date; 3]> {
     Some([checked, date - duration, moved])
 }
 
-// The columns: the day, the hours, and the days that they lead to, checked and at the nearest end.
+// The columns: the date, the hours, and the moved dates, checked and clamped.
 #[test]
 fn dates_moved(rt: HostRuntime) {
     let (first, last, evening) = (Date::MIN, Date::MAX, date(&rt, 2020, 12, 31));
@@ -57,19 +57,19 @@ fn days_between(rt: HostRuntime) {
     same(&rt, monday - thursday, SignedDuration::days(-3));
 }
 
-/// The `n`-th Monday after the day, by both calls.
+/// Returns the `n`-th Monday after the date, by both calls.
 fn next_mondays(date: Date, n: u8) -> Option<[Date; 2]> {
     let checked = date.checked_nth_next_occurrence(Weekday::Monday, n)?;
     Some([checked, date.nth_next_occurrence(Weekday::Monday, n)])
 }
 
-/// The `n`-th Monday before the day, by both calls.
+/// Returns the `n`-th Monday before the date, by both calls.
 fn prev_mondays(date: Date, n: u8) -> Option<[Date; 2]> {
     let checked = date.checked_nth_prev_occurrence(Weekday::Monday, n)?;
     Some([checked, date.nth_prev_occurrence(Weekday::Monday, n)])
 }
 
-/// The nearest Mondays after and before the day, by both calls.
+/// Returns the nearest Mondays after and before the date, by both calls.
 fn nearest_mondays(date: Date) -> Option<[Date; 4]> {
     let next = date.checked_next_occurrence(Weekday::Monday)?;
     let prev = date.checked_prev_occurrence(Weekday::Monday)?;
@@ -81,7 +81,7 @@ fn nearest_mondays(date: Date) -> Option<[Date; 4]> {
     ])
 }
 
-// The columns: the day, n, and the n-th Mondays after and before it.
+// The columns: the date, n, and the n-th Mondays after and before it.
 #[test]
 fn nth_mondays(rt: HostRuntime) {
     for ((year, month, day), n, after, before) in [

@@ -3,7 +3,7 @@ use crate::tests::{offset, same, same_at, told};
 use crate::{UtcOffset, extent};
 use std::cmp::Ordering;
 
-// The columns: the parts given, the seconds, the parts told, and the whole minutes.
+// The columns: the parts given, the seconds, the parts returned, and the whole minutes.
 #[test]
 fn offsets_of_parts_and_of_seconds(rt: HostRuntime) {
     for ((hours, minutes, seconds), number, parts, whole_minutes) in [
@@ -46,7 +46,7 @@ fn offsets_out_of_range(rt: HostRuntime) {
     }
 }
 
-// By their three parts with signs, the bytes of -5:30 and -4:30 can compare as equal.
+// The bytes of the three parts of -5:30 and -4:30, with signs, can compare as equal.
 #[test]
 fn offsets_in_order(rt: HostRuntime) {
     let (west, less_west) = (offset(&rt, -5, -30, 0), offset(&rt, -4, -30, 0));

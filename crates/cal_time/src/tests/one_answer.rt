@@ -1,8 +1,7 @@
-//! Each contract that is no plain equation leaves one answer: two calls with the same arguments are proved to give the same.
-//!
-//! A proof knows nothing of a call but its clauses. So where they let a second answer through, the line of that call stays open.
+//! Each contract that isn't a plain equation leaves one result: two equal calls return the same. A
+//! proof knows only the clauses of a call, so it stays open if they allow a second result.
 
-/// What two calls give.
+/// The results of two calls.
 type Twice<T> = (T, T);
 
 macro_rules! twice {

@@ -1,4 +1,4 @@
-//! The texts of values, plain, padded, and for debugging.
+//! The texts of values: plain, padded, and for debugging.
 use crate::error::{Component, ComponentRange, ConversionRange, InvalidVariant};
 use crate::tests::range::{FIRST_YEAR, LAST_YEAR};
 use crate::tests::{date, offset, same, time};
@@ -9,13 +9,12 @@ use std::test::Fail;
 
 const NO_MEMORY: &str = "no memory is left, or the value gave up";
 
-/// Stops the test unless the value is written so.
 fn check_text<R: Abort + AllocGlobal, T: Copy + Display>(rt: &R, value: T, text: &str) {
     let written = format!(in rt.alloc(); "{value}").expect(rt, NO_MEMORY);
     same(rt, written.as_str(), text);
 }
 
-/// Stops the test unless the value is written so for debugging. The form of several lines is that of one line.
+/// Checks the text of a value for debugging. `{:#?}` prints the same text.
 fn check_debug<R: Abort + AllocGlobal, T: Copy + Debug>(rt: &R, value: T, text: &str) {
     let written = format!(in rt.alloc(); "{value:?}").expect(rt, NO_MEMORY);
     same(rt, written.as_str(), text);
@@ -118,7 +117,7 @@ fn texts_of_errors(rt: HostRuntime) {
     check_text(&rt, InvalidVariant, "value was not a valid variant");
 }
 
-// The longest text of each kind, and one that goes on where another ends.
+// The longest text of each kind, and one that continues another text.
 #[test]
 fn texts_in_place(rt: HostRuntime) {
     let found = (Date::MIN.text().len(), Time::MAX.text().len());
@@ -132,7 +131,7 @@ fn texts_in_place(rt: HostRuntime) {
     same(&rt, line.as_str(), "2024-02-29TWednesdaySeptember");
 }
 
-// A text fails only where its writer does, so at no hour.
+// A text fails only if its writer does, so at no hour.
 #[test]
 fn texts_of_each_hour(rt: HostRuntime) -> Result<(), Fail> {
     for hour in 0..24 {
@@ -156,19 +155,19 @@ fn texts_of_offsets_by_each_hour(rt: HostRuntime) -> Result<(), Fail> {
     Ok(())
 }
 
-/// Stops the test unless the value is written so under widths, of which the last one is less than its text.
+/// Checks the text of a value under several widths. The last width is less than the text.
 fn check_padded<R: Abort + AllocGlobal, T: Copy + Display>(rt: &R, value: T, text: &str) {
     let written = format!(in rt.alloc(); "{value:>13}|{value:_<13}|{value:2}|");
     same(rt, written.expect(rt, NO_MEMORY).as_str(), text);
 }
 
-/// The same, for debugging.
+/// Checks the text for debugging in the same way.
 fn check_padded_debug<R: Abort + AllocGlobal, T: Copy + Debug>(rt: &R, value: T, text: &str) {
     let written = format!(in rt.alloc(); "{value:>20?}|{value:_<13?}|{value:2?}|");
     same(rt, written.expect(rt, NO_MEMORY).as_str(), text);
 }
 
-// A width pads the whole text, and cuts none of it. A precision would cut it.
+// A width pads the whole text and truncates nothing. A precision would truncate it.
 #[test]
 fn padded_texts(rt: HostRuntime) {
     let (day, west) = (date(&rt, 2019, 1, 2), offset(&rt, -5, -30, 0));

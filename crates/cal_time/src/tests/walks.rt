@@ -1,4 +1,4 @@
-//! Walks over days, from both ends.
+//! Iterators over days, from both ends.
 ghost use Rattle.std.specs.Iterator.{IsFinite};
 
 use crate::iter::DateIter;

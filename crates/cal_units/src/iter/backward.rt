@@ -113,6 +113,7 @@ impl Rev<CycleIter<Month>> {
 impl<C: Cycle> Iterator for Rev<CycleIter<C>> {
     type Item = C;
 
+    // The call returns the next value and moves back by one place.
     ghost next_gives = { λ old r new. (r ≡ Some old) × IsBack C.Cycle 1 old new };
 
     /// Returns the next value, always `Some`. From January it returns January, December, November

@@ -119,6 +119,7 @@ impl CycleIter<Month> {
 impl<C: Cycle> Iterator for CycleIter<C> {
     type Item = C;
 
+    // The call returns the next value and moves on by one place.
     ghost next_gives = { λ old r new. (r ≡ Some old) × IsAhead C.Cycle 1 old new };
 
     /// Returns the next value, always `Some`. From December it returns December, January, February

@@ -1,8 +1,8 @@
 //! The arguments: what they ask for, and how they are read.
+use crate::tests::gives;
 use caldate_run::arguments::{MOST_BYTES, join};
 use caldate_run::help::{HELP, VERSION};
 use caldate_run::program::perform;
-use crate::tests::gives;
 use std::alloc::Global;
 use std::env::{Env, FillError};
 use std::process::Abort;

@@ -1,7 +1,7 @@
 //! Fields of lines, and lines that are passed on.
-use caldate_run::ending::end;
 use crate::tests::failing::Dripping;
 use crate::tests::{answers, gives, run_by};
+use caldate_run::ending::end;
 use std::io::ErrorKind;
 use std::test::Fail;
 

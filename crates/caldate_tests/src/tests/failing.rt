@@ -1,7 +1,7 @@
 //! Runs over readers and writers that fail, and that give or take one byte a call.
+use crate::tests::run_by;
 use caldate_run::ending::end;
 use caldate_run::fault::Fault;
-use crate::tests::run_by;
 use std::alloc::Global;
 use std::io::{self, ErrorKind, Read, Write};
 

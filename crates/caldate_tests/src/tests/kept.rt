@@ -1,6 +1,6 @@
 //! Lines that are kept, each as it came, and lines that are not.
-use caldate_run::ending::end;
 use crate::tests::{answers, gives};
+use caldate_run::ending::end;
 use std::test::Fail;
 
 /// Two dates, and moments at the edges of 29 February at two offsets.

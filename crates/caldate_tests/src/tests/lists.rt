@@ -1,4 +1,5 @@
 //! Lists of dates: rows from a calendar, both ends of the range, long ones, and writers that fail.
+use crate::tests::failing::{Failing, Sipping};
 use caldate_run::asked::asked_of;
 use caldate_run::ending::Ending;
 use caldate_run::fault::Fault;
@@ -6,7 +7,6 @@ use caldate_run::list::list;
 use caldate_run::program::perform;
 use caldate_run::recurring::list_occurrences;
 use caldate_run::request::Asked;
-use crate::tests::failing::{Failing, Sipping};
 use std::alloc::Global;
 use std::io::{ErrorKind, Write};
 

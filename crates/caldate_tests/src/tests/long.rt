@@ -1,7 +1,7 @@
 //! Lines of every length, in reads of every length.
+use crate::tests::run_by;
 use caldate_run::ending::end;
 use caldate_run::fault::Fault;
-use crate::tests::run_by;
 use std::alloc::{AllocError, Global};
 use std::io::{self, ErrorKind, Read};
 use std::test::Fail;

@@ -15,7 +15,7 @@ use caldate_run::recurring::list_occurrences;
 use caldate_run::request::{Asked, Filter, Listing, Occurrences};
 use caldate_run::run::run;
 use caldate_run::senseless::Senseless;
-use std::io::{Read, Write};
+use caldate_run::streams::{Sink, Source};
 
 /// Each part of the input between line feeds has one reply.
 fn one_reply_each(filter: &Filter, input: &[u8])
@@ -34,7 +34,7 @@ fn one_reply_each(filter: &Filter, input: &[u8])
     }
 }
 
-fn runs<R: Read, W: Write>(
+fn runs<R: Source, W: Sink>(
     filter: &Filter,
     input: &[u8],
     reader: &mut R,
@@ -51,7 +51,7 @@ fn runs<R: Read, W: Write>(
     (run(*filter, reader, writer), run(*filter, twin, other))
 }
 
-fn lists<W: Write>(
+fn lists<W: Sink>(
     listing: &Listing,
     writer: &mut W,
     other: &mut W,
@@ -63,7 +63,7 @@ fn lists<W: Write>(
     (list(listing, writer), list(listing, other))
 }
 
-fn occurrences<W: Write>(
+fn occurrences<W: Sink>(
     asked: &Occurrences,
     writer: &mut W,
     other: &mut W,

@@ -1,10 +1,10 @@
 //! Texts in each reading. The values of the moments are those of Python's `datetime`.
-use caldate_run::reading::{Reading, read_in};
-use caldate_run::request::UnixUnit;
 use crate::tests::gives;
 use cal_text::Unreadable::{UnexpectedByte, UnexpectedEnd};
 use cal_text::{Unreadable, read_any};
 use cal_time::UtcOffset;
+use caldate_run::reading::{Reading, read_in};
+use caldate_run::request::UnixUnit;
 
 const MILLISECONDS: Reading = Reading::Unix(UnixUnit::Milliseconds);
 

@@ -1,7 +1,7 @@
 //! Strict runs over readers that give few bytes a call, and that fail or are interrupted at each call.
-use caldate_run::ending::end;
 use crate::tests::failing::Dripping;
 use crate::tests::run_by;
+use caldate_run::ending::end;
 use std::alloc::Global;
 use std::io::{ErrorKind, Read};
 

@@ -1,4 +1,4 @@
-//! Numbers of months, and the longest steps round a cycle.
+//! Numbers of months, and the longest steps along a cycle.
 ghost use Rattle.std.specs.Prelude.{◌<◌};
 
 use crate::tests::same_at;
@@ -20,7 +20,7 @@ fn numbers_of_months(rt: HostRuntime) {
     }
 }
 
-/// The index of a value `n` places on round a cycle of this length.
+/// Returns the index of the value `n` places after an index on a cycle of this length.
 fn index_after(index: u8, n: usize, length: u8) -> u8
     requires { 0 < length }
 {
@@ -28,7 +28,7 @@ fn index_after(index: u8, n: usize, length: u8) -> u8
     ((u128::from(index) + n as u128) % length) as u8
 }
 
-/// The index of a value `n` places back round a cycle of this length.
+/// Returns the index of the value `n` places before an index on a cycle of this length.
 fn index_before(index: u8, n: usize, length: u8) -> u8
     requires { 0 < length }
 {

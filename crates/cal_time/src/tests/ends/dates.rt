@@ -1,4 +1,4 @@
-//! Dates at both ends of the range and of the types that they are made of.
+//! Dates at both ends of the range and at both ends of the types of their parts.
 use crate::tests::range::{DAYS, FIRST_JULIAN_DAY, FIRST_YEAR, LAST_JULIAN_DAY, LAST_YEAR};
 use crate::tests::{Told, date, same, same_at, told};
 use crate::{Counted, Date, Month, SignedDuration, Weekday, extent, is_rising};
@@ -13,13 +13,13 @@ const YEARS: [i32; 6] = [
     i32::MAX,
 ];
 
-/// The days of a month at both ends of the type and of the months of a year that is no leap year.
+/// The days of a month at both ends of the type and of the months of a common year.
 const DAYS_OF_MONTH: [u8; 8] = [0, 1, 28, 29, 30, 31, 32, 255];
 
-/// The ordinals at both ends of the type and of a year that is no leap year.
+/// The ordinals at both ends of the type and of a common year.
 const ORDINALS: [u16; 5] = [0, 1, 365, 366, 65_535];
 
-/// The months, each with its length and the days before it, in a year that is no leap year.
+/// The months of a common year, each with its length and the days before it.
 const MONTHS: [(Month, u8, u16); 12] = [
     (Month::January, 31, 0),
     (Month::February, 28, 31),
@@ -35,7 +35,7 @@ const MONTHS: [(Month, u8, u16); 12] = [
     (Month::December, 31, 334),
 ];
 
-/// The Julian day of the ordinal in the first year of the range, or in the last one.
+/// Returns the Julian day of an ordinal in the first or the last year of the range.
 fn julian_day(year: i32, ordinal: u16) -> i128 {
     if year == FIRST_YEAR {
         i128::from(FIRST_JULIAN_DAY) - 1 + i128::from(ordinal)
@@ -48,7 +48,7 @@ fn is_in_range(year: i32) -> bool {
     FIRST_YEAR <= year && year <= LAST_YEAR
 }
 
-/// The Julian day of an ordinal date of one of [`YEARS`], or its refusal.
+/// Returns the Julian day of an ordinal date in one of [`YEARS`], or the error.
 fn of_ordinal(year: i32, ordinal: u16) -> Told {
     if !is_in_range(year) {
         Err(("year", false))
@@ -59,7 +59,7 @@ fn of_ordinal(year: i32, ordinal: u16) -> Told {
     }
 }
 
-/// The Julian day of a calendar date of one of [`YEARS`], or its refusal, for a month with that length and the days before it.
+/// Returns the Julian day of a calendar date in one of [`YEARS`], or the error.
 fn of_day(year: i32, length: u8, before: u16, day: u8) -> Told {
     if !is_in_range(year) {
         Err(("year", false))
@@ -112,7 +112,8 @@ fn calendar_dates(rt: HostRuntime) {
     }
 }
 
-// The first day of the range is a Monday, so week 1 of the first year begins with it; the last day is a Friday of week 52.
+// The first day of the range is a Monday, so it begins week 1 of the first year. The last day is a
+// Friday in week 52.
 #[test]
 fn iso_week_dates(rt: HostRuntime) {
     let (first, last) = (i128::from(FIRST_JULIAN_DAY), i128::from(LAST_JULIAN_DAY));

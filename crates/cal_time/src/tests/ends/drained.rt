@@ -1,10 +1,10 @@
-//! A walk over a new year and a leap day, emptied from both ends, beside a list of its days.
+//! An iterator over a new year and a leap day, emptied from both ends, beside a list of its days.
 use crate::Date;
 use crate::iter::DateIter;
 use crate::tests::{date, same};
 use std::process::Abort;
 
-/// The Julian days from 2019-12-25 to 2020-03-05.
+/// Returns the Julian days from 2019-12-25 to 2020-03-05.
 fn days() -> [i32; 72] {
     let mut days = [2_458_843i32; 72];
     for k in 1..72 {
@@ -13,7 +13,7 @@ fn days() -> [i32; 72] {
     days
 }
 
-/// What the list has `k` places from its front, and what comes after that.
+/// Returns the item at index `k` from the front of a list, and the items after it.
 fn from_front(list: &[i32], k: usize) -> (Option<i32>, &[i32]) {
     if k < list.len() {
         (Some(list[k]), &list[k + 1..])
@@ -22,7 +22,7 @@ fn from_front(list: &[i32], k: usize) -> (Option<i32>, &[i32]) {
     }
 }
 
-/// What the list has `k` places from its back, and what comes before that.
+/// Returns the item at index `k` from the back of a list, and the items before it.
 fn from_back(list: &[i32], k: usize) -> (Option<i32>, &[i32]) {
     let length = list.len();
     if k < length {
@@ -33,7 +33,7 @@ fn from_back(list: &[i32], k: usize) -> (Option<i32>, &[i32]) {
     }
 }
 
-/// Stops the test unless the item is that of the list, and as many days are left as in the list.
+/// Checks an item against the list, and the number of days left.
 fn check_step(
     rt: &impl Abort,
     item: Option<Date>,
@@ -50,7 +50,7 @@ fn check_step(
     same(rt, found, (left.first().copied(), left.last().copied()));
 }
 
-/// Stops the test unless one step of each kind, two of them `k` places far, takes what the list has. Gives what is left of it.
+/// Checks one step of each kind, two of them with the index `k`. Returns the items that are left.
 fn check_round<'a>(rt: &impl Abort, walk: &mut DateIter, list: &'a [i32], k: usize) -> &'a [i32] {
     let (want, left) = from_front(list, 0);
     let item = walk.next();
@@ -83,7 +83,7 @@ fn drained_by_steps_of_each_kind(rt: HostRuntime) {
         }
         assert!(rt; left.is_empty());
 
-        // Nothing is left, whichever way it is asked for.
+        // The iterator is empty, whichever call is used.
         check_round(&rt, &mut walk, left, k);
     }
 }

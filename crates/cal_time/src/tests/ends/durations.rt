@@ -1,17 +1,17 @@
-//! Durations at both ends of the type and of what they are made of.
+//! Durations at both ends of the range and at both ends of the types of their parts.
 use crate::tests::conditions::scaled_by_u32;
 use crate::tests::ends::{DAY, HOUR, MINUTE, SECOND};
 use crate::tests::{same, same_at};
 use crate::{Counted, SignedDuration, extent, is_rising};
 use std::process::Abort;
 
-/// The nanoseconds of the least duration.
+/// The nanoseconds of the minimum duration.
 const LEAST: i128 = -9_223_372_036_854_775_808_999_999_999;
 
-/// The nanoseconds of the greatest duration.
+/// The nanoseconds of the maximum duration.
 const GREATEST: i128 = 9_223_372_036_854_775_807_999_999_999;
 
-/// Durations at the ends and around zero, each with its nanoseconds.
+/// Returns durations at both ends and around zero, each with its nanoseconds.
 pub(super) fn ends() -> [(SignedDuration, i128); 9] {
     [
         (SignedDuration::MIN, LEAST),
@@ -32,7 +32,7 @@ pub(super) fn ends() -> [(SignedDuration, i128); 9] {
     ]
 }
 
-/// The number, where it is that of a duration.
+/// Returns the number if it is a duration.
 fn exact(nanoseconds: i128) -> Option<i128> {
     if nanoseconds < LEAST || nanoseconds > GREATEST {
         None
@@ -41,7 +41,7 @@ fn exact(nanoseconds: i128) -> Option<i128> {
     }
 }
 
-/// The number of the duration that is nearest to this one.
+/// Returns the number, clamped to the range of durations.
 fn clamped(nanoseconds: i128) -> i128 {
     nanoseconds.max(LEAST).min(GREATEST)
 }
@@ -51,7 +51,7 @@ fn numbers(durations: [SignedDuration; 2]) -> [i128; 2] {
     [one.whole_nanoseconds(), other.whole_nanoseconds()]
 }
 
-/// What `+` and `+=` give, where the sum is a duration.
+/// Returns the results of `+` and `+=` if the sum is a duration.
 fn sums(a: SignedDuration, b: SignedDuration) -> Option<[i128; 2]> {
     a.checked_add(b)?;
     let mut sum = a;
@@ -59,7 +59,7 @@ fn sums(a: SignedDuration, b: SignedDuration) -> Option<[i128; 2]> {
     Some(numbers([a + b, sum]))
 }
 
-/// What `-` and `-=` give, where the difference is a duration.
+/// Returns the results of `-` and `-=` if the difference is a duration.
 fn differences(a: SignedDuration, b: SignedDuration) -> Option<[i128; 2]> {
     a.checked_sub(b)?;
     let mut difference = a;
@@ -67,7 +67,7 @@ fn differences(a: SignedDuration, b: SignedDuration) -> Option<[i128; 2]> {
     Some(numbers([a - b, difference]))
 }
 
-/// What `*` and `*=` give, where the product is a duration.
+/// Returns the results of `*` and `*=` if the product is a duration.
 macro_rules! products {
     ($a:expr, $k:expr) => {{
         $a.checked_mul(i32::from($k))?;
@@ -77,7 +77,7 @@ macro_rules! products {
     }};
 }
 
-/// What `/` and `/=` give, where the quotient is a duration.
+/// Returns the results of `/` and `/=` if the quotient is a duration.
 macro_rules! quotients {
     ($a:expr, $k:expr) => {{
         $a.checked_div(i32::from($k))?;
@@ -127,7 +127,7 @@ fn quotients_by_u16(a: SignedDuration, k: u16) -> Option<[i128; 2]> {
     quotients!(a, k)
 }
 
-/// The quotient cut toward zero, where it is a duration, or nothing for the divisor 0.
+/// Returns the quotient, truncated toward zero, if the divisor isn't 0 and it is a duration.
 fn exact_quotient(nanoseconds: i128, divisor: i128) -> Option<i128> {
     exact(nanoseconds.checked_div(divisor)?)
 }
@@ -154,7 +154,7 @@ fn sums_and_differences(rt: HostRuntime) {
     }
 }
 
-/// Stops the test unless the operators give this product and this quotient, for operands of each type that has the number.
+/// Checks the product and the quotient for operands of each type that has the number.
 fn check_operands(rt: &impl Abort, a: SignedDuration, k: i32, wanted: [Option<[i128; 2]>; 2]) {
     let found = [products_by_i32(a, k), quotients_by_i32(a, k)];
     same_at(rt, k, found, wanted);
@@ -203,7 +203,7 @@ fn products_and_quotients(rt: HostRuntime) {
     }
 }
 
-// A number above 2147483647 has no checked form, so these rows are within the conditions by themselves.
+// A number above 2147483647 has no checked call, so these rows meet the conditions without a test.
 #[test]
 fn products_and_quotients_by_u32(rt: HostRuntime) {
     let (min, max) = (SignedDuration::MIN, SignedDuration::MAX);

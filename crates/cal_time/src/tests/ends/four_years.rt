@@ -1,4 +1,4 @@
-//! The first two and the last two years of the range, day by day and week by week. None of them is a leap year.
+//! The first two and the last two years of the range, all common years, by days and by weeks.
 use crate::tests::range::{FIRST_JULIAN_DAY, FIRST_YEAR, LAST_JULIAN_DAY, LAST_YEAR};
 use crate::tests::{same, told};
 use crate::{Counted, Date, Month, Weekday};
@@ -30,7 +30,7 @@ const WEEKDAYS: [Weekday; 7] = [
     Weekday::Sunday,
 ];
 
-/// What runs on from day to day of a year.
+/// The counts that go on from day to day of a year.
 #[derive(Clone, Copy)]
 struct Running {
     year: i32,
@@ -68,8 +68,8 @@ impl Running {
         }
     }
 
-    /// The ISO year and week, which are those of the Thursday of the week. The year before has 365 days too where the week
-    /// begins in it.
+    /// Returns the ISO year and week, from the Thursday of the week. If the week begins in the year
+    /// before, that year has 365 days too.
     fn iso_week(self) -> (i32, i32) {
         let thursday = i32::from(self.ordinal) + 3 - i32::from(self.weekday);
         if thursday < 1 {
@@ -82,7 +82,6 @@ impl Running {
     }
 }
 
-/// Stops the test unless each constructor gives this day.
 fn check_constructors(rt: &impl Abort, running: Running, month: Month, day: u8) {
     let year = running.year;
     let (iso_year, week) = running.iso_week();
@@ -98,7 +97,6 @@ fn check_constructors(rt: &impl Abort, running: Running, month: Month, day: u8) 
     }
 }
 
-/// Stops the test unless the date has what this day has.
 fn check_parts(rt: &impl Abort, date: Date, running: Running, month: Month, day: u8) {
     let (year, ordinal, weekday) = (running.year, running.ordinal, running.weekday);
     let (iso_year, week) = running.iso_week();
@@ -117,7 +115,6 @@ fn check_parts(rt: &impl Abort, date: Date, running: Running, month: Month, day:
     same(rt, weeks, (running.sundays, running.mondays));
 }
 
-/// Stops the test unless the days around the date are its neighbours.
 fn check_neighbours(rt: &impl Abort, date: Date, julian_day: i32) {
     let before = (julian_day != FIRST_JULIAN_DAY).then_some(i128::from(julian_day) - 1);
     let after = (julian_day != LAST_JULIAN_DAY).then_some(i128::from(julian_day) + 1);
@@ -126,7 +123,7 @@ fn check_neighbours(rt: &impl Abort, date: Date, julian_day: i32) {
     same(rt, found, [before, after]);
 }
 
-/// Stops the test unless all days of the year are those of the calendar. Gives what runs on to the next year.
+/// Checks all days of the year. Returns the counts that go on to the next year.
 fn check_year(rt: &impl Abort, new_year: Running) -> Running {
     let mut running = new_year;
     for (month, length) in MONTHS {
@@ -141,8 +138,8 @@ fn check_year(rt: &impl Abort, new_year: Running) -> Running {
     running
 }
 
-// The range begins on a Monday and ends on a Friday. A year of 365 days ends on the weekday that it begins on, so the last year begins on
-// a Friday, and the year before it on a Thursday.
+// The range begins on a Monday and ends on a Friday. A year of 365 days ends on the weekday that it
+// begins on, so the last year begins on a Friday, and the year before it on a Thursday.
 #[test]
 fn each_day(rt: HostRuntime) {
     for (year, julian_day, weekday) in [

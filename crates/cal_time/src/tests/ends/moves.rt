@@ -9,7 +9,7 @@ use std::process::Abort;
 /// Both ends of the range, with their Julian days.
 const DATES: [(Date, i32); 2] = [(Date::MIN, FIRST_JULIAN_DAY), (Date::MAX, LAST_JULIAN_DAY)];
 
-/// Durations as long as the range, and around one day, each with its nanoseconds.
+/// Returns durations as long as the range, and around one day, each with its nanoseconds.
 fn durations() -> [(SignedDuration, i128); 8] {
     let days = i128::from(DAYS);
     let almost_on = SignedDuration::nanoseconds(86_399_999_999_999);
@@ -26,7 +26,7 @@ fn durations() -> [(SignedDuration, i128); 8] {
     ]
 }
 
-/// The Julian day, where it is one of the range.
+/// Returns the Julian day if it is in the range.
 fn in_range(julian_day: i128) -> Option<i128> {
     if nearest(julian_day) == julian_day {
         Some(julian_day)
@@ -35,14 +35,14 @@ fn in_range(julian_day: i128) -> Option<i128> {
     }
 }
 
-/// The Julian day of the range that is nearest to this one.
+/// Returns the Julian day, clamped to the range.
 fn nearest(julian_day: i128) -> i128 {
     julian_day
         .max(i128::from(FIRST_JULIAN_DAY))
         .min(i128::from(LAST_JULIAN_DAY))
 }
 
-/// What `+` and `+=` give, where that day is in the range.
+/// Returns the results of `+` and `+=` if the date is in the range.
 fn sums(date: Date, duration: SignedDuration) -> Option<[i128; 2]> {
     date.checked_add(duration)?;
     let mut moved = date;
@@ -50,7 +50,7 @@ fn sums(date: Date, duration: SignedDuration) -> Option<[i128; 2]> {
     Some([(date + duration).number(), moved.number()])
 }
 
-/// What `-` and `-=` give, where that day is in the range.
+/// Returns the results of `-` and `-=` if the date is in the range.
 fn differences(date: Date, duration: SignedDuration) -> Option<[i128; 2]> {
     date.checked_sub(duration)?;
     let mut moved = date;
@@ -58,7 +58,7 @@ fn differences(date: Date, duration: SignedDuration) -> Option<[i128; 2]> {
     Some([(date - duration).number(), moved.number()])
 }
 
-/// Stops the test unless all moves of the day by the duration are those of the numbers, whose whole days are cut toward zero.
+/// Checks all moves of the date by the duration. Its whole days are truncated toward zero.
 fn check_moves(rt: &impl Abort, date: Date, from: i32, duration: SignedDuration, by: i128) {
     let (from, days) = (i128::from(from), by / DAY);
     let (later, earlier) = (from.saturating_add(days), from.saturating_sub(days));
@@ -86,8 +86,8 @@ fn ends_moved_by_durations(rt: HostRuntime) {
     }
 }
 
-/// The Julian day of the `n`-th day after another that has the weekday, by its days from Monday: a Julian day that 7 divides is
-/// a Monday.
+/// Returns the Julian day of the `n`-th day after another with the weekday, given as days from
+/// Monday. A Julian day that 7 divides is a Monday.
 fn nth_after(from: i32, weekday: u8, n: u8) -> Option<i128> {
     if n == 0 {
         return None;
@@ -98,7 +98,7 @@ fn nth_after(from: i32, weekday: u8, n: u8) -> Option<i128> {
     in_range(from.saturating_add(days))
 }
 
-/// The Julian day of the `n`-th day before another that has the weekday.
+/// Returns the Julian day of the `n`-th day before another with the weekday.
 fn nth_before(from: i32, weekday: u8, n: u8) -> Option<i128> {
     if n == 0 {
         return None;
@@ -109,7 +109,7 @@ fn nth_before(from: i32, weekday: u8, n: u8) -> Option<i128> {
     in_range(from.saturating_sub(days))
 }
 
-/// The Julian day of the `n`-th day after with the weekday, by each call that gives it.
+/// Returns the Julian day of the `n`-th day after the date with the weekday, by each call.
 fn next_occurrences(date: Date, weekday: Weekday, n: u8) -> Option<[i128; 3]> {
     let checked = date.checked_nth_next_occurrence(weekday, n)?;
     let nth = date.nth_next_occurrence(weekday, n);
@@ -121,7 +121,7 @@ fn next_occurrences(date: Date, weekday: Weekday, n: u8) -> Option<[i128; 3]> {
     Some([checked.number(), nth.number(), nearest.number()])
 }
 
-/// The Julian day of the `n`-th day before with the weekday, by each call that gives it.
+/// Returns the Julian day of the `n`-th day before the date with the weekday, by each call.
 fn prev_occurrences(date: Date, weekday: Weekday, n: u8) -> Option<[i128; 3]> {
     let checked = date.checked_nth_prev_occurrence(weekday, n)?;
     let nth = date.nth_prev_occurrence(weekday, n);
@@ -133,7 +133,7 @@ fn prev_occurrences(date: Date, weekday: Weekday, n: u8) -> Option<[i128; 3]> {
     Some([checked.number(), nth.number(), nearest.number()])
 }
 
-/// Stops the test unless the days with each weekday, around a date with that Julian day, are those of the numbers.
+/// Checks the days with each weekday around a date with this Julian day.
 fn check_occurrences(rt: &impl Abort, date: Date, from: i32, n: u8) {
     for weekday in Weekday::iter_from(Weekday::Monday).take(7) {
         let (after, before) = (

@@ -8,7 +8,7 @@ const HOURS: [i8; 7] = [-128, -26, -25, 0, 25, 26, 127];
 /// The minutes, or the seconds, at both ends of the range and of the type.
 const SIXTIETHS: [i8; 7] = [-128, -60, -59, 0, 59, 60, 127];
 
-/// The seconds of an offset, or the refusal of the first part that is out of range.
+/// Returns the seconds of an offset, or the error of the first part that is out of range.
 fn of_parts(hours: i8, minutes: i8, seconds: i8) -> Told {
     let leading = if hours != 0 {
         hours

@@ -4,7 +4,7 @@ use crate::tests::ends::durations::ends;
 use crate::tests::range::{DAYS, FIRST_JULIAN_DAY, LAST_JULIAN_DAY};
 use crate::{Counted, Date, SignedDuration, Time, add_to_pair, sub_from_pair};
 
-/// The Julian day and the nanoseconds since midnight of a moment, where the day is one of the range.
+/// Returns the Julian day and the nanoseconds of a moment, if the day is in the range.
 fn at_moment(moment: i128) -> Option<(i128, i128)> {
     let (julian_day, past) = (moment.div_euclid(DAY), moment.rem_euclid(DAY));
     if julian_day < i128::from(FIRST_JULIAN_DAY) || julian_day > i128::from(LAST_JULIAN_DAY) {
@@ -18,14 +18,14 @@ fn numbers((date, time): (Date, Time)) -> (i128, i128) {
     (date.number(), time.number())
 }
 
-/// Whether both moves of the pair by the duration are those of its moment.
+/// Returns `true` if both moves of the pair by the duration move its moment.
 fn moves_exactly(date: Date, time: Time, moment: i128, duration: SignedDuration, by: i128) -> bool {
     let (later, earlier) = (moment.saturating_add(by), moment.saturating_sub(by));
     add_to_pair(date, time, duration).map(numbers) == at_moment(later)
         && sub_from_pair(date, time, duration).map(numbers) == at_moment(earlier)
 }
 
-/// Durations as long as the range, each with its nanoseconds.
+/// Returns durations as long as the range, each with its nanoseconds.
 fn durations() -> [(SignedDuration, i128); 5] {
     let days = i128::from(DAYS);
     [

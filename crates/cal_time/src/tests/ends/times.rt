@@ -1,4 +1,4 @@
-//! Times at both ends of their parts, and moved by the least and the greatest duration.
+//! Times at both ends of their parts, and moved by the minimum and the maximum duration.
 ghost use Rattle.std.specs.Prelude.{pos, ◌<ℤ◌};
 
 use crate::error::ComponentRange;
@@ -26,7 +26,7 @@ const PARTS: [(u16, u32, u32); 4] = [
 /// Both ends of the day, with their nanoseconds.
 const TIMES: [(Time, u64); 2] = [(Time::MIDNIGHT, 0), (Time::MAX, 86_399_999_999_999)];
 
-/// The nanoseconds of a clock, or the refusal of the first part that is out of range.
+/// Returns the nanoseconds of a time, or the error of the first part that is out of range.
 fn clock(hour: u8, minute: u8, second: u8) -> Told {
     if hour > 23 {
         Err(("hour", false))
@@ -39,7 +39,7 @@ fn clock(hour: u8, minute: u8, second: u8) -> Told {
     }
 }
 
-/// Those nanoseconds and a part of a second, or the refusal of the first that is out of range: a second has `count` parts.
+/// Adds a part of a second to a time, or returns the first error. A second has `count` parts.
 fn with_part(clock: &Told, part: u32, count: u32, name: &'static str) -> Told {
     match *clock {
         Err(refusal) => Err(refusal),
@@ -51,7 +51,7 @@ fn with_part(clock: &Told, part: u32, count: u32, name: &'static str) -> Told {
     }
 }
 
-/// Stops the test unless the answers are that clock with so many milliseconds, microseconds and nanoseconds, or refuse them.
+/// Checks the times with milliseconds, microseconds and nanoseconds, or their errors.
 fn check_parts(
     rt: &impl Abort,
     clock: &Told,
@@ -93,7 +93,7 @@ fn times_of_clocks_and_parts_of_a_second(rt: HostRuntime) {
     }
 }
 
-/// The nanoseconds with another value of the part of that unit, of which the next greater unit has `count`.
+/// Replaces the part of a unit in the nanoseconds. The next larger unit has `count` of these units.
 fn with_unit(nanoseconds: i128, value: u8, unit: i128, count: u8, name: &'static str) -> Told
     requires { pos 0 <ℤ unit }
 {
@@ -165,7 +165,7 @@ fn ways_between_the_ends(rt: HostRuntime) {
     }
 }
 
-/// The day and the time of nanoseconds since midnight, which may be those of the day before or the day after.
+/// Splits nanoseconds since midnight into the day, which may be a neighbour, and the time.
 fn carried(nanoseconds: i128) -> (DateAdjustment, i128) {
     if nanoseconds < 0 {
         (DateAdjustment::Previous, nanoseconds + DAY)
@@ -176,7 +176,8 @@ fn carried(nanoseconds: i128) -> (DateAdjustment, i128) {
     }
 }
 
-// The whole days of a duration are not in the carry, and the rest has the sign of the duration.
+// The adjustment doesn't have the whole days of a duration, and the rest has the sign of the
+// duration.
 #[test]
 fn ends_moved_by_the_ends_of_durations(rt: HostRuntime) {
     for (time, number) in TIMES {

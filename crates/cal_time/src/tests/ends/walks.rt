@@ -1,13 +1,13 @@
-//! Walks over all days of the range, and steps of the greatest length.
+//! Iterators over all days of the range, and the longest steps.
 use crate::Date;
 use crate::iter::DateIter;
 use crate::tests::range::{DAYS, FIRST_YEAR, LAST_YEAR};
 use crate::tests::{date, same, same_at};
 
-/// The index of the last day in a walk over the whole range.
+/// The index of the last day in an iterator over the whole range.
 const LAST_PLACE: usize = DAYS as usize - 1;
 
-/// Whether no days are left, whichever call is asked.
+/// Returns `true` if each call says that the iterator is empty.
 fn is_empty(walk: &DateIter) -> bool {
     let (mut forwards, mut backwards) = (walk.clone(), walk.clone());
     let items = [
@@ -35,7 +35,7 @@ fn the_whole_range(rt: HostRuntime) {
     assert!(rt; walk.is_sorted());
 }
 
-// The columns: n, the days that as many steps from the front and from the back lead to.
+// The columns: n, and the days after n steps from the front and from the back.
 #[test]
 fn steps_from_both_ends(rt: HostRuntime) {
     let (eighth, eighth_last) = (date(&rt, FIRST_YEAR, 1, 8), date(&rt, LAST_YEAR, 12, 24));
@@ -62,7 +62,8 @@ fn steps_from_both_ends(rt: HostRuntime) {
     }
 }
 
-// A walk that becomes empty keeps its front and has no back, as one that was made empty.
+// An iterator that becomes empty keeps its front day and has no back day, like one that was created
+// empty.
 #[test]
 fn what_empty_walks_keep(rt: HostRuntime) {
     let empty = DateIter::new(Date::MAX, Date::MIN);

@@ -33,7 +33,7 @@ fn order_and_equality<T: Counted>(a: T, b: T) -> (bool, bool)
     (a.cmp(&b) == Ordering::Equal, a == b)
 }
 
-/// Stops the test unless the order, the equality and the hashes of each two of the values are those of their numbers.
+/// Stops the test unless each two of the values are ordered, equal and hashed by their numbers.
 pub(crate) fn check_values<T: Counted + Debug>(rt: &impl Abort, values: &[T]) {
     for a in values {
         for b in values {

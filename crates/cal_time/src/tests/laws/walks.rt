@@ -14,7 +14,7 @@ use std::test::Fail;
 type Taken = (Vec<Date>, DateIter, Vec<Date>);
 
 /// Takes the first day that is left, or the last one.
-#[tactic(auto, using(crate::proofs::Laws::taken))]
+#[tactic(auto, using(crate::proofs::RoundTrips::taken))]
 fn take(
     is_front: bool,
     left: &mut DateIter,
@@ -48,7 +48,8 @@ fn taken(alloc: Global, walk: &DateIter, turns: &[bool]) -> Result<Taken, AllocE
     Ok((front, left, back))
 }
 
-/// Stops the test unless that many days come from the front and from the back, and with what is left between are the list.
+/// Stops the test unless that many days come from the front and from the back, and these and the
+/// days left between them are the list.
 fn check_taken(
     rt: &(impl Abort + AllocGlobal),
     list: &[Date],

@@ -1,4 +1,4 @@
-//! Slices of values that are known by a number.
+//! Slices of values that have a number.
 ghost use Rattle.std.specs.Prelude.{◌≡◌};
 
 use crate::Counted;

@@ -1,4 +1,4 @@
-//! Steps, walks and questions along a cycle.
+//! Steps, iterators and tests along a cycle.
 ghost use Rattle.std.specs.Prelude.{◌≡◌, Bool};
 
 use crate::iter::{CycleIter, Rev};

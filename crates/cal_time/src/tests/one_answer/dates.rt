@@ -1,4 +1,4 @@
-//! The dates of components, the components of dates, and dates with one replaced.
+//! Dates from components, the components of dates, and dates with one component replaced.
 ghost use Rattle.std.specs.Prelude.{◌≡◌, ℕ, ◌<◌, ◌≤◌};
 ghost use Rattle.cal_date.specs.ClosedForms.{HasKernel};
 ghost use Rattle.cal_date.specs.Date.{IsDate, IsYear};

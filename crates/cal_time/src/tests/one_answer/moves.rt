@@ -1,4 +1,4 @@
-//! Dates moved, alone and with a time.
+//! Dates moved, with and without a time.
 ghost use Rattle.std.specs.Prelude.{◌≡◌, pos, ◌+ℤ◌, ◌-ℤ◌, IsSome};
 ghost use Rattle.cal_units.specs.Weekday.{index};
 ghost use Rattle.cal_span.specs.SignedDuration.{whole_days};

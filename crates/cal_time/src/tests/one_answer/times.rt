@@ -1,4 +1,4 @@
-//! Times of components, with one replaced, and moved.
+//! Times from components, with one component replaced, and moved.
 ghost use Rattle.std.specs.Prelude.{◌≡◌};
 
 use crate::error::ComponentRange;

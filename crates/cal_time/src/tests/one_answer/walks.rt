@@ -1,4 +1,4 @@
-//! Walks over days.
+//! Iterators over days.
 ghost use Rattle.std.specs.Prelude.{◌≡◌};
 
 use crate::Date;

@@ -9,7 +9,7 @@ use Rattle.cal_units.proofs.Extents.{between-one, between-keeps, between-takes}
 use Rattle.cal_units.proofs.counted.extent.Goals as goal
 use Rattle.cal_units.proofs.counted.extent.Goals.{then-lt, else-lt, then-gt, else-gt}
 
--- `<` and `>` compare the numbers
+-- `<` and `>` compare the numbers.
 record Compares {T : Type 0} (number : T → ℤ) (partial_cmp : T → T → Option Ordering) : Type 0 where
   cmp : T → T → Ordering
   ordered : (x y : T) → cmp x y ≡ int_cmp (number x) (number y)

@@ -1,17 +1,19 @@
 use Rattle.std.proofs.Common.{ℕ, ◌++◌, ◌∷◌, ◌∙◌, ap, sym, subst, arith, rules, append_assoc, []}
 use Rattle.std.specs.Prelude.{IsErrAnd}
 use Rattle.std.proofs.KnownBytes.{Appends-nil, Appends-trans}
+use Rattle.caldate_run.specs.Calls.Writes.{no_more}
 use Rattle.caldate_run.specs.Lists.{AreAll, AreFirst, IsWithin}
 use Rattle.caldate_run.specs.Runs.{IsOfWrite}
+use Rattle.caldate_run.proofs.Calls.{writes_then}
 use Rattle.caldate_run.proofs.Listed.{lists_ended, lists_failed, next_count, one_line_more, one_more}
 use Rattle.caldate_run.proofs.Steps.{front_more}
 use Rattle.caldate_run.proofs.list.list.Goals as goal
 
 pub loop-day-init : goal.loop-day-init
-loop-day-init g c = (([], [], λ k less. absurd (omega (arith, less)), omega arith, sym c.new-buffer.ensures, Appends-nil _), omega arith)
+loop-day-init g c = (([], [], λ k less. absurd (omega (arith, less)), omega arith, sym c.new-buffer.ensures, Appends-nil _), omega arith, no_more _)
 
-pub returns-in_err-make_room : goal.returns-in_err-make_room
-returns-in_err-make_room g c =
+pub returns-in_err-make_room-clause-lists : goal.returns-in_err-make_room-clause-lists
+returns-in_err-make_room-clause-lists g c =
     let inv = c.loop-day.invariant.0 in
     let is : IsErrAnd c.from_residual.result IsOfWrite = search rules in
     lists_failed (AreAll c.args.listing.now) (AreFirst c.args.listing.now) _ _ _ inv.0 is inv.2 (front_more _ _ _ inv.1 c.loop-day.buffer _ inv.4 inv.5 c.in_err-make_room.ensures.front)
@@ -33,10 +35,11 @@ loop-day-preserved g c =
         Appends-trans _ _ _ _ _ inv.5 room.2,
       ),
       omega (arith, c.in-Some.ensures.near, c.requires.1),
+      writes_then _ _ _ _ _ c.loop-day.invariant.2 c.in_ok-make_room.ensures.writes,
     )
 
-pub returns : goal.returns
-returns g c =
+pub returns-clause-lists : goal.returns-clause-lists
+returns-clause-lists g c =
     let inv = c.loop-day.invariant.0 in
     let listing = c.args.listing.now in
     let none = subst (λ count. (day : ℕ) → ¬ IsWithin listing count day) inv.3 c.in_default.ensures.day in

@@ -2,6 +2,7 @@ use Rattle.std.proofs.Common.{◌++◌, ◌∷◌, [], ◌∙◌, ap, sym, subst
 use Rattle.std.specs.Io.KnownBytes.{Appends}
 use Rattle.caldate_run.specs.Runs.{AppendsFront, IsReplyTo}
 use Rattle.caldate_run.specs.declared.fault.Fault.TheVariants.{Unanswered}
+use Rattle.caldate_run.proofs.Calls.{writes_then}
 use Rattle.caldate_run.proofs.Ends.{same_fault}
 use Rattle.caldate_run.proofs.Replied.{taken_back, tells}
 use Rattle.caldate_run.proofs.Steps.{Tells, answered, gone, failed, stopped}
@@ -17,7 +18,7 @@ returns-in-Err-clause-write g c = λ h input start s.
     let same = taken_back c.make_room.new.buffer c.push_line.new.buffer c.in-Err.ensures.strict.2.0 _ _ c.len-before.ensures c.in-Err.ensures.strict.2.1 c.take_back-told.ensures.kept in
     let s = gone (IsReplyTo c.args.filter.now) input start _ _ c.loop-line.buffer c.make_room.new.buffer room.0 c.loop-line.rest.now c.loop-line.progress room.1 room.2 (c.loop-line.invariant.1 input start s) in
     failed c.args.filter.now input start _ _ c.make_room.new.buffer c.loop-line.rest.now c.loop-line.progress
-    (subst (AppendsFront (g.W.Write.contents c.make_room.new.writer) (g.W.Write.contents c.stop.new.writer)) same (c.stop.ensures.write h)) s
+    (subst (AppendsFront (g.W.Sink.contents c.make_room.new.writer) (g.W.Sink.contents c.stop.new.writer)) same (c.stop.ensures.write h)) s
 
 pub returns-in-Err-clause-unanswered : goal.returns-in-Err-clause-unanswered
 returns-in-Err-clause-unanswered g c = λ told h input start s.
@@ -31,7 +32,7 @@ returns-in-Err-clause-unanswered g c = λ told h input start s.
     stopped c.args.filter.now input start _ _ c.make_room.new.buffer c.loop-line.rest.now c.in-Some.line.now c.in-Some.after.now c.loop-line.progress told
     c.in-Some.ensures.parts.0 c.in-Some.ensures.parts.1 no.0
     (subst (Tells c.args.filter.now c.loop-line.progress c.in-Some.line.now) (sym went.0) tells)
-    (subst (Appends (g.W.Write.contents c.make_room.new.writer) (g.W.Write.contents c.stop.new.writer)) same went.1) s
+    (subst (Appends (g.W.Sink.contents c.make_room.new.writer) (g.W.Sink.contents c.stop.new.writer)) same went.1) s
 
 pub loop-line-preserved : goal.loop-line-preserved
 loop-line-preserved g c =
@@ -46,4 +47,5 @@ loop-line-preserved g c =
           answered (IsReplyTo c.args.filter.now) input start _ c.make_room.new.buffer c.push_line.new.buffer c.loop-line.rest.now line after c.loop-line.progress _ parts.0 parts.1 reply refl
           (omega (arith, c.saturating_add-progress.ensures))
           (gone (IsReplyTo c.args.filter.now) input start _ _ c.loop-line.buffer c.make_room.new.buffer room.0 c.loop-line.rest.now c.loop-line.progress room.1 room.2 (c.loop-line.invariant.1 input start s)),
+      writes_then _ _ _ _ _ c.loop-line.invariant.2 c.in_ok-make_room.ensures.writes,
     )

@@ -1,15 +1,20 @@
-use Rattle.std.proofs.Common.{◌≡◌, ◌≤◌, ℕ, List, [], length}
+use Rattle.std.proofs.Common.{◌≡◌, ◌≤◌, ℕ, List, [], length, Bool, None}
+use Rattle.caldate_run.specs.Calls.{Reads, Writes, most_reads}
 use Rattle.std.specs.Io.KnownBytes.{Consumes}
 use Rattle.caldate_run.specs.Runs.{IsReplyTo}
 use Rattle.caldate_run.specs.Standing.{NoEnd, Stands}
 use Rattle.caldate_run.proofs.run.run.Given as goal
 
--- what was read is answered, all of it went out, and no line ends in what is pending, which leaves room
+-- what was read is answered, all of it went out, no line ends in what is pending, which leaves room, the reads that are left complete those
+-- of the run, and no write failed
 abbrev pub invariant-loop-reads : goal.invariant-loop-reads
 invariant-loop-reads g l =
-    ((input : List ℕ) × Consumes (g.R.Read.remaining l.initial.reader) (g.R.Read.remaining l.reader) input
-    × Stands (IsReplyTo l.filter) input (g.W.Write.contents l.initial.writer) (g.W.Write.contents l.writer) [] l.input l.progress)
+    ((input : List ℕ) × Consumes (g.R.Source.remaining l.initial.reader) (g.R.Source.remaining l.reader) input
+    × Stands (IsReplyTo l.filter) input (g.W.Sink.contents l.initial.writer) (g.W.Sink.contents l.writer) [] l.input l.progress)
     × NoEnd l.input × (l.buffer ≡ []) × (length l.input ≤ 4097)
+    × ((failed : Bool) (end : _) → Reads g.R.Source.read_gives l.reads l.reader failed end
+    → Reads g.R.Source.read_gives most_reads l.initial.reader failed end)
+    × Writes g.W.Sink.write_gives l.initial.writer None l.writer
 
 abbrev pub decreases-loop-reads : goal.decreases-loop-reads
 decreases-loop-reads g l = l.reads

@@ -25,7 +25,7 @@ loop-others-preserved c =
           ∙ ap (λ ds. l.self ++ ds) (sym (two-decimals l.others l.invariant.below c.loop-others-test.true)) ∙ l.invariant.all;
     }
 
--- the last digit
+-- The last digit.
 pub push_digit-requires-clause-room : goal.push_digit-requires-clause-room
 push_digit-requires-clause-room c =
     let l = c.loop-others in

@@ -7,4 +7,4 @@ pub returns : goal.returns
 returns g c held old other ok too =
     let asked = c.args.asked.now in
     lists-one (AreOccurrences asked) (AreFirstOccurrences asked) (one_dates asked) held _ _ _ _ ok too
-    (rw old at c.list_occurrences.ensures) (rw other at c.list_occurrences-2.ensures)
+    (rw old at c.list_occurrences.ensures.lists) (rw other at c.list_occurrences-2.ensures.lists)

@@ -1,5 +1,5 @@
 use Rattle.std.proofs.Common.{rules}
-use Rattle.cal_time.proofs.Laws.{julian_day-some}
+use Rattle.cal_time.proofs.RoundTrips.{julian_day-some}
 use Rattle.cal_time.proofs.tests.laws.dates.julian_day.Goals as goal
 
 pub returns-in-Err : goal.returns-in-Err

@@ -1,7 +1,7 @@
 use Rattle.std.proofs.Common.{◌≡◌, pos, ◌+ℤ◌, ◌-ℤ◌, ap, ◌∙◌, arith}
 use Rattle.std.proofs.lemmas.Int.{ints}
 use Rattle.cal_span.specs.SignedDuration.{whole_days}
-use Rattle.cal_time.proofs.Laws.{date-one, whole_days-of_days}
+use Rattle.cal_time.proofs.RoundTrips.{date-one, whole_days-of_days}
 use Rattle.cal_time.proofs.tests.laws.moves.by_difference.Goals as goal
 
 pub returns : goal.returns

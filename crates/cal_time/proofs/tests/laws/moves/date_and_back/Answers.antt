@@ -1,7 +1,7 @@
 use Rattle.std.proofs.Common.{◌≡◌, pos, ◌-ℤ◌, arith}
 use Rattle.std.proofs.lemmas.Int.{ints}
 use Rattle.cal_span.specs.SignedDuration.{whole_days}
-use Rattle.cal_time.proofs.Laws.{date-one}
+use Rattle.cal_time.proofs.RoundTrips.{date-one}
 use Rattle.cal_time.proofs.tests.laws.moves.date_and_back.Goals as goal
 
 pub returns-in-Some : goal.returns-in-Some

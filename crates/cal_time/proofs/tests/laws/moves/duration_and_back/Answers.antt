@@ -1,7 +1,7 @@
 use Rattle.std.proofs.Common.{◌≡◌, ◌-ℤ◌, sym, subst, arith}
 use Rattle.std.proofs.lemmas.Int.{ints}
 use Rattle.cal_span.specs.SignedDuration.{IsDuration}
-use Rattle.cal_time.proofs.Laws.{value-one}
+use Rattle.cal_time.proofs.RoundTrips.{value-one}
 use Rattle.cal_time.proofs.tests.laws.moves.duration_and_back.Goals as goal
 
 pub returns-in-Some : goal.returns-in-Some

@@ -1,9 +1,9 @@
 -- Where a law between calls asks for more than the search finds.
-use Rattle.std.proofs.Common.{◌≡◌, ℕ, ◌≤◌, List, [], ◌∷◌, ◌++◌, reverse, append_assoc, Option, Some, None, SomeIff, sym, ap, ◌∙◌, arith, ℤ, pos, negsuc, ◌-ℤ◌, ◌*ℤ◌, unsigned_abs}
+use Rattle.std.proofs.Common.{◌≡◌, ℕ, List, [], ◌∷◌, ◌++◌, reverse, append_assoc, Option, Some, None, SomeIff, sym, ap, ◌∙◌, arith, ℤ, pos, negsuc, ◌-ℤ◌, ◌*ℤ◌, unsigned_abs}
 use Rattle.std.proofs.lemmas.Int.{ints}
 use Rattle.std.proofs.lemmas.List.{reverse-append}
 use Rattle.cal_span.specs.SignedDuration.{day, whole_days}
-use Rattle.cal_date.specs.Date.{first_julian_day, last_day, IsDate, HasJulianDay}
+use Rattle.cal_date.specs.Date.{first_julian_day, IsDate, HasJulianDay}
 use Rattle.cal_date.specs.Move.{IsDateNumber, date_nearest}
 use Rattle.cal_date.proofs.Moves.{number-date_nearest}
 

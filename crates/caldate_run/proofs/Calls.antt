@@ -1,0 +1,60 @@
+-- How the calls of a run follow one another.
+use Rattle.std.proofs.Common.{◌≡◌, ℕ, ◌+◌, Bool, true, false, List, [], ◌∷◌, length, Option, None, Some, Err, Ok, Result, arith, refl, sym, subst}
+use Rattle.std.specs.Prelude.{IsErrAnd, IsErrOf}
+use Rattle.std.specs.declared.io.Error.{Error}
+use Rattle.std.specs.declared.io.ErrorKind.{ErrorKind}
+use Rattle.caldate_run.specs.Calls.{Gives, Reads, Sends, Writes, has_read_failure, is_of_read, most_retries}
+use Rattle.caldate_run.specs.Calls.Reads.{given, failed as fails}
+use Rattle.caldate_run.specs.Calls.Writes.{no_more, sent, failed}
+use Rattle.caldate_run.specs.Calls.Sends.{all}
+use Rattle.caldate_run.specs.Runs.{IsOfWrite}
+use Rattle.caldate_run.specs.declared.fault.Fault.{Fault}
+use Rattle.caldate_run.specs.declared.fault.Fault.TheVariants.{Read, Write, Unanswered}
+
+-- no bytes are left
+pub sends_none : {S : Type 0} (write : S → List ℕ → Result ℕ Error → S → Type 0) (retries : ℕ) (s : S) (bytes : List ℕ) → length bytes ≡ 0
+    → Sends write retries s bytes None s
+sends_none write retries s [] e = all retries s
+sends_none write retries s (byte ∷ bytes) e = absurd (omega arith)
+
+-- no write is made
+pub no_writes : {S : Type 0} (write : S → List ℕ → Result ℕ Error → S → Type 0) (s : S) → Writes write s None s
+no_writes write s = no_more s
+
+-- all the writes are those of these bytes
+pub sent_all : {S : Type 0} (write : S → List ℕ → Result ℕ Error → S → Type 0) (s t : S) (bytes : List ℕ) (outcome : Option ErrorKind)
+    → Sends write most_retries s bytes outcome t → Writes write s outcome t
+sent_all write s t bytes None sends = sent s t t bytes None sends (no_more t)
+sent_all write s t bytes (Some kind) sends = failed s t bytes kind sends
+
+-- no write failed, and others follow
+pub writes_then : {S : Type 0} (write : S → List ℕ → Result ℕ Error → S → Type 0) (s t end : S) (outcome : Option ErrorKind)
+    → Writes write s None t → Writes write t outcome end → Writes write s outcome end
+writes_then write s t end outcome (no_more _) more = more
+writes_then write s t end outcome (sent _ mid _ bytes _ sends others) more = sent s mid end bytes outcome sends (writes_then write mid t end outcome others more)
+
+-- ---- reads, of which one more is left than after it
+pub reads_given : {S : Type 0} (read : S → Result ℕ Error → S → Type 0) (most left n : ℕ) (s t end : S) (outcome : Bool) → most ≡ left + 1
+    → Gives read most_retries s (Ok n) t → Reads read left t outcome end → Reads read most s outcome end
+reads_given read most left n s t end outcome e gives more = subst (λ most. Reads read most s outcome end) (sym e) (given left n s t end outcome gives more)
+
+pub reads_failed : {S : Type 0} (read : S → Result ℕ Error → S → Type 0) (most left : ℕ) (s end : S) (error : Error) → most ≡ left + 1
+    → Gives read most_retries s (Err error) end → Reads read most s true end
+reads_failed read most left s end error e gives = subst (λ most. Reads read most s true end) (sym e) (fails left s end error gives)
+
+-- ---- whether a read failed
+pub read_failed : (r : Result Unit Fault) → IsErrAnd r (λ fault. fault ≡ Read) → has_read_failure r ≡ true
+read_failed (Ok done) is = absurd is
+read_failed (Err fault) is = subst (λ fault. is_of_read fault ≡ true) (sym is) refl
+
+pub no_read_failed : (r : Result Unit Fault) → (IsErrOf r Read → ⊥) → has_read_failure r ≡ false
+no_read_failed (Ok done) no_read = refl
+no_read_failed (Err Read) no_read = absurd (no_read refl)
+no_read_failed (Err (Write kind)) no_read = refl
+no_read_failed (Err (Unanswered line)) no_read = refl
+
+pub write_failed : (r : Result Unit Fault) → IsErrAnd r IsOfWrite → has_read_failure r ≡ false
+write_failed (Ok done) is = refl
+write_failed (Err Read) is = absurd is
+write_failed (Err (Write kind)) is = refl
+write_failed (Err (Unanswered line)) is = absurd is
