@@ -1,4 +1,5 @@
--- The calendar date of a day by years that begin on 1 March: the converse of the count in `MarchYears`.
+-- The calendar date of a day by years that begin on 1 March, the converse of the count in
+-- `MarchYears`.
 use Rattle.std.proofs.Common.{◌≡◌, ℕ, ◌+◌, ◌-◌, ◌*◌, ◌/◌, ◌%◌, ◌<◌, ◌≤◌, ◌∙◌, ◌⊎◌, sym, ap, subst, arith, inl, inr, ℤ, pos, ◌+ℤ◌, ◌-ℤ◌, ◌≤ℤ◌, nat_lt}
 use mir.Val.{bool_byte}
 use Rattle.std.proofs.lemmas.Bool.{cases_lt}

@@ -1,4 +1,4 @@
--- The days of a rule in a subset of RFC 5545 (recurrence rule), as a filter of the days of the
+-- The days of a rule in a subset of RFC 5545 (recurrence rule), which filters the days of the
 -- range.
 use Rattle.std.specs.Prelude.{ℕ, suc, max, ◌+◌, ◌-◌, ◌/◌, ◌%◌, Bool, true, false, not, ◌&&◌, ◌||◌, ◌==◌, nat_le, if◌then◌else◌, ℤ, pos, negsuc, ◌-ℤ◌, ◌*ℤ◌, unsigned_abs, List, [], ◌∷◌, Option, Some, None, filter}
 use Rattle.std.specs.List.{list_any}

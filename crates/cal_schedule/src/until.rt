@@ -107,7 +107,7 @@ pub fn years_until(from: Date, to: Date) -> i32
 
 /// Returns the years, months and days from one date to another: as many whole months as
 /// [`months_until`] returns, then the remaining days. Adding the years and months at once, and then
-/// the days, gives `to`. All three are positive or 0, or negative or 0.
+/// the days, gives `to`. All three are positive or 0, or all three are negative or 0.
 ///
 /// From 31 January 2023 to 2 March 2024 it is a year, a month and 2 days, because 13 months later
 /// is 29 February 2024.

@@ -6,7 +6,7 @@ use Rattle.cal_text.specs.Position.{HasSome}
 use Rattle.cal_text.proofs.Positions.{IsShapeOf}
 use Rattle.cal_text.proofs.Stops.{IsIn, left-in, left-out, left-end, left-branch_in, left-branch_out, left-branch_end, left-done, left-more, in_or_out}
 
--- ---- a part, which more may follow: its texts, each with one value, go before the texts of any shape
+-- ---- a part, which more may follow: its texts, each with one value, go before texts of any shape
 pub record Splits {V : Type 0} (Valid : V → Type 0) (text : V → List ℕ) (f : Shape) (bytes : List ℕ) : Type 0 where
   pub value : V
   pub rest : List ℕ

@@ -75,7 +75,7 @@ left-most (Branch low above f g) (x ∷ xs) =
       | inr out ↦ omega (arith, left-branch_out low above f g x xs out, left-most g (x ∷ xs))
     ]
 
--- ---- each shape has a text, bytes that begin one are gone over, and bytes that are gone over begin one
+-- ---- each shape has a text, and exactly the bytes that begin a shape are gone over
 pub some_text : (f : Shape) → (more : List ℕ) × (left f more ≡ 0)
 some_text Done = ([], left-done)
 some_text (From low above f) =

@@ -52,7 +52,7 @@ taken_more old mid new bytes rest n p q = record {
 pub taken_kept : (old mid new : Option (List ℕ)) (bytes rest : List ℕ) → HasTaken old mid bytes rest → Keeps mid new → HasTaken old new bytes rest
 taken_kept old mid new bytes rest p kept = record { taken = p.taken; whole = p.whole; appended = Appends-kept old mid new _ p.appended kept }
 
--- a front of what was left
+-- A prefix of the rest.
 pub taken_front : (old mid new : Option (List ℕ)) (bytes rest : List ℕ) → HasTaken old mid bytes rest
     → AppendsFront mid new rest → AppendsFront old new bytes
 taken_front old mid new bytes rest p q = record {

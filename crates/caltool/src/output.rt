@@ -1,4 +1,4 @@
-//! Bytes to a writer.
+//! Writing bytes.
 ghost use Rattle.std.specs.Prelude.{◌≡◌, OnOk, OnErr, IfErr};
 ghost use Rattle.std.specs.Io.KnownBytes.{Appends};
 ghost use Rattle.caltool.specs.Calls.{Writes, has_write_failure};

@@ -16,7 +16,7 @@ use crate::retries::Retries;
 use crate::streams::{Sink, Source};
 use std::io::{Read, Write};
 
-/// Reads the whole input, of 4096 bytes at most, and then answers it line by line.
+/// Reads the whole input, at most 4096 bytes, and then answers it line by line.
 pub fn run<R: Read, W: Write>(reader: &mut R, writer: &mut W) -> Result<(), Fault>
     ensures ok { OnOk result ((input : List ℕ)
         × GivesAll (R.remaining reader.old) (R.remaining reader.new) input
@@ -33,8 +33,8 @@ pub fn run<R: Read, W: Write>(reader: &mut R, writer: &mut W) -> Result<(), Faul
     run_calls(reader, writer)
 }
 
-/// Does the same over a reader and a writer whose calls a contract can name. A read fails, or a write, exactly if the fault says so, and
-/// nothing is read or written after that.
+/// Does the same over a reader and a writer whose calls a contract can name. A read failed exactly
+/// if the outcome says so, and no read follows it; the same for writes.
 fn run_calls<R: Source, W: Sink>(reader: &mut R, writer: &mut W) -> Result<(), Fault>
     ensures ok { OnOk result ((input : List ℕ)
         × GivesAll (R.remaining reader.old) (R.remaining reader.new) input

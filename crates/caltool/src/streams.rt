@@ -6,15 +6,15 @@ ghost use Rattle.std.specs.declared.io.Error.{Error};
 
 use std::io::{self, Read, Write};
 
-/// A reader. Every `Read` is one, but std doesn't say why its reads fail.
+/// A reader. Each `Read` is a `Source`, but std doesn't say why its reads fail.
 pub trait Source {
-    // The bytes that reads will give from here on, if they are known.
+    // The bytes that are still to be read, if they are known.
     ghost remaining: { Self → Option (List ℕ) };
 
-    // A read may return this result and leave this reader.
+    // A read in the first state may return this result and leave the second state.
     ghost read_gives: { Self → Result ℕ Error → Self → Type 0 };
 
-    /// Reads some bytes into the front of the buffer, and returns how many: 0 at the end of the input.
+    /// Reads into the front of the buffer, and returns the number of bytes: 0 at the end.
     fn read(&mut self, buffer: &mut [u8]) -> io::Result<usize>
         ensures bound { ReadsAtMost result buffer.new }
         ensures bytes { ReadConsumes (remaining self.old) (remaining self.new) result buffer.new }
@@ -31,15 +31,15 @@ impl<R: Read> Source for R {
     }
 }
 
-/// A writer. Every `Write` is one, but std doesn't say why its writes fail.
+/// A writer. Each `Write` is a `Sink`, but std doesn't say why its writes fail.
 pub trait Sink {
-    // The bytes that the writer holds, if they are known.
+    // The bytes that were written, if they are known.
     ghost contents: { Self → Option (List ℕ) };
 
-    // A write of these bytes may return this result and leave this writer.
+    // A write of these bytes in the first state may return this result and leave the second state.
     ghost write_gives: { Self → List ℕ → Result ℕ Error → Self → Type 0 };
 
-    /// Writes a beginning of the bytes, and returns its length.
+    /// Writes a prefix of the bytes, and returns its length.
     fn write(&mut self, bytes: &[u8]) -> io::Result<usize>
         ensures bound { WritesAtMost result bytes.now }
         ensures bytes { WriteAppends (contents self.old) (contents self.new) result bytes.now }

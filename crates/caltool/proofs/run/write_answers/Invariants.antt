@@ -4,7 +4,7 @@ use Rattle.caltool.proofs.Known.{HasTaken}
 use Rattle.caltool.specs.Answers.{out}
 use Rattle.caltool.proofs.run.write_answers.Given as goal
 
--- what is left to go out is what is gathered, and then the answers to what is left, and no write failed
+-- The bytes still to be written are the buffer, then the answers to the rest, and no write failed.
 abbrev pub invariant-loop-line : goal.invariant-loop-line
 invariant-loop-line g l =
     HasTaken (g.W.Sink.contents l.initial.writer) (g.W.Sink.contents l.writer) (out l.input) (l.buffer ++ out l.rest)
