@@ -5,9 +5,9 @@
 //! midnight, an offset its seconds, a duration its seconds and nanoseconds, a month is from 1 to
 //! 12, and a weekday from 1, Monday, to 7, Sunday.
 //!
-//! A call returns its value with a status. The status names the first invalid argument, in
-//! parameter order, or else the error of the call: a component out of range, such as `month`, or a
-//! result out of range. No call keeps a pointer, allocates, or has a state.
+//! A call returns its value with a status. If it fails, the status names the first invalid
+//! argument, in parameter order, or else the error of the call: a component out of range, such as
+//! `month`, or a result out of range. No call keeps a pointer, allocates, or has a state.
 #![tactic(auto)]
 
 /// Returns the value, or makes the function return `$answer`.

@@ -37,8 +37,8 @@ pub extern "C" fn fots_dates_add_days(
     refused_in(statuses)
 }
 
-/// Clamps the days of each row to 32 bits; the clamped days are out of range, too. Only this loop
-/// has rows of 64 bits, so the next one takes twice as many rows at a time.
+/// Clamps the days of each row to 32 bits. Days that don't fit go past the range either way. Only
+/// this loop has rows of 64 bits, so the next one takes twice as many rows at a time.
 fn hold_days(days: &[i64], held: &mut [i32])
     requires { length held.old ≡ length days.now }
     ensures length { length held.new ≡ length held.old }

@@ -13,7 +13,7 @@ use crate::results::{DateResult, Duration, DurationResult};
 use crate::status::{BAD_DATE, BAD_DURATION};
 use crate::values::duration_of;
 
-/// Returns the next day. Fails only for the last day, 366963559. After 2451604 it is 2451605.
+/// Returns the next day. Fails for the last day, 366963559. After 2451604 it is 2451605.
 #[unsafe(no_mangle)]
 pub extern "C" fn fots_date_next_day(date: i32) -> DateResult
     ensures bad_date { ¬ IsJulianDay date → result ≡ date_refused bad_date }
@@ -25,7 +25,7 @@ pub extern "C" fn fots_date_next_day(date: i32) -> DateResult
     days_later(date, 1)
 }
 
-/// Returns the previous day. Fails only for the first, -363521074. Before 2451604 it is 2451603.
+/// Returns the previous day. Fails for the first day, -363521074. Before 2451604 it is 2451603.
 #[unsafe(no_mangle)]
 pub extern "C" fn fots_date_previous_day(date: i32) -> DateResult
     ensures bad_date { ¬ IsJulianDay date → result ≡ date_refused bad_date }

@@ -44,7 +44,7 @@ pub extern "C" fn fots_date_replace_month(date: i32, month: u32) -> DateResult
     made_or_refused!(DateResult, date.replace_month(month))
 }
 
-/// Replaces the day of the month. Returns the error `day`. 2451604 with the day 1 is 2451576.
+/// Replaces the day of the month. Returns the error `day` out of range. 2451604 with 1 is 2451576.
 #[unsafe(no_mangle)]
 pub extern "C" fn fots_date_replace_day(date: i32, day: u32) -> DateResult
     ensures bad_date { ¬ IsJulianDay date → result ≡ date_refused bad_date }
@@ -59,7 +59,7 @@ pub extern "C" fn fots_date_replace_day(date: i32, day: u32) -> DateResult
     made_or_refused!(DateResult, date.replace_day(day_of_month_of(day)))
 }
 
-/// Replaces the ordinal. Returns the error `ordinal`. 2451604 with the ordinal 1 is 2451545.
+/// Replaces the ordinal. Returns the error `ordinal` out of range. 2451604 with 1 is 2451545.
 #[unsafe(no_mangle)]
 pub extern "C" fn fots_date_replace_ordinal(date: i32, ordinal: u32) -> DateResult
     ensures bad_date { ¬ IsJulianDay date → result ≡ date_refused bad_date }

@@ -91,7 +91,7 @@ pub extern "C" fn fots_duration_checked_div(duration: Duration, divisor: i32) ->
     DurationResult::of_option(duration.checked_div(divisor))
 }
 
-/// Negates a duration. Fails only for the minimum.
+/// Negates a duration. Fails for the minimum.
 #[unsafe(no_mangle)]
 pub extern "C" fn fots_duration_checked_neg(duration: Duration) -> DurationResult
     ensures bad_duration { ¬ IsDurationPair duration → result ≡ duration_refused bad_duration }
