@@ -21,7 +21,7 @@ sends_none write retries s (byte ∷ bytes) e = absurd (omega arith)
 pub no_writes : {S : Type 0} (write : S → List ℕ → Result ℕ Error → S → Type 0) (s : S) → Writes write s None s
 no_writes write s = no_more s
 
--- all the writes are those of these bytes
+-- writing these bytes is all the writing
 pub sent_all : {S : Type 0} (write : S → List ℕ → Result ℕ Error → S → Type 0) (s t : S) (bytes : List ℕ) (outcome : Option ErrorKind)
     → Sends write most_retries s bytes outcome t → Writes write s outcome t
 sent_all write s t bytes None sends = sent s t t bytes None sends (no_more t)

@@ -9,7 +9,7 @@ use Rattle.std.proofs.lemmas.List.Splits.{join_with_byte-slice_split, length-sli
 abbrev pub parts : ℕ → List ℕ → List (List ℕ)
 parts c text = slice_split (λ b. eqb b c) text
 
--- what is left is the end of the text, and part n of the text is part k of it
+-- the rest is the end of the text, and part n of the text is part k of the rest
 pub record IsCut (c n k : ℕ) (text rest : List ℕ) : Type 0 where
   pub front : List ℕ
   pub whole : text ≡ front ++ rest
@@ -45,11 +45,11 @@ further c n k j text rest first after next cut whole h = record {
       ∙ sym (append_assoc h.front (first ++ c ∷ []) (join_with_byte c (slice_set (parts c after) j words)));
 }
 
--- there is no such part
+-- the part is missing
 pub none_left : (c n k j : ℕ) (text rest : List ℕ) → k ≡ suc j → parts c rest ≡ rest ∷ [] → IsCut c n k text rest → slice_get (parts c text) n ≡ None
 none_left c n k j text rest next cut h = h.asked ∙ ap (slice_get (parts c rest)) next ∙ ap (λ ps. slice_get ps (suc j)) cut
 
--- what comes before it
+-- the bytes before the rest
 front_is : (text front rest : List ℕ) → text ≡ front ++ rest → take (length text - length rest) text ≡ front
 front_is text front rest e =
     ap (λ k. take k text) (omega (arith, ap length e, length-append front rest)) ∙ ap (take (length front)) e ∙ take-append_seam front rest

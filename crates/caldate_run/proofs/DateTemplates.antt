@@ -32,7 +32,7 @@ not_digit : (b x : ℕ) → (b < 48) ⊎ (57 < b) → nat_le 48 x && nat_le x 57
 not_digit b x (inl low) e here = omega (arith, low, (is_digit x e).0, here.1)
 not_digit b x (inr high) e here = omega (arith, high, (is_digit x e).1, here.0)
 
--- ---- bytes with two hyphens have one of the forms just where the others are digits
+-- ---- bytes with two hyphens have one of the forms just if the others are digits
 abbrev dashed : (a b c d e f g h : ℕ) → List ℕ
 dashed a b c d e f g h = a ∷ b ∷ c ∷ d ∷ 45 ∷ e ∷ f ∷ 45 ∷ g ∷ h ∷ []
 
@@ -119,7 +119,7 @@ basic_template text = template_for (HasFormIn reading.Basic) (codes "dddddddd") 
 abbrev pub parted : ℕ → List ℕ
 parted s = 100 ∷ 100 ∷ s ∷ 100 ∷ 100 ∷ s ∷ 100 ∷ 100 ∷ 100 ∷ 100 ∷ []
 
--- a separator stands for itself
+-- a separator fits only itself
 itself : (s x : ℕ) → is_separator s ≡ true → x ≡ s → stands_at s x ≡ true
 itself s x is e = grind (arith, nat_tests)
 
@@ -194,7 +194,7 @@ month_first = record { separated = separated; whole = whole }
         (λ a b x c d t e f g h fits. let all = ordered s a b x c d t e f g h is fits in given (is_separator x && t == x) _ all.0 (digits-any e f g h a b c d all.1))
         bytes long fits
 
--- what the text has at 2 tells the template, as before it all are the same
+-- the template depends on the byte at 2; before it all templates are the same
 fits_two : (s t : ℕ) (bytes : List ℕ) → length bytes ≤ 2 → Fits (parted s) bytes → Fits (parted t) bytes
 fits_two s t [] few h = tt
 fits_two s t (x ∷ []) few h = h

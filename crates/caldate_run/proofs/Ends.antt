@@ -1,4 +1,4 @@
--- What a result tells of a run's end.
+-- The end of a run, from its result.
 use Rattle.std.proofs.Common.{◌≡◌, ℕ, List, [], ◌∷◌, length, ap, refl, sym, subst, arith, Option, Result, Ok, Err}
 use Rattle.std.specs.Prelude.{IfErr, IsErrAnd, IsErrOf, OnErr, OnOk}
 use Rattle.std.specs.Io.KnownBytes.{Appends, IsAtEnd}
@@ -20,7 +20,7 @@ pub write_failed : {T : Type 0} (P : Type 0) (r : Result T Fault) → IsErrAnd r
 write_failed P (Ok x) h p = absurd h
 write_failed P (Err e) h p = p
 
--- ---- what came of writing some bytes
+-- ---- the result of writing some bytes
 pub wrote : (bytes : List ℕ) (r : Result Unit Fault) (old new : Option (List ℕ)) → OnOk r (Appends old new bytes)
     → OnErr r (AppendsFront old new bytes) → IfErr r IsOfWrite → Shown bytes r old new
 wrote bytes (Ok done) old new ok front err = ok

@@ -82,7 +82,7 @@ front_days last test (suc k) n count =
         front_is last n (first_days test count (n + 1) k) (within last n) refl (others count) (λ e.
         let past : last < n = grind (arith, nat_tests) in none_past last test k (n + 1) count (omega arith))
 
--- ---- those of a recurrence
+-- ---- the days of a recurrence
 abbrev pub front_to : ℕ → List ℕ → List ℕ
 front_to last days = take_while (within last) days
 

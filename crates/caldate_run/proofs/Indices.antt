@@ -7,7 +7,7 @@ use Rattle.std.proofs.lemmas.List.Sums.{count_by-le-length}
 use Rattle.std.proofs.lemmas.Option.{get_or_from_slice_get, slice_get_within}
 use Rattle.caldate_run.specs.Requests.{arguments_of}
 
--- what holds of each word holds of the one at an index
+-- a property of each word is a property of the word at an index
 pub all_at : (P : List ℕ → Type 0) (words : List (List ℕ)) (at : ℕ) (word : List ℕ) → slice_get words at ≡ Some word → All P words → P word
 all_at P words at word e h = subst P (get_or_from_slice_get words at word [] e) (All-get_or P words at [] (slice_get_within words at word e) h)
 

@@ -1,4 +1,4 @@
--- Lines that are kept: what is known of those that have no answer.
+-- Lines of a `keep` request that have no answer.
 use Rattle.std.proofs.Common.{◌≡◌, ℕ, ◌≤◌, ◌<◌, Bool, true, false, List, [], ◌++◌, length, codes, Option, Some, None, Result, Ok, Err, refl, sym, ap, ◌∙◌, subst, arith, inl, inr}
 use Rattle.std.specs.Prelude.{MatchBool, OnOk, is_some, nat_lt}
 use Rattle.std.proofs.lemmas.Bool.{false≢true, le-ltb}
@@ -91,7 +91,7 @@ none_asked filter before text asked words strict skip is none =
     strict_none filter before text words strict (le-ltb before filter.skip skip)
     (λ found answer e. subst (λ t. ¬ HasAnswer filter t answer) (some_one asked found (sym is ∙ e)) (none answer))
 
--- ---- what is gathered for a line that has no answer
+-- ---- the reply to a line that has no answer
 pub passed_over : (filter : Filter) (bounds : Bounds) (before : ℕ) (b : Bool) (kept line text old : List ℕ) → IsHeld b kept line → text ≡ text_of line
     → filter.is_strict ≡ false → (b ≡ false → (words : List ℕ) × IsReason filter before text words)
     → AppendsThat (IsKept filter bounds before (kept ++ line)) old old

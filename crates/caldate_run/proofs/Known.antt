@@ -1,4 +1,4 @@
--- What several reads gave, and what several writes took.
+-- The bytes of several reads, and of several writes.
 use Rattle.std.proofs.Common.{◌-◌, ◌≡◌, ℕ, ◌+◌, ◌≤◌, List, ◌++◌, length, take, drop, Option, sym, ap, ◌∙◌, append_assoc, take-append-drop, length-take, subst}
 use borrow.Rule.Slice.PartMut.{put_mid, post_of}
 use Rattle.std.specs.Io.KnownBytes.{Appends, Consumes, Keeps}
@@ -8,7 +8,7 @@ use Rattle.std.proofs.Math.Seq.{take-append-add}
 use Rattle.std.proofs.lemmas.List.{take-append-le, take_rest}
 use Rattle.caldate_run.specs.Runs.{HasRead}
 
--- a read into what is free at the end of a buffer
+-- a read into the free end of a buffer
 pub given_more : (old new : Option (List ℕ)) (a k n : ℕ) (xs ys : List ℕ) → a ≤ length xs → n ≤ length ys
     → Consumes old new (take n ys) → HasRead old new (take a xs) (take (a + n) (put_mid a k xs ys))
 given_more old new a k n xs ys h e p =
@@ -19,13 +19,13 @@ given_more old new a k n xs ys h e p =
           ∙ ap (λ l. take a xs ++ l) (take-append-le n ys (post_of a k xs) e),
     )
 
--- the writer took all of the bytes but for the rest
+-- the writer took all of the bytes except the rest
 pub record HasTaken (old new : Option (List ℕ)) (bytes rest : List ℕ) : Type 0 where
   pub taken : List ℕ
   pub whole : bytes ≡ taken ++ rest
   pub appended : Appends old new taken
 
--- a write that takes n bytes; what is left is a slice of what was left
+-- a write that takes n bytes leaves a slice of the rest
 pub taken_more : (old mid new : Option (List ℕ)) (bytes rest : List ℕ) (n : ℕ) → HasTaken old mid bytes rest
     → Appends mid new (take n rest)
     → HasTaken old new bytes (take (length rest - n) (drop n rest))

@@ -1,4 +1,4 @@
--- Moves that lead past the range, and where a move leads to one day.
+-- Moves past the range, and the single day after a move.
 use Rattle.std.proofs.Common.{◌≡◌, ◌⊎◌, ℕ, zero, suc, ◌+◌, ◌-◌, ◌≤◌, ◌∙◌, ap, sym, subst, arith, inl, inr, Option, None, Some, ℤ, pos, negsuc, ◌*ℤ◌, ◌≤ℤ◌, ◌<ℤ◌}
 use Rattle.std.specs.Prelude.{neg_ℤ, ◌<◌, IfSome, SomeIff, MatchOption}
 use Rattle.std.proofs.lemmas.Int.{ints, by_lt_z}
@@ -14,7 +14,7 @@ use Rattle.caldate_run.specs.declared.request.DayMove.TheVariants.{Next, Last, O
 use Rattle.caldate_run.specs.declared.request.Period.{Period}
 use Rattle.caldate_run.specs.declared.request.Period.TheVariants.{Week, Month, Quarter, Year}
 
--- the nearest number from the one bound to the other
+-- k is the number nearest to z within the bounds
 pub record IsNearest (z k : ℤ) : Type 0 where
   pub below : z ≤ℤ neg_ℤ (pos 2000000000) → k ≡ neg_ℤ (pos 2000000000)
   pub within : neg_ℤ (pos 2000000000) ≤ℤ z → z ≤ℤ pos 2000000000 → k ≡ z
@@ -29,7 +29,8 @@ same_inside z k near inside =
     by_lt_z z (neg_ℤ (pos 2000000000)) (λ less. absurd (omega (arith, ints, near.below (omega (arith, ints, less)), inside.0, inside.1))) (λ least.
     by_lt_z (pos 2000000000) z (λ more. absurd (omega (arith, ints, near.above (omega (arith, ints, more)), inside.0, inside.1))) (λ most. near.within least most))
 
--- what is found by the nearest number is found by the number itself, where each is inside that leads to a day of the range
+-- the nearest number finds a day exactly if the number does, since only numbers inside reach the
+-- range
 pub by_nearest : (Has : ℤ → ℕ → Type 0) (z k : ℤ) (r : Option ℕ) → ((s : ℕ) → IsDate s → Has k s → r ≡ Some s) → IfSome r (λ s. IsDate s × Has k s)
     → ((y : ℤ) (s : ℕ) → IsDate s → Has y s → IsInside y) → IsNearest z k
     → MatchOption r ((s : ℕ) → ¬ (IsDate s × Has z s)) (λ s. IsDate s × Has z s)
@@ -40,7 +41,7 @@ by_nearest Has z k None every has inside near = λ s h.
 by_nearest Has z k (Some s) every has inside near =
     (has.0, subst (λ y. Has y s) (same_inside z k near (inside k s has.0 has.1)) has.1)
 
--- no two days of the range are so many months apart
+-- any two days of the range are fewer than 2000000000 months from each other
 pub months_inside : (n : ℕ) → IsDate n → (y : ℤ) (s : ℕ) → IsDate s → IsMonthsLater n y s → IsInside y
 months_inside n d y s e h =
     let a = IsMonthNumber-date n d in
@@ -53,7 +54,7 @@ years_inside n d y s e h =
     let b = IsMonthNumber-date s e in
     (omega (arith, ints, a.not_before, a.not_after, b.not_before, b.not_after, h.month), omega (arith, ints, a.not_before, a.not_after, b.not_before, b.not_after, h.month))
 
--- nor so many working days
+-- the range has fewer than 2000000000 working days
 no_workday : (z : ℤ) (n : ℕ) → IsDate n → (pos 2000000000 ≤ℤ z) ⊎ (z ≤ℤ neg_ℤ (pos 2000000000)) → nth_workday monday_to_friday z n ≡ None
 no_workday (pos zero) n d far = absurd (elim far [ inl on ↦ omega (arith, ints, on) | inr back ↦ omega (arith, ints, back) ])
 no_workday (pos (suc k)) n d far =
@@ -76,7 +77,7 @@ pub workday_by_nearest : (z k : ℤ) (n : ℕ) (w : WorkWeek) (r : Option ℕ) �
     → r ≡ nth_workday monday_to_friday z n
 workday_by_nearest z k n w r e same d near = e ∙ ap (λ w. nth_workday w k n) same ∙ by_workdays z k n d near
 
--- a move leads to one day
+-- a move gives one day
 one_kth : (a b : ℕ) (o : Option ℕ) → o ≡ Some a → o ≡ Some b → a ≡ b
 one_kth a b o h k = let same : Some a ≡ Some b = sym h ∙ k in cc
 

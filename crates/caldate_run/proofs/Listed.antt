@@ -21,14 +21,14 @@ use Rattle.caldate_run.specs.declared.request.StepUnit.TheVariants.{Days, Months
 use Rattle.caldate_run.proofs.OneAnswer.{took-one}
 use Rattle.caldate_run.proofs.Steps.{all_more, front_more}
 
--- no two days of the range are a thousand million months apart
+-- any two days of the range are less than a thousand million months from each other
 few_months : (n m s : ℕ) → IsDate n → IsDate s → IsMonthsLater n (pos m) s → m < 1000000000
 few_months n m s d e h =
     let a = IsMonthNumber-date n d in
     let b = IsMonthNumber-date s e in
     omega (arith, ints, a.not_before, b.not_after, h.month)
 
--- what is found with so many months at most is found with them all
+-- a day is found with clamped months exactly if it is found with all of them
 pub by_few : (n m : ℕ) (z : ℤ) (r : Option ℕ) → IsDate n → z ≡ pos (min m 1000000000) → ((s : ℕ) → IsDate s → IsMonthsLater n z s → r ≡ Some s)
     → IfSome r (λ s. IsDate s × IsMonthsLater n z s)
     → MatchOption r ((s : ℕ) → ¬ (IsDate s × IsMonthsLater n (pos m) s)) (λ s. IsDate s × IsMonthsLater n (pos m) s)

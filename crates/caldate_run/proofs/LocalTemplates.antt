@@ -16,7 +16,8 @@ use Rattle.caldate_run.proofs.DateTemplates.{given, guarded, is_digit, stands_di
 use Rattle.caldate_run.proofs.ShapeBytes.{from-first, branch-first, lacking, one_of}
 use Rattle.caldate_run.proofs.Templates.{fits-front, template_for}
 
--- bytes that fit, and a Z, are a text of the shape where they fill the template; and only such bytes are, of those that are no longer
+-- bytes that fill the template and fit it are a text of the shape with a Z; of bytes that are not
+-- longer, only those that fit are
 record Closes (f : Shape) (template : List ℕ) : Type 0 where
   into : (bytes : List ℕ) → length bytes ≤ length template → left f (bytes ++ 90 ∷ []) ≡ 0 → Fits template bytes
   back : (bytes : List ℕ) → length bytes ≡ length template → Fits template bytes → left f (bytes ++ 90 ∷ []) ≡ 0
@@ -55,7 +56,7 @@ from place low above f places p c = record { into = into; back = back }
     back [] whole h = absurd (omega (arith, whole))
     back (x ∷ xs) whole h = left-in low above f x (xs ++ 90 ∷ []) (p.here x h.0) ∙ c.back xs (omega (arith, whole)) h.1
 
--- a place where the text may end
+-- the text may end at this place
 abbrev EndsHere : Shape → Type 0
 EndsHere g = (bytes : List ℕ) → left g (bytes ++ 90 ∷ []) ≡ 0 → bytes ≡ []
 

@@ -101,7 +101,7 @@ zero_template = codes "0"
 abbrev plain_template : List ℕ
 plain_template = codes "ndddddddddddddddddddddddddd"
 
--- a number fits the one for its first byte
+-- a number fits the template for its first byte
 abbrev IsOne : List ℕ → Type 0
 IsOne bytes =
     ((get_or bytes 0 0 ≡ 45) × Fits minus_template bytes) ⊎ ((get_or bytes 0 0 ≡ 48) × Fits zero_template bytes) ⊎ ((48 < get_or bytes 0 0) × Fits plain_template bytes)

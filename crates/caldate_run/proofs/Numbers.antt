@@ -1,4 +1,4 @@
--- What std's `parse` says, in the words of the definition of a number.
+-- The results of std's `parse`, by the definition of a number.
 use Rattle.std.proofs.Common.{◌≡◌, ℕ, suc, zero, ◌<◌, Bool, true, false, cond, eqb, List, [], ◌∷◌, ℤ, pos, negsuc, Some, None, Result, Ok, Err, refl, sym, ap, ◌∙◌, arith, inl, inr, Decides, ◌&&◌}
 use Rattle.std.specs.Prelude.{int_le, nat_lt, FitsSigned, IsUtf8, IsAscii}
 use Rattle.std.specs.Int.{w64}
@@ -12,7 +12,7 @@ use Rattle.std.proofs.lemmas.Str.{IsUtf8-from_ascii, IsAscii-append}
 use Rattle.std.proofs.lemmas.Str.Parse.{IsNumeralModel, numerals_by_value, tells_all_ascii_digits}
 use Rattle.caldate_run.specs.Requests.{is_number, number_of}
 
--- a Result that is Ok just where P holds, as an Option
+-- a Result that is Ok just if P is true, as an Option
 ok_where : {E : Type 0} (r : Result ℤ E) (P : Type 0) (v : ℤ) → OkIff r P v → P → result_ok r ≡ Some v
 ok_where (Ok x) P v h p = ap Some h.1
 ok_where (Err e) P v h p = absurd (h p)

@@ -1,4 +1,4 @@
--- What is answered to a text is one.
+-- A text has one answer.
 use Rattle.std.proofs.Common.{◌≡◌, ◌⊎◌, ℕ, suc, ◌+◌, ◌≤◌, List, length, [], ◌∷◌, ◌++◌, codes, decimal, Option, Some, None, Result, Ok, Err, inl, inr, ap, sym, subst, ◌∙◌, arith}
 use Rattle.std.specs.List.{slice_split}
 use Rattle.std.specs.Prelude.{◌↔◌, All, IsOk}
@@ -33,7 +33,7 @@ use Rattle.caldate_run.proofs.Laters.{one_later}
 use Rattle.caldate_run.proofs.OneCount.{one_count}
 use Rattle.caldate_run.proofs.Leads.{one_lead}
 
--- ---- the answer to what was read
+-- ---- the answer to a date or a moment
 in_form : (form : Form) (m : Shown) (a b : List ℕ) → IsInForm form m a → IsInForm form m b → a ≡ b
 in_form (Date form) m a b h k = h ∙ sym k
 in_form Weekday m a b h k = h ∙ sym k

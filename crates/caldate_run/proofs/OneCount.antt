@@ -1,4 +1,4 @@
--- Between two moments lies one number of a unit.
+-- There is one number of a unit from one moment to another.
 use Rattle.std.proofs.Common.{◌≡◌, ℕ, ◌<◌, ◌≤◌, sym, subst, ◌∙◌, arith, ℤ, pos, ◌*ℤ◌}
 use Rattle.std.proofs.lemmas.Int.{ints}
 use Rattle.cal_datetime.specs.DateTime.{date_at}

@@ -98,7 +98,7 @@ kept_one filter bounds before line reply other knows (inr h) (inl k) =
     absurd (not_both filter bounds before (text_of line) h.0.1.0 k.0 knows k.1 h.0.1.1)
 kept_one filter bounds before line reply other knows (inr h) (inr k) = h.1 ∙ sym k.1
 
--- ---- the text of a line, where none are kept
+-- ---- the text of a line, if the request is not `keep`
 allowed_answer : (strict : Bool) (filter : Filter) (asked words : List ℕ) → Allowed strict filter asked words → IsAnswer filter asked words
 allowed_answer true filter asked words h = inl h
 allowed_answer false filter asked words h = h
@@ -125,7 +125,7 @@ allowed_one filter before text a b only (inr h) (inr k) =
     skipped_one (nat_lt before filter.skip) (AllowedFor filter text (asked_text filter.field text)) text a b (asked_one filter text (asked_text filter.field text) a b only) h.1 k.1
 
 -- ---- the line, whatever is asked for
--- what is asked about in the text has one answer, and where lines are kept it is told one thing of it
+-- the text to answer has one answer, and for `keep` lies within the bounds or does not
 abbrev pub IsOneAsked : Filter → List ℕ → Type 0
 IsOneAsked filter asked =
     ((a b : List ℕ) → IsAnswer filter asked a → IsAnswer filter asked b → a ≡ b) × ((bounds : Bounds) → filter.request ≡ Keep bounds → One filter bounds asked)

@@ -3,7 +3,7 @@ use Rattle.std.proofs.Common.{◌≡◌, ℕ, Bool, true, false, ◌&&◌, List,
 use Rattle.std.proofs.lemmas.Bool.{eqb-true, false≢true}
 use Rattle.caldate_run.specs.Readings.{calendar_text, is_parted}
 
--- a list of so many bytes is these
+-- a list of this length has these elements
 pub eight : (P : List ℕ → Type 0) → ((a b c d e f g h : ℕ) → P (a ∷ b ∷ c ∷ d ∷ e ∷ f ∷ g ∷ h ∷ [])) → (bs : List ℕ) → length bs ≡ 8 → P bs
 eight P all [] n = absurd (omega (arith, n))
 eight P all (a ∷ []) n = absurd (omega (arith, n))

@@ -1,4 +1,4 @@
--- How bytes are cut at the first position where a byte stands.
+-- Cutting bytes at the first position of a byte.
 use Rattle.std.proofs.Common.{◌≡◌, ℕ, ◌+◌, ◌<◌, ◌≤◌, Bool, false, eqb, get_or, List, [], ◌∷◌, ◌++◌, length, take, drop, Some, None, ap, ◌∙◌, arith, subst}
 use Rattle.std.specs.List.{slice_split, position, position_or_len}
 use Rattle.std.specs.Prelude.{All}
@@ -20,7 +20,7 @@ split_at_some p xs k e =
     let within : position_or_len p xs < length xs = grind (arith, nat_tests) in
     (omega arith, subst (λ n. slice_split p xs ≡ take n xs ∷ slice_split p (drop (n + 1) xs)) c.1 (slice_split_first p xs 0 within))
 
--- where there is no such position, each element fails
+-- without such a position, each element fails
 none_passes : (p : ℕ → Bool) (xs : List ℕ) → position p xs ≡ None → length xs ≤ position_or_len p xs
 none_passes p xs e = grind (arith, nat_tests)
 
@@ -40,7 +40,7 @@ before : (p : ℕ → Bool) (xs : List ℕ) (j d : ℕ) → j < length (take (po
     → p (get_or (take (position_or_len p xs) xs) j d) ≡ false
 before p xs j d m = let k = fails_before_first p xs j d (grind (arith, common_steps)) in grind (arith, common_steps)
 
--- the first field ends at a separator, and what comes after it has the others
+-- the first field ends at a separator, and the bytes after it have the other fields
 pub some_fields : (c : ℕ) (xs : List ℕ) (k : ℕ) → position (λ b. eqb b c) xs ≡ Some k
     → (k < length xs) × (slice_split (λ b. eqb b c) xs ≡ take k xs ∷ slice_split (λ b. eqb b c) (drop (k + 1) xs))
     × (xs ≡ take k xs ++ c ∷ drop (k + 1) xs)

@@ -27,7 +27,7 @@ gives : {E : Type 0} (r : Result ℤ E) (P : Type 0) (v : ℤ) → OkIff r P v �
 gives (Ok x) P v h p = ap Ok h.1
 gives (Err e) P v h p = absurd (h p)
 
--- the first digit is no sign
+-- the first digit is not a sign
 no_sign : (n c : ℕ) → n < 10 ^ 27 → (c ≡ 43) ⊎ (c ≡ 45) → get_or (decimal n) 0 0 ≢ c
 no_sign n c small sign e =
     let numeral = (decimal_is_IsNumeral_wide n (omega arith)).0 in
@@ -71,7 +71,7 @@ pub wide : (z : ℤ) → unsigned_abs z < 10 ^ 33 → to_z w128 (of_z w128 z) �
 wide (pos n) h = to_z-of_z w128 (pos n) (record { sfits = grind (arith, ints) })
 wide (negsuc n) h = to_z-of_z w128 (negsuc n) (record { sfits = grind (arith, ints) })
 
--- ---- so many units, in nanoseconds
+-- ---- a number of units, in nanoseconds
 scaled : (unit : UnixUnit) (z : ℤ) → unsigned_abs z < 10 ^ 27 → unsigned_abs (z *ℤ pos (nanoseconds_in unit)) < 10 ^ 33
 scaled Milliseconds z h = omega (arith, ints, h)
 scaled Microseconds z h = omega (arith, ints, h)

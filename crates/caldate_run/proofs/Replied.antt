@@ -50,11 +50,11 @@ replied Says b kept line old mid new cut h a e f = (
   (a.0, a.2, refl),
 )
 
--- ---- what was gathered for a line is taken back
+-- ---- the reply to a line is removed
 pub taken_back : (old mid rest new : List ℕ) (before : ℕ) → before ≡ length old → mid ≡ old ++ rest → new ≡ take before mid → new ≡ old
 taken_back old mid rest new before at e f = f ∙ ap (λ k. take k mid) at ∙ ap (λ l. take (length old) l) e ∙ take-append_seam old rest
 
--- ---- what is shown of the text of a line
+-- ---- the shown text of a line
 shown_cut : (kept line : List ℕ) → 80 ≤ length kept → 0 < length line → shown (take (length (kept ++ line) - 1) (kept ++ line)) ≡ shown kept
 shown_cut kept line h some =
     let at : length (kept ++ line) - 1 ≡ length kept + (length line - 1) = omega (arith, some, length-append kept line) in
@@ -71,7 +71,7 @@ text_shown false front kept line text told held is e whole long = whole refl ∙
 text_shown true front kept line text told held is e whole long =
     ap words_shown (long refl) ∙ is ∙ sym (shown_long (has_return (kept ++ line)) kept line (omega (arith, held.0)) (omega (arith, ap length held.2.2)))
 
--- ---- what is told of a line without an answer
+-- ---- the description of a line without an answer
 pub tells : (filter : Filter) (progress : Progress) (line words : List ℕ) (told : UnansweredLine)
     → ((kept : List ℕ) (before : ℕ) → IsHeld progress.is_long kept line → progress.number ≡ counted before → IsReason filter before (text_of (kept ++ line)) words)
     → told.number ≡ counted (progress.number + 1) → words_shown told.reason ≡ shown words

@@ -1,4 +1,4 @@
--- What the bytes of a text of a shape are, and what they are not.
+-- The bytes that a text of a shape has, and those that it lacks.
 use Rattle.std.proofs.Common.{◌≡◌, ◌⊎◌, inl, inr, ℕ, ◌+◌, Bool, true, false, ◌&&◌, List, [], ◌∷◌, ◌++◌, Option, Some, None, refl, sym, subst, ◌∙◌, arith}
 use Rattle.std.specs.Prelude.{◌||◌, nat_lt}
 use Rattle.std.proofs.lemmas.Bool.{false≢true}
@@ -54,7 +54,7 @@ lacking b (Branch low above f g) (x ∷ xs) ys h e =
     let all = both _ _ (both _ _ h).1 in
     elim (branch-first low above f g x (xs ++ b ∷ ys) e) [ inl here ↦ lacking b f xs ys all.0 here.1 | inr other ↦ lacking b g (x ∷ xs) ys all.1 other ]
 
--- ---- bytes of which some are known, and that are no text of the shape
+-- ---- bytes, some of which are known, that are not a text of the shape
 abbrev pub Knows : List (Option ℕ) → List ℕ → Type 0
 Knows [] [] = Unit {0}
 Knows [] (x ∷ xs) = ⊥

@@ -15,7 +15,7 @@ HasReading words = (reading : List ℕ → Option DateOrMoment) × IsReading rea
 pub none_read : HasReading []
 none_read = (λ text. None, All-nil (IsRead (λ text. None)))
 
--- what was read of the word, and of other texts what `reading` has
+-- the word has the date or moment that was found, and any other text has its value in `reading`
 abbrev read_as : List ℕ → Option DateOrMoment → (List ℕ → Option DateOrMoment) → List ℕ → Option DateOrMoment
 read_as word found reading text = cond (bytes_eq text word) found (reading text)
 

@@ -27,7 +27,7 @@ one_reply Allowed before n [] line out reply e h r =
 one_reply Allowed before n (l ∷ lines) line out reply e h r =
     (h.0, h.1 ++ reply, h.2, ap (λ o. o ++ reply) h.3 ∙ append_assoc h.0 h.1 reply, one_reply Allowed (before + 1) n lines line h.1 reply (omega (arith, e)) h.4 r)
 
--- what is gathered for a line is its reply, whatever was let go of it
+-- the appended bytes are the reply to the line, for any dropped front
 abbrev pub Replies : Writes → Progress → List ℕ → List ℕ → List ℕ → Type 0
 Replies Allowed progress line old new =
     (kept : List ℕ) (before : ℕ) → IsHeld progress.is_long kept line → progress.number ≡ counted before → AppendsThat (Allowed before (kept ++ line)) old new
@@ -37,7 +37,7 @@ kept_no_end : (b : Bool) (kept pending : List ℕ) → IsHeld b kept pending →
 kept_no_end false kept pending h = subst NoEnd (sym h) (λ k d l. absurd (omega arith))
 kept_no_end true kept pending h = h.1
 
--- the first byte of a line, where it is the first of what is pending
+-- the first pending byte is the first byte of the line
 first_of : (first : ℕ) (more line after : List ℕ) → first ∷ more ≡ line ++ 10 ∷ after → is_end first ≡ false
     → (rest : List ℕ) × (line ≡ first ∷ rest)
 first_of first more [] after e n = absurd (false≢true (sym n ∙ ap (λ l. is_end (head_or l)) e))
@@ -93,7 +93,7 @@ answered Allowed input start now gathered gathered_now pending line after progre
       number = number ∙ counted_more (length s.lines) progress.number s.number ∙ ap counted (sym (length-append s.lines ((s.kept ++ line) ∷ [])));
     }
 
--- ---- what was gathered goes out, all of it or a front of it
+-- ---- the buffer is written, all of it or a front of it
 pub gone : (Allowed : Writes) (input : List ℕ) (start now new : Option (List ℕ)) (gathered left written pending : List ℕ) (progress : Progress)
     → gathered ≡ written ++ left → Appends now new written
     → Stands Allowed input start now gathered pending progress → Stands Allowed input start new left pending progress
@@ -339,12 +339,12 @@ ended_answered filter input start now pending progress n s =
       taken = subst (Appends start now) (sym (s.whole ∙ append-nil s.written)) s.taken;
     }
 
--- ---- a long line is let go but for its last byte
+-- ---- a long line is dropped except for its last byte
 one_byte : (xs : List ℕ) → 0 < length xs → NoEnd xs → (first : ℕ) × (more : List ℕ) × (xs ≡ first ∷ more) × (is_end first ≡ false)
 one_byte [] h n = absurd (omega arith)
 one_byte (x ∷ xs) h n = (x, xs, refl, All-head (λ byte. is_end byte ≡ false) x xs n)
 
--- what is shown of a line is what is shown of its front
+-- a line with a long front shows the same as that front
 pub shown_front : (xs ys : List ℕ) → 80 ≤ length xs → shown (xs ++ ys) ≡ shown xs
 unfolding shown
 shown_front xs ys h = ap (map printed) (take-append-le 80 xs ys h)

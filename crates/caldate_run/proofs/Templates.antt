@@ -1,4 +1,5 @@
--- Where a text stops fitting a template, and so stops being of the form that the template is for.
+-- The position at which a text stops fitting a template is the position at which it leaves the
+-- form.
 use Rattle.std.proofs.Common.{◌≡◌, ◌≢◌, ◌⊎◌, inl, inr, ℕ, zero, suc, ◌+◌, ◌<◌, ◌≤◌, Bool, true, false, List, [], ◌∷◌, ◌++◌, append-nil, length, get_or, take, refl, sym, ap, subst, arith}
 use Rattle.std.specs.Prelude.{◌==◌, IfErr, Result, Ok, Err}
 use Rattle.std.proofs.lemmas.Bool.{cases_lt}
@@ -59,7 +60,7 @@ filled (t ∷ ts) (x ∷ xs) h =
     let next = filled ts xs h.1 in
     record { more = next.more; fits = (h.0, next.fits); whole = ap (λ n. suc n) next.whole }
 
--- ---- the first byte that does not stand at its place
+-- ---- the first byte that does not fit its place
 pub stops : (template text : List ℕ) (p : ℕ) → p ≤ length text → Fits template (take p text)
     → (p < length text → (length template ≤ p) ⊎ (stands_at (get_or template p 0) (get_or text p 0) ≢ true)) → IsPosition (Fits template) text p
 stops template text p within fits wrong = record {
@@ -75,7 +76,7 @@ stops template text p within fits wrong = record {
         wrong (subst (λ b. stands_at (get_or template p 0) b ≡ true) (get_or-take (p + 1) text p 0 (omega arith)) (fits-at template (take (p + 1) text) p long h))
 
 -- ---- the form that the template is for
--- what of its texts fits, and that what fits whole is a text
+-- beginnings of its texts fit, and bytes that fill the template are a text
 pub template_for : (IsText : List ℕ → Type 0) (template text : List ℕ)
     → ((q : ℕ) (more : List ℕ) → 0 < q → q ≤ length text → IsText (take q text ++ more) → Fits template (take q text))
     → ((bytes : List ℕ) → length bytes ≡ length template → Fits template bytes → IsText bytes) → IsTemplateFor IsText text template

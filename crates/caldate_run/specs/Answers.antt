@@ -29,11 +29,11 @@ use Rattle.caldate_run.specs.declared.request.Request.TheVariants.{To, Add, Move
 use Rattle.caldate_run.specs.declared.request.TimeUnit.{TimeUnit}
 
 -- ---- the words
--- day n, at the same time of day and the same offset
+-- Moment m moves to day n and keeps its time of day and offset.
 abbrev pub on_day : Shown → ℕ → Shown
 on_day m n = record { local = date_time n (time_at m.local); offset = m.offset }
 
--- what comes so much later: a date moves by whole days alone, a moment by all of the duration
+-- A date moves by only the whole days of a duration, a moment by all of it.
 pub record IsDayLater (n : ℕ) (d : ℤ) (m : Shown) : Type 0 where
   pub day : ℕ
   pub date : IsDate day
@@ -48,18 +48,18 @@ abbrev pub IsLater : DateOrMoment → ℤ → Shown → Type 0
 IsLater (read.Date form n) d m = IsDayLater n d m
 IsLater (read.Moment form from) d m = IsMomentLater from d m
 
--- between two dates the days, else the duration
+-- The text is the number of days between two dates, or otherwise a duration.
 abbrev pub until_text : DateOrMoment → DateOrMoment → List ℕ
 until_text from to =
     if is_date from && is_date to then signed_decimal (julian_day_at (day_of to) -ℤ julian_day_at (day_of from))
     else duration.text (instant (moment_of to) -ℤ instant (moment_of from))
 
--- or, where a unit is named, so many of it, cut toward zero
+-- With a unit, the text is the number of whole units, truncated toward zero.
 abbrev pub IsBetween : Option TimeUnit → DateOrMoment → DateOrMoment → List ℕ → Type 0
 IsBetween None from to words = words ≡ until_text from to
 IsBetween (Some unit) from to words = (z : ℤ) × IsCount unit (moment_of from) (moment_of to) z × (words ≡ signed_decimal z)
 
--- what a clock at the offset shows
+-- Moment m is the moment `from` at the offset.
 pub record IsShownAt (offset : ℤ) (from m : Shown) : Type 0 where
   pub in_range : IsDateTime (local_at (instant from) offset)
   pub shown : m ≡ record { local = local_at (instant from) offset; offset = offset }
@@ -67,11 +67,12 @@ pub record IsShownAt (offset : ℤ) (from m : Shown) : Type 0 where
 abbrev pub IsAt : ℤ → Shown → List ℕ → Type 0
 IsAt offset from words = (m : Shown) × IsShownAt offset from m × IsInForm (Moment Rfc3339) m words
 
--- the words are those of the day that the move leads to, at the same time of day
+-- The words are the moved day in the form that was read, at the same time of day.
 abbrev pub IsMoved : DayMove → DateOrMoment → List ℕ → Type 0
 IsMoved by found words = (n : ℕ) × LeadsTo by (day_of found) n × IsInForm (form_read found) (on_day (moment_of found) n) words
 
--- the words are what the request answers for what was read; where lines are kept there are none, as the line itself goes out, or nothing
+-- The words answer the request. A `keep` request has no words, since it passes the line on or drops
+-- it.
 abbrev pub IsAnswerTo : Request → DateOrMoment → List ℕ → Type 0
 IsAnswerTo (To form) found words = IsInForm form (moment_of found) words
 IsAnswerTo (Add d) found words = (m : Shown) × IsLater found d m × IsInForm (form_read found) m words
@@ -81,25 +82,25 @@ IsAnswerTo (Since target unit) found words = IsBetween unit target found words
 IsAnswerTo (At offset) found words = IsAt offset (moment_of found) words
 IsAnswerTo (Keep bounds) found words = (is_some (lies_in bounds found) ≡ true) × (words ≡ [])
 
--- ---- texts that have an answer, and texts that have none
+-- ---- texts with an answer, and texts without one
 abbrev pub HasAnswer : Filter → List ℕ → List ℕ → Type 0
 HasAnswer filter text words =
     (length text ≤ longest_text) × ((found : DateOrMoment) × IsTextIn filter.reading text found × IsAnswerTo filter.request found words)
 
--- the text is longer than a line may be
+-- The text is longer than a line may be.
 abbrev pub IsTooLong : List ℕ → List ℕ → Type 0
 IsTooLong text words = (longest_text < length text) × (words ≡ codes "line too long")
 
--- it is a date or a moment, and there is none to answer
+-- The text is a date or a moment for which the request has no answer.
 abbrev pub HasNone : Filter → List ℕ → List ℕ → Type 0
 HasNone filter text words = (words ≡ codes "none")
     × ((found : DateOrMoment) × IsTextIn filter.reading text found × ((others : List ℕ) → ¬ IsAnswerTo filter.request found others))
 
--- it has the form, with this component at fault
+-- The words name the component that is out of range.
 abbrev pub refused_text : ComponentRange → List ℕ
 refused_text why = codes "refused " ++ component_name why.component ++ (if why.is_conditional then codes " conditional" else [])
 
--- what is said of a text that is not read
+-- The words say why a text can't be read.
 abbrev pub why_text : Unreadable → List ℕ
 why_text (UnexpectedByte at) = codes "unreadable at " ++ decimal at
 why_text (UnexpectedEnd at) = codes "unreadable at " ++ decimal at
@@ -108,7 +109,7 @@ why_text (OutOfRange e) = refused_text e
 abbrev pub IsRefused : Filter → List ℕ → List ℕ → Type 0
 IsRefused filter text words = (why : ComponentRange) × IsFaultIn filter.reading text why × (words ≡ refused_text why)
 
--- it has not the form, and stops being of it at this position
+-- The text is not in the form, and departs from it at this position.
 abbrev pub IsUnreadable : Filter → List ℕ → List ℕ → Type 0
 IsUnreadable filter text words = (¬ HasFormIn filter.reading text)
     × ((at : ℕ) × IsPosition (HasFormIn filter.reading) text at × (words ≡ codes "unreadable at " ++ decimal at))
@@ -117,6 +118,6 @@ abbrev pub LacksAnswer : Filter → List ℕ → List ℕ → Type 0
 LacksAnswer filter text words = IsTooLong text words
     ⊎ (length text ≤ longest_text) × (HasNone filter text words ⊎ IsRefused filter text words ⊎ IsUnreadable filter text words)
 
--- the words are what is written for the text
+-- The words are the answer for the text, or the reason why it has none.
 abbrev pub IsAnswer : Filter → List ℕ → List ℕ → Type 0
 IsAnswer filter text words = HasAnswer filter text words ⊎ LacksAnswer filter text words

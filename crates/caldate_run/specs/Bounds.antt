@@ -1,4 +1,4 @@
--- Which dates and moments lie within bounds.
+-- The dates and moments within bounds.
 use Rattle.std.specs.Prelude.{not, nat_lt, int_lt, ◌&&◌, Bool, Option, Some, None, if◌then◌else◌}
 use Rattle.cal_datetime.specs.OffsetDateTime.{instant}
 use Rattle.cal_text.specs.declared.any.DateOrMoment.{DateOrMoment}
@@ -7,12 +7,12 @@ use Rattle.caldate_run.specs.Found.{day_of, is_date, moment_of}
 use Rattle.caldate_run.specs.declared.request.Bounds.{Bounds}
 use Rattle.caldate_run.specs.declared.request.Bounds.TheVariants.{FromTo, After, Before}
 
--- the date that its clock shows comes before this date, its instant before that of this moment
+-- Its local date is before a date bound, or its instant before a moment bound.
 abbrev pub is_before : DateOrMoment → DateOrMoment → Bool
 is_before found (Date form n) = nat_lt (day_of found) n
 is_before found (Moment form m) = int_lt (instant (moment_of found)) (instant m)
 
--- or after it
+-- Its local date is after a date bound, or its instant after a moment bound.
 abbrev pub is_after : DateOrMoment → DateOrMoment → Bool
 is_after found (Date form n) = nat_lt n (day_of found)
 is_after found (Moment form m) = int_lt (instant m) (instant (moment_of found))
@@ -27,6 +27,6 @@ are_dates (FromTo first last) = is_date first && is_date last
 are_dates (After bound) = is_date bound
 are_dates (Before bound) = is_date bound
 
--- whether it lies within them, where that is known: a date has no time to compare with a moment
+-- A date has no time to compare with a moment, so then the result is None.
 abbrev pub lies_in : Bounds → DateOrMoment → Option Bool
 lies_in bounds found = if is_date found && not (are_dates bounds) then None else Some (is_within bounds found)

@@ -1,4 +1,4 @@
--- The calls of a reader and of a writer that a run makes, from one state of it to another.
+-- The calls of a reader and a writer in a run, from one state to another.
 use Rattle.std.specs.Prelude.{◌≡◌, ℕ, ◌+◌, ◌-◌, ◌^◌, ◌<◌, Bool, true, false, List, [], length, drop, Option, Some, None, Result, Ok, Err}
 use Rattle.std.specs.IoError.{error_kind}
 use Rattle.std.specs.declared.io.Error.{Error}
@@ -7,22 +7,24 @@ use Rattle.std.specs.declared.io.ErrorKind.TheVariants.{Interrupted, WriteZero}
 use Rattle.caldate_run.specs.declared.fault.Fault.{Fault}
 use Rattle.caldate_run.specs.declared.fault.Fault.TheVariants.{Read, Write, Unanswered}
 
--- the most interrupted calls that are made again
+-- The maximum number of interrupted calls that are repeated.
 abbrev pub most_retries : ℕ
 most_retries = 4096
 
--- the most reads of a run
+-- The maximum number of reads in a run.
 abbrev pub most_reads : ℕ
 most_reads = 2 ^ 64 - 1
 
--- a call that fails like this is not made again: it was not interrupted, or no retry is left
+-- A call with this error is not repeated: it was not interrupted, or no retry is left.
 abbrev pub IsFinal : ℕ → Error → Type 0
 IsFinal retries error = error_kind error ≡ Interrupted → retries ≡ 0
 
--- `write s bytes result t`: a write of these bytes returns this result, and takes the writer from s to t
+-- `write s bytes result t`: a write of these bytes returns this result and takes the writer from s
+-- to t.
 module _ {S : Type 0} (write : S → List ℕ → Result ℕ Error → S → Type 0) where
-  -- The writes of these bytes, one after the other while bytes are left. Only an interrupted write is made again, for one of the retries. The
-  -- outcome is why the last write failed, or none if all the bytes were taken.
+  -- The writes of these bytes, one after another until none are left. Only an interrupted write is
+  -- repeated, which uses a retry. The outcome is why the last write failed, or None if all bytes
+  -- were taken.
   pub data Sends : ℕ → S → List ℕ → Option ErrorKind → S → Type 0 where
     all : (retries : ℕ) (s : S) → Sends retries s [] None s
     some : (retries n : ℕ) (s t end : S) (bytes : List ℕ) (outcome : Option ErrorKind) → 0 < n → write s bytes (Ok n) t
@@ -33,42 +35,43 @@ module _ {S : Type 0} (write : S → List ℕ → Result ℕ Error → S → Typ
     fails : (retries : ℕ) (s end : S) (bytes : List ℕ) (error : Error) → 0 < length bytes → IsFinal retries error
         → write s bytes (Err error) end → Sends retries s bytes (Some (error_kind error)) end
 
-  -- All the writes of a run: the outcome is why one failed, after which nothing is written, or none if none failed.
+  -- All writes of a run. The outcome is why one failed, after which nothing is written, or None.
   pub data Writes : S → Option ErrorKind → S → Type 0 where
     no_more : (s : S) → Writes s None s
     sent : (s t end : S) (bytes : List ℕ) (outcome : Option ErrorKind) → Sends most_retries s bytes None t → Writes t outcome end
         → Writes s outcome end
     failed : (s end : S) (bytes : List ℕ) (kind : ErrorKind) → Sends most_retries s bytes (Some kind) end → Writes s (Some kind) end
 
--- `read s result t`: a read returns this result, and takes the reader from s to t
+-- `read s result t`: a read returns this result and takes the reader from s to t.
 module _ {S : Type 0} (read : S → Result ℕ Error → S → Type 0) where
-  -- One read, and the interrupted ones before it, each of which is made again for one of the retries.
+  -- One read, and the interrupted reads before it, each of which is repeated and uses a retry.
   pub data Gives : ℕ → S → Result ℕ Error → S → Type 0 where
     ok : (retries n : ℕ) (s end : S) → read s (Ok n) end → Gives retries s (Ok n) end
     fails : (retries : ℕ) (s end : S) (error : Error) → IsFinal retries error → read s (Err error) end → Gives retries s (Err error) end
     again : (retries : ℕ) (s t end : S) (error : Error) (outcome : Result ℕ Error) → error_kind error ≡ Interrupted → read s (Err error) t
         → Gives retries t outcome end → Gives (retries + 1) s outcome end
 
-  -- All the reads of a run, at most so many: whether one failed, after which nothing is read, or one more was wanted.
+  -- All reads of a run, at most `most`. The flag says that one failed, after which nothing is read,
+  -- or that one more was needed.
   pub data Reads : ℕ → S → Bool → S → Type 0 where
     no_more : (most : ℕ) (s : S) → Reads most s false s
     given : (most n : ℕ) (s t end : S) (failed : Bool) → Gives most_retries s (Ok n) t → Reads most t failed end → Reads (most + 1) s failed end
     failed : (most : ℕ) (s end : S) (error : Error) → Gives most_retries s (Err error) end → Reads (most + 1) s true end
     too_many : (s : S) → Reads 0 s true s
 
--- why a write failed, if the fault says that one did
+-- The error kind of a failed write, if the fault is one.
 abbrev pub kind_of : Fault → Option ErrorKind
 kind_of Read = None
 kind_of (Write kind) = Some kind
 kind_of (Unanswered line) = None
 
--- whether the fault says that a read failed
+-- The fault is a failed read.
 abbrev pub is_of_read : Fault → Bool
 is_of_read Read = true
 is_of_read (Write kind) = false
 is_of_read (Unanswered line) = false
 
--- the same of an outcome
+-- An outcome has the failure of its fault.
 abbrev pub write_failure : {T : Type 0} → Result T Fault → Option ErrorKind
 write_failure (Ok value) = None
 write_failure (Err fault) = kind_of fault

@@ -1,4 +1,4 @@
--- The whole units from one date or moment to another, cut toward zero.
+-- The whole units from one date or moment to another, truncated toward zero.
 use Rattle.std.specs.Prelude.{◌≡◌, ℕ, ◌≤◌, ◌<◌, ℤ, pos, ◌+ℤ◌, ◌-ℤ◌, ◌*ℤ◌, length}
 use Rattle.cal_time.specs.Date.{IsDate}
 use Rattle.cal_time.specs.SignedDuration.{cut, whole_days, week, day, hour, minute, second}
@@ -10,20 +10,20 @@ use Rattle.caldate_run.specs.Moves.{monday_to_friday}
 use Rattle.caldate_run.specs.declared.request.TimeUnit.{TimeUnit}
 use Rattle.caldate_run.specs.declared.request.TimeUnit.TheVariants as unit
 
--- the duration between
+-- The duration from one moment to another.
 abbrev pub duration_between : Shown → Shown → ℤ
 duration_between from to = instant to -ℤ instant from
 
--- the day that the whole days of this duration lead to, from the day that the clock of the first one shows
+-- Day t is the whole days of the duration after the local date of `from`.
 pub record IsReached (from to : Shown) (t : ℕ) : Type 0 where
   pub date : IsDate t
   pub moved : pos t ≡ pos (date_at from.local) +ℤ whole_days (duration_between from to)
 
--- the greatest number that does not lead past it, or back the least
+-- The number z is the maximum that does not pass day t, or backward the minimum.
 abbrev pub IsCut : ℕ → ℕ → (ℤ → Type 0) → (ℤ → Type 0) → ℤ → Type 0
 IsCut n t Up Back z = (n ≤ t → IsGreatest Up z) × (t < n → IsLeast Back z)
 
--- so many years, months or workdays lie between two days; each day is a number of the count
+-- The number of years, months or workdays from day n to day t is z.
 unfoldable pub AreYears : ℕ → ℕ → ℤ → Type 0
 AreYears n t z = IsCut n t (λ y. LeadsUpTo n t (pos 12 *ℤ y)) (λ y. LeadsBackTo n t (pos 12 *ℤ y)) z
 
@@ -33,7 +33,7 @@ AreMonths n t z = IsCut n t (LeadsUpTo n t) (LeadsBackTo n t) z
 abbrev pub AreWorkdays : ℕ → ℕ → ℤ → Type 0
 AreWorkdays n t z = z ≡ pos (length (workdays_within monday_to_friday n t)) -ℤ pos (length (workdays_within monday_to_friday t n))
 
--- so many units lie between
+-- The number of units from one moment to another is z.
 abbrev pub IsCount : TimeUnit → Shown → Shown → ℤ → Type 0
 IsCount unit.Years from to z = (t : ℕ) × IsReached from to t × AreYears (date_at from.local) t z
 IsCount unit.Months from to z = (t : ℕ) × IsReached from to t × AreMonths (date_at from.local) t z

@@ -20,18 +20,18 @@ use Rattle.caldate_run.specs.declared.request.Form.TheVariants.{Date, Weekday, M
 use Rattle.caldate_run.specs.declared.request.UnixUnit.{UnixUnit}
 use Rattle.caldate_run.specs.declared.request.UnixUnit.TheVariants.{Milliseconds, Microseconds, Nanoseconds}
 
--- the English name of the weekday of day n
+-- The English name of the weekday of day n.
 abbrev pub weekday_text : ℕ → List ℕ
 weekday_text n = name (weekday.weekday_at (weekday_at n))
 
--- the month and the quarter of day n, as 2024-02 and 2024-Q1
+-- The month and the quarter of day n, such as 2024-02 and 2024-Q1.
 abbrev pub month_text : ℕ → List ℕ
 month_text n = year_text (year_at n) ++ codes "-" ++ digits_at_least 2 (month_at n)
 
 abbrev pub quarter_text : ℕ → List ℕ
 quarter_text n = year_text (year_at n) ++ codes "-Q" ++ digit (quarter_at n) ∷ []
 
--- its date in the basic format of ISO 8601, as 20240229: only a year of four digits and no sign has one
+-- The date in the basic format of ISO 8601, such as 20240229. Only years from 0 to 9999 have one.
 pub record HasBasicText (n : ℕ) : Type 0 where
   pub from_year_0 : pos 0 ≤ℤ year_at n
   pub to_year_9999 : year_at n ≤ℤ pos 9999
@@ -39,13 +39,13 @@ pub record HasBasicText (n : ℕ) : Type 0 where
 abbrev pub basic_text : ℕ → List ℕ
 basic_text n = year_text (year_at n) ++ digits_at_least 2 (month_at n) ++ digits_at_least 2 (day_of_month_at n)
 
--- so many nanoseconds in whole units, rounded toward the past
+-- A number of nanoseconds in whole units, rounded toward the past.
 abbrev pub units_in : UnixUnit → ℤ → ℤ
 units_in Milliseconds v = int_div_euclid v (pos millisecond)
 units_in Microseconds v = int_div_euclid v (pos microsecond)
 units_in Nanoseconds v = v
 
--- the words are those of a moment in the form
+-- The words are the text of a moment in the form.
 abbrev pub IsInForm : Form → Shown → List ℕ → Type 0
 IsInForm (Date form) m words = words ≡ date_text form (date_at m.local)
 IsInForm Weekday m words = words ≡ weekday_text (date_at m.local)

@@ -1,4 +1,4 @@
--- What was read: its moment, where a date is midnight at UTC, its day and its form.
+-- The moment, the day and the form of a date or a moment that was read. A date is midnight UTC.
 use Rattle.std.specs.Prelude.{ℕ, Bool, true, false, pos}
 use Rattle.cal_datetime.specs.DateTime.{date_time, date_at}
 use Rattle.cal_datetime.specs.OffsetDateTime.{Shown}

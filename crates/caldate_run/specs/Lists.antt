@@ -1,4 +1,4 @@
--- The dates of a list, from its first day on by steps of one length, and what the writer takes of them.
+-- The dates of a list in steps of one length, and the bytes that the writer takes.
 use Rattle.std.specs.Prelude.{◌≡◌, ℕ, ⊤, ◌+◌, ◌*◌, ◌<◌, ◌≤◌, pos, List, [], ◌∷◌, ◌++◌, length, slice_index, Option, Result, Ok, Err}
 use Rattle.std.specs.Io.KnownBytes.{Appends}
 use Rattle.std.specs.List.{flat_map}
@@ -17,7 +17,7 @@ use Rattle.caldate_run.specs.declared.request.Step.{Step}
 use Rattle.caldate_run.specs.declared.request.StepUnit.{StepUnit}
 use Rattle.caldate_run.specs.declared.request.StepUnit.TheVariants.{Days, Months}
 
--- a step is a day at least, and 4294967295 years at most
+-- A step has 1 to 51539607540 days or months. The maximum is 4294967295 years.
 abbrev pub IsStep : Step → Type 0
 IsStep step = (1 ≤ step.every) × (step.every ≤ 51539607540)
 
@@ -25,39 +25,40 @@ abbrev pub IsPace : Pace → Type 0
 IsPace (Steps step) = IsStep step
 IsPace (Rule recurrence) = ⊤
 
--- what is asked for has such a step, where it is a list of steps
+-- A list in steps has such a step.
 abbrev pub IsAsked : Asked → Type 0
 IsAsked (Dates listing) = IsStep listing.step
 IsAsked other = ⊤
 
--- day r is so many days or months after day n
+-- Day r is `count` days or months after day n.
 abbrev pub IsAfter : StepUnit → ℕ → ℕ → ℕ → Type 0
 IsAfter Days count n r = r ≡ n + count
 IsAfter Months count n r = IsMonthsLater n (pos count) r
 
--- a day of the list that is so many days or months after its first day, and not past its last
+-- The day is `count` days or months after the first day of the list, and not past the last.
 pub record IsWithin (listing : Listing) (count : ℕ) (day : ℕ) : Type 0 where
   pub date : IsDate day
   pub after : IsAfter listing.step.unit count listing.first day
   pub not_past : day ≤ listing.last
 
--- the k-th day of the list, counted from 0: k steps after the first day
+-- The k-th day of the list, counted from 0, is k steps after the first day.
 abbrev pub IsListed : Listing → ℕ → ℕ → Type 0
 IsListed listing k day = IsWithin listing (k * listing.step.every) day
 
--- the first days of the list, in order
+-- The first days of the list, in order.
 abbrev pub AreFirst : Listing → List ℕ → Type 0
 AreFirst listing days = (k : ℕ) → k < length days → IsListed listing k (slice_index days k)
 
--- all of them: no day comes next
+-- All days of the list: no other day comes next.
 abbrev pub AreAll : Listing → List ℕ → Type 0
 AreAll listing days = AreFirst listing days × ((day : ℕ) → ¬ IsListed listing (length days) day)
 
--- a day's line: its calendar date, with a line feed
+-- The line of a day is its calendar date with a line feed.
 abbrev pub line_of : ℕ → List ℕ
 line_of day = date_text Calendar day ++ 10 ∷ []
 
--- the writer took the lines of all the days, or after a failed write a beginning of those of the first days, and never all
+-- The writer took the lines of all days. After a failed write it took a beginning of the lines of
+-- the first days, and never all of them.
 abbrev pub TakesLines : (List ℕ → Type 0) → (List ℕ → Type 0) → Result Unit Fault → Option (List ℕ) → Option (List ℕ) → Type 0
 TakesLines All First (Ok done) old new = (days : List ℕ) × All days × Appends old new (flat_map line_of days)
 TakesLines All First (Err fault) old new = IsOfWrite fault × ((days : List ℕ) × First days × AppendsFront old new (flat_map line_of days))

@@ -1,4 +1,4 @@
--- The day that a move leads to.
+-- The day after a move.
 use Rattle.std.specs.Prelude.{◌≡◌, ℕ, ◌+◌, ◌-◌, ◌*◌, true, false, pos, ◌*ℤ◌, [], ◌∷◌, Some, slice_get}
 use Rattle.cal_time.specs.Date.{IsDate, HasCalendarDate, year_at, month_at, weekday_at}
 use Rattle.cal_time.specs.Lengths.{days_in_month}
@@ -12,11 +12,12 @@ use Rattle.caldate_run.specs.declared.request.DayMove.TheVariants as move
 use Rattle.caldate_run.specs.declared.request.Period.{Period}
 use Rattle.caldate_run.specs.declared.request.Period.TheVariants.{Week, Month, Quarter, Year}
 
--- Monday to Friday, and no holidays
+-- Monday to Friday without holidays.
 abbrev pub monday_to_friday : WorkWeek
 monday_to_friday = record { marks = true ∷ true ∷ true ∷ true ∷ true ∷ false ∷ false ∷ []; holidays = [] }
 
--- day r is the first day of the period that has day n, or the last; a week goes from Monday, 0, to Sunday, 6
+-- Day r is the first or the last day of the period that contains day n. A week goes from Monday, 0,
+-- to Sunday, 6.
 abbrev pub IsFirstOf : Period → ℕ → ℕ → Type 0
 IsFirstOf Week n r = r + weekday_at n ≡ n
 IsFirstOf Month n r = HasCalendarDate (year_at n) (month_at n) 1 r
@@ -29,7 +30,7 @@ IsLastOf Month n r = HasCalendarDate (year_at n) (month_at n) (days_in_month (ye
 IsLastOf Quarter n r = HasCalendarDate (year_at n) (3 * quarter_at n) (days_in_month (year_at n) (3 * quarter_at n)) r
 IsLastOf Year n r = HasCalendarDate (year_at n) 12 31 r
 
--- the move leads from day n to day r
+-- The move goes from day n to day r.
 abbrev pub LeadsTo : DayMove → ℕ → ℕ → Type 0
 LeadsTo (move.Next w k) n r = kth k (next_occurrences (index w) n) ≡ Some r
 LeadsTo (move.Last w k) n r = kth k (prev_occurrences (index w) n) ≡ Some r

@@ -1,8 +1,8 @@
--- What a word spells as an offset from UTC.
+-- The words for offsets from UTC.
 use Rattle.std.specs.Prelude.{ℕ, ◌+◌, ◌-◌, ◌*◌, ◌==◌, ◌&&◌, ◌||◌, nat_le, Bool, ℤ, pos, neg_ℤ, List, length, slice_index, Option, Some, None, option_and_then, bytes_eq, codes, if◌then◌else◌}
 use Rattle.std.specs.Option.{option_zip}
 
--- the number of two digits that begin at this position
+-- Two digits at position k are a number.
 abbrev pub is_digit : ℕ → Bool
 is_digit byte = nat_le 48 byte && nat_le byte 57
 
@@ -11,7 +11,7 @@ number_at word k =
     if is_digit (slice_index word k) && is_digit (slice_index word (k + 1))
     then Some ((slice_index word k - 48) * 10 + (slice_index word (k + 1) - 48)) else None
 
--- the seconds of hours from 0 to 23 and minutes from 0 to 59, after a sign
+-- The seconds of 0 to 23 hours and 0 to 59 minutes, after a sign.
 abbrev pub seconds_after : ℕ → (ℕ × ℕ) → Option ℤ
 seconds_after sign at =
     let seconds = at.0 * 3600 + at.1 * 60 in
@@ -20,7 +20,8 @@ seconds_after sign at =
     if sign == 45 then Some (neg_ℤ (pos seconds)) else None
     ) else None
 
--- Z, or a sign and two digits each of the hours and the minutes with a colon between them
+-- An offset is Z, or a sign and two digits each of the hours and the minutes with a colon between
+-- them.
 abbrev pub offset_of : List ℕ → Option ℤ
 offset_of word =
     if bytes_eq word (codes "Z") || bytes_eq word (codes "z") then Some (pos 0) else

@@ -1,4 +1,4 @@
--- What the arguments are to the program: what they ask for, or the line that is said of them.
+-- The meaning of the arguments: a command, or a line that says why they are invalid.
 use denote.Ref.{Bor}
 use Rattle.std.specs.Prelude.{◌≡◌, ℕ, List, Option, Some, None, Ok, Err, codes, ◌++◌, [], ◌∷◌}
 use Rattle.cal_text.specs.declared.any.DateOrMoment.{DateOrMoment}
@@ -7,13 +7,13 @@ use Rattle.caldate_run.specs.Requests.{IsReading, arguments_of, asked_of}
 use Rattle.caldate_run.specs.declared.request.Asked.{Asked}
 use Rattle.caldate_run.specs.declared.senseless.Senseless.{Senseless}
 
--- the arguments, which are none where they have too many bytes, ask for this, by a reading of their words
+-- The arguments give this command. They are None if they have too many bytes.
 abbrev pub Asks : Option (Bor (List ℕ)) → Asked → Type 0
 Asks None asked = ⊥
 Asks (Some arguments) asked = (reading : List ℕ → Option DateOrMoment)
     × IsReading reading (arguments_of arguments.now) × (asked_of reading (arguments_of arguments.now) ≡ Ok asked)
 
--- they make no sense, and these words say why
+-- The arguments are invalid, and these words say why.
 abbrev pub HasComplaint : Option (Bor (List ℕ)) → List ℕ → Type 0
 HasComplaint None words = words ≡ codes "caldate: the arguments have more than 4096 bytes" ++ 10 ∷ []
 HasComplaint (Some arguments) words = (reading : List ℕ → Option DateOrMoment) × (senseless : Senseless) × IsReading reading (arguments_of arguments.now)

@@ -1,4 +1,4 @@
--- What the text of a line is read as, where a reading is named.
+-- The ways to read the text of a line.
 use Rattle.std.specs.Prelude.{◌≡◌, ◌==◌, ◌&&◌, ◌||◌, ◌<◌, ◌^◌, ℕ, nat_le, Bool, ℤ, pos, ◌+ℤ◌, ◌*ℤ◌, List, ◌++◌, codes, length, take, drop, slice_index, unsigned_abs, Option, Some, None, IsSomeAnd, if◌then◌else◌}
 use Rattle.std.specs.Fmt.{signed_decimal}
 use Rattle.cal_time.specs.SignedDuration.{microsecond, millisecond}
@@ -14,18 +14,19 @@ use Rattle.caldate_run.specs.declared.reading.Reading.TheVariants as reading
 use Rattle.caldate_run.specs.declared.request.UnixUnit.{UnixUnit}
 use Rattle.caldate_run.specs.declared.request.UnixUnit.TheVariants.{Milliseconds, Microseconds, Nanoseconds}
 
--- ---- dates and moments: each has a text in one of the forms that says the same
+-- ---- dates and moments: each has an equivalent text in one of the forms
 abbrev pub calendar_text : List ℕ → List ℕ → List ℕ → List ℕ
 calendar_text year month day = year ++ codes "-" ++ month ++ codes "-" ++ day
 
 abbrev pub is_separator : ℕ → Bool
 is_separator byte = byte == 46 || byte == 47 || byte == 45
 
--- two bytes, a separator, two bytes, the same separator, four bytes
+-- Two bytes, a separator, two bytes, the same separator, four bytes.
 abbrev pub is_parted : List ℕ → Bool
 is_parted bytes = (length bytes == 10) && is_separator (slice_index bytes 2) && (slice_index bytes 5 == slice_index bytes 2)
 
--- the parts of a date in another order, or a moment whose offset is still to come, with a fraction of at most nine digits
+-- The equivalent text has the parts of the date in calendar order, or adds a Z to a moment without
+-- its offset, which has at most nine digits of a fraction.
 abbrev pub full_text : Reading → List ℕ → Option (List ℕ)
 full_text reading.Any bytes = Some bytes
 full_text reading.Basic bytes =
@@ -37,7 +38,7 @@ full_text reading.MonthFirst bytes =
 full_text (reading.Local offset) bytes = if nat_le (length bytes) 29 then Some (bytes ++ codes "Z") else None
 full_text (reading.Unix unit) bytes = None
 
--- a local moment is what a clock at its offset shows
+-- A local moment keeps its local time at the given offset.
 abbrev pub assumed : Reading → DateOrMoment → DateOrMoment
 assumed (reading.Local offset) (Moment form m) = Moment form (record { local = m.local; offset = offset })
 assumed reading found = found
@@ -52,7 +53,7 @@ pub record IsNumber (bytes : List ℕ) (z : ℤ) : Type 0 where
   pub few : unsigned_abs z < 10 ^ 27
   pub bytes_are : bytes ≡ signed_decimal z
 
--- so many units after 1970-01-01 at UTC, where that is a moment
+-- The moment is z units after 1970-01-01 UTC, if that is in range.
 abbrev pub local_of : UnixUnit → ℤ → ℤ
 local_of unit z = unix_epoch +ℤ (z *ℤ pos (nanoseconds_in unit))
 
@@ -65,18 +66,18 @@ IsNumberOf unit bytes found =
     (z : ℤ) × IsNumber bytes z × ((m : Shown) × IsUnixMoment unit z m × (found ≡ Moment form.Unix m))
 
 -- ---- the whole
--- the bytes are a text of this date or this moment
+-- The bytes are a text of this date or moment.
 abbrev pub IsTextIn : Reading → List ℕ → DateOrMoment → Type 0
 IsTextIn (reading.Unix unit) bytes found = IsNumberOf unit bytes found
 IsTextIn reading bytes found =
     IsSomeAnd (full_text reading bytes) (λ text. (other : DateOrMoment) × IsTextOf text other × (found ≡ assumed reading other))
 
--- they have the form, whatever their numbers
+-- The bytes have the form, whatever their numbers are.
 abbrev pub HasFormIn : Reading → List ℕ → Type 0
 HasFormIn (reading.Unix unit) bytes = (z : ℤ) × IsNumber bytes z
 HasFormIn reading bytes = IsSomeAnd (full_text reading bytes) HasAnyForm
 
--- this component of them is at fault
+-- This component of the bytes is out of range.
 abbrev pub IsFaultIn : Reading → List ℕ → ComponentRange → Type 0
 IsFaultIn (reading.Unix unit) bytes why =
     (why ≡ timestamp_out_of_range) × ((z : ℤ) × IsNumber bytes z × ¬ IsDateTime (local_of unit z))

@@ -1,19 +1,19 @@
--- The dates of a recurrence, from its first day on up to a last one, and what the writer takes of them.
+-- The dates of a recurrence up to a last one, and the bytes that the writer takes.
 use Rattle.std.specs.Prelude.{◌≡◌, ℕ, nat_le, List, ◌++◌, filter, Option, Result}
 use Rattle.cal_recurrence.specs.Days.{AreDays}
 use Rattle.caldate_run.specs.Lists.{TakesLines}
 use Rattle.caldate_run.specs.declared.fault.Fault.{Fault}
 use Rattle.caldate_run.specs.declared.request.Occurrences.{Occurrences}
 
--- those of the days that are not past the last
+-- The days that are not past the last.
 abbrev pub up_to : ℕ → List ℕ → List ℕ
 up_to last days = filter (λ day. nat_le day last) days
 
--- all the dates: the days of the recurrence up to the last
+-- The dates are the days of the recurrence up to the last.
 abbrev pub AreOccurrences : Occurrences → List ℕ → Type 0
 AreOccurrences asked dates = (days : List ℕ) × AreDays asked.recurrence asked.first days × (dates ≡ up_to asked.last days)
 
--- the first of them, in order
+-- The dates are the first of them, in order.
 abbrev pub AreFirstOccurrences : Occurrences → List ℕ → Type 0
 AreFirstOccurrences asked dates = (more : List ℕ) × AreOccurrences asked (dates ++ more)
 

@@ -1,4 +1,4 @@
--- What the arguments ask for, or the first word that makes no sense, with what is wanted there.
+-- The command that the arguments give, or the first invalid word and its expected kind.
 use denote.Ref.{Bor}
 use Rattle.std.specs.Prelude.{ℕ, ◌+◌, nat_lt, not, ◌&&◌, ◌||◌, Bool, true, false, is_none, is_some, unwrap_or, ℤ, pos, neg_ℤ, ◌*ℤ◌, int_le, nat_abs, List, [], ◌∷◌, ◌==◌, length, take, Option, Some, None, MatchOption, option_map, option_and_then, ok_or, Result, Ok, Err, slice_get, position, bytes_eq, codes, if◌then◌else◌, ◌*◌}
 use Rattle.std.specs.List.{All, slice_split}
@@ -44,25 +44,26 @@ use Rattle.caldate_run.specs.declared.senseless.Senseless.{Senseless}
 use Rattle.caldate_run.specs.declared.senseless.Wanted.{Wanted}
 use Rattle.caldate_run.specs.declared.senseless.Wanted.TheVariants as wanted
 
--- the arguments, between which stands the byte 0, of which no argument has one
+-- The arguments are separated by zero bytes, which no argument contains.
 abbrev pub arguments_of : List ℕ → List (List ℕ)
 arguments_of bytes = slice_split (λ byte. byte == 0) bytes
 
--- the words that come, if any do
+-- The words that are left, if any are.
 abbrev pub words_left : Option (Bor (List ℕ)) → List (List ℕ)
 words_left None = []
 words_left (Some words) = arguments_of words.now
 
--- the answer to the text is right: the date or the moment whose text it is, or none where it is that of none
+-- The reading of the text is correct: its date or moment, or None if it has none.
 abbrev pub IsRead : (List ℕ → Option DateOrMoment) → List ℕ → Type 0
 IsRead reading text = MatchOption (reading text) ((found : DateOrMoment) → ¬ IsTextOf text found) (IsTextOf text)
 
--- so is that to each of the words
+-- The reading of each word is correct.
 abbrev pub IsReading : (List ℕ → Option DateOrMoment) → List (List ℕ) → Type 0
 IsReading reading words = All (IsRead reading) words
 
 -- ---- words
--- a number: digits, perhaps after a sign, that is from -9223372036854775808 to 9223372036854775807
+-- A number has digits, after an optional sign, and is from -9223372036854775808 to
+-- 9223372036854775807.
 abbrev pub is_number : List ℕ → Bool
 is_number word =
     nat_lt 0 (length (without_leading_sign word)) && (all_ascii_digits (without_leading_sign word)
@@ -71,7 +72,7 @@ is_number word =
 abbrev pub number_of : List ℕ → Option ℤ
 number_of word = if is_number word then Some (signed_digits_value 10 word) else None
 
--- such a number from one to another, of which neither is negative
+-- A number from `low` to `high`, both of which are not negative.
 abbrev pub number_between : ℕ → ℕ → List ℕ → Option ℕ
 number_between low high word =
     option_and_then (λ z. if int_le (pos low) z && int_le z (pos high) then Some (nat_abs z) else None) (number_of word)
@@ -104,11 +105,11 @@ form_of word =
     if bytes_eq word (codes "unix") then Some (form.Moment Unix) else
     further_form_of word
 
--- a name in any case of its letters, or its first three letters so
+-- A word spells a name if it is the name or its first three letters, in any case.
 unfoldable pub spells : List ℕ → List ℕ → Bool
 spells word name = str_eq_ignore_ascii_case word name || str_eq_ignore_ascii_case word (take 3 name)
 
--- a unit likewise, as one or as many
+-- A word spells a unit if it is the singular, the plural or the first three letters, in any case.
 unfoldable pub spells_unit : List ℕ → List ℕ → List ℕ → Bool
 spells_unit word one many = spells word one || str_eq_ignore_ascii_case word many
 
@@ -143,43 +144,43 @@ unit_of word =
     if spells_unit word (codes "second") (codes "seconds") then Some unit.Seconds else
     None
 
--- so many seconds as a duration, where they are one
+-- A number of units, each of `unit` seconds, is a duration if it fits.
 abbrev pub seconds_in : ℕ → ℤ → Option ℤ
 seconds_in unit amount =
     let seconds = amount *ℤ pos unit in
     if int_le (neg_ℤ (pos 9223372036854775808)) seconds && int_le seconds (pos 9223372036854775807) then Some (seconds *ℤ pos second) else None
 
 -- ---- the words, each by its index among the arguments, counted from 0
--- the first word that makes no sense has this index, where this is wanted; a word that is missing has the index that it would have
+-- The first invalid word has this index. A missing word has the index that it would have.
 abbrev pub senseless_at : ℕ → Wanted → Senseless
 senseless_at at what = record { index = at; wanted = what }
 
--- some words make sense, and so do those that come after them; else the first that makes none is told
+-- If the first words are valid, the others follow; otherwise the first error remains.
 abbrev pub and_then : {X Y : Type 0} → Result X Senseless → (X → Result Y Senseless) → Result Y Senseless
 and_then (Ok x) more = more x
 and_then (Err senseless) more = Err senseless
 
--- what the word at the index means, where this is wanted
+-- The meaning of the word at the index. The error expects `what` there.
 abbrev pub word_as : {X : Type 0} → List (List ℕ) → ℕ → (List ℕ → Option X) → Wanted → Result X Senseless
 word_as words at meaning what = ok_or (option_and_then meaning (slice_get words at)) (senseless_at at what)
 
--- nothing more than that the word is this one
+-- The word is the keyword.
 abbrev pub keyword : List ℕ → List ℕ → Option Unit
 keyword name word = if bytes_eq word name then Some tt else None
 
--- no word comes at the index, or one is too many
+-- The words end at the index or before it. Otherwise the word there is one too many.
 abbrev pub ends_at : List (List ℕ) → ℕ → Bool
 ends_at words at = is_none (slice_get words at)
 
 abbrev pub ended : {X : Type 0} → List (List ℕ) → ℕ → X → Result X Senseless
 ended words at x = if ends_at words at then Ok x else Err (senseless_at at wanted.End)
 
--- what the word at the index means, which is to be the last one
+-- The meaning of the word at the index, which must be the last one.
 abbrev pub only_at : {X : Type 0} → List (List ℕ) → ℕ → (List ℕ → Option X) → Wanted → Result X Senseless
 only_at words at meaning what = and_then (word_as words at meaning what) (ended words (at + 1))
 
 -- ---- requests, by the words from an index on
--- `add N UNIT`: so many units, of which a duration has not all that a number counts
+-- `add N UNIT`: the units must fit in a duration.
 abbrev pub duration_of : ℕ → ℤ → Option Request
 duration_of unit z = option_map Add (seconds_in unit z)
 
@@ -193,7 +194,7 @@ amount_of z unit.Hours = duration_of 3600 z
 amount_of z unit.Minutes = duration_of 60 z
 amount_of z unit.Seconds = duration_of 1 z
 
--- the unit of `add`, which is days where nothing is said
+-- The default unit of `add` is days.
 abbrev pub unit_at : List (List ℕ) → ℕ → Result TimeUnit Senseless
 unit_at words at = if ends_at words at then Ok unit.Days else only_at words at unit_of wanted.UnitOfTime
 
@@ -204,7 +205,7 @@ amount_at words at =
     and_then (unit_at words (at + 1)) (λ unit.
     ok_or (amount_of z unit) (senseless_at at wanted.Amount)))
 
--- how often a weekday comes, which is once where nothing is said
+-- The default count of a weekday is 1.
 abbrev pub count_at : List (List ℕ) → ℕ → Result ℕ Senseless
 count_at words at = if ends_at words at then Ok 1 else only_at words at count_of wanted.Count
 
@@ -242,11 +243,11 @@ bounds_at reading words at =
     if bytes_eq word (codes "before") then and_then (only_at words (at + 1) reading wanted.Target) (λ bound. Ok (Before bound)) else
     Err (senseless_at at wanted.Bounds))
 
--- the verb, and what comes after it; at the start an option that stands alone is wanted too
+-- The verb comes first. At index 0, an option such as `--help` is allowed too.
 abbrev pub verb_wanted : ℕ → Wanted
 verb_wanted at = if at == 0 then wanted.Start else wanted.Verb
 
--- the verbs after those
+-- The other verbs have these requests.
 abbrev pub further_request_at : (List ℕ → Option DateOrMoment) → List (List ℕ) → ℕ → List ℕ → Result Request Senseless
 further_request_at reading words at word =
     if bytes_eq word (codes "start") then and_then (only_at words (at + 1) period_of wanted.Period) (λ p. Ok (Move (move.Start p))) else
@@ -269,7 +270,7 @@ request_at reading words at =
     further_request_at reading words at word)
 
 -- ---- lists: `from A to B`, and a pace
--- the day that a text is the date of
+-- The day of a date. A moment has none.
 abbrev pub date_in : DateOrMoment → Option ℕ
 date_in (dated.Date form n) = Some n
 date_in (dated.Moment form m) = None
@@ -277,7 +278,7 @@ date_in (dated.Moment form m) = None
 abbrev pub date_at : (List ℕ → Option DateOrMoment) → List (List ℕ) → ℕ → Result ℕ Senseless
 date_at reading words at = and_then (word_as words at reading wanted.Date) (λ found. ok_or (date_in found) (senseless_at at wanted.Date))
 
--- so many days, weeks, months or years
+-- A step of n days, weeks, months or years.
 abbrev pub step_in : ℕ → TimeUnit → Option Step
 step_in n unit.Days = Some (record { every = n; unit = steps.Days })
 step_in n unit.Weeks = Some (record { every = n * 7; unit = steps.Days })
@@ -291,7 +292,7 @@ steps_of words =
     and_then (word_as words 6 many_of wanted.Many) (λ n.
     and_then (word_as words 7 (λ word. option_and_then (step_in n) (unit_of word)) wanted.UnitOfDays) (λ step. ended words 8 (Steps step)))
 
--- `RULE`: each recurrence has a `=` (61), and no number
+-- `RULE`: each recurrence contains a `=` (61), and a number doesn't.
 abbrev pub is_rule_like : List ℕ → Bool
 is_rule_like word = is_some (position (λ b. b == 61) word)
 
@@ -342,7 +343,7 @@ byte_of word = None
 abbrev pub skip_of : List ℕ → Option ℕ
 skip_of word = number_between 0 9223372036854775807 word
 
--- `--read FORM`: the reading that the word names; that of `local` waits for its offset
+-- `--read FORM`: for `local`, the offset is 0 until the options are complete.
 abbrev pub reading_of : List ℕ → Option Reading
 reading_of word =
     if bytes_eq word (codes "basic") then Some read.Basic else
@@ -354,7 +355,7 @@ reading_of word =
     if bytes_eq word (codes "local") then Some (read.Local (pos 0)) else
     None
 
--- what comes after the word, where it is an option that may stand there
+-- The value that comes after the word, if the word is an option that is not given yet.
 abbrev pub value_of : Options → List ℕ → Option Wanted
 value_of options word =
     if bytes_eq word (codes "--field") && is_none options.number then Some wanted.FieldNumber else
@@ -364,7 +365,7 @@ value_of options word =
     if bytes_eq word (codes "--assume") && is_none options.offset then Some wanted.Offset else
     None
 
--- the options with the one that wants this, which has this value
+-- The options, with this value for the option that needs it.
 abbrev pub with_value : Options → List ℕ → Wanted → Option Options
 with_value options value wanted.FieldNumber = option_map (λ n. record options { number = Some n }) (field_number_of value)
 with_value options value wanted.Separator = option_map (λ c. record options { separator = Some c }) (byte_of value)
@@ -373,8 +374,8 @@ with_value options value wanted.Reading = option_map (λ form. record options { 
 with_value options value wanted.Offset = option_map (λ o. record options { offset = Some o }) (offset_of value)
 with_value options value other = None
 
--- the options at the front of the words that are left, of which the first has this index, and the index of the word after them. The first
--- may be the value that the option before it wants
+-- The options at the front of the words, the first of which has index `at`, and the index of the
+-- word after them. The first word may be the value of the option before it.
 abbrev pub options_from : Option Wanted → Options → ℕ → List (List ℕ) → Result (Options × ℕ) Senseless
 options_from None options at [] = Ok (options, at)
 options_from None options at (word ∷ words) =
@@ -389,11 +390,11 @@ options_from (Some what) options at (word ∷ words) =
 abbrev pub asks_for_help : List ℕ → Bool
 asks_for_help word = bytes_eq word (codes "--help") || bytes_eq word (codes "-h") || bytes_eq word (codes "help")
 
--- the field that is named, whose separator is a tab where none is said
+-- The field that the options select. The default separator is a tab.
 abbrev pub field_of : Options → Option Field
 field_of options = option_map (λ n. record { number = n; separator = unwrap_or options.separator 9 }) options.number
 
--- what the lines are read as: in any form where none is named, and as `local` at the offset that is assumed
+-- The reading that the options select. The default is any form, and `local` gets its offset.
 abbrev pub reading_at : Option Reading → Option ℤ → Reading
 reading_at None offset = read.Any
 reading_at (Some (read.Local waiting)) (Some offset) = read.Local offset
@@ -403,7 +404,8 @@ abbrev pub is_local : Option Reading → Bool
 is_local (Some (read.Local waiting)) = true
 is_local form = false
 
--- what the options lack, where they make no sense without it: a separator needs a field, and `local` and an offset need one another
+-- The option that is missing: `--separator` requires `--field`, and `--read local` and `--assume`
+-- require each other.
 abbrev pub lacking : Options → Option Wanted
 lacking options =
     if is_some options.separator && is_none options.number then Some wanted.Field else
@@ -426,7 +428,7 @@ lines_of reading words =
     option_map_or (λ what. Err (senseless_at front.1 what)) (lacking front.0)
     (and_then (request_at reading words front.1) (λ request. Ok (Lines (filter_of front.0 request)))))
 
--- an argument alone that is empty is as none
+-- A single empty argument counts as no arguments.
 abbrev pub asked_of : (List ℕ → Option DateOrMoment) → List (List ℕ) → Result Asked Senseless
 asked_of reading words =
     and_then (word_as words 0 Some wanted.Something) (λ first.

@@ -1,4 +1,4 @@
--- What a run does to the bytes of its reader and its writer, where those are told.
+-- The effect of a run on the bytes of its reader and its writer, if they are known.
 use Rattle.std.specs.Prelude.{◌≡◌, ◌⊎◌, ℕ, ⊤, ◌<◌, ◌≤◌, nat_lt, Bool, true, false, List, ◌∷◌, ◌++◌, length, MatchBool, MatchOption, Option, Some, None, Result, Ok, Err}
 use Rattle.std.specs.Io.KnownBytes.{Appends, Consumes, IsAtEnd}
 use Rattle.caldate_run.specs.Answers.{HasAnswer, IsAnswer, IsTooLong}
@@ -14,47 +14,48 @@ use Rattle.caldate_run.specs.declared.progress.Progress.{Progress}
 use Rattle.caldate_run.specs.declared.request.Filter.{Filter}
 use Rattle.caldate_run.specs.declared.unanswered.UnansweredLine.{UnansweredLine}
 
--- what may be written for a text that is asked about: any answer, or in a strict run one that the text has
+-- The words are allowed for a text to answer: its answer, or unless the run is strict the reason
+-- why it has none.
 abbrev pub Allowed : Bool → Filter → List ℕ → List ℕ → Type 0
 Allowed true filter = HasAnswer filter
 Allowed false filter = IsAnswer filter
 
--- what may be written for a text of which this is asked about: the text with an answer in its place, or in a run that is not strict the
--- text itself, where it has no such field
+-- The words are the text with an answer in place of the field. A text that lacks the field stays as
+-- it is, unless the run is strict.
 abbrev pub AllowedFor : Filter → List ℕ → Option (List ℕ) → List ℕ → Type 0
 AllowedFor filter text None words = (filter.is_strict ≡ false) × (words ≡ text)
 AllowedFor filter text (Some asked) words =
     (answer : List ℕ) × Allowed filter.is_strict filter asked answer × (words ≡ text_with filter.field text answer)
 
--- What may be written for the text of a line before which so many came. Of one that is too long it is just this, and in a strict run
--- nothing. Else one that is skipped is passed on, and another one is asked about.
+-- The words are allowed for the text of a line after `before` lines. A text that is too long gets a
+-- fixed reply, or none in a strict run. A skipped text is passed on, and any other is answered.
 abbrev pub IsAllowed : Filter → ℕ → List ℕ → List ℕ → Type 0
 IsAllowed filter before text words =
     (filter.is_strict ≡ false) × IsTooLong text words
     ⊎ (length text ≤ longest_text)
     × MatchBool (nat_lt before filter.skip) (words ≡ text) (AllowedFor filter text (asked_text filter.field text) words)
 
--- what may be written for a line before which so many came: what is allowed for its text, and the end that it has; or where lines are kept
--- the line itself or nothing
+-- The reply is allowed for a line after `before` lines. It is allowed words with the line's end, or
+-- for a `keep` request the line itself or nothing.
 abbrev pub IsReplyTo : Filter → ℕ → List ℕ → List ℕ → Type 0
 IsReplyTo filter before line reply =
     MatchOption (bounds_kept filter.request) (IsReply (IsAllowed filter before) line reply) (λ bounds. IsKept filter bounds before line reply)
 
--- new is old and words of this kind
+-- The new bytes are the old ones and such words.
 abbrev pub AppendsThat : (List ℕ → Type 0) → List ℕ → List ℕ → Type 0
 AppendsThat IsOne old new = (words : List ℕ) × (new ≡ old ++ words) × IsOne words
 
--- it tells of a write that failed
+-- The fault is a failed write.
 abbrev pub IsOfWrite : Fault → Type 0
 IsOfWrite Read = ⊥
 IsOfWrite (Write kind) = ⊤
 IsOfWrite (Unanswered line) = ⊥
 
--- the reader gave some bytes, which come after the old ones
+-- The reader gave some bytes, which come after the old ones.
 abbrev pub HasRead : Option (List ℕ) → Option (List ℕ) → List ℕ → List ℕ → Type 0
 HasRead before after old new = (given : List ℕ) × Consumes before after given × (new ≡ old ++ given)
 
--- the writer took a beginning of the bytes, perhaps none of them, and never all
+-- The writer took a beginning of the bytes, perhaps an empty one, but never all.
 pub record AppendsFront (old new : Option (List ℕ)) (bytes : List ℕ) : Type 0 where
   pub front : List ℕ
   pub rest : List ℕ
@@ -62,13 +63,13 @@ pub record AppendsFront (old new : Option (List ℕ)) (bytes : List ℕ) : Type 
   pub left : 0 < length rest
   pub taken : Appends old new front
 
--- the writer took just the replies to these lines
+-- The writer took exactly the replies to these lines.
 pub record AnswersAll (filter : Filter) (all : List (List ℕ)) (old new : Option (List ℕ)) : Type 0 where
   pub out : List ℕ
   pub replies : AreReplies (IsReplyTo filter) 0 all out
   pub taken : Appends old new out
 
--- it took a beginning of the replies to the first of these lines, and never all of them
+-- The writer took a beginning of the replies to the first of these lines, but never all of them.
 pub record AnswersFront (filter : Filter) (all : List (List ℕ)) (old new : Option (List ℕ)) : Type 0 where
   pub lines : List (List ℕ)
   pub more : List (List ℕ)
@@ -77,7 +78,8 @@ pub record AnswersFront (filter : Filter) (all : List (List ℕ)) (old new : Opt
   pub replies : AreReplies (IsReplyTo filter) 0 lines out
   pub taken : AppendsFront old new out
 
--- it took just the replies to those of these lines before the first that has no answer, which is the one that is told, counted from 1
+-- The writer took exactly the replies to the lines before the first one without an answer. The
+-- outcome describes that line.
 pub record StopsAt (filter : Filter) (told : UnansweredLine) (all : List (List ℕ)) (old new : Option (List ℕ)) : Type 0 where
   pub lines : List (List ℕ)
   pub line : List ℕ
@@ -89,40 +91,41 @@ pub record StopsAt (filter : Filter) (told : UnansweredLine) (all : List (List �
   pub replies : AreReplies (IsReplyTo filter) 0 lines out
   pub taken : Appends old new out
 
--- the reader gave this input
+-- The reader gave an input with this property.
 abbrev pub Gives : Option (List ℕ) → Option (List ℕ) → (List ℕ → Type 0) → Type 0
 Gives old new P = (input : List ℕ) × Consumes old new input × P input
 
--- the reader gave an input, and this holds of those of its lines that have ended, or of all where there is no more to come
+-- The reader gave an input. Its lines with a line feed have this property, or all of its lines at
+-- the end of the input.
 pub record GivesLines (old new : Option (List ℕ)) (Holds : List (List ℕ) → Type 0) : Type 0 where
   pub input : List ℕ
   pub given : Consumes old new input
   pub holds : Holds (ended_lines input) ⊎ IsAtEnd new × Holds (lines_of input)
 
--- what a run with this outcome read and wrote
+-- A run with this outcome read and wrote these bytes.
 abbrev pub Ended : Filter → Result Unit Fault → Option (List ℕ) → Option (List ℕ) → Option (List ℕ) → Option (List ℕ) → Type 0
 Ended filter (Ok done) r0 r w0 w = IsAtEnd r × Gives r0 r (λ input. AnswersAll filter (lines_of input) w0 w)
 Ended filter (Err (Write kind)) r0 r w0 w = GivesLines r0 r (λ lines. AnswersFront filter lines w0 w)
 Ended filter (Err Read) r0 r w0 w = Gives r0 r (λ input. AnswersAll filter (ended_lines input) w0 w)
 Ended filter (Err (Unanswered told)) r0 r w0 w = GivesLines r0 r (λ lines. StopsAt filter told lines w0 w)
 
--- what the writer took of a page with this outcome
+-- The writer took these bytes of a page with this outcome.
 abbrev pub Shown : List ℕ → Result Unit Fault → Option (List ℕ) → Option (List ℕ) → Type 0
 Shown page (Ok done) old new = Appends old new page
 Shown page (Err fault) old new = IsOfWrite fault × AppendsFront old new page
 
--- ---- from where a run stands, of these lines of its input
--- it ends as after a write that failed
+-- ---- from the state of a run, over these lines of its input
+-- The run ends as after a failed write.
 abbrev pub FailsFrom : Filter → (List ℕ → List (List ℕ)) → Option (List ℕ) → Option (List ℕ) → List ℕ → List ℕ → Progress → Type 0
 FailsFrom filter lines_in old new gathered pending progress =
     (input : List ℕ) (start : Option (List ℕ)) → Stands (IsReplyTo filter) input start old gathered pending progress → AnswersFront filter (lines_in input) start new
 
--- it ends at the line that is told
+-- The run ends at this line, which has no answer.
 abbrev pub StopsFrom : Filter → UnansweredLine → (List ℕ → List (List ℕ)) → Option (List ℕ) → Option (List ℕ) → List ℕ → List ℕ → Progress → Type 0
 StopsFrom filter told lines_in old new gathered pending progress =
     (input : List ℕ) (start : Option (List ℕ)) → Stands (IsReplyTo filter) input start old gathered pending progress → StopsAt filter told (lines_in input) start new
 
--- it ends with all lines answered
+-- The run ends with all lines answered.
 abbrev pub EndsFrom : Filter → Option (List ℕ) → Option (List ℕ) → List ℕ → List ℕ → Progress → Type 0
 EndsFrom filter old new gathered pending progress =
     (input : List ℕ) (start : Option (List ℕ)) → Stands (IsReplyTo filter) input start old gathered pending progress → AnswersAll filter (lines_of input) start new

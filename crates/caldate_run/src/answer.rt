@@ -1,4 +1,4 @@
-//! What the text of a line is answered.
+//! The answer to the text of a line.
 ghost use Rattle.std.specs.Prelude.{◌≡◌, ◌+◌, ◌≤◌, ◌++◌, ℕ, List, Some, false, true, codes, length, MatchOption};
 ghost use Rattle.cal_datetime.specs.OffsetDateTime.{Shown};
 ghost use Rattle.cal_text.specs.AnyForm.{date_text};
@@ -23,10 +23,10 @@ use cal_text::{DateForm, DateOrMoment, MomentForm, Unreadable, rfc3339, unix};
 use cal_time::error::ComponentRange;
 use cal_time::{Date, ShortText, SignedDuration, Time, UtcOffset};
 
-/// The most bytes that the text of a line may have.
+/// The maximum length of the text of a line, in bytes.
 pub const LONGEST_TEXT: usize = 4096;
 
-/// Gathers the answer to a text, or the words that say why it has none, and returns whether it has one.
+/// Appends the answer to `text`, or the reason why it has none. Returns whether it has one.
 pub fn push_answer(buffer: &mut Buffer, filter: &Filter, text: &[u8]) -> bool
     requires { HasRoom longest_answer buffer.old }
     ensures has { result ≡ true → AppendsThat
@@ -48,7 +48,7 @@ pub fn push_answer(buffer: &mut Buffer, filter: &Filter, text: &[u8]) -> bool
     }
 }
 
-/// Gathers why a text is not read.
+/// Appends the reason why a text can't be read, such as `unreadable at 4`.
 fn push_why(buffer: &mut Buffer, error: Unreadable)
     requires { HasRoom longest_answer buffer.old }
     ensures text { buffer.new ≡ buffer.old ++ why_text error }
@@ -63,7 +63,7 @@ fn push_why(buffer: &mut Buffer, error: Unreadable)
     }
 }
 
-/// Gathers the name of a refusal, and whether it depends on other components.
+/// Appends `refused` and the name of the component, and `conditional` if the error is conditional.
 fn push_refusal(buffer: &mut Buffer, error: ComponentRange)
     requires { HasRoom 64 buffer.old }
     ensures text { buffer.new ≡ buffer.old ++ refused_text error }
@@ -76,7 +76,7 @@ fn push_refusal(buffer: &mut Buffer, error: ComponentRange)
     }
 }
 
-/// Gathers what the request answers for this date or this moment, or `none`, and returns whether there is an answer.
+/// Appends the answer for a date or a moment, or `none`. Returns whether there is an answer.
 fn push_answer_to(buffer: &mut Buffer, request: &Request, found: &DateOrMoment) -> bool
     requires { HasRoom longest_answer buffer.old }
     ensures has { result ≡ true → AppendsThat
@@ -101,7 +101,6 @@ fn push_answer_to(buffer: &mut Buffer, request: &Request, found: &DateOrMoment) 
     }
 }
 
-/// Gathers that there is no answer.
 fn push_none(buffer: &mut Buffer) -> bool
     requires { HasRoom longest_answer buffer.old }
     ensures text { buffer.new ≡ buffer.old ++ codes "none" }
@@ -112,7 +111,7 @@ fn push_none(buffer: &mut Buffer) -> bool
     false
 }
 
-/// The moment. A date is midnight at UTC.
+/// Returns the moment. A date becomes midnight UTC.
 pub fn moment_of(found: &DateOrMoment) -> OffsetDateTime
     ensures { result ≡ moment_of found.now }
 {
@@ -122,7 +121,7 @@ pub fn moment_of(found: &DateOrMoment) -> OffsetDateTime
     }
 }
 
-/// The form in which it was read.
+/// Returns the form in which it was read.
 fn form_read(found: &DateOrMoment) -> Form
     ensures { result ≡ form_read found.now }
 {
@@ -132,14 +131,14 @@ fn form_read(found: &DateOrMoment) -> Form
     }
 }
 
-/// The day at the same time of day and the same offset.
+/// Replaces the date of a moment and keeps its time of day and offset.
 fn on_day(moment: OffsetDateTime, date: Date) -> OffsetDateTime
     ensures { result ≡ on_day moment date }
 {
     OffsetDateTime::new_in_offset(date, moment.time(), moment.offset())
 }
 
-/// Gathers a moment in the form, and returns whether it has a text of it.
+/// Appends a moment in a form, or `none` if the form can't express it. Returns whether it can.
 fn push_in_form(buffer: &mut Buffer, form: Form, moment: OffsetDateTime) -> bool
     requires { HasRoom longest_answer buffer.old }
     ensures has { result ≡ true → AppendsThat (IsInForm form moment) buffer.old buffer.new }
@@ -169,7 +168,6 @@ fn push_in_form(buffer: &mut Buffer, form: Form, moment: OffsetDateTime) -> bool
     true
 }
 
-/// The text of a date in the form.
 fn text_of_date(form: DateForm, date: Date) -> ShortText
     ensures text { result ≡ date_text form date }
     ensures short { length result ≤ 38 }
@@ -182,7 +180,7 @@ fn text_of_date(form: DateForm, date: Date) -> ShortText
     }
 }
 
-/// The moment so much later, or `None` where it is past either end of the range.
+/// Adds a duration, or returns `None` if the result is out of range.
 fn later(found: &DateOrMoment, duration: SignedDuration) -> Option<OffsetDateTime>
     ensures { MatchOption result ((m : Shown) → ¬ IsLater found.now duration m)
         (IsLater found.now duration) }
@@ -193,7 +191,7 @@ fn later(found: &DateOrMoment, duration: SignedDuration) -> Option<OffsetDateTim
     }
 }
 
-/// The midnight of the day that is as many whole days later.
+/// Returns midnight UTC on the day after adding the whole days of the duration.
 fn day_later(date: Date, duration: SignedDuration) -> Option<OffsetDateTime>
     ensures { MatchOption result ((m : Shown) → ¬ IsDayLater date duration m)
         (IsDayLater date duration) }
@@ -204,7 +202,6 @@ fn day_later(date: Date, duration: SignedDuration) -> Option<OffsetDateTime>
     }
 }
 
-/// The moment that is all of the duration later.
 fn moment_later(moment: OffsetDateTime, duration: SignedDuration) -> Option<OffsetDateTime>
     ensures { MatchOption result ((m : Shown) → ¬ IsMomentLater moment duration m)
         (IsMomentLater moment duration) }
@@ -212,7 +209,7 @@ fn moment_later(moment: OffsetDateTime, duration: SignedDuration) -> Option<Offs
     moment.checked_add(duration)
 }
 
-/// Gathers the day that a move leads to, at the same time of day, and returns whether there is one.
+/// Appends the moved day at the same time of day, or `none`. Returns whether there is one.
 fn push_moved(buffer: &mut Buffer, by: DayMove, found: &DateOrMoment) -> bool
     requires { HasRoom longest_answer buffer.old }
     ensures has { result ≡ true → AppendsThat (IsMoved by found.now) buffer.old buffer.new }
@@ -228,7 +225,7 @@ fn push_moved(buffer: &mut Buffer, by: DayMove, found: &DateOrMoment) -> bool
     }
 }
 
-/// Gathers the moment as a clock at this offset shows it, and returns whether it has a text.
+/// Appends the moment at this offset, or `none`. Returns whether it has a text.
 fn push_at(buffer: &mut Buffer, offset: UtcOffset, moment: OffsetDateTime) -> bool
     requires { HasRoom longest_answer buffer.old }
     ensures has { result ≡ true → AppendsThat (IsAt offset moment) buffer.old buffer.new }
@@ -242,7 +239,8 @@ fn push_at(buffer: &mut Buffer, offset: UtcOffset, moment: OffsetDateTime) -> bo
     }
 }
 
-/// Gathers what is between, in whole units where one is named, and returns whether it is known.
+/// Appends the number of units, or without a unit the days or the duration. Appends `none` and
+/// returns false if the number is not known.
 fn push_between(
     buffer: &mut Buffer,
     unit: Option<TimeUnit>,
@@ -269,7 +267,7 @@ fn push_between(
     }
 }
 
-/// Gathers the days between two dates, else the duration between two moments.
+/// Appends the days between two dates, or otherwise the duration between two moments.
 #[tactic(auto, using(cal_time::proofs::TextLengths::text_lengths))]
 fn push_until(buffer: &mut Buffer, from: &DateOrMoment, to: &DateOrMoment)
     requires { HasRoom longest_answer buffer.old }
@@ -287,7 +285,7 @@ fn push_until(buffer: &mut Buffer, from: &DateOrMoment, to: &DateOrMoment)
     }
 }
 
-/// Whether it is a date.
+/// Returns whether it is a date.
 pub fn is_date(found: &DateOrMoment) -> bool
     ensures { result ≡ is_date found.now }
 {

@@ -3,11 +3,11 @@ ghost use Rattle.std.specs.Prelude.{◌≤◌, IfSome};
 
 use std::env::{Env, FillError};
 
-/// The most bytes that the arguments may have together.
+/// The maximum length of all arguments together, in bytes.
 pub const MOST_BYTES: usize = 4096;
 
-/// Puts the arguments into the front of the buffer, with a zero byte between them, and returns how many bytes these are. `None`
-/// where they have no room.
+/// Writes the arguments to the front of the buffer, with zero bytes between them, and returns their
+/// length, or `None` if they don't fit.
 pub fn join<E: Env>(env: &E, buffer: &mut [u8; MOST_BYTES]) -> Option<usize>
     ensures { IfSome result (λ n. n ≤ 4096) }
 {

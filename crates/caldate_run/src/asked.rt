@@ -1,4 +1,4 @@
-//! What the arguments ask for.
+//! The command that the arguments give.
 ghost use Rattle.std.specs.Prelude.{◌≡◌, ◌+◌, ◌<◌, ◌^◌, ℕ, List, Option, IfOk};
 ghost use Rattle.cal_text.specs.declared.any.DateOrMoment.{DateOrMoment};
 ghost use Rattle.caldate_run.specs.Lists.{IsAsked};
@@ -18,9 +18,8 @@ use crate::words::{ended, ends_at, found_at, keyword_at, only_at, word_as, word_
 use cal_text::DateOrMoment;
 use cal_time::{SignedDuration, UtcOffset, Weekday};
 
-/// What the arguments ask for, or the first word that makes no sense. Between them stands a zero byte.
-///
-/// `to week` asks for the lines in the form of week dates; of `add 1 fortnight` the word at index 2 is no unit.
+/// Parses arguments with zero bytes between them, or returns the first invalid or missing word. In
+/// `add 1 fortnight` the word at index 2 is not a unit.
 pub fn asked_of(words: &[u8]) -> Result<Asked, Senseless>
     ensures steps { IfOk result IsAsked }
     ensures asked { (reading : List ℕ → Option DateOrMoment)
@@ -42,7 +41,7 @@ pub fn asked_of(words: &[u8]) -> Result<Asked, Senseless>
     }
 }
 
-/// What a request asks for, perhaps after options.
+/// Parses options and a request.
 fn lines_of(words: &[u8]) -> Result<Asked, Senseless>
     ensures steps { IfOk result IsAsked }
     ensures asked { (reading : List ℕ → Option DateOrMoment)
@@ -57,7 +56,6 @@ fn lines_of(words: &[u8]) -> Result<Asked, Senseless>
     Ok(Asked::Lines(filter_of(&options, request)))
 }
 
-/// To answer the lines so.
 fn filter_of(options: &Options, request: Request) -> Filter
     ensures { result ≡ filter_of options.now request }
 {
@@ -70,7 +68,7 @@ fn filter_of(options: &Options, request: Request) -> Filter
     }
 }
 
-/// The request whose verb has this index.
+/// Parses the request whose verb has this index.
 fn request_at(words: &[u8], at: usize) -> Result<Request, Senseless>
     requires { at + 5 < 2 ^ 64 }
     ensures { (reading : List ℕ → Option DateOrMoment) → IsReading reading (arguments_of words.now)
@@ -99,7 +97,7 @@ fn request_at(words: &[u8], at: usize) -> Result<Request, Senseless>
     }
 }
 
-/// The request of one of the further verbs, which has this index.
+/// Parses a request that has one of the other verbs.
 fn further_request_at(words: &[u8], at: usize, verb: &[u8]) -> Result<Request, Senseless>
     requires { at + 5 < 2 ^ 64 }
     ensures { (reading : List ℕ → Option DateOrMoment) → IsReading reading (arguments_of words.now)
@@ -122,7 +120,6 @@ fn further_request_at(words: &[u8], at: usize, verb: &[u8]) -> Result<Request, S
     }
 }
 
-/// The offset that the last word is.
 fn offset_at(words: &[u8], at: usize) -> Result<UtcOffset, Senseless>
     requires { at + 1 < 2 ^ 64 }
     ensures { result ≡ only_at (arguments_of words.now) at offset_of Wanted.Offset }
@@ -130,14 +127,14 @@ fn offset_at(words: &[u8], at: usize) -> Result<UtcOffset, Senseless>
     only_at(words, at, offset_of, Wanted::Offset)
 }
 
-/// A verb, or at the start an option that stands alone too.
+/// Returns the word expected for the verb. At index 0, options such as `--help` are allowed too.
 fn verb_wanted(at: usize) -> Wanted
     ensures { result ≡ verb_wanted at }
 {
     if at == 0 { Wanted::Start } else { Wanted::Verb }
 }
 
-/// That many units later, days where no unit is named.
+/// Parses `N` or `N UNIT`. The default unit is days.
 fn amount_at(words: &[u8], at: usize) -> Result<Request, Senseless>
     requires { at + 2 < 2 ^ 64 }
     ensures { result ≡ amount_at (arguments_of words.now) at }
@@ -150,7 +147,7 @@ fn amount_at(words: &[u8], at: usize) -> Result<Request, Senseless>
     }
 }
 
-/// The last word as a unit, or days where there is none.
+/// Parses the last word as a unit. The default is days.
 fn unit_at(words: &[u8], at: usize) -> Result<TimeUnit, Senseless>
     requires { at + 1 < 2 ^ 64 }
     ensures { result ≡ unit_at (arguments_of words.now) at }
@@ -161,7 +158,7 @@ fn unit_at(words: &[u8], at: usize) -> Result<TimeUnit, Senseless>
     only_at(words, at, unit_of, Wanted::UnitOfTime)
 }
 
-/// That many units later, if a duration has so many of its unit.
+/// Returns the request to add `number` units, or `None` if a duration can't hold them.
 fn amount_of(number: i64, unit: TimeUnit) -> Option<Request>
     ensures { result ≡ amount_of number unit }
 {
@@ -177,7 +174,7 @@ fn amount_of(number: i64, unit: TimeUnit) -> Option<Request>
     }
 }
 
-/// That many units later, each of so many seconds.
+/// Returns the request to add `number` units of `unit` seconds each.
 fn duration_of(number: i64, unit: u32) -> Option<Request>
     ensures { result ≡ duration_of unit number }
 {
@@ -185,7 +182,7 @@ fn duration_of(number: i64, unit: u32) -> Option<Request>
     Some(Request::Add(SignedDuration::seconds(seconds)))
 }
 
-/// A weekday, and how often it comes.
+/// Parses `WEEKDAY` or `WEEKDAY N`.
 fn occurrence_at(words: &[u8], at: usize) -> Result<(Weekday, u8), Senseless>
     requires { at + 2 < 2 ^ 64 }
     ensures { result ≡ occurrence_at (arguments_of words.now) at }
@@ -194,7 +191,7 @@ fn occurrence_at(words: &[u8], at: usize) -> Result<(Weekday, u8), Senseless>
     Ok((weekday, count_at(words, at + 1)?))
 }
 
-/// The last word as a count, or once where there is none.
+/// Parses the last word as a count. The default is 1.
 fn count_at(words: &[u8], at: usize) -> Result<u8, Senseless>
     requires { at + 1 < 2 ^ 64 }
     ensures { result ≡ count_at (arguments_of words.now) at }
@@ -205,7 +202,7 @@ fn count_at(words: &[u8], at: usize) -> Result<u8, Senseless>
     only_at(words, at, count_of, Wanted::Count)
 }
 
-/// A date or a moment, and perhaps a unit.
+/// Parses `TEXT` or `TEXT in UNIT`.
 fn target_at(words: &[u8], at: usize) -> Result<(DateOrMoment, Option<TimeUnit>), Senseless>
     requires { at + 3 < 2 ^ 64 }
     ensures { (reading : List ℕ → Option DateOrMoment) → IsReading reading (arguments_of words.now)
@@ -215,7 +212,7 @@ fn target_at(words: &[u8], at: usize) -> Result<(DateOrMoment, Option<TimeUnit>)
     Ok((target, in_unit_at(words, at + 1)?))
 }
 
-/// The unit of the last words, `in UNIT`, where there are any.
+/// Parses `in UNIT`, or returns `None` if the words end here.
 fn in_unit_at(words: &[u8], at: usize) -> Result<Option<TimeUnit>, Senseless>
     requires { at + 2 < 2 ^ 64 }
     ensures { result ≡ in_unit_at (arguments_of words.now) at }

@@ -1,4 +1,4 @@
-//! Bounds, and what lies within them.
+//! The bounds of `keep`.
 ghost use Rattle.std.specs.Prelude.{◌≡◌, ◌+◌, ◌<◌, ◌^◌, ℕ, List, Option};
 ghost use Rattle.cal_text.specs.declared.any.DateOrMoment.{DateOrMoment};
 ghost use Rattle.caldate_run.specs.Bounds.{are_dates, is_after, is_before, is_within, lies_in};
@@ -10,7 +10,7 @@ use crate::senseless::{Senseless, Wanted, senseless_at};
 use crate::words::{ended, found_at, keyword_at, word_at};
 use cal_text::DateOrMoment;
 
-/// The bounds of `from A to B`, `after A` or `before B`.
+/// Parses `from A to B`, `after A` or `before B`.
 pub fn bounds_at(words: &[u8], at: usize) -> Result<Bounds, Senseless>
     requires { at + 4 < 2 ^ 64 }
     ensures { (reading : List ℕ → Option DateOrMoment) → IsReading reading (arguments_of words.now)
@@ -29,7 +29,6 @@ pub fn bounds_at(words: &[u8], at: usize) -> Result<Bounds, Senseless>
     }
 }
 
-/// The date or the moment that the last word is.
 fn bound_at(words: &[u8], at: usize) -> Result<DateOrMoment, Senseless>
     requires { at + 1 < 2 ^ 64 }
     ensures { (reading : List ℕ → Option DateOrMoment) → IsReading reading (arguments_of words.now)
@@ -39,7 +38,7 @@ fn bound_at(words: &[u8], at: usize) -> Result<DateOrMoment, Senseless>
     ended(words, at + 1, bound)
 }
 
-/// From one to the other.
+/// Parses `A to B`.
 fn range_at(words: &[u8], at: usize) -> Result<Bounds, Senseless>
     requires { at + 3 < 2 ^ 64 }
     ensures { (reading : List ℕ → Option DateOrMoment) → IsReading reading (arguments_of words.now)
@@ -50,9 +49,8 @@ fn range_at(words: &[u8], at: usize) -> Result<Bounds, Senseless>
     Ok(Bounds::FromTo(first, bound_at(words, at + 2)?))
 }
 
-/// Whether it lies within the bounds; `None` for a date where one of them is a moment.
-///
-/// From 2024-02-29 to 2024-02-29 lies `2024-02-29T23:30:00-05:00`, though at UTC it is 1 March.
+/// Returns whether it lies within the bounds, or `None` for a date if a bound is a moment. For
+/// example, `2024-02-29T23:30:00-05:00` is not after 2024-02-29, although at UTC it is 1 March.
 pub fn lies_in(bounds: &Bounds, found: &DateOrMoment) -> Option<bool>
     ensures { result ≡ lies_in bounds.now found.now }
 {
@@ -82,7 +80,7 @@ fn is_within(bounds: &Bounds, found: &DateOrMoment) -> bool
     }
 }
 
-/// Whether its date comes before this date, or its instant before that of this moment.
+/// Returns whether its local date is before a date, or its instant before a moment.
 fn is_before(found: &DateOrMoment, bound: &DateOrMoment) -> bool
     ensures { result ≡ is_before found.now bound.now }
 {
@@ -92,7 +90,7 @@ fn is_before(found: &DateOrMoment, bound: &DateOrMoment) -> bool
     }
 }
 
-/// Whether its date comes after this date, or its instant after that of this moment.
+/// Returns whether its local date is after a date, or its instant after a moment.
 fn is_after(found: &DateOrMoment, bound: &DateOrMoment) -> bool
     ensures { result ≡ is_after found.now bound.now }
 {

@@ -1,17 +1,16 @@
-//! Replies that go out in one write.
+//! Replies that are written together.
 ghost use Rattle.std.specs.Prelude.{◌≡◌, ◌↔◌, ◌+◌, ◌≤◌, ◌++◌, ◌∷◌, [], length, decimal, drop, take, IsTrue, if◌then◌else◌};
 ghost use Rattle.caldate_run.specs.Room.{HasRoom, longest_reply};
 
 use cal_time::ShortText;
 use std::marker::Model;
 
-/// The most bytes that go out in one write.
 const CAPACITY: usize = 65_536;
 
-/// The most bytes that a reply may have. The longest has fewer.
+/// The room for one reply, in bytes. The longest reply is shorter.
 const LONGEST_REPLY: usize = 4352;
 
-/// Replies gathered for one write.
+/// A buffer of replies for one write, of at most 65536 bytes.
 #[derive(Drop)]
 pub struct Buffer {
     bytes: [u8; CAPACITY],
@@ -30,7 +29,7 @@ impl Model for Buffer {
 }
 
 impl Buffer {
-    /// No bytes.
+    /// Creates an empty buffer.
     pub fn new() -> Self
         ensures { result ≡ [] }
     {
@@ -40,21 +39,21 @@ impl Buffer {
         }
     }
 
-    /// The bytes gathered so far.
+    /// Returns the bytes.
     pub fn as_bytes(&self) -> &[u8]
         ensures { result.now ≡ self.now }
     {
         &self.bytes[..self.filled]
     }
 
-    /// How many they are.
+    /// Returns the number of bytes.
     pub fn len(&self) -> usize
         ensures { result ≡ length self.now }
     {
         self.filled
     }
 
-    /// Those that come after so many.
+    /// Returns the bytes after the first `count`.
     pub fn after(&self, count: usize) -> &[u8]
         requires { count ≤ length self.now }
         ensures { result.now ≡ drop count self.now }
@@ -62,7 +61,7 @@ impl Buffer {
         &self.bytes[count..self.filled]
     }
 
-    /// Whether there is room for a reply.
+    /// Returns whether there is room for a reply.
     pub fn has_room_for_a_reply(&self) -> bool
         ensures { IsTrue result ↔ HasRoom longest_reply self.now }
     {
@@ -80,8 +79,8 @@ impl Buffer {
         self.filled = end;
     }
 
-    /// Appends the end of a line: a line feed, or a carriage return and a line feed.
-    // A copy of a length that the compiler knows is no call.
+    /// Appends the end of a line: LF, or CR LF.
+    // The compiler copies a constant length without a call.
     pub fn push_end(&mut self, has_return: bool)
         requires { HasRoom 2 self.old }
         ensures { self.new ≡ self.old ++ (if has_return then 13 ∷ 10 ∷ [] else 10 ∷ []) }
@@ -93,7 +92,7 @@ impl Buffer {
         }
     }
 
-    /// Appends the digits of a number.
+    /// Appends a number in decimal.
     #[tactic(auto, using(crate::proofs::Texts::few_digits))]
     pub fn push_number(&mut self, number: u64)
         requires { HasRoom 20 self.old }
@@ -105,7 +104,7 @@ impl Buffer {
         self.push(text.as_bytes());
     }
 
-    /// Keeps the first bytes alone.
+    /// Keeps only the first `count` bytes.
     pub fn truncate(&mut self, count: usize)
         requires { count ≤ length self.old }
         ensures { self.new ≡ take count self.old }
@@ -113,7 +112,7 @@ impl Buffer {
         self.filled = count;
     }
 
-    /// Drops the bytes.
+    /// Removes all bytes.
     pub fn clear(&mut self)
         ensures { self.new ≡ [] }
     {

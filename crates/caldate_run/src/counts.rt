@@ -8,8 +8,9 @@ use cal_datetime::OffsetDateTime;
 use cal_schedule::{months_until, years_until};
 use cal_time::{Date, SignedDuration};
 
-/// How many whole units lie between, cut toward zero. Years, months and workdays are those to the day that the whole days lead to;
-/// there are none where it is past the range.
+/// Returns the number of whole units from one moment to another, truncated toward zero. Years,
+/// months and workdays count up to the first date plus the whole days of the duration, or give
+/// `None` if that is out of range.
 pub fn count_between(unit: TimeUnit, from: OffsetDateTime, to: OffsetDateTime) -> Option<i64>
     ensures { MatchOption result ((z : ℤ) → ¬ IsCount unit from to z) (IsCount unit from to) }
 {
@@ -25,7 +26,7 @@ pub fn count_between(unit: TimeUnit, from: OffsetDateTime, to: OffsetDateTime) -
     }
 }
 
-/// The whole years to the day that is reached.
+/// Returns the whole years to the day that is reached.
 fn years_between(from: OffsetDateTime, to: OffsetDateTime) -> Option<i64>
     ensures { MatchOption result ((z : ℤ) → ¬ IsCount TimeUnit.Years from to z)
         (IsCount TimeUnit.Years from to) }
@@ -36,14 +37,13 @@ fn years_between(from: OffsetDateTime, to: OffsetDateTime) -> Option<i64>
     }
 }
 
-/// The whole years from a day to another.
 fn years_to(from: Date, to: Date) -> i64
     ensures { AreYears from to result }
 {
     i64::from(years_until(from, to))
 }
 
-/// The whole months to the day that is reached.
+/// Returns the whole months to the day that is reached.
 fn months_between(from: OffsetDateTime, to: OffsetDateTime) -> Option<i64>
     ensures { MatchOption result ((z : ℤ) → ¬ IsCount TimeUnit.Months from to z)
         (IsCount TimeUnit.Months from to) }
@@ -54,7 +54,7 @@ fn months_between(from: OffsetDateTime, to: OffsetDateTime) -> Option<i64>
     }
 }
 
-/// The working days to the day before the one that is reached.
+/// Returns the working days to the day that is reached, without the later of the two days.
 fn workdays_between(from: OffsetDateTime, to: OffsetDateTime) -> Option<i64>
     ensures { MatchOption result ((z : ℤ) → ¬ IsCount TimeUnit.Workdays from to z)
         (IsCount TimeUnit.Workdays from to) }
@@ -65,14 +65,13 @@ fn workdays_between(from: OffsetDateTime, to: OffsetDateTime) -> Option<i64>
     }
 }
 
-/// The duration between.
 fn between(from: OffsetDateTime, to: OffsetDateTime) -> SignedDuration
     ensures { result ≡ duration_between from to }
 {
     to - from
 }
 
-/// The day that its whole days lead to, from the day that the clock of the first one shows.
+/// Adds the whole days of the duration to the local date of the first moment.
 fn reached(from: OffsetDateTime, to: OffsetDateTime) -> Option<Date>
     ensures { MatchOption result ((t : ℕ) → ¬ IsReached from to t) (IsReached from to) }
 {

@@ -5,7 +5,7 @@ ghost use Rattle.caldate_run.specs.Fields.{asked_text, fields_of, text_with};
 use crate::lines::index_of;
 use crate::request::Field;
 
-/// The text that is asked about: all of it where no field is named, or the field, if it has so many.
+/// Returns the field of the text, if the text has it. Without a field, returns the whole text.
 pub fn asked_text(field: Option<Field>, text: &[u8]) -> Option<&[u8]>
     ensures asked { MatchOption result (asked_text field text.now ≡ None)
         (λ asked. asked_text field text.now ≡ Some asked.now) }
@@ -17,9 +17,8 @@ pub fn asked_text(field: Option<Field>, text: &[u8]) -> Option<&[u8]>
     }
 }
 
-/// What comes before a field, the field, and what comes after it; `None` where the text has no such field.
-///
-/// Of `a,2024-02-29,c`, cut at commas, field 2 has `a,` before it and `,c` after it.
+/// Returns the bytes before a field, the field and the bytes after it, if the text has the field.
+/// Field 2 of `a,2024-02-29,c`, split at commas, has `a,` before it and `,c` after it.
 pub fn cut_field(field: Field, text: &[u8]) -> Option<(&[u8], &[u8], &[u8])>
     ensures asked { MatchOption result (asked_text (Some field) text.now ≡ None)
         (λ parts. asked_text (Some field) text.now ≡ Some parts.1.now) }
@@ -43,7 +42,7 @@ pub fn cut_field(field: Field, text: &[u8]) -> Option<(&[u8], &[u8], &[u8])>
     }
 }
 
-/// The first field, without its separator, and what comes after that. There is none if the bytes are one field.
+/// Splits off the first field and its separator, or returns `None` without a separator.
 fn first_field(field: Field, bytes: &[u8]) -> Option<(&[u8], &[u8])>
     ensures fields { MatchOption result (fields_of field bytes.now ≡ bytes.now ∷ [])
         (λ parts. fields_of field bytes.now ≡ parts.0.now ∷ fields_of field parts.1.now) }

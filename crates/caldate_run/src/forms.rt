@@ -1,4 +1,4 @@
-//! The text of a day or a moment in the forms that no line is read in.
+//! The text of a date or a moment in forms that `cal_text` doesn't have.
 ghost use Rattle.std.specs.Prelude.{◌≡◌, ◌≤◌, length, MatchOption};
 ghost use Rattle.std.specs.Fmt.{signed_decimal};
 ghost use Rattle.cal_datetime.specs.OffsetDateTime.{instant, unix_nanoseconds};
@@ -10,7 +10,7 @@ use cal_datetime::OffsetDateTime;
 use cal_schedule::quarter;
 use cal_time::{Cycle, Date, ShortText};
 
-/// The month of the day, as `2024-02`.
+/// Formats the month of a date, such as `2024-02`.
 #[tactic(auto, using(cal_time::proofs::TextLengths::text_lengths))]
 pub fn month_text(date: Date) -> ShortText
     ensures text { result ≡ month_text date }
@@ -24,7 +24,7 @@ pub fn month_text(date: Date) -> ShortText
     text
 }
 
-/// The quarter of the day, as `2024-Q1`.
+/// Formats the quarter of a date, such as `2024-Q1`.
 #[tactic(auto, using(cal_time::proofs::TextLengths::text_lengths))]
 pub fn quarter_text(date: Date) -> ShortText
     ensures text { result ≡ quarter_text date }
@@ -37,7 +37,7 @@ pub fn quarter_text(date: Date) -> ShortText
     text
 }
 
-/// The date in the basic format, as `20240229`, or `None` where its year has not four digits.
+/// Formats a date in the basic format of ISO 8601, such as `20240229`, if its year is 0 to 9999.
 #[tactic(auto, using(cal_time::proofs::TextLengths::text_lengths))]
 pub fn basic_text(date: Date) -> Option<ShortText>
     ensures { MatchOption result (¬ HasBasicText date)
@@ -54,7 +54,7 @@ pub fn basic_text(date: Date) -> Option<ShortText>
     Some(text)
 }
 
-/// The Unix time in whole units, rounded toward the past, as `1709164800500`.
+/// Formats a Unix time in whole units, rounded toward the past, such as `1709164800500`.
 pub fn unix_text(unit: UnixUnit, moment: OffsetDateTime) -> ShortText
     ensures text { result ≡ signed_decimal (units_in unit (unix_nanoseconds (instant moment))) }
     ensures short { length result ≤ 40 }

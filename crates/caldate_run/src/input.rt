@@ -1,4 +1,4 @@
-//! What was read and not answered yet.
+//! The input that was read but not answered yet.
 ghost use Rattle.std.specs.Prelude.{◌≡◌, ℕ, ◌+◌, ◌-◌, ◌<◌, ◌≤◌, List, [], ◌++◌, length, drop, OnOk, IfOk, IfErr, IsOkAnd, MatchResult};
 ghost use Rattle.std.specs.Io.{ReadsAtMost};
 ghost use Rattle.std.specs.Io.KnownBytes.{ReadConsumes, Consumes, IsAtEnd, Keeps};
@@ -13,10 +13,9 @@ use crate::streams::Source;
 use std::io;
 use std::marker::Model;
 
-/// The most bytes that are read and not answered yet.
 const CAPACITY: usize = 65_536;
 
-/// Bytes that were read and not answered yet.
+/// A buffer of at most 65536 bytes that were read but not answered yet.
 #[derive(Drop)]
 pub struct Input {
     bytes: [u8; CAPACITY],
@@ -35,7 +34,7 @@ impl Model for Input {
 }
 
 impl Input {
-    /// No bytes.
+    /// Creates an empty buffer.
     pub fn new() -> Self
         ensures { result ≡ [] }
     {
@@ -45,7 +44,7 @@ impl Input {
         }
     }
 
-    /// The bytes.
+    /// Returns the bytes.
     pub fn as_bytes(&self) -> &[u8]
         ensures bytes { result.now ≡ self.now }
         ensures few { length result.now ≤ capacity }
@@ -53,14 +52,15 @@ impl Input {
         &self.bytes[..self.filled]
     }
 
-    /// How many they are.
+    /// Returns the number of bytes.
     pub fn len(&self) -> usize
         ensures { result ≡ length self.now }
     {
         self.filled
     }
 
-    /// Appends what one read gives, and returns how many bytes it gave: none at the end alone.
+    /// Appends the bytes of one read and returns their number, which is 0 only at the end of the
+    /// input. Fails with `Fault::Read`.
     #[tactic(auto, using(crate::proofs::Known::given_more))]
     pub fn read_more<R: Source>(&mut self, reader: &mut R) -> Result<usize, Fault>
         requires { length self.old < capacity }
@@ -84,7 +84,7 @@ impl Input {
         }
     }
 
-    /// Keeps the last bytes alone.
+    /// Keeps only the last `count` bytes.
     pub fn keep_last(&mut self, count: usize)
         requires { count ≤ length self.old }
         ensures { self.new ≡ drop (length self.old - count) self.old }
@@ -95,7 +95,7 @@ impl Input {
     }
 }
 
-/// Reads once. The read is taken again if it was interrupted and a retry is left.
+/// Reads once, and again after an interrupted read while a retry is left.
 fn read_some<R: Source>(reader: &mut R, buffer: &mut [u8]) -> io::Result<usize>
     ensures bound { ReadsAtMost result buffer.new }
     ensures bytes { ReadConsumes (R.remaining reader.old)

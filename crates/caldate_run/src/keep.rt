@@ -1,4 +1,4 @@
-//! The lines that are kept.
+//! The lines that a `keep` request passes on.
 ghost use Rattle.std.specs.Prelude.{◌≡◌, ◌++◌, ◌≤◌, ℕ, List, None, Some, false, true, drop, length, IfErr, IfSome, OnOk, OnSome};
 ghost use Rattle.caldate_run.specs.Answers.{HasAnswer, LacksAnswer};
 ghost use Rattle.caldate_run.specs.Kept.{IsDecided, IsKept, IsTold};
@@ -19,8 +19,8 @@ use crate::reading::read_in;
 use crate::reply::push_reply;
 use crate::request::{Bounds, Filter, Request};
 
-/// Gathers the reply to a line: where lines are kept it is the line itself or nothing, and else its answer. In a strict run it gathers
-/// the reason for a line that has no answer, and returns where that begins.
+/// Appends the reply to a line: for a `keep` request the line or nothing, otherwise its answer. In
+/// strict mode, appends the reason for a missing answer and returns its offset.
 pub fn push_line(
     buffer: &mut Buffer,
     filter: &Filter,
@@ -42,9 +42,9 @@ pub fn push_line(
     }
 }
 
-/// Gathers the line itself where it lies within the bounds. In a strict run it gathers the reason for a line that has no answer, and
-/// returns where that begins.
-// Apart, so that its room on the stack is not prepared for other requests.
+/// Appends the line itself if it is skipped or lies within the bounds. In strict mode, appends the
+/// reason for a missing answer and returns its offset.
+// A function of its own, so that other requests don't prepare its room on the stack.
 #[inline(never)]
 fn push_kept(
     buffer: &mut Buffer,
@@ -82,7 +82,7 @@ fn push_kept(
     }
 }
 
-/// Whether the text of a line goes out, or `None` where it has no answer.
+/// Returns whether the line goes out, or `None` if its text has no answer.
 fn is_kept(filter: &Filter, bounds: &Bounds, progress: &Progress, text: &[u8]) -> Option<bool>
     requires { filter.now.request ≡ Keep bounds.now }
     ensures kept { IfSome result (λ lies.
@@ -105,7 +105,7 @@ fn is_kept(filter: &Filter, bounds: &Bounds, progress: &Progress, text: &[u8]) -
     is_told(filter, bounds, asked_text(filter.field, text)?)
 }
 
-/// Whether what the text says lies within the bounds, or `None` where the text has no answer.
+/// Returns whether the text lies within the bounds, or `None` if it has no answer.
 fn is_told(filter: &Filter, bounds: &Bounds, text: &[u8]) -> Option<bool>
     requires keep { filter.now.request ≡ Keep bounds.now }
     requires fits { length text.now ≤ longest_text }

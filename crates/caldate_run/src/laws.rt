@@ -1,4 +1,4 @@
-//! What follows from the answers: a text has one, a line has one reply, and arguments have a reading.
+//! Laws: a text has one answer, a line has one reply, and all arguments have a reading.
 ghost use Rattle.std.specs.Prelude.{◌≡◌, ℕ, List, Option};
 ghost use Rattle.cal_text.specs.declared.any.DateOrMoment.{DateOrMoment};
 ghost use Rattle.caldate_run.specs.Answers.{IsAnswer};
@@ -12,7 +12,7 @@ use crate::request::Filter;
 use crate::words::cut;
 use cal_text::{DateOrMoment, Unreadable, read_any};
 
-/// No text has two answers to one request in one reading.
+/// Proves that no text has two answers to the same request in the same reading.
 pub fn one_answer(filter: &Filter, text: &[u8]) -> Result<DateOrMoment, Unreadable>
     ensures { (words others : List ℕ) → IsAnswer filter.now text.now words
         → IsAnswer filter.now text.now others → words ≡ others }
@@ -20,7 +20,7 @@ pub fn one_answer(filter: &Filter, text: &[u8]) -> Result<DateOrMoment, Unreadab
     read_in(filter.reading, text)
 }
 
-/// No line has two replies. Where lines are kept, it goes out, or it does not.
+/// Proves that no line has two replies.
 pub fn one_reply(filter: &Filter, line: &[u8]) -> Option<Result<DateOrMoment, Unreadable>>
     ensures { (before : ℕ) (reply other : List ℕ) → IsReplyTo filter.now before line.now reply
         → IsReplyTo filter.now before line.now other → reply ≡ other }
@@ -29,7 +29,7 @@ pub fn one_reply(filter: &Filter, line: &[u8]) -> Option<Result<DateOrMoment, Un
     Some(read_in(filter.reading, asked_text(filter.field, text)?))
 }
 
-/// Whatever the words of the arguments are, there is a reading of them.
+/// Proves that there is a reading of the words of all arguments.
 pub fn have_reading(arguments: &[u8])
     ensures { (reading : List ℕ → Option DateOrMoment)
         × IsReading reading (arguments_of arguments.now) }

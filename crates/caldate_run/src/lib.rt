@@ -1,4 +1,5 @@
-//! The filter of `caldate`: answers each line of an input, a date or a moment in text, with one line of output.
+//! The filter of `caldate`: answers each line of an input, a date or a moment, with a line of
+//! output.
 #![tactic(auto)]
 
 mod answer;

@@ -3,7 +3,7 @@ ghost use Rattle.std.specs.Prelude.{◌≡◌, ◌∷◌, ◌++◌, ◌<◌, ◌
 ghost use Rattle.caldate_run.specs.Lines.{has_return, text_of};
 ghost use Rattle.caldate_run.specs.Standing.{NoEnd};
 
-/// The first line that ends, without its line feed, and what comes after that.
+/// Returns the first complete line, without its line feed, and the bytes after it.
 #[tactic(auto, using(crate::proofs::Parts::first_ends, crate::proofs::Parts::none_ends, std::proofs::lemmas::List::take_rest))]
 pub fn first_line(bytes: &[u8]) -> Option<(&[u8], &[u8])>
     ensures parts { MatchOption result (NoEnd bytes.now)
@@ -15,7 +15,7 @@ pub fn first_line(bytes: &[u8]) -> Option<(&[u8], &[u8])>
     Some((&bytes[..at], &bytes[at + 1..]))
 }
 
-/// The text of a line, without its carriage return, and whether it has one.
+/// Removes the carriage return at the end of a line, and returns whether there was one.
 pub fn cut_return(line: &[u8]) -> (&[u8], bool)
     ensures text { result.0.now ≡ text_of line.now }
     ensures cut { result.1 ≡ has_return line.now }
@@ -26,7 +26,7 @@ pub fn cut_return(line: &[u8]) -> (&[u8], bool)
     }
 }
 
-/// Where a byte first stands.
+/// Returns the index of the first such byte.
 pub fn index_of(byte: u8, bytes: &[u8]) -> Option<usize>
     ensures { result ≡ position (λ b. b == byte) bytes.now }
 {

@@ -1,4 +1,4 @@
-//! The dates from one to another.
+//! Lists of dates in steps of one length.
 ghost use Rattle.std.specs.Prelude.{◌≡◌, ◌<◌, ◌≤◌, ◌+◌, ◌++◌, ℕ, length, IfSome, MatchOption};
 ghost use Rattle.cal_time.specs.Date.{IsDate};
 ghost use Rattle.caldate_run.specs.Calls.{Writes, write_failure};
@@ -15,10 +15,11 @@ use cal_schedule::checked_add_months;
 use cal_text::date::CalendarText;
 use cal_time::Date;
 
-/// More days, and more months, than lie between any two dates.
+/// More days, and more months, than there are between any two dates.
 const FAR: u64 = 1_000_000_000;
 
-/// Writes the dates of the list in order, each in the calendar form with a line feed, however many they are.
+/// Writes the dates of the list in order, each in the calendar form with a line feed. After a
+/// `Fault::Write`, only a part of the lines was written.
 #[tactic(auto, using(crate::proofs::Calls::sent_all, crate::proofs::Calls::writes_then))]
 pub fn list<W: Sink>(listing: &Listing, writer: &mut W) -> Result<(), Fault>
     requires { IsStep listing.now.step }
@@ -35,7 +36,7 @@ pub fn list<W: Sink>(listing: &Listing, writer: &mut W) -> Result<(), Fault>
     write_all(writer, buffer.as_bytes())
 }
 
-/// The day so many days or months after the first, or `None` where it is past the last.
+/// Returns the day `count` days or months after the first, or `None` past the last.
 fn day_within(listing: &Listing, count: u64) -> Option<Date>
     ensures day { MatchOption result ((day : ℕ) → ¬ IsWithin listing.now count day)
         (IsWithin listing.now count) }
@@ -48,7 +49,7 @@ fn day_within(listing: &Listing, count: u64) -> Option<Date>
     Some(day)
 }
 
-/// The day so many days or months later, or `None` where it is past the end of the range.
+/// Returns the day `count` days or months later, or `None` past the end of the range.
 fn day_after(unit: StepUnit, date: Date, count: u64) -> Option<Date>
     ensures day { MatchOption result ((n : ℕ) → ¬ (IsDate n × IsAfter unit count date n))
         (λ n. IsDate n × IsAfter unit count date n) }
@@ -80,7 +81,7 @@ fn months_after(date: Date, months: u64) -> Option<Date>
     checked_add_months(date, months.min(FAR) as i32)
 }
 
-/// Gathers the line of a day.
+/// Appends the line of a day.
 pub fn push_line(buffer: &mut Buffer, day: Date)
     requires { HasRoom longest_reply buffer.old }
     ensures { buffer.new ≡ buffer.old ++ line_of day }

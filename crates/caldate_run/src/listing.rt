@@ -1,4 +1,4 @@
-//! What `list` asks for.
+//! The arguments of `list`.
 ghost use Rattle.std.specs.Prelude.{◌≡◌, ◌≤◌, ℕ, List, Option, IfOk, IfSome, false, slice_get};
 ghost use Rattle.std.specs.Option.{option_map_or};
 ghost use Rattle.cal_text.specs.declared.any.DateOrMoment.{DateOrMoment};
@@ -14,7 +14,7 @@ use cal_recurrence::{Recurrence, parse};
 use cal_text::DateOrMoment;
 use cal_time::Date;
 
-/// The list of `list from A to B`, `list from A to B by N UNIT` and `list from A to B by RULE`.
+/// Parses `list from A to B`, `list from A to B by N UNIT` or `list from A to B by RULE`.
 pub fn list_of(words: &[u8]) -> Result<Asked, Senseless>
     ensures steps { IfOk result IsAsked }
     ensures list { (reading : List ℕ → Option DateOrMoment)
@@ -29,7 +29,7 @@ pub fn list_of(words: &[u8]) -> Result<Asked, Senseless>
     Ok(paced(first, last, pace))
 }
 
-/// The date at an index.
+/// Parses the word at an index as a date.
 fn date_at(words: &[u8], at: usize) -> Result<Date, Senseless>
     ensures { (reading : List ℕ → Option DateOrMoment) → IsReading reading (arguments_of words.now)
         → result ≡ date_at reading (arguments_of words.now) at }
@@ -38,7 +38,6 @@ fn date_at(words: &[u8], at: usize) -> Result<Date, Senseless>
     date_in(&found).ok_or(senseless_at(at, Wanted::Date))
 }
 
-/// The date of what was read, if it is one and no moment.
 fn date_in(found: &DateOrMoment) -> Option<Date>
     ensures { result ≡ date_in found.now }
 {
@@ -48,7 +47,6 @@ fn date_in(found: &DateOrMoment) -> Option<Date>
     }
 }
 
-/// The dates between the two that the pace leads to.
 fn paced(first: Date, last: Date, pace: Pace) -> Asked
     requires { IsPace pace }
     ensures steps { IsAsked result }
@@ -64,13 +62,12 @@ fn paced(first: Date, last: Date, pace: Pace) -> Asked
     }
 }
 
-/// The step where none is named.
 const EVERY_DAY: Step = Step {
     every: 1,
     unit: StepUnit::Days,
 };
 
-/// The pace of `by N UNIT` and `by RULE`, after the two dates.
+/// Parses `by N UNIT` or `by RULE` after the two dates. The default is every day.
 fn pace_of(words: &[u8]) -> Result<Pace, Senseless>
     ensures steps { IfOk result IsPace }
     ensures pace { result ≡ pace_of (arguments_of words.now) }
@@ -85,7 +82,7 @@ fn pace_of(words: &[u8]) -> Result<Pace, Senseless>
     steps_of(words)
 }
 
-/// Whether the word with the place of a rule is like one: each recurrence has a `=`, and no number.
+/// Returns whether word 6 contains a `=`, as every recurrence does and no number does.
 fn is_rule_like(words: &[u8]) -> bool
     ensures { result ≡ option_map_or is_rule_like (slice_get (arguments_of words.now) 6) false }
 {
@@ -95,14 +92,13 @@ fn is_rule_like(words: &[u8]) -> bool
     }
 }
 
-/// The recurrence that the text says, if it is one.
 fn rule_of(text: &[u8]) -> Option<Recurrence>
     ensures { result ≡ rule_of text.now }
 {
     parse(text).ok()
 }
 
-/// The steps of `N UNIT`.
+/// Parses `N UNIT`.
 fn steps_of(words: &[u8]) -> Result<Pace, Senseless>
     ensures steps { IfOk result IsPace }
     ensures pace { result ≡ steps_of (arguments_of words.now) }
@@ -117,7 +113,7 @@ fn steps_of(words: &[u8]) -> Result<Pace, Senseless>
     ended(words, 8, Pace::Steps(step))
 }
 
-/// That many days, weeks, months or years. A step counts no other units.
+/// Returns a step of `number` days, weeks, months or years, or `None` for any other unit.
 fn step_in(number: u32, unit: TimeUnit) -> Option<Step>
     ensures steps { 1 ≤ number → IfSome result IsStep }
     ensures step { result ≡ step_in number unit }

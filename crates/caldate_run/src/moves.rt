@@ -1,4 +1,4 @@
-//! The day that a move leads to.
+//! Moves from one day to another.
 ghost use Rattle.std.specs.Prelude.{◌≡◌, ℕ, pos, neg_ℤ, ◌*ℤ◌, ◌≤ℤ◌, MatchOption};
 ghost use Rattle.cal_time.specs.Date.{IsDate};
 ghost use Rattle.cal_schedule.specs.Months.{IsMonthsLater};
@@ -13,7 +13,7 @@ use cal_schedule::{
 };
 use cal_time::Date;
 
-/// The day that the move leads to, or `None` where the range has none.
+/// Moves a day, or returns `None` if the result is out of range.
 pub fn led_to(date: Date, by: DayMove) -> Option<Date>
     ensures { MatchOption result ((n : ℕ) → ¬ LeadsTo by date n) (LeadsTo by date) }
 {
@@ -30,7 +30,6 @@ pub fn led_to(date: Date, by: DayMove) -> Option<Date>
     }
 }
 
-/// The day so many months later.
 fn months_later(date: Date, months: i64) -> Option<Date>
     ensures { MatchOption result ((n : ℕ) → ¬ (IsDate n × IsMonthsLater date months n))
         (λ n. IsDate n × IsMonthsLater date months n) }
@@ -38,7 +37,6 @@ fn months_later(date: Date, months: i64) -> Option<Date>
     checked_add_months(date, nearest(months))
 }
 
-/// The day so many years later.
 fn years_later(date: Date, years: i64) -> Option<Date>
     ensures { MatchOption result ((n : ℕ) → ¬ (IsDate n × IsMonthsLater date (pos 12 *ℤ years) n))
         (λ n. IsDate n × IsMonthsLater date (pos 12 *ℤ years) n) }
@@ -46,14 +44,13 @@ fn years_later(date: Date, years: i64) -> Option<Date>
     checked_add_years(date, nearest(years))
 }
 
-/// The working day so many working days later.
 fn workdays_later(date: Date, days: i64) -> Option<Date>
     ensures { result ≡ nth_workday monday_to_friday days date }
 {
     workdays().checked_add_workdays(date, nearest(days))
 }
 
-/// The nearest number from -2000000000 to 2000000000, which lead past each end of the range in any unit.
+/// Clamps a number to -2000000000..=2000000000. Either bound is past the range in every unit.
 fn nearest(number: i64) -> i32
     ensures below { number ≤ℤ neg_ℤ (pos 2_000_000_000) → result ≡ neg_ℤ (pos 2_000_000_000) }
     ensures within { neg_ℤ (pos 2_000_000_000) ≤ℤ number → number ≤ℤ pos 2_000_000_000
@@ -69,7 +66,7 @@ fn nearest(number: i64) -> i32
     }
 }
 
-/// Monday to Friday, and no holidays.
+/// Returns Monday to Friday without holidays.
 pub fn workdays() -> Workdays<'static>
     ensures { result ≡ monday_to_friday }
 {
@@ -79,7 +76,7 @@ pub fn workdays() -> Workdays<'static>
     }
 }
 
-/// The first day of the period that has the day. The range begins with a week.
+/// Returns the first day of the period that contains a day. The range begins on a Monday.
 fn first_of(period: Period, date: Date) -> Date
     ensures first { IsFirstOf period date result }
     ensures range { IsDate result }
@@ -92,7 +89,7 @@ fn first_of(period: Period, date: Date) -> Date
     }
 }
 
-/// The last day of the period that has the day, or `None` where the range ends within its week.
+/// Returns the last day of the period that contains a day, or `None` if the range ends before it.
 fn last_of(period: Period, date: Date) -> Option<Date>
     ensures { MatchOption result ((n : ℕ) → ¬ (IsDate n × IsLastOf period date n))
         (λ n. IsDate n × IsLastOf period date n) }

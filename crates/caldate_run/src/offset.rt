@@ -1,10 +1,10 @@
-//! What a word spells as an offset from UTC.
+//! Offsets from UTC.
 ghost use Rattle.std.specs.Prelude.{◌≡◌, ◌+◌, ◌<◌, ◌≤◌, Some, length, unsigned_abs};
 ghost use Rattle.caldate_run.specs.Offsets.{number_at, offset_of, seconds_after};
 
 use cal_time::UtcOffset;
 
-/// The offset that a word spells: `Z`, or a sign and two digits each of the hours and the minutes, as `-05:30`.
+/// Parses `Z`, or a sign and two digits each of the hours and the minutes, such as `-05:30`.
 pub fn offset_of(word: &[u8]) -> Option<UtcOffset>
     ensures { result ≡ offset_of word.now }
 {
@@ -19,7 +19,7 @@ pub fn offset_of(word: &[u8]) -> Option<UtcOffset>
     seconds_after(word[0], (hours, minutes))
 }
 
-/// The number of two digits that begin at this position.
+/// Parses the two digits at an index.
 fn number_at(word: &[u8], index: usize) -> Option<u8>
     requires { index + 1 < length word.now }
     ensures { result ≡ number_at word.now index }
@@ -33,7 +33,7 @@ fn number_at(word: &[u8], index: usize) -> Option<u8>
     }
 }
 
-/// The offset of hours from 0 to 23 and minutes from 0 to 59, after a sign.
+/// Returns the offset with this sign, of up to 23 hours and 59 minutes.
 fn seconds_after(sign: u8, at: (u8, u8)) -> Option<UtcOffset>
     ensures { result ≡ seconds_after sign at }
 {
@@ -50,7 +50,6 @@ fn seconds_after(sign: u8, at: (u8, u8)) -> Option<UtcOffset>
     }
 }
 
-/// The offset of so many seconds, which is one.
 fn offset_by(seconds: i32) -> Option<UtcOffset>
     requires { unsigned_abs seconds ≤ 93_599 }
     ensures { result ≡ Some seconds }

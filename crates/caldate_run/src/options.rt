@@ -10,10 +10,10 @@ use crate::spelling::number_of;
 use crate::words::cut;
 use cal_time::UtcOffset;
 
-/// The options before a request.
+/// A set of options before a request.
 #[derive(Clone, Copy)]
 pub struct Options {
-    /// Whether `--strict` is one of them.
+    /// Whether `--strict` is given.
     pub is_strict: bool,
     /// The number N of `--field N`.
     pub number: Option<u16>,
@@ -21,13 +21,13 @@ pub struct Options {
     pub separator: Option<u8>,
     /// The number K of `--skip K`.
     pub skip: Option<u64>,
-    /// The form of `--read FORM`. That of `local` waits for its offset, and is at UTC till then.
+    /// The form of `--read FORM`. For `local`, the offset is UTC until the options are complete.
     pub reading: Option<Reading>,
     /// The offset of `--assume OFFSET`.
     pub offset: Option<UtcOffset>,
 }
 
-/// The options at the front of the arguments, and the index of the word after them.
+/// Parses the options at the front, and returns them with the index of the word after them.
 #[tactic(auto, using(crate::proofs::Indices::few_words))]
 pub fn options_of(arguments: &[u8]) -> Result<(Options, usize), Senseless>
     ensures options { result ≡ options_from None no_options 0 (arguments_of arguments.now) }
@@ -44,8 +44,8 @@ pub fn options_of(arguments: &[u8]) -> Result<(Options, usize), Senseless>
     options_from(None, &options, 0, Some(arguments))
 }
 
-/// The options at the front of the words that are left, of which the first has this index, and the index of the word after them. The first
-/// is the value that the option before it wants, if it wants any.
+/// Parses the options at the front of the words, whose first has index `at`. If `wanted` is given,
+/// it is the value of the option before it.
 fn options_from(
     wanted: Option<Wanted>,
     options: &Options,
@@ -78,14 +78,14 @@ fn options_from(
     }
 }
 
-/// Whether the word is `--strict`, and the first one.
+/// Returns whether the word is the first `--strict`.
 fn takes_strict(options: &Options, word: &[u8]) -> bool
     ensures { result ≡ takes_strict options.now word.now }
 {
     word == b"--strict".as_slice() && !options.is_strict
 }
 
-/// What comes after the word, where it is an option that may stand there.
+/// Returns the value that an option needs, or `None` for any other word and a repeated option.
 fn value_of(options: &Options, word: &[u8]) -> Option<Wanted>
     ensures { result ≡ value_of options.now word.now }
 {
@@ -104,7 +104,7 @@ fn value_of(options: &Options, word: &[u8]) -> Option<Wanted>
     }
 }
 
-/// The options with the one that wants this, which has this value.
+/// Sets the option that needs `wanted`, or returns `None` if the value is invalid.
 fn with_value(options: &Options, value: &[u8], wanted: Wanted) -> Option<Options>
     ensures { result ≡ with_value options.now value.now wanted }
 {
@@ -120,7 +120,7 @@ fn with_value(options: &Options, value: &[u8], wanted: Wanted) -> Option<Options
     Some(more)
 }
 
-/// The number from 1 to 65535 that a word spells.
+/// Parses a number from 1 to 65535.
 fn field_number_of(word: &[u8]) -> Option<u16>
     ensures { result ≡ field_number_of word.now }
 {
@@ -131,7 +131,6 @@ fn field_number_of(word: &[u8]) -> Option<u16>
     Some(number as u16)
 }
 
-/// The byte that a word is.
 fn byte_of(word: &[u8]) -> Option<u8>
     ensures { result ≡ byte_of word.now }
 {
@@ -141,7 +140,7 @@ fn byte_of(word: &[u8]) -> Option<u8>
     }
 }
 
-/// The number from 0 on that a word spells.
+/// Parses a number from 0 to 9223372036854775807.
 fn skip_of(word: &[u8]) -> Option<u64>
     ensures { result ≡ skip_of word.now }
 {
@@ -152,7 +151,6 @@ fn skip_of(word: &[u8]) -> Option<u64>
     Some(number as u64)
 }
 
-/// The reading that a word names.
 fn reading_of(word: &[u8]) -> Option<Reading>
     ensures { result ≡ reading_of word.now }
 {
@@ -175,7 +173,7 @@ fn reading_of(word: &[u8]) -> Option<Reading>
     }
 }
 
-/// The field that they name, whose separator is a tab where none is said.
+/// Returns the field that the options select. The default separator is a tab.
 pub fn field_of(options: &Options) -> Option<Field>
     ensures { result ≡ field_of options.now }
 {
@@ -185,7 +183,7 @@ pub fn field_of(options: &Options) -> Option<Field>
     })
 }
 
-/// What the lines are read as, which is any form where none is named.
+/// Returns the reading that the options select. The default is any form.
 pub fn reading_in(options: &Options) -> Reading
     ensures { result ≡ reading_at options.now.reading options.now.offset }
 {
@@ -205,7 +203,7 @@ fn is_local(options: &Options) -> bool
     }
 }
 
-/// What the options need beside them, where they lack it.
+/// Returns the option that is missing, if the others need it.
 pub fn lacking(options: &Options) -> Option<Wanted>
     ensures { result ≡ lacking options.now }
 {

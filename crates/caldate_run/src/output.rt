@@ -1,4 +1,4 @@
-//! Bytes to a writer.
+//! Writes of whole buffers.
 ghost use Rattle.std.specs.Prelude.{OnOk, OnErr, IfErr};
 ghost use Rattle.std.specs.Io.KnownBytes.{Appends};
 ghost use Rattle.caldate_run.specs.Calls.{Sends, most_retries, write_failure};
@@ -9,9 +9,8 @@ use crate::retries::Retries;
 use crate::streams::Sink;
 use std::io::ErrorKind;
 
-/// Writes all the bytes. If that fails, a beginning of them has gone out, and the fault has the kind of the error.
-///
-/// A write is taken again if it was interrupted and a retry is left.
+/// Writes all bytes, and repeats an interrupted write while a retry is left. After a
+/// `Fault::Write`, only a part of the bytes was written.
 pub fn write_all<W: Sink>(writer: &mut W, bytes: &[u8]) -> Result<(), Fault>
     ensures ok { OnOk result (Appends (W.contents writer.old) (W.contents writer.new) bytes.now) }
     ensures front { OnErr result (AppendsFront (W.contents writer.old)

@@ -1,4 +1,4 @@
-//! What the program does for its arguments.
+//! The program, from its arguments to its status.
 ghost use Rattle.std.specs.Prelude.{◌≡◌, ℕ, List, Option, Some, None, Result, Ok, Err};
 ghost use Rattle.caldate_run.specs.Calls.{Reads, Writes, has_read_failure, most_reads, write_failure};
 ghost use Rattle.caldate_run.specs.Ending.{Tells};
@@ -23,12 +23,12 @@ use crate::request::Asked;
 use crate::run::run;
 use crate::streams::{Sink, Source};
 
-/// The status where the arguments make no sense.
+/// The status for invalid arguments.
 const SENSELESS: u8 = 2;
 
-/// Does what the arguments ask for, between which stands a zero byte, and returns the status and what came of the words on
-/// standard error. Where they make no sense, or are `None` since they have too many bytes, nothing is read, one line goes to standard
-/// error, and the status is 2.
+/// Runs the command of the arguments, which have zero bytes between them. Returns the status and
+/// the result of writing to standard error. If the arguments are invalid, or `None` because they
+/// are too long, this only writes one line to standard error, and the status is 2.
 #[tactic(auto, using(crate::proofs::Calls::sent_all))]
 pub fn perform<R: Source, W: Sink, E: Sink>(
     arguments: Option<&[u8]>,

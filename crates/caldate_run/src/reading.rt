@@ -1,4 +1,4 @@
-//! What the text of a line is read as, where a reading is named.
+//! The ways to read the text of a line.
 ghost use Rattle.std.specs.Prelude.{◌≡◌, ◌↔◌, IfOk, IfErr, Ok};
 ghost use Rattle.cal_time.specs.declared.error.ComponentRange.{ComponentRange};
 ghost use Rattle.cal_text.specs.Position.{IsAtStop};
@@ -20,28 +20,28 @@ use crate::request::UnixUnit;
 use cal_text::{DateOrMoment, Unreadable, read_any};
 use cal_time::UtcOffset;
 
-/// What the text of a line is read as.
+/// A way to read the text of a line.
 #[derive(Clone, Copy)]
 pub enum Reading {
     /// Any of the six forms.
     Any,
-    /// A date, as `20240229`.
+    /// A date such as `20240229`.
     Basic,
-    /// A date, as `29.02.2024`, `29/02/2024` or `29-02-2024`.
+    /// A date such as `29.02.2024`, `29/02/2024` or `29-02-2024`.
     DayFirst,
-    /// A date, as `02.29.2024`, `02/29/2024` or `02-29-2024`.
+    /// A date such as `02.29.2024`, `02/29/2024` or `02-29-2024`.
     MonthFirst,
-    /// A moment at UTC, as `1709164800500`, by what has gone by since 1970.
+    /// A moment at UTC such as `1709164800500`, in whole units since 1970.
     Unix(UnixUnit),
-    /// A moment at this offset, as `2024-02-29T10:00:00`.
+    /// A moment at this offset, such as `2024-02-29T10:00:00`.
     Local(UtcOffset),
 }
 
-/// The date or the moment that the text is in this reading, and the form that it is answered in.
+/// Parses a text, and returns the date or the moment and the form of its answers.
 ///
-/// `29.02.2024` is 2024-02-29 where the day comes first. A text of another form is refused with the position of the first byte that no
-/// text of the reading has there; one that has the form, for the component at fault: in `31.04.2024` for `day`.
-// In line, so that a line in one of the six forms costs no call more.
+/// `29.02.2024` is 2024-02-29 if the day comes first. A text in another form gives the position of
+/// its first wrong byte. `31.04.2024` has the form, and gives `OutOfRange` for `day`.
+// Inlined, so that a line in one of the six forms takes no extra call.
 #[inline(always)]
 pub fn read_in(reading: Reading, text: &[u8]) -> Result<DateOrMoment, Unreadable>
     ensures every { (found : DateOrMoment) → IsTextIn reading text.now found → result ≡ Ok found }

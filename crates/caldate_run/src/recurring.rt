@@ -1,4 +1,4 @@
-//! The dates of a recurrence, from one to another.
+//! Lists of the dates of a recurrence.
 ghost use Rattle.std.specs.Prelude.{◌≡◌, [], ◌∷◌, nat_le, MatchOption};
 ghost use Rattle.std.specs.List.{take_while};
 ghost use Rattle.caldate_run.specs.Calls.{Writes, write_failure};
@@ -14,7 +14,8 @@ use crate::streams::Sink;
 use cal_schedule::RuleDays;
 use cal_time::Date;
 
-/// Writes the dates of the recurrence in order, each in the calendar form with a line feed, however many they are.
+/// Writes the dates of the recurrence in order, each in the calendar form with a line feed. After a
+/// `Fault::Write`, only a part of the lines was written.
 #[tactic(auto, using(crate::proofs::Calls::sent_all, crate::proofs::Calls::writes_then))]
 pub fn list_occurrences<W: Sink>(asked: &Occurrences, writer: &mut W) -> Result<(), Fault>
     ensures lists { ListsOccurrences asked.now result (W.contents writer.old) (W.contents writer.new) }
@@ -29,7 +30,7 @@ pub fn list_occurrences<W: Sink>(asked: &Occurrences, writer: &mut W) -> Result<
     write_all(writer, buffer.as_bytes())
 }
 
-/// The next of the days, which is taken from the walk, or `None` where there is none or it is past the last.
+/// Returns the next day of the iterator, or `None` at its end or past the last day.
 fn next_within(days: &mut RuleDays<'_>, last: Date) -> Option<Date>
     ensures { MatchOption result (take_while (λ day. nat_le day last) days.old ≡ [])
         (λ next. take_while (λ day. nat_le day last) days.old

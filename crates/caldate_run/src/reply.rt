@@ -18,8 +18,8 @@ use crate::request::{Field, Filter};
 use crate::shown::ShownText;
 use crate::unanswered::UnansweredLine;
 
-/// Gathers the reply to a line, of which a front may have been let go as the line is too long. In a strict run it gathers the reason
-/// for a line that has no answer, and returns where that begins.
+/// Appends the reply to a line, whose front may have been dropped because it is too long. In strict
+/// mode, appends the reason for a missing answer and returns its offset.
 pub fn push_reply(
     buffer: &mut Buffer,
     filter: &Filter,
@@ -46,7 +46,7 @@ pub fn push_reply(
     Ok(())
 }
 
-/// Takes back what was gathered after so many bytes, and tells the line: the reason begins at `start`.
+/// Truncates the buffer to `before`, and describes the line. The reason begins at `start`.
 #[cold]
 pub fn take_back(
     buffer: &mut Buffer,
@@ -74,7 +74,7 @@ pub fn take_back(
     }
 }
 
-/// Gathers that a line is too long. In a strict run this is the reason, and it returns where that begins.
+/// Appends `line too long`. In strict mode, returns its offset.
 fn push_too_long(buffer: &mut Buffer, filter: &Filter) -> Result<(), usize>
     requires { HasRoom longest_answer buffer.old }
     ensures ok { OnOk result (filter.now.is_strict ≡ false) }
@@ -91,8 +91,8 @@ fn push_too_long(buffer: &mut Buffer, filter: &Filter) -> Result<(), usize>
     Ok(())
 }
 
-/// Gathers what is written for the text of a line, after so many lines. In a strict run it gathers the reason for one without an answer,
-/// and returns where that begins.
+/// Appends the reply to the text of a line after `number` other lines. In strict mode, appends the
+/// reason for a missing answer and returns its offset.
 fn push_text(buffer: &mut Buffer, filter: &Filter, number: u64, text: &[u8]) -> Result<(), usize>
     requires { HasRoom longest_reply buffer.old }
     ensures ok { OnOk result ((before : ℕ) → number ≡ counted before
@@ -115,8 +115,8 @@ fn push_text(buffer: &mut Buffer, filter: &Filter, number: u64, text: &[u8]) -> 
     }
 }
 
-/// Gathers a text with what is written for its field in the field's place. In a strict run it gathers the reason where there is no answer
-/// or no such field, and returns where that begins.
+/// Appends the text with the answer in place of the field. In strict mode, appends the reason for a
+/// missing answer or field and returns its offset.
 fn push_field(buffer: &mut Buffer, filter: &Filter, field: Field, text: &[u8]) -> Result<(), usize>
     requires room { HasRoom longest_reply buffer.old }
     requires fits { length text.now ≤ longest_text }
@@ -137,7 +137,7 @@ fn push_field(buffer: &mut Buffer, filter: &Filter, field: Field, text: &[u8]) -
     Ok(())
 }
 
-/// Gathers a text that has no such field as it is. In a strict run it gathers the reason, and returns where that begins.
+/// Appends a text that lacks the field. In strict mode, appends the reason and returns its offset.
 fn push_without_field(buffer: &mut Buffer, filter: &Filter, text: &[u8]) -> Result<(), usize>
     requires room { HasRoom longest_reply buffer.old }
     requires fits { length text.now ≤ longest_text }
@@ -156,8 +156,8 @@ fn push_without_field(buffer: &mut Buffer, filter: &Filter, text: &[u8]) -> Resu
     Ok(())
 }
 
-/// Gathers what is written for a text that is asked about. In a strict run that may be the reason why it has no answer; then it returns
-/// where that begins.
+/// Appends the answer for `text`, or the reason why it has none. In strict mode, returns the offset
+/// of the reason.
 fn push_asked(buffer: &mut Buffer, filter: &Filter, text: &[u8]) -> Result<(), usize>
     requires { HasRoom longest_answer buffer.old }
     ensures ok { OnOk result (AppendsThat

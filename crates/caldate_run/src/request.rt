@@ -1,4 +1,4 @@
-//! What is asked of the lines.
+//! Requests, and how they apply to the lines.
 use crate::reading::Reading;
 use cal_recurrence::Recurrence;
 use cal_text::{DateForm, DateOrMoment, MomentForm};
@@ -7,25 +7,25 @@ use cal_time::{Date, SignedDuration, UtcOffset, Weekday};
 /// A form in which a date or a moment is written.
 #[derive(Clone, Copy)]
 pub enum Form {
-    /// As `2024-02-29`, `2024-060`, `2024-W09-4` or `J2460370`.
+    /// `2024-02-29`, `2024-060`, `2024-W09-4` or `J2460370`.
     Date(DateForm),
-    /// As `Thursday`.
+    /// `Thursday`.
     Weekday,
-    /// As `2024-02-29T00:00:00Z` or `@1709164800`.
+    /// `2024-02-29T00:00:00Z` or `@1709164800`.
     Moment(MomentForm),
-    /// As `Thu`.
+    /// `Thu`.
     ShortWeekday,
-    /// As `2024-02`.
+    /// `2024-02`.
     Month,
-    /// As `2024-Q1`.
+    /// `2024-Q1`.
     Quarter,
-    /// As `20240229`.
+    /// `20240229`.
     Basic,
-    /// As `1709164800000`, which counts milliseconds.
+    /// `1709164800000`, here in milliseconds.
     Unix(UnixUnit),
 }
 
-/// What a Unix time counts where it is a whole number.
+/// A unit of whole Unix times.
 #[derive(Clone, Copy)]
 pub enum UnixUnit {
     Milliseconds,
@@ -50,105 +50,105 @@ pub enum TimeUnit {
 /// A period with a first and a last day.
 #[derive(Clone, Copy)]
 pub enum Period {
-    /// From Monday to Sunday.
+    /// Monday to Sunday.
     Week,
     Month,
     Quarter,
     Year,
 }
 
-/// What leads from a day to another.
+/// A move from one day to another.
 #[derive(Clone, Copy)]
 pub enum DayMove {
-    /// `next WEEKDAY N`: the day that is the N-th with the weekday after it.
+    /// `next WEEKDAY N`: the N-th such weekday after the day.
     Next(Weekday, u8),
-    /// `last WEEKDAY N`: the day that is the N-th with the weekday before it.
+    /// `last WEEKDAY N`: the N-th such weekday before the day.
     Last(Weekday, u8),
-    /// `on-or-after WEEKDAY`: the first day from it on with the weekday.
+    /// `on-or-after WEEKDAY`: the first such weekday on or after the day.
     OnOrAfter(Weekday),
-    /// `on-or-before WEEKDAY`: the last day up to it with the weekday.
+    /// `on-or-before WEEKDAY`: the last such weekday on or before the day.
     OnOrBefore(Weekday),
-    /// `add N months`: the same day so many months later, or the last day of that month.
+    /// `add N months`: the same day N months later, or the last day of that month.
     Months(i64),
-    /// `add N years`: the same day so many years later, or 28 February.
+    /// `add N years`: the same day N years later, or 28 February.
     Years(i64),
-    /// `add N workdays`: the N-th day from Monday to Friday after it.
+    /// `add N workdays`: the N-th day from Monday to Friday after the day.
     Workdays(i64),
-    /// `start PERIOD`: the first day of its period.
+    /// `start PERIOD`: the first day of the period.
     Start(Period),
-    /// `end PERIOD`: the last day of its period.
+    /// `end PERIOD`: the last day of the period.
     End(Period),
 }
 
-/// Between which a date or a moment lies. Beside a date the date counts that its clock shows, and beside a moment its instant.
+/// A range for dates and moments. A date bound compares local dates, a moment bound instants.
 #[derive(Clone, Copy)]
 pub enum Bounds {
-    /// `from A to B`: both of them too.
+    /// `from A to B`, including both.
     FromTo(DateOrMoment, DateOrMoment),
-    /// `after A`.
+    /// `after A`, excluding it.
     After(DateOrMoment),
-    /// `before B`.
+    /// `before B`, excluding it.
     Before(DateOrMoment),
 }
 
-/// What each line is answered.
+/// A request for each line.
 #[derive(Clone, Copy)]
 pub enum Request {
-    /// `to FORM`: the same in this form.
+    /// `to FORM`: the same date or moment in this form.
     To(Form),
-    /// `add N UNIT`: the date or the moment that much later.
+    /// `add N UNIT`: the date or moment after adding a duration.
     Add(SignedDuration),
-    /// The day that is led to, at the same time of day.
+    /// The moved day, at the same time of day.
     Move(DayMove),
-    /// `until TEXT`: the days to this date, or the duration to this moment; `until TEXT in UNIT`: the whole units.
+    /// `until TEXT [in UNIT]`: the days or the duration to TEXT, or the whole units.
     Until(DateOrMoment, Option<TimeUnit>),
-    /// `since TEXT`, `since TEXT in UNIT`: the same the other way round.
+    /// `since TEXT [in UNIT]`: the days or the duration from TEXT, or the whole units.
     Since(DateOrMoment, Option<TimeUnit>),
-    /// `at OFFSET`: the moment as a clock at this offset shows it.
+    /// `at OFFSET`: the moment at this offset.
     At(UtcOffset),
-    /// `keep BOUNDS`: nothing in its place. The line itself goes out where it lies within these, and else nothing does.
+    /// `keep BOUNDS`: the line itself if it lies within the bounds, otherwise nothing.
     Keep(Bounds),
 }
 
-/// Which field of a line is asked about.
+/// A field of a line.
 #[derive(Clone, Copy)]
 pub struct Field {
-    /// Its number, counted from 1.
+    /// The number of the field, counted from 1.
     pub number: u16,
     /// The byte between two fields.
     pub separator: u8,
 }
 
-/// What is done to the lines of an input.
+/// A request with its options.
 #[derive(Clone, Copy)]
 pub struct Filter {
     pub request: Request,
-    /// What the lines are read as.
+    /// How to read a line.
     pub reading: Reading,
     /// Whether the run ends at the first line without an answer.
     pub is_strict: bool,
-    /// The field that is asked about, or all of the line where there is none.
+    /// The field to answer, or `None` for the whole line.
     pub field: Option<Field>,
-    /// How many lines are passed on as they are before the first that is answered.
+    /// How many lines to pass on unchanged at the start.
     pub skip: u64,
 }
 
-/// What the steps of a list count.
+/// A unit of steps.
 #[derive(Clone, Copy)]
 pub enum StepUnit {
     Days,
     Months,
 }
 
-/// From one date of a list to the next.
+/// A step from one date of a list to the next.
 #[derive(Clone, Copy)]
 pub struct Step {
-    /// How many days or months.
+    /// The number of days or months.
     pub every: u64,
     pub unit: StepUnit,
 }
 
-/// The dates from one to another. Each is counted from the first.
+/// A list of dates. Each is counted from the first.
 #[derive(Clone, Copy)]
 pub struct Listing {
     pub first: Date,
@@ -156,7 +156,7 @@ pub struct Listing {
     pub step: Step,
 }
 
-/// The dates of a recurrence that starts with the first date, up to the last.
+/// A list of the dates of a recurrence that starts on the first date, up to the last.
 #[derive(Drop)]
 pub struct Occurrences {
     pub first: Date,
@@ -164,7 +164,7 @@ pub struct Occurrences {
     pub recurrence: Recurrence,
 }
 
-/// What leads from the first date of a list to the others.
+/// A way from the first date of a list to the others.
 #[derive(Drop)]
 pub enum Pace {
     /// `by N UNIT`: steps of one length.
@@ -173,17 +173,17 @@ pub enum Pace {
     Rule(Recurrence),
 }
 
-/// What the arguments ask for.
+/// A command of the program.
 #[derive(Drop)]
 pub enum Asked {
-    /// `--help`, `-h` or `help`: the page of examples.
+    /// `--help`, `-h` or `help`: the help page.
     Help,
     /// `--version`: the version.
     Version,
-    /// To answer the lines of the input.
+    /// A request for the lines of the input.
     Lines(Filter),
-    /// `list from A to B`, `list from A to B by N UNIT`: the dates from the one to the other.
+    /// `list from A to B [by N UNIT]`: the dates from A to B.
     Dates(Listing),
-    /// `list from A to B by RULE`: those of the recurrence.
+    /// `list from A to B by RULE`: the dates of the recurrence.
     Recurring(Occurrences),
 }

@@ -1,14 +1,14 @@
-//! How often a read, or the writes of some bytes, are taken again where they are interrupted.
+//! Retries of interrupted reads and writes.
 ghost use Rattle.std.specs.Prelude.{◌≡◌, ◌↔◌, ◌+◌, ◌<◌, IsTrue, if◌then◌else◌};
 ghost use Rattle.std.specs.IoError.{error_kind};
 
 use std::io::{self, ErrorKind};
 use std::marker::Model;
 
-/// How often an interrupted call is taken again. The next interruption is a failure.
+/// The number of retries. The next interruption is a failure.
 const INTERRUPTIONS: u16 = 4096;
 
-/// How often an interrupted call may still be taken again.
+/// A count of the retries that are left.
 #[derive(Drop)]
 pub struct Retries {
     left: u16,
@@ -23,7 +23,7 @@ impl Model for Retries {
 }
 
 impl Retries {
-    /// That of a call which was not interrupted yet.
+    /// Creates a count of 4096 retries.
     pub fn new() -> Self
         ensures { result ≡ 4096 }
     {
@@ -32,7 +32,7 @@ impl Retries {
         }
     }
 
-    /// Whether a call that failed like this is taken again: it was interrupted, and not for too many times.
+    /// Counts a retry and returns true if the call was interrupted and a retry is left.
     pub fn allows(&mut self, error: &io::Error) -> bool
         ensures allowed { IsTrue result
             ↔ (error_kind error.now ≡ ErrorKind.Interrupted) × (0 < self.old) }

@@ -1,4 +1,4 @@
-//! The run: the answers to the lines of an input of any length.
+//! Runs: the answers to the lines of an input of any length.
 ghost use Rattle.std.specs.Prelude.{◌≡◌, ◌≤◌, ◌+◌, ◌-◌, ◌++◌, ℕ, List, [], length, drop, Option, OnOk, OnErr, IfOk, IfErr, IsErrAnd, IsErrOf};
 ghost use Rattle.std.specs.Io.KnownBytes.{Appends};
 ghost use Rattle.caldate_run.specs.Calls.{Reads, Writes, has_read_failure, kind_of, most_reads, write_failure};
@@ -21,12 +21,13 @@ use crate::shown::ShownText;
 use crate::streams::{Sink, Source};
 use crate::unanswered::UnansweredLine;
 
-/// The most bytes of a line that are kept where it has not ended: those of a text, and a carriage return.
+/// The maximum length of an unfinished line: a text and a carriage return.
 const MOST_KEPT: usize = 4097;
 
-/// Answers the lines of the input, in order, to its end.
+/// Answers the lines of the input, in order, up to its end.
 ///
-/// The answers to what one read gave go out before the next read. It gives up as after a failed read once it has read 2^64 - 1 times.
+/// Writes the answers to one read before the next read. Fails with `Fault::Read` or `Fault::Write`,
+/// or in strict mode with `Fault::Unanswered`. 2^64 - 1 reads end like a failed read.
 pub fn run<R: Source, W: Sink>(filter: Filter, reader: &mut R, writer: &mut W) -> Result<(), Fault>
     ensures ended { Ended filter result (R.remaining reader.old) (R.remaining reader.new)
         (W.contents writer.old) (W.contents writer.new) }
@@ -69,7 +70,7 @@ pub fn run<R: Source, W: Sink>(filter: Filter, reader: &mut R, writer: &mut W) -
     Err(Fault::Read)
 }
 
-/// Answers the lines that end within the bytes, and returns how many bytes come after them.
+/// Answers the lines that end within the bytes, and returns the number of bytes after them.
 #[tactic(auto, using(crate::proofs::Calls::no_writes, crate::proofs::Calls::writes_then))]
 fn answer_lines<W: Sink>(
     filter: &Filter,
@@ -111,7 +112,7 @@ fn answer_lines<W: Sink>(
     Ok(rest.len())
 }
 
-/// Lets what was answered before a line without an answer go out, and tells that line.
+/// Writes the answers before a line without an answer, and returns the line as an error.
 #[tactic(auto, using(crate::proofs::Calls::sent_all))]
 fn stop<W: Sink>(told: UnansweredLine, buffer: &Buffer, writer: &mut W) -> Fault
     ensures write { IsOfWrite result
@@ -127,7 +128,7 @@ fn stop<W: Sink>(told: UnansweredLine, buffer: &Buffer, writer: &mut W) -> Fault
     }
 }
 
-/// Answers the last line where it does not end, and lets the answers go out.
+/// Answers the last line if it has no line feed, and writes the answers.
 #[tactic(auto, using(crate::proofs::Calls::no_writes, crate::proofs::Calls::sent_all))]
 fn answer_last<W: Sink>(
     filter: &Filter,
@@ -161,7 +162,7 @@ fn answer_last<W: Sink>(
     }
 }
 
-/// Lets go of a long line but for its last byte. Whether that is a carriage return tells how the line ends.
+/// Drops a line that is too long except for its last byte, which may be a carriage return.
 #[tactic(auto, using(crate::proofs::Steps::let_go))]
 fn let_go(input: &mut Input, progress: &mut Progress)
     requires { NoEnd input.old }
@@ -178,7 +179,7 @@ fn let_go(input: &mut Input, progress: &mut Progress)
     }
 }
 
-/// Makes room for a reply: where there is none, what was gathered is written.
+/// Writes the buffer if it has no room for a reply.
 #[tactic(auto, using(crate::proofs::Calls::no_writes))]
 pub fn make_room<W: Sink>(buffer: &mut Buffer, writer: &mut W) -> Result<(), Fault>
     ensures room { OnOk result (HasRoom longest_reply buffer.new) }
@@ -195,7 +196,7 @@ pub fn make_room<W: Sink>(buffer: &mut Buffer, writer: &mut W) -> Result<(), Fau
     Ok(())
 }
 
-/// Writes what was gathered.
+/// Writes the buffer and clears it.
 #[tactic(auto, using(crate::proofs::Calls::sent_all))]
 fn flush<W: Sink>(buffer: &mut Buffer, writer: &mut W) -> Result<(), Fault>
     ensures ok { OnOk result (Appends (W.contents writer.old) (W.contents writer.new) buffer.old

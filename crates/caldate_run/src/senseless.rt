@@ -1,47 +1,47 @@
-//! The first word of the arguments that makes no sense.
+//! Invalid arguments.
 ghost use Rattle.std.specs.Prelude.{◌≡◌};
 ghost use Rattle.caldate_run.specs.Requests.{senseless_at};
 
-/// What may stand at an index of the arguments.
+/// An argument that is expected at an index.
 #[derive(Clone, Copy, Debug, PartialEq, Eq)]
 pub enum Wanted {
-    /// Something to do: there are no arguments.
+    /// Any command, because nothing is given.
     Something,
-    /// A verb, or an option, as `--strict`.
+    /// A verb or an option, such as `--strict`.
     Start,
-    /// A verb, or an option that is not given yet and does not stand alone.
+    /// A verb, or an option that is not given yet and needs a verb.
     Verb,
-    /// `--field`, since there is a separator.
+    /// `--field`, which `--separator` requires.
     Field,
     /// A number from 1 to 65535.
     FieldNumber,
     /// One byte.
     Separator,
-    /// A number of lines, from 0 on.
+    /// A number of lines from 0 to 9223372036854775807.
     Skip,
-    /// A form that lines are read in, as `dmy`.
+    /// A value of `--read`, such as `dmy`.
     Reading,
-    /// `--assume`, since lines are read as `local`.
+    /// `--assume`, which `--read local` requires.
     Assume,
-    /// `--read local`, since an offset is assumed.
+    /// `--read local`, which `--assume` requires.
     Local,
-    /// A form, as `week`.
+    /// A form, such as `week`.
     Form,
     /// A number.
     Number,
-    /// A number that is no more than a duration has of its unit.
+    /// A number of units that fits in a duration.
     Amount,
-    /// A unit of time, as `hours`.
+    /// A unit of time, such as `hours`.
     UnitOfTime,
-    /// A weekday, as `Friday`.
+    /// A weekday, such as `Friday`.
     Weekday,
     /// A number from 1 to 255.
     Count,
     /// A date or a moment.
     Target,
-    /// A period, as `month`.
+    /// A period, such as `month`.
     Period,
-    /// An offset from UTC, as `+01:00`.
+    /// An offset from UTC, such as `+01:00`.
     Offset,
     /// `from`, `after` or `before`.
     Bounds,
@@ -55,26 +55,26 @@ pub enum Wanted {
     UpTo,
     /// `by`.
     By,
-    /// A number from 1 to 4294967295, or a recurrence. The word is no recurrence.
+    /// A number from 1 to 4294967295, or a recurrence. The word has no `=`.
     Many,
-    /// A recurrence. The word is no number.
+    /// A recurrence. The word has a `=`.
     Rule,
-    /// A unit of a day or more, as `months`.
+    /// A unit of dates, such as `months`.
     UnitOfDays,
     /// No word.
     End,
 }
 
-/// The first word that makes no sense.
+/// An error in the arguments: the first invalid or missing word.
 #[derive(Clone, Copy, Debug, PartialEq, Eq)]
 pub struct Senseless {
-    /// Its index among the arguments, counted from 0. A word that is missing has the index that it would have.
+    /// The index of the word, counted from 0. A missing word has the index that it would have.
     pub index: usize,
-    /// What may stand there.
+    /// The argument that is expected there.
     pub wanted: Wanted,
 }
 
-/// That this is wanted at the index, and does not stand there.
+/// Creates the error for a word at the index that is not the expected one.
 pub fn senseless_at(index: usize, wanted: Wanted) -> Senseless
     ensures { result ≡ senseless_at index wanted }
 {

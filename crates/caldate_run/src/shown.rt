@@ -1,13 +1,12 @@
-//! What the words on standard error show of a text.
+//! Texts to show on standard error.
 ghost use Rattle.std.specs.Prelude.{◌≡◌, ◌≤◌, length};
 ghost use Rattle.caldate_run.specs.Shown.{printed, shown, words_shown};
 
-/// The most bytes of a text that are shown.
+/// The maximum number of bytes to show.
 const MOST_SHOWN: usize = 80;
 
-/// What is shown of a text: its first 80 bytes, with `?` for each that does not print.
-///
-/// A line of a file may hold anything, and so may an argument: what is shown of it is short, and does nothing to a terminal.
+/// A text to show: the first 80 bytes of a text, with `?` for each byte that does not print. This
+/// is short and harmless to a terminal, although lines and arguments may contain any bytes.
 #[derive(Clone, Copy, Debug, PartialEq, Eq)]
 pub struct ShownText {
     bytes: [u8; MOST_SHOWN],
@@ -15,7 +14,7 @@ pub struct ShownText {
 }
 
 impl ShownText {
-    /// What is shown of the text: of `2024-02-30` all of it, of `\t2024` the bytes `?2024`.
+    /// Creates the text to show. `2024-02-30` stays as it is, and `\t2024` becomes `?2024`.
     pub fn new(text: &[u8]) -> Self
         ensures { words_shown result ≡ shown text.now }
     {
@@ -27,7 +26,7 @@ impl ShownText {
         ShownText { bytes, count }
     }
 
-    /// The bytes to be shown.
+    /// Returns the bytes to show, at most 80.
     pub fn as_bytes(&self) -> &[u8]
         ensures bytes { result.now ≡ words_shown self.now }
         ensures few { length result.now ≤ 80 }
@@ -36,7 +35,7 @@ impl ShownText {
     }
 }
 
-/// The byte that stands for this one.
+/// Returns the byte, or `?` if it does not print.
 fn printed(byte: u8) -> u8
     ensures { result ≡ printed byte }
 {

@@ -4,7 +4,7 @@ ghost use Rattle.std.specs.Fmt.{signed_decimal};
 
 use cal_time::ShortText;
 
-/// The digits of a number, after a minus sign below 0.
+/// Formats a number in decimal.
 #[tactic(auto, using(cal_time::proofs::TextLengths::text_lengths))]
 pub fn signed_text(number: i128) -> ShortText
     ensures text { result ≡ signed_decimal number }

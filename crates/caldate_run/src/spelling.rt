@@ -1,4 +1,4 @@
-//! What single words of the arguments spell.
+//! Single words of the arguments.
 ghost use Rattle.std.specs.Prelude.{◌≡◌, ◌≤◌, length};
 ghost use Rattle.std.specs.Str.{str_eq_ignore_ascii_case};
 ghost use Rattle.caldate_run.specs.Requests.{asks_for_help, number_of, count_of, form_of, further_form_of, weekday_of, period_of, unit_of, spells, spells_unit, many_of};
@@ -8,14 +8,14 @@ use cal_text::{DateForm, MomentForm};
 use cal_time::Weekday;
 use std::str;
 
-/// Whether the word asks for the page of examples.
+/// Returns whether the word asks for the help page.
 pub fn asks_for_help(word: &[u8]) -> bool
     ensures { result ≡ asks_for_help word.now }
 {
     word == b"--help".as_slice() || word == b"-h".as_slice() || word == b"help".as_slice()
 }
 
-/// The number that a word spells, from -9223372036854775808 to 9223372036854775807.
+/// Parses a number from -9223372036854775808 to 9223372036854775807.
 pub fn number_of(word: &[u8]) -> Option<i64>
     ensures { result ≡ number_of word.now }
 {
@@ -25,7 +25,7 @@ pub fn number_of(word: &[u8]) -> Option<i64>
     text.parse().ok()
 }
 
-/// The number from 1 to 255 that a word spells.
+/// Parses a number from 1 to 255.
 pub fn count_of(word: &[u8]) -> Option<u8>
     ensures { result ≡ count_of word.now }
 {
@@ -36,7 +36,7 @@ pub fn count_of(word: &[u8]) -> Option<u8>
     Some(number as u8)
 }
 
-/// The number from 1 to 4294967295 that a word spells.
+/// Parses a number from 1 to 4294967295.
 pub fn many_of(word: &[u8]) -> Option<u32>
     ensures { result ≡ many_of word.now }
 {
@@ -47,7 +47,7 @@ pub fn many_of(word: &[u8]) -> Option<u32>
     Some(number as u32)
 }
 
-/// The form that a word names.
+/// Parses the name of a form.
 #[tactic(auto, unfolding(crate::specs::Requests::form_of))]
 pub fn form_of(word: &[u8]) -> Option<Form>
     ensures { result ≡ form_of word.now }
@@ -71,7 +71,7 @@ pub fn form_of(word: &[u8]) -> Option<Form>
     }
 }
 
-/// The form that a word names, of those that no line is read in.
+/// Parses the name of one of the other forms.
 #[tactic(auto, unfolding(crate::specs::Requests::further_form_of))]
 fn further_form_of(word: &[u8]) -> Option<Form>
     ensures { result ≡ further_form_of word.now }
@@ -95,7 +95,7 @@ fn further_form_of(word: &[u8]) -> Option<Form>
     }
 }
 
-/// The weekday whose name a word spells: `Friday`, `FRIDAY` and `fri` are one.
+/// Parses a weekday. `Friday`, `FRIDAY` and `fri` are the same.
 #[tactic(auto, unfolding(crate::specs::Requests::weekday_of))]
 pub fn weekday_of(word: &[u8]) -> Option<Weekday>
     ensures { result ≡ weekday_of word.now }
@@ -119,7 +119,7 @@ pub fn weekday_of(word: &[u8]) -> Option<Weekday>
     }
 }
 
-/// The period that a word spells: `month`, `MONTH` and `mon` are one.
+/// Parses a period. `month`, `MONTH` and `mon` are the same.
 #[tactic(auto, unfolding(crate::specs::Requests::period_of))]
 pub fn period_of(word: &[u8]) -> Option<Period>
     ensures { result ≡ period_of word.now }
@@ -137,7 +137,7 @@ pub fn period_of(word: &[u8]) -> Option<Period>
     }
 }
 
-/// The unit of time that a word spells: `day`, `Days` and `DAY` are one.
+/// Parses a unit of time. `day`, `Days` and `DAY` are the same.
 #[tactic(auto, unfolding(crate::specs::Requests::unit_of))]
 pub fn unit_of(word: &[u8]) -> Option<TimeUnit>
     ensures { result ≡ unit_of word.now }
@@ -163,7 +163,7 @@ pub fn unit_of(word: &[u8]) -> Option<TimeUnit>
     }
 }
 
-/// Whether the word is the name in any case of its letters, or its first three letters so.
+/// Returns whether the word is the name or its first three letters, ignoring ASCII case.
 #[tactic(auto, unfolding(crate::specs::Requests::spells))]
 fn spells(word: &[u8], name: &[u8]) -> bool
     requires { 3 ≤ length name.now }
@@ -172,7 +172,7 @@ fn spells(word: &[u8], name: &[u8]) -> bool
     is_alike(word, name) || is_alike(word, &name[..3])
 }
 
-/// Whether the word spells the unit, as one or as many.
+/// Returns whether the word is the unit in singular, plural or its first three letters.
 #[tactic(auto, unfolding(crate::specs::Requests::spells_unit))]
 fn spells_unit(word: &[u8], one: &[u8], many: &[u8]) -> bool
     requires { 3 ≤ length one.now }
@@ -181,7 +181,6 @@ fn spells_unit(word: &[u8], one: &[u8], many: &[u8]) -> bool
     spells(word, one) || is_alike(word, many)
 }
 
-/// Whether the two differ at most in the case of ASCII letters.
 fn is_alike(word: &[u8], name: &[u8]) -> bool
     ensures { result ≡ str_eq_ignore_ascii_case word.now name.now }
 {

@@ -8,13 +8,14 @@ use std::io::{self, Read, Write};
 
 /// A reader. Every `Read` is one, but std doesn't say why its reads fail.
 pub trait Source {
-    // The bytes that reads will give from here on, if they are known.
+    // The bytes that later reads give, if they are known.
     ghost remaining: { Self → Option (List ℕ) };
 
     // A read may return this result and leave this reader.
     ghost read_gives: { Self → Result ℕ Error → Self → Type 0 };
 
-    /// Reads some bytes into the front of the buffer, and returns how many: 0 at the end of the input.
+    /// Reads bytes into the front of the buffer, and returns their number: 0 at the end of the
+    /// input.
     fn read(&mut self, buffer: &mut [u8]) -> io::Result<usize>
         ensures bound { ReadsAtMost result buffer.new }
         ensures bytes { ReadConsumes (remaining self.old) (remaining self.new) result buffer.new }

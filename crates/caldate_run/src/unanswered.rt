@@ -1,14 +1,14 @@
-//! What is told of the line at which a strict run ends.
+//! The line at which a strict run ends.
 
 use crate::shown::ShownText;
 
-/// What is told of the line at which a strict run ends.
+/// A line at which a strict run ends.
 #[derive(Clone, Copy, Debug, PartialEq, Eq)]
 pub struct UnansweredLine {
     /// The number of the line, counted from 1.
     pub number: u64,
-    /// What its answer would say.
+    /// The reason why it has no answer.
     pub reason: ShownText,
-    /// Its text.
+    /// The text of the line.
     pub text: ShownText,
 }

@@ -1,4 +1,4 @@
-//! The words of the arguments, each by its index, and what they mean where something is wanted.
+//! Words of the arguments by index, and their meaning.
 ghost use Rattle.std.specs.Fn.{FnOnceReturnsAt};
 ghost use Rattle.std.specs.Prelude.{◌≡◌, ◌∷◌, ◌+◌, ◌<◌, ◌^◌, ℕ, List, MatchOption, Option, ok_or, slice_get};
 ghost use Rattle.cal_text.specs.declared.any.DateOrMoment.{DateOrMoment};
@@ -8,7 +8,7 @@ use crate::lines::index_of;
 use crate::senseless::{Senseless, Wanted, senseless_at};
 use cal_text::{DateOrMoment, read_any};
 
-/// The first word, and those after the zero byte that ends it, where there are any.
+/// Splits off the first word, and returns the words after its zero byte, if it has one.
 #[tactic(auto, using(crate::proofs::Parts::arguments_of_some, crate::proofs::Parts::arguments_of_none, std::proofs::lemmas::List::take_rest))]
 pub fn cut(words: &[u8]) -> (&[u8], Option<&[u8]>)
     ensures { arguments_of words.now ≡ result.0.now ∷ words_left result.1 }
@@ -19,7 +19,7 @@ pub fn cut(words: &[u8]) -> (&[u8], Option<&[u8]>)
     }
 }
 
-/// The word at an index, if there is one.
+/// Returns the word at an index, if there is one.
 pub fn word_at(words: &[u8], at: usize) -> Option<&[u8]>
     ensures { MatchOption result (slice_get (arguments_of words.now) at ≡ None)
         (λ word. slice_get (arguments_of words.now) at ≡ Some word.now) }
@@ -31,7 +31,7 @@ pub fn word_at(words: &[u8], at: usize) -> Option<&[u8]>
     Some(cut(left?).0)
 }
 
-/// What the word at an index means, where this is wanted.
+/// Applies `meaning` to the word at an index. The error expects `wanted` there.
 pub fn word_as<T: Drop, F: FnOnce(&[u8]) -> Option<T>>(
     words: &[u8],
     at: usize,
@@ -49,7 +49,7 @@ pub fn word_as<T: Drop, F: FnOnce(&[u8]) -> Option<T>>(
         .ok_or(senseless_at(at, wanted))
 }
 
-/// That the word at an index is this one.
+/// Checks that the word at an index is `name`.
 pub fn keyword_at(words: &[u8], at: usize, name: &[u8], wanted: Wanted) -> Result<(), Senseless>
     ensures { result ≡ word_as (arguments_of words.now) at (keyword name.now) wanted }
 {
@@ -59,7 +59,7 @@ pub fn keyword_at(words: &[u8], at: usize, name: &[u8], wanted: Wanted) -> Resul
     }
 }
 
-/// The date or the moment that the word at an index is, where this is wanted.
+/// Parses the word at an index as a date or a moment.
 pub fn found_at(words: &[u8], at: usize, wanted: Wanted) -> Result<DateOrMoment, Senseless>
     ensures { (reading : List ℕ → Option DateOrMoment) → IsReading reading (arguments_of words.now)
         → result ≡ word_as (arguments_of words.now) at reading wanted }
@@ -70,7 +70,6 @@ pub fn found_at(words: &[u8], at: usize, wanted: Wanted) -> Result<DateOrMoment,
     }
 }
 
-/// The date or the moment of a text, if it is one.
 fn found_in(text: &[u8]) -> Option<DateOrMoment>
     ensures { (reading : List ℕ → Option DateOrMoment) → IsRead reading text.now
         → result ≡ reading text.now }
@@ -81,14 +80,14 @@ fn found_in(text: &[u8]) -> Option<DateOrMoment>
     }
 }
 
-/// Whether no word comes at the index.
+/// Returns whether the words end at the index or before it.
 pub fn ends_at(words: &[u8], at: usize) -> bool
     ensures { result ≡ ends_at (arguments_of words.now) at }
 {
     word_at(words, at).is_none()
 }
 
-/// What the words before the index mean, where no word comes there.
+/// Returns `meaning` if the words end at the index or before it.
 pub fn ended<T: Drop>(words: &[u8], at: usize, meaning: T) -> Result<T, Senseless>
     ensures { result ≡ ended (arguments_of words.now) at meaning }
 {
@@ -99,7 +98,7 @@ pub fn ended<T: Drop>(words: &[u8], at: usize, meaning: T) -> Result<T, Senseles
     }
 }
 
-/// What the word at an index means, which is to be the last one.
+/// Applies `meaning` to the word at an index, which must be the last one.
 pub fn only_at<T: Drop, F: FnOnce(&[u8]) -> Option<T>>(
     words: &[u8],
     at: usize,

@@ -1,4 +1,4 @@
-//! Moments without their offset.
+//! Moments without an offset.
 ghost use Rattle.std.specs.Prelude.{◌≡◌, ◌+◌, ◌↔◌, ◌≤◌, ◌++◌, IfErr, IfOk, Ok, codes, length, take};
 ghost use Rattle.cal_time.specs.declared.error.ComponentRange.{ComponentRange};
 ghost use Rattle.cal_text.specs.Position.{IsAtStop};
@@ -11,13 +11,13 @@ use crate::reading::template::{at_stop, wrong_at};
 use cal_text::{DateOrMoment, Unreadable, read_any};
 use cal_time::UtcOffset;
 
-/// The bytes of a moment without its offset that has nine digits of a fraction.
+/// The length of a moment without its offset, with nine digits of a fraction.
 const LONGEST: usize = 29;
 
-/// Such a moment. A fraction of fewer digits ends earlier.
+/// The template of that moment. A shorter fraction ends earlier.
 const TEMPLATE: &[u8] = b"dddd-dd-ddTdd:dd:dd.ddddddddd";
 
-/// The moment that a clock at this offset shows so.
+/// Parses a moment without its offset, which is at `offset`.
 pub fn read_local(offset: UtcOffset, text: &[u8]) -> Result<DateOrMoment, Unreadable>
     ensures every { (found : DateOrMoment) → IsTextIn (Local offset) text.now found
         → result ≡ Ok found }
@@ -37,7 +37,7 @@ pub fn read_local(offset: UtcOffset, text: &[u8]) -> Result<DateOrMoment, Unread
     }
 }
 
-/// The same clock at this offset.
+/// Replaces the offset and keeps the local time.
 fn assumed(offset: UtcOffset, found: DateOrMoment) -> DateOrMoment
     ensures { result ≡ assumed (Local offset) found }
 {
@@ -49,7 +49,6 @@ fn assumed(offset: UtcOffset, found: DateOrMoment) -> DateOrMoment
     }
 }
 
-/// The text and a `Z`.
 fn with_offset(text: &[u8]) -> [u8; LONGEST + 1]
     requires { length text.now ≤ 29 }
     ensures { take (length text.now + 1) result ≡ text.now ++ codes "Z" }

@@ -1,4 +1,4 @@
-//! Unix times that are a whole number of milliseconds, microseconds or nanoseconds.
+//! Unix times in whole milliseconds, microseconds or nanoseconds.
 ghost use Rattle.std.specs.Prelude.{◌≡◌, ◌<◌, ◌↔◌, ◌≤◌, ℤ, IfErr, IfOk, IfSome, IsTrue, Ok, Some, length, slice_index};
 ghost use Rattle.cal_time.specs.declared.error.ComponentRange.{ComponentRange};
 ghost use Rattle.cal_text.specs.Position.{IsAtStop};
@@ -16,10 +16,10 @@ use cal_datetime::OffsetDateTime;
 use cal_text::{DateOrMoment, MomentForm, Unreadable};
 use std::str;
 
-/// The least number with more digits than a number may have: those of the seconds of a Unix time, and nine more.
+/// The smallest number with more than 27 digits, which are too many.
 const TOO_MANY: u128 = 1_000_000_000_000_000_000_000_000_000;
 
-/// The moment at UTC that is so many units after 1970-01-01.
+/// Parses a number of units since 1970-01-01 UTC.
 pub fn read_number(unit: UnixUnit, text: &[u8]) -> Result<DateOrMoment, Unreadable>
     ensures every { (found : DateOrMoment) → IsTextIn (Unix unit) text.now found
         → result ≡ Ok found }
@@ -38,7 +38,6 @@ pub fn read_number(unit: UnixUnit, text: &[u8]) -> Result<DateOrMoment, Unreadab
     }
 }
 
-/// How many nanoseconds a unit has.
 fn nanoseconds_in(unit: UnixUnit) -> u32
     ensures value { result ≡ nanoseconds_in unit }
     ensures few { result ≤ 1_000_000 }
@@ -50,7 +49,7 @@ fn nanoseconds_in(unit: UnixUnit) -> u32
     }
 }
 
-/// The number that a text is, without a plus sign and without zeros before it.
+/// Parses a number of at most 27 digits without a plus sign and without leading zeros.
 fn number_of(text: &[u8]) -> Option<i128>
     ensures every { (z : ℤ) → IsNumber text.now z → result ≡ Some z }
     ensures has { IfSome result (IsNumber text.now) }
@@ -63,14 +62,14 @@ fn number_of(text: &[u8]) -> Option<i128>
         return None;
     }
 
-    // Only what it prints is a text of it.
+    // Rejects other texts of the number, such as `+1`, `01` and `-0`.
     if signed_text(number).as_bytes() != text {
         return None;
     }
     Some(number)
 }
 
-/// The template of a number that begins as the text.
+/// Returns the template of numbers that begin like the text.
 fn number_template(text: &[u8]) -> &'static [u8]
     ensures { (unit : UnixUnit) → IsTemplateFor (HasFormIn (Unix unit)) text.now result.now }
 {

@@ -1,4 +1,4 @@
-//! Dates whose parts come in another order than in a calendar date.
+//! Dates with their parts in another order than in a calendar date.
 ghost use Rattle.std.specs.Prelude.{◌≡◌, ◌<◌, ◌↔◌, true, IfErr, IfOk, IsSomeAnd, Ok, length, slice_index};
 ghost use Rattle.cal_time.specs.declared.error.ComponentRange.{ComponentRange};
 ghost use Rattle.cal_text.specs.AnyForm.{HasAnyForm, IsFault, IsTextOf};
@@ -12,7 +12,7 @@ ghost use Rattle.caldate_run.specs.declared.reading.Reading.TheVariants as readi
 use crate::reading::template::{at_stop, wrong_at};
 use cal_text::{DateOrMoment, Unreadable, read_any};
 
-/// The calendar date of eight bytes.
+/// Converts `20240229` to a calendar date.
 pub fn basic_parts(text: &[u8]) -> Option<[u8; 10]>
     ensures { result ≡ full_text reading.Basic text.now }
 {
@@ -24,7 +24,7 @@ pub fn basic_parts(text: &[u8]) -> Option<[u8; 10]>
     ])
 }
 
-/// That of a day, a month and a year.
+/// Converts `29.02.2024` to a calendar date.
 pub fn day_first_parts(text: &[u8]) -> Option<[u8; 10]>
     ensures { result ≡ full_text reading.DayFirst text.now }
 {
@@ -36,7 +36,7 @@ pub fn day_first_parts(text: &[u8]) -> Option<[u8; 10]>
     ])
 }
 
-/// That of a month, a day and a year.
+/// Converts `02.29.2024` to a calendar date.
 pub fn month_first_parts(text: &[u8]) -> Option<[u8; 10]>
     ensures { result ≡ full_text reading.MonthFirst text.now }
 {
@@ -48,7 +48,7 @@ pub fn month_first_parts(text: &[u8]) -> Option<[u8; 10]>
     ])
 }
 
-/// Whether it is two bytes, a separator, two bytes, the same separator and four bytes.
+/// Returns whether it is two bytes, a separator, two bytes, the same separator and four bytes.
 fn is_parted(text: &[u8]) -> bool
     ensures { result ≡ is_parted text.now }
 {
@@ -61,7 +61,7 @@ fn is_separator(byte: u8) -> bool
     byte == b'.' || byte == b'/' || byte == b'-'
 }
 
-/// The template of such a text, with the separator that the text has.
+/// Returns the template of such a date, with the separator of the text.
 pub fn parted_template(text: &[u8]) -> [u8; 10]
     ensures day_first { IsTemplateFor (HasFormIn reading.DayFirst) text.now result }
     ensures month_first { IsTemplateFor (HasFormIn reading.MonthFirst) text.now result }
@@ -72,7 +72,6 @@ pub fn parted_template(text: &[u8]) -> [u8; 10]
     ]
 }
 
-/// The separator that the text has, or a point where it has none.
 fn separator_of(text: &[u8]) -> u8
     ensures is { is_separator result ≡ true }
     ensures same { 2 < length text.now → is_separator (slice_index text.now 2) ≡ true
@@ -85,7 +84,7 @@ fn separator_of(text: &[u8]) -> u8
     }
 }
 
-/// The date of the calendar date that the text says, if it says one. The template is that of such a text.
+/// Parses the calendar date. The position of an error is the first byte that the template forbids.
 pub fn read_parts(
     calendar: Option<[u8; 10]>,
     text: &[u8],

@@ -1,4 +1,4 @@
-//! Templates: which byte may stand at each place of a text.
+//! Templates: the bytes allowed at each place of a text.
 ghost use Rattle.std.specs.Prelude.{◌≡◌, None};
 ghost use Rattle.cal_text.specs.Position.{IsAtStop, IsPosition};
 ghost use Rattle.cal_text.specs.Reading.{component_of};
@@ -6,7 +6,7 @@ ghost use Rattle.caldate_run.specs.Templates.{Fits, stands_at};
 
 use cal_text::Unreadable;
 
-/// The error. If it names a position, it is that where the text stops fitting the template.
+/// Replaces the position of the error, if it has one, by the first wrong byte.
 pub fn at_stop(error: Unreadable, text: &[u8], template: &[u8]) -> Unreadable
     ensures component { component_of result ≡ component_of error }
     ensures position { IsAtStop (Fits template.now) text.now result }
@@ -17,7 +17,7 @@ pub fn at_stop(error: Unreadable, text: &[u8], template: &[u8]) -> Unreadable
     }
 }
 
-/// The error of a text that has not the form, at the position where it stops fitting the template.
+/// Returns the error for a text that is not in the form, at the first wrong byte.
 pub fn wrong_at(text: &[u8], template: &[u8]) -> Unreadable
     ensures form { component_of result ≡ None }
     ensures position { IsAtStop (Fits template.now) text.now result }
@@ -25,7 +25,7 @@ pub fn wrong_at(text: &[u8], template: &[u8]) -> Unreadable
     Unreadable::at(first_wrong_byte(text, template), text.len())
 }
 
-/// The position of the first byte that may not stand at its place or comes after the last place, or the length of a text that has none.
+/// Returns the index of the first byte that doesn't fit the template, or the length if all fit.
 fn first_wrong_byte(text: &[u8], template: &[u8]) -> usize
     ensures { IsPosition (Fits template.now) text.now result }
 {
@@ -37,8 +37,8 @@ fn first_wrong_byte(text: &[u8], template: &[u8]) -> usize
     text.len()
 }
 
-/// Whether the byte may stand at the place. The place is `d` for a digit, `n` for one that is not 0, `T` for what is between a date
-/// and a time, and any other byte for itself.
+/// Returns whether the byte fits the place: `d` is a digit, `n` a digit except 0, `T` the mark
+/// between date and time, and any other byte itself.
 fn stands_at(place: u8, byte: u8) -> bool
     ensures { result ≡ stands_at place byte }
 {

@@ -4,7 +4,7 @@ use Rattle.std.specs.declared.io.Error.{Error}
 use Rattle.caldate_run.specs.Calls.{Gives, most_retries}
 use Rattle.caldate_run.proofs.input.read_some.Given as goal
 
--- an interrupted read gave nothing, and the read that is still to come completes the one that was begun
+-- an interrupted read gave nothing, and the next read completes the first one
 abbrev pub invariant-loop-count : goal.invariant-loop-count
 invariant-loop-count g l =
     Keeps (g.R.Source.remaining l.initial.reader) (g.R.Source.remaining l.reader)

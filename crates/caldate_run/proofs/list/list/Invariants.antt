@@ -5,7 +5,8 @@ use Rattle.caldate_run.specs.Calls.{Writes}
 use Rattle.caldate_run.specs.Lists.{AreFirst, line_of}
 use Rattle.caldate_run.proofs.list.list.Given as goal
 
--- the first days are written but for what is gathered, the next is as many steps on, and no write failed
+-- the first days are written except for the buffer, the next day has the next count, and no write
+-- failed
 abbrev pub invariant-loop-day : goal.invariant-loop-day
 invariant-loop-day g l =
     ((days written : List ℕ) × AreFirst l.listing days × (l.count ≡ length days * l.listing.step.every) × (flat_map line_of days ≡ written ++ l.buffer)

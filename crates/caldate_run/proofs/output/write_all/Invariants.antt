@@ -4,7 +4,7 @@ use Rattle.caldate_run.specs.Calls.{Sends, most_retries}
 use Rattle.caldate_run.proofs.Known.{HasTaken}
 use Rattle.caldate_run.proofs.output.write_all.Given as goal
 
--- the bytes but for the rest are taken, and the writes of the rest complete those of all
+-- the bytes except the rest are taken, and the writes of the rest complete the writes of all
 abbrev pub invariant-loop-rest : goal.invariant-loop-rest
 invariant-loop-rest g l =
     HasTaken (g.W.Sink.contents l.initial.writer) (g.W.Sink.contents l.writer) l.bytes l.rest

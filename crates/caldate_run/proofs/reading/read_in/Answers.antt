@@ -13,13 +13,13 @@ use Rattle.caldate_run.proofs.DateTemplates.{basic_template}
 use Rattle.caldate_run.proofs.Templates.{stop_in}
 use Rattle.caldate_run.proofs.reading.read_in.Goals as goal
 
--- what is read is what the other text says
+-- the other text has this date or moment
 plain : (text : Option (List ℕ)) (found : DateOrMoment) → IsSomeAnd text (λ t. (other : DateOrMoment) × IsTextOf t other × (found ≡ other))
     → IsSomeAnd text (λ t. IsTextOf t found)
 plain None found h = absurd h
 plain (Some t) found (other, is, e) = subst (λ f. IsTextOf t f) (sym e) is
 
--- where a text stops fitting the template, it stops being of the form of the reading
+-- the text stops fitting the template and leaves the form of the reading at the same position
 stop : (named r : Reading) (template text : List ℕ) (result : Result DateOrMoment Unreadable) → named ≡ r → IsTemplateFor (HasFormIn r) text template
     → IfErr result (IsAtStop (Fits template) text) → IfErr result (IsAtStop (HasFormIn named) text)
 stop named r template text result e is h = subst (λ r. IfErr result (IsAtStop (HasFormIn r) text)) (sym e) (stop_in (HasFormIn r) template text result is h)

@@ -6,7 +6,8 @@ use Rattle.caldate_run.specs.Lists.{line_of}
 use Rattle.caldate_run.proofs.FrontDays.{front_to}
 use Rattle.caldate_run.proofs.recurring.list_occurrences.Given as goal
 
--- the first dates are written but for what is gathered, the walk gives the others, and no write failed
+-- the first dates are written except for the buffer, the iterator gives the others, and no write
+-- failed
 abbrev pub invariant-loop-day : goal.invariant-loop-day
 invariant-loop-day g l =
     ((dates written : List ℕ) × (front_to l.asked.last l.initial.days ≡ dates ++ front_to l.asked.last l.days) × (flat_map line_of dates ≡ written ++ l.buffer)

@@ -3,7 +3,7 @@ use Rattle.std.proofs.Math.Seq.{drop-append_seam}
 use Rattle.caldate_run.specs.Answers.{LacksAnswer}
 use Rattle.caldate_run.proofs.reply.push_asked.Goals as goal
 
--- the reason begins where what was gathered ended
+-- the reason begins at the old end of the buffer
 pub returns-then-not-has_answer-clause-reason : goal.returns-then-not-has_answer-clause-reason
 returns-then-not-has_answer-clause-reason c =
     let said = c.if-not-has_answer.ensures.lacks refl in

@@ -4,7 +4,7 @@ use Rattle.caldate_run.specs.Runs.{IsReplyTo}
 use Rattle.caldate_run.specs.Standing.{Advances}
 use Rattle.caldate_run.proofs.run.answer_lines.Given as goal
 
--- what is left is the end of the bytes, the lines before it are answered, and no write failed
+-- the rest is the end of the bytes, the lines before it are answered, and no write failed
 abbrev pub invariant-loop-line : goal.invariant-loop-line
 invariant-loop-line g l =
     ((front : List ℕ) × (l.bytes ≡ front ++ l.rest))

@@ -36,7 +36,7 @@ returns-in_err-read_more-clause-ended g c =
     read_ended c.args.filter _ _ _ _ _ is
     (inv.0.0, Consumes-kept _ _ _ _ inv.0.1 c.in_err-read_more.ensures.err.1, ended_answered c.args.filter inv.0.0 _ _ c.loop-reads.input c.loop-reads.progress inv.1 inv.0.2)
 
--- what stands once a read gave some bytes
+-- the state after a read
 stands_read : (filter : Filter) (r0 r r' w0 w : Option (List ℕ)) (gathered pending bytes got : List ℕ) (progress : Progress) → gathered ≡ [] → bytes ≡ got
     → ((input : List ℕ) × Consumes r0 r input × Stands (IsReplyTo filter) input w0 w [] pending progress)
     → HasRead r r' pending got
@@ -49,7 +49,7 @@ stands_read filter r0 r r' w0 w gathered pending bytes got progress none same s 
       subst (λ (l : List ℕ). Stands (IsReplyTo filter) (s.0 ++ given.0) w0 w l bytes progress) (sym none) all,
     )
 
--- what stands once its lines are answered and what is left of them is kept
+-- the state after its lines are answered and the rest of the bytes is kept
 stands_kept : (filter : Filter) (input : List ℕ) (w0 w : Option (List ℕ)) (gathered bytes got kept : List ℕ) (left : ℕ) (progress : Progress) → bytes ≡ got
     → kept ≡ drop (length got - left) got
     → Stands (IsReplyTo filter) input w0 w gathered (drop (length bytes - left) bytes) progress → Stands (IsReplyTo filter) input w0 w gathered kept progress

@@ -5,8 +5,8 @@ use Rattle.caldate_run.specs.Runs.{IsReplyTo}
 use Rattle.caldate_run.specs.Standing.{NoEnd, Stands}
 use Rattle.caldate_run.proofs.run.run.Given as goal
 
--- what was read is answered, all of it went out, no line ends in what is pending, which leaves room, the reads that are left complete those
--- of the run, and no write failed
+-- the lines that were read are answered and written, the pending bytes have no line feed and leave
+-- room, the remaining reads complete the reads of the run, and no write failed
 abbrev pub invariant-loop-reads : goal.invariant-loop-reads
 invariant-loop-reads g l =
     ((input : List ℕ) × Consumes (g.R.Source.remaining l.initial.reader) (g.R.Source.remaining l.reader) input
