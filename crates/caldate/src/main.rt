@@ -1,4 +1,4 @@
-//! Answers each line of standard input, a date or a moment in text, with one line on standard output.
+//! Answers each line of standard input, a date or a moment, with one line on standard output.
 #![tactic(auto)]
 
 use caldate_run::arguments::{MOST_BYTES, join};
@@ -6,7 +6,7 @@ use caldate_run::program::perform;
 use std::io;
 use std::process::ExitCode;
 
-/// Ends with status 0, or with another one and the reason on standard error.
+/// Returns status 0, or another status after writing the reason to standard error.
 fn main(rt: HostRuntime) -> ExitCode {
     let mut arguments = [0u8; MOST_BYTES];
     let joined = match join(&rt, &mut arguments) {
