@@ -1,6 +1,6 @@
-//! The tests of `caldate_run`, by its public items only.
+//! Tests of the public items of `caldate_run`.
 //!
-//! They are a crate of their own, since the gate proves a crate with tests a second time.
+//! They are a separate crate, because the gate proves a crate with tests a second time.
 #![tactic(auto)]
 
 #[cfg(test)]

@@ -1,4 +1,4 @@
-//! Runs over inputs in memory: rows from the manual, and lines of every length.
+//! Runs over inputs in memory, with rows from the manual.
 use caldate_run::asked::asked_of;
 use caldate_run::ending::{Ending, end};
 use caldate_run::fault::Fault;
@@ -21,7 +21,7 @@ mod requests;
 mod shown;
 mod strict;
 
-/// A run by arguments with zero bytes between them.
+/// Runs the command of arguments with zero bytes between them.
 fn run_by<R: Read, W: Write>(
     arguments: &[u8],
     reader: &mut R,
@@ -33,7 +33,7 @@ fn run_by<R: Read, W: Write>(
     }
 }
 
-/// What a run answers to the input, and how it ends.
+/// Returns the outcome of a run and its output.
 fn answers(alloc: Global, arguments: &[u8], input: &[u8]) -> (Result<(), Fault>, Vec<u8>) {
     let mut reader = input;
     let mut written = Vec::new(alloc);
@@ -41,13 +41,13 @@ fn answers(alloc: Global, arguments: &[u8], input: &[u8]) -> (Result<(), Fault>,
     (outcome, written)
 }
 
-/// Whether the run ends with all answered, and these are the answers.
+/// Returns whether the run answers all lines and writes `wanted`.
 fn gives(alloc: Global, arguments: &[u8], input: &[u8], wanted: &[u8]) -> bool {
     let (outcome, written) = answers(alloc, arguments, input);
     outcome == Ok(()) && written.as_slice() == wanted
 }
 
-/// One day in each form that is read: 29 February 2024.
+/// 29 February 2024 in each form that is read.
 const DAY: &[u8] =
     b"2024-02-29\n2024-060\n2024-W09-4\nJ2460370\n2024-02-29T23:30:00.25+01:00\n@1709164800.5\n";
 
@@ -102,7 +102,7 @@ fn moves(rt: HostRuntime) {
             b"2023-12-31\n2023-12-31T00:00:00Z\n",
         ),
         (b"add\0+2\0weeks", b"2024-W09-4\n", b"2024-W11-4\n"),
-        // A date moves by whole days alone, cut toward zero; a moment by all of it.
+        // A date moves by only whole days, truncated toward zero; a moment by all of the duration.
         (
             b"add\047\0hours",
             b"2020-12-31\n2020-12-31T00:00:00Z\n",

@@ -1,4 +1,4 @@
-//! The arguments: what they ask for, and how they are read.
+//! The arguments, and the commands that they give.
 use crate::tests::gives;
 use caldate_run::arguments::{MOST_BYTES, join};
 use caldate_run::help::{HELP, VERSION};
@@ -8,7 +8,7 @@ use std::env::{Env, FillError};
 use std::process::Abort;
 use std::test::Fail;
 
-/// Arguments in memory with a bar between them, the first of which is the name of the program.
+/// A list of arguments separated by `|`, the first of which is the name of the program.
 #[derive(Clone, Copy)]
 struct Words<'a> {
     all: &'a [u8],
@@ -53,7 +53,7 @@ fn arguments_are_joined(rt: HostRuntime) {
     }
 }
 
-// Arguments have room as far as the buffer goes, with the zero bytes between them.
+// Arguments fit up to the size of the buffer, including the zero bytes between them.
 #[test]
 fn arguments_without_room(rt: HostRuntime) -> Result<(), Fail> {
     for (before, length, after, wanted) in [
@@ -99,7 +99,7 @@ fn arguments_without_room(rt: HostRuntime) -> Result<(), Fail> {
     Ok(())
 }
 
-/// What the program says on standard error for these arguments, after it has read and written nothing and ended with status 2.
+/// Returns the standard error of a run that reads and writes nothing and ends with status 2.
 fn complaint(alloc: Global, arguments: Option<&[u8]>) -> Option<Vec<u8>> {
     let mut reader = b"2024-02-29\n".as_slice();
     let mut written = Vec::new(alloc);
@@ -112,7 +112,7 @@ fn complaint(alloc: Global, arguments: Option<&[u8]>) -> Option<Vec<u8>> {
     }
 }
 
-// What may stand where a word makes no sense.
+// The words for the expected argument.
 const NO_VERB: &[u8] =
     b"no verb (to, add, next, last, until, since, start, end, on-or-after, on-or-before, at, keep, list) and no option (--strict, --field, --separator, --skip, --read, --assume, --help, --version)";
 
@@ -161,7 +161,7 @@ const NO_SEPARATOR: &[u8] = b"no separator (one byte)";
 
 const NO_COUNT: &[u8] = b"no count (1 .. 255)";
 
-/// Whether the bytes say this of a word, after the name of the program, in one line.
+/// Returns whether the line names the program, and then says this of a word.
 fn is_line(told: &[u8], word: &[u8], wanted: &[u8]) -> bool {
     let Some(after) = told.strip_prefix(b"caldate: ") else {
         return false;
@@ -172,7 +172,8 @@ fn is_line(told: &[u8], word: &[u8], wanted: &[u8]) -> bool {
     said.strip_suffix(b"\n") == Some(wanted)
 }
 
-/// Stops the test unless of each of the arguments this is said: a word, or that it is missing, and what may stand there.
+/// Fails unless each of the arguments gives this line: the word, or that it is missing, and the
+/// words for the expected argument.
 fn each_complains(rt: &impl Abort, alloc: Global, cases: &[(&[u8], &[u8], &[u8])]) {
     for (arguments, word, wanted) in cases {
         let told = complaint(alloc, Some(*arguments)).unwrap_or(Vec::new(alloc));
@@ -273,7 +274,7 @@ fn lists_that_make_no_sense(rt: HostRuntime) {
     each_complains(&rt, rt.alloc(), &cases);
 }
 
-// The part at fault is named with its position, which is counted in the whole word.
+// The position counts from the start of the word.
 #[test]
 fn rules_that_make_no_sense(rt: HostRuntime) {
     let cases: [(&[u8], &[u8], &[u8]); 12] = [
@@ -314,7 +315,7 @@ fn rules_that_make_no_sense(rt: HostRuntime) {
             b"'FREQ=DAILY;COUNT=3;UNTIL=20241231' is ",
             b"one UNTIL too many at 19",
         ),
-        // 63 values; the first 80 bytes of the word are shown.
+        // 63 values. The first 80 bytes of the word are shown.
         (
             b"BYMONTHDAY=1,1,1,1,1,1,1,1,1,1,1,1,1,1,1,1,1,1,1,1,1,1,1,1,1,1,1,1,1,1,1,1,1,1,1,1,1,1,1,1,1,1,1,1,1,1,1,1,1,1,1,1,1,1,1,1,1,1,1,1,1,1,1",
             b"'BYMONTHDAY=1,1,1,1,1,1,1,1,1,1,1,1,1,1,1,1,1,1,1,1,1,1,1,1,1,1,1,1,1,1,1,1,1,1,1' is ",

@@ -5,7 +5,7 @@ use caldate_run::ending::end;
 use std::io::ErrorKind;
 use std::test::Fail;
 
-// ISO 8601 week dates as those of Python's `datetime.isocalendar`.
+// ISO 8601 week dates as in Python's `datetime.isocalendar`.
 #[test]
 fn a_field_is_answered_in_its_place(rt: HostRuntime) {
     let cases: [(&[u8], &[u8], &[u8]); 17] = [
@@ -26,7 +26,7 @@ fn a_field_is_answered_in_its_place(rt: HostRuntime) {
             b"a\tb\t2019-W01-1\n",
         ),
         (b"--field\01\0to\0week", b"2024-02-29\n", b"2024-W09-4\n"),
-        // Separators of one byte, and fields that are empty.
+        // Separators of one byte, and empty fields.
         (
             b"--field\02\0--separator\0,\0to\0week",
             b"a,2024-02-29,,\n",
@@ -52,7 +52,7 @@ fn a_field_is_answered_in_its_place(rt: HostRuntime) {
             b"a,,c\n",
             b"a,unreadable at 0,c\n",
         ),
-        // No such field.
+        // Lines that lack the field.
         (
             b"--field\02\0to\0week",
             b"2024-02-29\n\n",
@@ -81,7 +81,7 @@ fn a_field_is_answered_in_its_place(rt: HostRuntime) {
             b"2024-02-29\rb\r\n",
             b"2024-W09-4\rb\r\n",
         ),
-        // With the first lines passed on, in each order of the options.
+        // The first lines are passed on, for each order of the options.
         (
             b"--field\02\0--separator\0,\0--skip\01\0to\0week",
             b"name,day\na,2024-02-29\n",
@@ -156,7 +156,7 @@ fn fields_by_reads_of_each_length(rt: HostRuntime) {
     }
 }
 
-// The limit is on the line: one of 4096 bytes is cut, and of a longer one no field is read.
+// The limit is on the line: a line of 4096 bytes is split into fields, and a longer one is not.
 #[test]
 fn a_field_at_the_end_of_a_long_line(rt: HostRuntime) -> Result<(), Fail> {
     for (length, is_cut) in [(4096, true), (4097, false), (70_000, false)] {

@@ -1,11 +1,12 @@
-//! Runs over readers and writers that fail, and that give or take one byte a call.
+//! Runs over readers and writers that fail, and that give or take one byte in each call.
 use crate::tests::run_by;
 use caldate_run::ending::end;
 use caldate_run::fault::Fault;
 use std::alloc::Global;
 use std::io::{self, ErrorKind, Read, Write};
 
-/// Gives so many bytes a call at most, and fails at this call and at so many in all.
+/// A reader of at most `most` bytes in each call. From call `failing` on, it fails `failures`
+/// times.
 #[derive(Drop)]
 pub struct Dripping<'a> {
     pub rest: &'a [u8],
@@ -30,7 +31,8 @@ impl Read for Dripping<'_> {
     }
 }
 
-/// Takes one byte a call, and at this call and at so many in all fails, or takes none where no kind of failure is named.
+/// A writer of one byte in each call. From call `failing` on, it fails `failures` times, or takes
+/// nothing if `kind` is `None`.
 #[derive(Drop)]
 pub struct Sipping {
     pub taken: Vec<u8>,
@@ -64,7 +66,7 @@ impl Write for Sipping {
     }
 }
 
-/// Fails at each call.
+/// A writer that always fails.
 #[derive(Drop)]
 pub struct Failing {
     pub kind: ErrorKind,
@@ -84,7 +86,7 @@ const INPUT: &[u8] = b"2024-060\n2024-367\r\nx\n2024-W09-4";
 
 const ANSWERS: &[u8] = b"2024-02-29\nrefused ordinal conditional\r\nunreadable at 0\n2024-02-29\n";
 
-/// The answers to the lines that end within so many bytes of the input.
+/// Returns the answers to the lines that end within the first `read` bytes of the input.
 fn answered(read: usize) -> &'static [u8] {
     if read < 9 {
         b"".as_slice()
@@ -97,7 +99,7 @@ fn answered(read: usize) -> &'static [u8] {
     }
 }
 
-/// What comes of a run over a reader that fails at this call and at so many in all, and what it wrote.
+/// Runs over a failing reader, and returns the outcome and the output.
 fn drip(
     alloc: Global,
     failing: usize,
@@ -117,7 +119,7 @@ fn drip(
     (outcome, written)
 }
 
-/// What comes of a run over a writer that fails at this call and at so many in all, and what it took.
+/// Runs over a failing writer, and returns the outcome and the bytes that it took.
 fn sip(
     alloc: Global,
     failing: usize,
@@ -136,7 +138,7 @@ fn sip(
     (outcome, writer.taken)
 }
 
-// The answers to the lines that have ended are out before the read that fails.
+// The answers to the complete lines are written before the read that fails.
 #[test]
 fn each_read_fails_in_turn(rt: HostRuntime) {
     for call in 1..=INPUT.len() + 2 {
@@ -182,7 +184,7 @@ fn each_write_fails_in_turn(rt: HostRuntime) {
     }
 }
 
-// The status is the same where it can't be told, and what is told stops where the write failed.
+// The status is the same if standard error fails, and the message stops at the failed write.
 #[test]
 fn standard_error_fails(rt: HostRuntime) {
     let words = b"caldate: cannot read\n".as_slice();
@@ -203,7 +205,7 @@ fn standard_error_fails(rt: HostRuntime) {
     }
 }
 
-// An interrupted read is taken again up to 4096 times, and so are the writes of what was gathered.
+// An interrupted call is repeated up to 4096 times, for each read and for the writes of a buffer.
 #[test]
 fn interruptions_are_counted(rt: HostRuntime) {
     for call in [1, 20, INPUT.len() + 1] {
@@ -221,7 +223,7 @@ fn interruptions_are_counted(rt: HostRuntime) {
     }
 }
 
-/// Each kind of error.
+/// All kinds of errors.
 const KINDS: [ErrorKind; 42] = [
     ErrorKind::NotFound,
     ErrorKind::PermissionDenied,
@@ -267,7 +269,8 @@ const KINDS: [ErrorKind; 42] = [
     ErrorKind::Uncategorized,
 ];
 
-// A closed output is none but a broken pipe: any other failure is told, with status 2. An interruption is one where it goes on.
+// Only a broken pipe is a closed output. Any other failure has a message and status 2, as does an
+// interruption that goes on.
 #[test]
 fn a_write_fails_in_each_way(rt: HostRuntime) {
     for kind in KINDS {

@@ -1,4 +1,4 @@
-//! Lines that are kept, each as it came, and lines that are not.
+//! Lines that `keep` passes on unchanged, and lines that it drops.
 use crate::tests::{answers, gives};
 use caldate_run::ending::end;
 use std::test::Fail;
@@ -10,7 +10,7 @@ const LINES: &[u8] =
 #[test]
 fn lines_within_bounds(rt: HostRuntime) {
     let cases: [(&[u8], &[u8], &[u8]); 30] = [
-        // Dates in each form, with the bounds themselves and without them.
+        // Dates in each form, with the bounds and without them.
         (
             b"keep\0from\02024-02-29\0to\02024-03-01",
             b"2024-02-28\n2024-02-29\n2024-W09-5\nJ2460372\n2024-03-02\n",
@@ -33,7 +33,7 @@ fn lines_within_bounds(rt: HostRuntime) {
         ),
         (b"keep\0after\0+999999-12-31", b"+999999-12-31\n", b""),
         (b"keep\0before\0-999999-01-01", b"-999999-01-01\n", b""),
-        // Beside a date the date counts that the clock of a moment shows.
+        // A date bound compares with the local date of a moment.
         (
             b"keep\0from\02024-02-29\0to\02024-02-29",
             LINES,
@@ -49,7 +49,7 @@ fn lines_within_bounds(rt: HostRuntime) {
             LINES,
             b"2024-02-28\n2024-02-28T23:30:00-05:00\n",
         ),
-        // Beside a moment its instant counts, and a date has no answer.
+        // A moment bound compares with the instant, and a date has no answer.
         (
             b"keep\0from\02024-02-29T04:30:00Z\0to\02024-02-29T23:30:00Z",
             LINES,
@@ -94,7 +94,7 @@ fn lines_within_bounds(rt: HostRuntime) {
             b"2024-02-29\r\n",
         ),
         (b"keep\0before\02024-02-29", b"2024-02-29", b""),
-        // Fields: the whole line goes out.
+        // Fields: the whole line is passed on.
         (
             b"--field\02\0--separator\0,\0keep\0from\02024-02-29\0to\02024-03-01",
             b"a,2024-02-28,x\nb,2024-02-29,\n,2024-03-01\nc\nd,y,2024-02-29\r\ne,J2460370,\r\n",
@@ -110,7 +110,7 @@ fn lines_within_bounds(rt: HostRuntime) {
             b"2024-02-28\tb\t\n2024-02-29\tb\n",
             b"2024-02-28\tb\t\n",
         ),
-        // Lines that are skipped go out as they are.
+        // Skipped lines are passed on.
         (
             b"--skip\02\0keep\0after\02024-02-29",
             b"day\n\n2024-02-29\n2024-03-01\n",
@@ -126,7 +126,7 @@ fn lines_within_bounds(rt: HostRuntime) {
             b"day\na,2024-02-29\nb,2024-03-01\n",
             b"day\na,2024-02-29\n",
         ),
-        // Lines in other forms. The bounds have one of the six.
+        // Lines in other forms. The bounds are in one of the six forms.
         (
             b"--read\0dmy\0keep\0from\02024-02-29\0to\02024-03-01",
             b"28.02.2024\n29/02/2024\n2024-02-29\n01-03-2024\n",

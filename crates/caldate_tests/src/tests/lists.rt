@@ -1,4 +1,4 @@
-//! Lists of dates: rows from a calendar, both ends of the range, long ones, and writers that fail.
+//! Lists of dates: rows from a calendar, both ends of the range, long lists, and failing writers.
 use crate::tests::failing::{Failing, Sipping};
 use caldate_run::asked::asked_of;
 use caldate_run::ending::Ending;
@@ -10,7 +10,7 @@ use caldate_run::request::Asked;
 use std::alloc::Global;
 use std::io::{ErrorKind, Write};
 
-/// A list by arguments with zero bytes between them.
+/// Lists the dates for arguments with zero bytes between them.
 fn list_by<W: Write>(arguments: &[u8], writer: &mut W) -> Result<(), Fault> {
     match asked_of(arguments) {
         Ok(Asked::Dates(listing)) => list(&listing, writer),
@@ -19,7 +19,7 @@ fn list_by<W: Write>(arguments: &[u8], writer: &mut W) -> Result<(), Fault> {
     }
 }
 
-/// Whether the program reads nothing, ends well, and writes this.
+/// Returns whether the program reads nothing, succeeds and writes `wanted`.
 fn lists(alloc: Global, arguments: &[u8], wanted: &[u8]) -> bool {
     let mut reader = b"2024-02-29\n".as_slice();
     let mut written = Vec::new(alloc);
@@ -43,7 +43,7 @@ fn by_each_unit(rt: HostRuntime) {
             b"list\0from\02024-12-16\0to\02025-02-10\0by\02\0weeks",
             b"2024-12-16\n2024-12-30\n2025-01-13\n2025-01-27\n2025-02-10\n",
         ),
-        // The day of the month is that of the first date, where the month has it.
+        // The day of the month is the same as in the first date, if the month has it.
         (
             b"list\0from\02024-01-31\0to\02024-07-30\0by\01\0month",
             b"2024-01-31\n2024-02-29\n2024-03-31\n2024-04-30\n2024-05-31\n2024-06-30\n",
@@ -87,7 +87,7 @@ fn by_each_unit(rt: HostRuntime) {
     }
 }
 
-// The days of the recurrence alone: the first date is one only where the recurrence has it.
+// Only the days of the recurrence. The first date is listed only if the recurrence has it.
 #[test]
 fn by_a_rule(rt: HostRuntime) {
     let cases: [(&[u8], &[u8]); 9] = [
@@ -133,7 +133,7 @@ fn by_a_rule(rt: HostRuntime) {
     }
 }
 
-// 100000 days, whose lines fill the buffer many times, and the steps that lead past the range at once.
+// 100000 days, which fill the buffer many times, and steps that pass the range at once.
 #[test]
 fn long_lists(rt: HostRuntime) {
     let mut written = Vec::new(rt.alloc());
@@ -161,7 +161,7 @@ fn long_lists(rt: HostRuntime) {
 
 const DAYS: &[u8] = b"2024-02-28\n2024-02-29\n2024-03-01\n";
 
-// What went out before the write that fails is a beginning of the lines.
+// The bytes before the failed write are a beginning of the lines.
 #[test]
 fn writes_that_fail(rt: HostRuntime) {
     let kinds = [
@@ -188,7 +188,7 @@ fn writes_that_fail(rt: HostRuntime) {
     }
 }
 
-// The status and the words of a list are those of any other output.
+// A list has the same status and message as any other output.
 #[test]
 fn ends_as_others(rt: HostRuntime) {
     let cases: [(ErrorKind, u8, &[u8]); 2] = [

@@ -6,7 +6,7 @@ use std::alloc::{AllocError, Global};
 use std::io::{self, ErrorKind, Read};
 use std::test::Fail;
 
-/// Gives so many bytes a call at most.
+/// A reader of at most `most` bytes in each call.
 #[derive(Drop)]
 struct Chunks<'a> {
     rest: &'a [u8],
@@ -22,7 +22,7 @@ impl Read for Chunks<'_> {
     }
 }
 
-/// Gives a line without an end, and fails after so many calls.
+/// A reader of an endless line that fails after `calls` calls.
 #[derive(Drop)]
 struct Endless {
     calls: u32,
@@ -39,7 +39,7 @@ impl Read for Endless {
     }
 }
 
-/// The answers to an input that comes by so many bytes at most.
+/// Returns the answers to an input that is read in chunks of at most `most` bytes.
 fn answers(alloc: Global, input: &[u8], most: usize) -> Result<Vec<u8>, Fail> {
     let mut reader = Chunks { rest: input, most };
     let mut written = Vec::new(alloc);
@@ -49,7 +49,7 @@ fn answers(alloc: Global, input: &[u8], most: usize) -> Result<Vec<u8>, Fail> {
     }
 }
 
-/// A line of so many bytes, then one with the end CR LF.
+/// Returns a line of `length` bytes, and then a line that ends with CR LF.
 fn long_line(alloc: Global, length: usize, end: &[u8]) -> Result<Vec<u8>, AllocError> {
     let mut input = vec![in alloc; b'x'; length]?;
     input.extend_from_slice(end)?;
@@ -87,7 +87,7 @@ fn lines_up_to_4096_bytes_and_longer_ones(rt: HostRuntime) -> Result<(), Fail> {
     Ok(())
 }
 
-// A fraction of a second may have any number of digits, so a text of 4096 bytes can be a moment.
+// A fraction of a second has any number of digits, so a text of 4096 bytes can be a moment.
 #[test]
 fn a_moment_of_4096_bytes(rt: HostRuntime) -> Result<(), Fail> {
     for (digits, wanted) in [
@@ -108,7 +108,7 @@ fn a_moment_of_4096_bytes(rt: HostRuntime) -> Result<(), Fail> {
     Ok(())
 }
 
-// The lines lie across each border of the buffer, as a line of each length comes first.
+// The first line has each length, so that other lines cross each border of the buffer.
 #[test]
 fn lines_across_the_end_of_the_buffer(rt: HostRuntime) -> Result<(), Fail> {
     for first in 0..11usize {
@@ -141,7 +141,7 @@ fn reads_of_each_length(rt: HostRuntime) -> Result<(), Fail> {
     Ok(())
 }
 
-// Of a line that was let go its first bytes are shown all the same.
+// A dropped line still shows its first bytes.
 #[test]
 fn a_long_line_ends_a_strict_run(rt: HostRuntime) -> Result<(), Fail> {
     for length in [79, 80, 81, 4096, 4097, 4098, 65_536, 200_000] {

@@ -1,5 +1,5 @@
-//! A run leaves one answer: two runs over one input that reach its end leave alike writers, and so do two that write one list, whether by
-//! steps or by a rule. What arguments ask for is one thing, since they have a reading.
+//! A run has one answer: two runs to the end of the same input leave the same output. So do two
+//! lists, in steps or by a rule. The arguments give one command, since they have a reading.
 ghost use Rattle.std.specs.List.{slice_split};
 ghost use Rattle.std.specs.Prelude.{◌≡◌, List, ℕ, All, Some, IsOk};
 ghost use Rattle.caldate_run.specs.Lines.{is_end};
@@ -17,7 +17,7 @@ use caldate_run::run::run;
 use caldate_run::senseless::Senseless;
 use caldate_run::streams::{Sink, Source};
 
-/// Each part of the input between line feeds has one reply.
+/// Proves that each part of the input between line feeds has one reply.
 fn one_reply_each(filter: &Filter, input: &[u8])
     ensures { All (λ line. (before : ℕ) (reply other : List ℕ)
         → IsReplyTo filter.now before line reply → IsReplyTo filter.now before line other

@@ -1,4 +1,4 @@
-//! Texts in each reading. The values of the moments are those of Python's `datetime`.
+//! Texts in each reading. Python's `datetime` gives the same moments.
 use crate::tests::gives;
 use cal_text::Unreadable::{UnexpectedByte, UnexpectedEnd};
 use cal_text::{Unreadable, read_any};
@@ -14,7 +14,7 @@ const NANOSECONDS: Reading = Reading::Unix(UnixUnit::Nanoseconds);
 
 const AT_UTC: Reading = Reading::Local(UtcOffset::UTC);
 
-/// Whether the text says the same in the reading as another one does in its form.
+/// Returns whether the text means the same in the reading as `same` does in its form.
 fn says(reading: Reading, text: &[u8], same: &[u8]) -> bool {
     let other = read_any(same);
     other.is_ok() && read_in(reading, text) == other
@@ -164,7 +164,7 @@ fn texts_of_no_form(rt: HostRuntime) {
     }
 }
 
-/// The component at fault.
+/// The component that is out of range.
 #[test]
 fn texts_of_no_value(rt: HostRuntime) {
     let cases: [(Reading, &[u8], &str); 18] = [
@@ -195,7 +195,7 @@ fn texts_of_no_value(rt: HostRuntime) {
     }
 }
 
-// The options come before the request in any order, and what they name alone is read.
+// The options come before the request in any order, and only the form that they name is read.
 #[test]
 fn options_in_any_order(rt: HostRuntime) {
     let cases: [(&[u8], &[u8], &[u8]); 17] = [

@@ -1,4 +1,4 @@
-//! Rows for months, working days, periods, nearest weekdays, offsets, whole units and further forms.
+//! Rows for months, working days, periods, nearest weekdays, offsets, whole units and other forms.
 use crate::tests::{DAY, gives};
 
 #[test]
@@ -35,7 +35,7 @@ fn to_each_further_form(rt: HostRuntime) {
             DAY,
             b"1709164800000000000\n1709164800000000000\n1709164800000000000\n1709164800000000000\n1709245800250000000\n1709164800500000000\n",
         ),
-        // The basic format has years of four digits alone.
+        // The basic format has only years of four digits.
         (
             b"to\0basic",
             b"+10000-01-01\n-0001-12-31\n0000-01-01\n9999-12-31\n",
@@ -87,7 +87,7 @@ fn months_and_workdays(rt: HostRuntime) {
             b"2025-02-28\n@1740700800.5\n",
         ),
         (b"add\0-4\0years", b"2024-02-29\n", b"2020-02-29\n"),
-        // There is no such month in the range, or no such year in the text of a moment.
+        // The range has no such month, or the text of a moment no such year.
         (
             b"add\01\0months",
             b"+999999-12-31\n9999-12-31T00:00:00Z\n9999-12-31\n",
@@ -274,7 +274,7 @@ fn whole_units(rt: HostRuntime) {
             b"2024-02-29\n2000-01-01T12:00:00Z\n",
             b"8825\n12h\n",
         ),
-        // The day that is led to is past the range, and the days are known.
+        // The day that is reached is past the range, and the number of days is known.
         (
             b"until\0@31494784780799\0in\0years",
             b"2024-01-01T01:00:00+02:00\n",

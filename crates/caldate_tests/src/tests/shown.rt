@@ -1,4 +1,4 @@
-//! What the words on standard error show of a text.
+//! Texts to show on standard error.
 use caldate_run::shown::ShownText;
 
 #[test]

@@ -1,17 +1,17 @@
-//! Strict runs over readers that give few bytes a call, and that fail or are interrupted at each call.
+//! Strict runs over readers that give few bytes in each call, and that fail or are interrupted.
 use crate::tests::failing::Dripping;
 use crate::tests::run_by;
 use caldate_run::ending::end;
 use std::alloc::Global;
 use std::io::{ErrorKind, Read};
 
-/// A strict run into calendar dates.
+/// A strict run to calendar dates.
 struct Case {
     input: &'static [u8],
     written: &'static [u8],
     status: u8,
     told: &'static [u8],
-    /// How many bytes, and the end where it is asked for, it takes to come so far.
+    /// The number of reads of one byte up to the end of the run.
     reads: usize,
 }
 
@@ -58,7 +58,7 @@ const CASES: [Case; 9] = [
         told: b"caldate: line 2: unreadable at 0: \n",
         reads: 12,
     },
-    // A line without its end is judged once the reader says that there is no more.
+    // A line without a line feed is answered once the input ends.
     Case {
         input: b"2024-060\n2024-061\n2024-0",
         written: b"2024-02-29\n2024-03-01\n",
@@ -82,7 +82,7 @@ const CASES: [Case; 9] = [
     },
 ];
 
-/// What a strict run writes, its status, and what it tells.
+/// Returns the output, the status and the message of a strict run.
 fn strict<R: Read>(alloc: Global, reader: &mut R) -> (Vec<u8>, u8, Vec<u8>) {
     let mut written = Vec::new(alloc);
     let outcome = run_by(b"--strict\0to\0calendar", reader, &mut written);
@@ -91,13 +91,13 @@ fn strict<R: Read>(alloc: Global, reader: &mut R) -> (Vec<u8>, u8, Vec<u8>) {
     (written, status, told)
 }
 
-/// Whether the run over the reader is that of the case.
+/// Returns whether a run over the reader has the result of the case.
 fn is_as_said<R: Read>(alloc: Global, reader: &mut R, case: &Case) -> bool {
     let (written, status, told) = strict(alloc, reader);
     written.as_slice() == case.written && status == case.status && told.as_slice() == case.told
 }
 
-/// The first lines.
+/// Returns the first `count` lines.
 fn first_lines(bytes: &[u8], count: usize) -> &[u8] {
     let mut left = count;
     for (i, byte) in bytes.iter().enumerate() {
@@ -111,7 +111,7 @@ fn first_lines(bytes: &[u8], count: usize) -> &[u8] {
     bytes
 }
 
-/// How many lines end within the bytes.
+/// Counts the lines that end within the bytes.
 fn ended(bytes: &[u8]) -> usize {
     bytes.iter().filter(|byte| **byte == b'\n').count()
 }
@@ -160,7 +160,8 @@ fn strict_runs_with_each_read_interrupted(rt: HostRuntime) {
     }
 }
 
-// No line is judged before its end, or the end of the input, has come: till then a read that fails is a read that fails.
+// No line is answered before its end or the end of the input. A read that fails before is only a
+// failed read.
 #[test]
 fn strict_runs_with_each_read_failing(rt: HostRuntime) {
     for case in &CASES {
