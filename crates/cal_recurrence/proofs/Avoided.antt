@@ -1,11 +1,11 @@
--- Where a text is cut whose first bytes are none of those at which it is.
+-- Splitting a text whose first bytes avoid the separator.
 use Rattle.std.proofs.Common.{◌≡◌, ℕ, Bool, true, false, cond, eqb, List, [], ◌∷◌, ◌++◌, refl, ap, ◌∙◌}
 use Rattle.std.specs.List.{onto_first}
 use Rattle.std.proofs.lemmas.Bool.{eq-eqb, false≢true}
 use Rattle.std.proofs.lemmas.List.Splits.{slice_split-cons_yes, slice_split-cons_no}
 use Rattle.cal_recurrence.specs.Words.{parts_at}
 
--- the byte stands nowhere
+-- the bytes avoid this byte
 abbrev pub avoids : ℕ → List ℕ → Bool
 avoids byte [] = true
 avoids byte (x ∷ xs) = cond (eqb x byte) false (avoids byte xs)

@@ -1,4 +1,4 @@
--- How bytes are cut at the first position where a byte stands.
+-- Cutting bytes at the first position of a byte.
 use Rattle.std.proofs.Common.{◌≡◌, ℕ, ◌+◌, ◌<◌, ◌≤◌, Bool, eqb, List, [], ◌∷◌, length, take, drop, Some, None, ap, arith, subst, sym}
 use Rattle.std.specs.List.{position, position_or_len}
 use Rattle.std.proofs.lemmas.List.{take_all, drop_all}
@@ -8,7 +8,7 @@ use Rattle.std.proofs.lemmas.Bool.Decides.{nat_tests}
 use Rattle.std.proofs.lemmas.Option.{cond_some}
 use Rattle.cal_recurrence.specs.Words.{front_at, parts_at, rest_at}
 
--- where it stands
+-- if the bytes contain it
 pub cut_some : (byte k : ℕ) (xs : List ℕ) → position (λ b. eqb b byte) xs ≡ Some k
     → (k < length xs) × (parts_at byte xs ≡ take k xs ∷ parts_at byte (drop (k + 1) xs)) × (take k xs ≡ front_at byte xs) × (drop (k + 1) xs ≡ rest_at byte xs)
 cut_some byte k xs e =
@@ -21,7 +21,7 @@ cut_some byte k xs e =
       ap (λ n. drop (n + 1) xs) (sym c.1),
     )
 
--- where it stands nowhere
+-- if the bytes avoid it
 pub cut_none : (byte : ℕ) (xs : List ℕ) → position (λ b. eqb b byte) xs ≡ None
     → (parts_at byte xs ≡ xs ∷ []) × (xs ≡ front_at byte xs) × ([] ≡ rest_at byte xs)
 cut_none byte xs e =

@@ -1,4 +1,4 @@
--- What is read has a text that says it: each value is of those that its part has.
+-- A parsed recurrence is spelled: each value is a value of its part.
 use Rattle.std.proofs.Common.{◌≡◌, ℕ, zero, suc, ◌+◌, ◌-◌, ◌/◌, ◌%◌, ◌<◌, ◌≤◌, Bool, true, false, cond, eqb, List, [], ◌∷◌, length, take, drop, slice_index_or, Option, Some, None, Result, Ok, Err, ℤ, pos, refl, sym, ap, subst, arith}
 use Rattle.std.specs.Prelude.{⊤, nat_le, neg_ℤ, slice_index, option_map, option_and_then, is_some, unwrap_or, ◌&&◌, IfSome, IfOk, ◌≤ℤ◌}
 use Rattle.std.specs.List.{All}

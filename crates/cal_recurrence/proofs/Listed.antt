@@ -4,7 +4,7 @@ use Rattle.std.specs.Prelude.{option_map}
 use Rattle.std.specs.Option.{option_zip}
 use Rattle.cal_recurrence.specs.Text.{each}
 
--- what the words left spell comes after what was read, and each word has its position
+-- the values of the words that are left come after those so far, and each word has its position
 pub record IsRead {X : Type 0} (meaning : List ℕ → Option X) (so_far : List X) (left all : List (List ℕ)) : Type 0 where
   pub joined : option_map (λ more. so_far ++ more) (each meaning left) ≡ each meaning all
   pub count : length so_far + length left ≡ length all
@@ -24,7 +24,7 @@ more_read meaning xs x word left words all h e f = record {
   count = omega (arith, h.count, length-append xs (x ∷ []), ap length e);
 }
 
--- where there is room for all of them, there is room for one that is left
+-- if there is room for all of them, there is room for one that is left
 pub room_left : {X : Type 0} (meaning : List ℕ → Option X) (xs : List X) (word : List ℕ) (left words all : List (List ℕ))
     → IsRead meaning xs words all → words ≡ word ∷ left → length all ≤ 62 → length xs < 62
 room_left meaning xs word left words all h e few = omega (arith, h.count, ap length e)

@@ -3,7 +3,7 @@ use Rattle.std.proofs.Common.{◌≡◌, ℕ, zero, suc, ◌+◌, ◌*◌, ◌<�
 use Rattle.std.specs.Prelude.{codes}
 use Rattle.cal_recurrence.specs.Written.{list_text}
 
--- what was written, with the words that are left after this mark, is the whole; and it is short
+-- the text so far, with the words that are left after this mark, is the whole; and it is short
 pub record IsWritten {X : Type 0} (word : X → List ℕ) (whole start text mark : List ℕ) (name count : ℕ) (words : List X) : Type 0 where
   pub same : text ++ list_text mark word words ≡ whole
   pub short : length text + length mark ≤ length start + name + 7 * count

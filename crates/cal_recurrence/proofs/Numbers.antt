@@ -1,4 +1,4 @@
--- What std's `parse` says, in the words of the definition of a number.
+-- The results of std's `parse`, by the definition of a number.
 use Rattle.std.proofs.Common.{◌≡◌, ◌≢◌, ℕ, ◌<◌, Bool, true, false, cond, get_or, length, List, Some, None, Result, Ok, Err, refl, sym, ap, ◌∙◌, arith, inl, inr}
 use Rattle.std.specs.Prelude.{IsUtf8, Decides, nat_lt}
 use Rattle.std.specs.Result.{OkIff, result_ok}

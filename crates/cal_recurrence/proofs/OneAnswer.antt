@@ -1,11 +1,11 @@
--- The days of a recurrence are one list, wherever the lists of its rule stand.
+-- The days of a recurrence are one list, for any borrows of the lists of its rule.
 use Rattle.std.proofs.Common.{◌≡◌, ℕ, List, refl, sym, ap, ◌∙◌}
 use Rattle.cal_schedule.specs.Rule.{days_of, is_on, turns_past, is_in_months, is_on_days}
 use Rattle.cal_schedule.specs.declared.rule.kinds.Rule.{Rule}
 use Rattle.cal_recurrence.specs.Days.{AreDays, IsRuleOf, up_to_end}
 use Rattle.cal_recurrence.specs.declared.recurrence.Recurrence.{Recurrence}
 
--- the rule b, whose lists stand where those of the rule a do
+-- the rule b with the borrows of the rule a
 abbrev moved : Rule → Rule → Rule
 moved a b = record {
   start = b.start;

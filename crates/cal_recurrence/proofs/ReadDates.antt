@@ -24,7 +24,7 @@ use Rattle.cal_recurrence.proofs.Numbers.{digits}
 use Rattle.cal_recurrence.proofs.ReadValues.{IsWord}
 use Rattle.cal_recurrence.proofs.ReadWords.{digits-avoid, number-back}
 
--- ---- so many digits that spell a number
+-- ---- digits that spell a number
 record AreDigits (width n : ℕ) (ds : List ℕ) : Type 0 where
   all : all_ascii_digits ds ≡ true
   size : length ds ≡ width

@@ -51,7 +51,7 @@ given : {X : Type 0} (draft : Draft) (at : RulePart) (value : List ℕ) (meaning
 given draft at value meaning x to h e =
     ap (λ b. cond b (put draft at value) (Err (TooMany at))) h.few ∙ e ∙ ap (λ o. changed to (fresh at false o)) h.means
 
--- ---- the parts in their order, of which each may be left out: what the draft then has is said by that
+-- ---- the parts in their order, each of which may be left out, and the draft after each
 frequency-said : (f : Frequency) (rest : List ℕ) (r : Recurrence) → Says (record nothing { frequency = Some f }) rest r
     → recurrence_of ((codes "FREQ=" ++ frequency_text f) ++ rest) ≡ Ok r
 frequency-said f rest r h =

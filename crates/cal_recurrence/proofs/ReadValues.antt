@@ -9,7 +9,7 @@ use Rattle.cal_recurrence.specs.Words.{parts_at}
 use Rattle.cal_recurrence.specs.Written.{list_text}
 use Rattle.cal_recurrence.proofs.Avoided.{avoids, avoids-append, cut-here, cut-nowhere}
 
--- a word says what it was written for, and has no mark of those between parts and words
+-- a word means its value, and avoids the separators of parts and words
 pub record IsWord {X : Type 0} (meaning : List ℕ → Option X) (x : X) (word : List ℕ) : Type 0 where
   pub comma : avoids 44 word ≡ true
   pub semicolon : avoids 59 word ≡ true

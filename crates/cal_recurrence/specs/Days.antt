@@ -1,4 +1,4 @@
--- The days of a recurrence: those of the rule with its parts, from a start on, and of a number of times the first so many of them.
+-- The days of a recurrence: the days of its rule from a start, or with a COUNT the first of them.
 use Rattle.std.specs.Prelude.{◌≡◌, ℕ, List, take, Option, Some, None}
 use Rattle.cal_schedule.specs.declared.rule.kinds.Rule.{Rule}
 use Rattle.cal_schedule.specs.Rule.{days_of}
@@ -6,13 +6,13 @@ use Rattle.cal_recurrence.specs.declared.recurrence.Recurrence.{Recurrence}
 use Rattle.cal_recurrence.specs.declared.recurrence.RuleEnd.{RuleEnd}
 use Rattle.cal_recurrence.specs.declared.recurrence.RuleEnd.TheVariants.{Never, Until, Count}
 
--- the last day of the rule, where it has one
+-- The last day of the rule, if it has an UNTIL.
 abbrev pub last_of : RuleEnd → Option ℕ
 last_of Never = None
 last_of (Until day) = Some day
 last_of (Count count) = None
 
--- the rule has the parts of the recurrence
+-- The rule has the start and the parts of the recurrence.
 pub record IsRuleOf (recurrence : Recurrence) (first : ℕ) (rule : Rule) : Type 0 where
   pub start : rule.start ≡ first
   pub frequency : rule.frequency ≡ recurrence.frequency
@@ -23,12 +23,12 @@ pub record IsRuleOf (recurrence : Recurrence) (first : ℕ) (rule : Rule) : Type
   pub weekdays : rule.weekdays.now ≡ recurrence.weekdays
   pub until : rule.until ≡ last_of recurrence.end
 
--- the first so many days, where it ends after a number of times
+-- The first `count` days, if the end is a COUNT.
 abbrev pub up_to_end : RuleEnd → List ℕ → List ℕ
 up_to_end Never days = days
 up_to_end (Until day) days = days
 up_to_end (Count count) days = take count days
 
--- the days of the recurrence from that start on
+-- The days are the days of the recurrence from the start `first`.
 abbrev pub AreDays : Recurrence → ℕ → List ℕ → Type 0
 AreDays recurrence first days = (rule : Rule) × IsRuleOf recurrence first rule × (days ≡ up_to_end recurrence.end (days_of rule))

@@ -1,4 +1,4 @@
--- The recurrences that a text says, of which each is the one that its own text says.
+-- The recurrences that `parse` can return. Each is parsed again from its own text.
 use Rattle.std.specs.Prelude.{⊤, ℕ, ◌≤◌, ◌<◌, ◌^◌, ℤ, pos, ◌≤ℤ◌, unsigned_abs, length}
 use Rattle.std.specs.List.{All}
 use Rattle.cal_time.specs.Date.{year_at, IsDate}
@@ -12,7 +12,7 @@ use Rattle.cal_recurrence.specs.declared.recurrence.RuleEnd.TheVariants.{Never, 
 abbrev pub IsCount : ℕ → Type 0
 IsCount n = (1 ≤ n) × (n < 2 ^ 32)
 
--- from either end, but not 0
+-- An index counts from either end and is never 0.
 abbrev pub IsIndex : ℕ → ℤ → Type 0
 IsIndex most z = (1 ≤ unsigned_abs z) × (unsigned_abs z ≤ most)
 
@@ -23,7 +23,7 @@ abbrev pub IsByDay : ByDay → Type 0
 IsByDay (Every weekday) = ⊤
 IsByDay (Nth index weekday) = IsIndex 53 index
 
--- a year has four digits
+-- The year of an UNTIL has four digits.
 abbrev pub IsEnd : RuleEnd → Type 0
 IsEnd Never = ⊤
 IsEnd (Until day) = IsDate day × (pos 0 ≤ℤ year_at day) × (year_at day ≤ℤ pos 9999)

@@ -1,5 +1,5 @@
--- The text of a recurrence, after the grammar of `recur` in RFC 5545: parts with `;` (59) between them, each a name, `=` (61) and a
--- value, which in some parts is a list with `,` (44) between its words.
+-- The text of a recurrence, after the grammar of `recur` in RFC 5545. Its parts are separated by
+-- `;` (59). Each has a name, `=` (61) and a value, or a list of values separated by `,` (44).
 use Rattle.std.specs.Prelude.{ℕ, ◌+◌, ◌-◌, nat_le, Bool, true, false, List, [], ◌∷◌, length, Option, Some, None, is_some, unwrap_or, option_map, Result, Ok, Err, if◌then◌else◌}
 use Rattle.std.specs.Option.{option_map_or, option_zip}
 use Rattle.std.specs.Result.{result_map_both}
@@ -17,7 +17,7 @@ use Rattle.cal_recurrence.specs.declared.recurrence.Recurrence.{Recurrence}
 use Rattle.cal_recurrence.specs.declared.recurrence.RuleEnd.TheVariants.{Never, Until, Count}
 
 -- ---- lists
--- what the words spell, if each of them spells something
+-- The meanings of the words, if each word has one.
 abbrev pub each : {X : Type 0} → (List ℕ → Option X) → List (List ℕ) → Option (List X)
 each meaning [] = Some []
 each meaning (word ∷ words) = option_map (λ both. both.0 ∷ both.1) (option_zip (meaning word) (each meaning words))
@@ -25,18 +25,18 @@ each meaning (word ∷ words) = option_map (λ both. both.0 ∷ both.1) (option_
 abbrev pub list_of : {X : Type 0} → (List ℕ → Option X) → List ℕ → Option (List X)
 list_of meaning value = each meaning (parts_at 44 value)
 
--- there is room for the words
+-- A list has room for the words.
 abbrev pub has_few_words : List ℕ → Bool
 has_few_words value = nat_le (length (parts_at 44 value)) most_values
 
 -- ---- parts
--- a value that is one, of a part that was not given before
+-- The value is valid, and the part was not given before.
 abbrev pub fresh : {X : Type 0} → RulePart → Bool → Option X → Result X RuleReason
 fresh at true value = Err (Twice at)
 fresh at false None = Err (Value at)
 fresh at false (Some x) = Ok x
 
--- with the part put to what was given before it; UNTIL and COUNT are both the end
+-- The draft gets one more part. UNTIL and COUNT both set the end.
 abbrev pub changed : {X : Type 0} → (X → Draft) → Result X RuleReason → Result Draft RuleReason
 changed to value = result_map_both to (λ reason. reason) value
 
@@ -68,7 +68,8 @@ put_part draft text = option_map_or (put_value draft (rest_at 61 text)) (part_of
 abbrev pub fault : ℕ → RuleReason → RuleFault
 fault at why = record { position = at; reason = why }
 
--- what is not given is not bounded, and each week begins with Monday; but there is a frequency
+-- The defaults are an interval of 1, weeks from Monday, empty lists and no end. The frequency is
+-- required.
 abbrev pub with_frequency : Draft → Frequency → Recurrence
 with_frequency draft f = record {
   frequency = f;
@@ -83,7 +84,7 @@ with_frequency draft f = record {
 abbrev pub finished : ℕ → Draft → Result Recurrence RuleFault
 finished at draft = option_map_or (λ f. Ok (with_frequency draft f)) draft.frequency (Err (fault at Missing))
 
--- the parts, one after another, of which the first begins at this byte
+-- The parts follow one another, and the first of them begins at byte `at`.
 abbrev pub and_on : ℕ → (Draft → Result Recurrence RuleFault) → Result Draft RuleReason → Result Recurrence RuleFault
 and_on at others (Ok draft) = others draft
 and_on at others (Err why) = Err (fault at why)
@@ -95,6 +96,6 @@ read_on at draft (text ∷ texts) = and_on at (λ more. read_on (at + length tex
 abbrev pub nothing : Draft
 nothing = record { frequency = None; interval = None; week_start = None; months = None; month_days = None; weekdays = None; end = None }
 
--- what a text says, or what is at fault
+-- The recurrence of a text, or its first error.
 abbrev pub recurrence_of : List ℕ → Result Recurrence RuleFault
 recurrence_of text = read_on 0 nothing (parts_at 59 text)

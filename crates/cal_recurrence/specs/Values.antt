@@ -1,4 +1,4 @@
--- How many values a part of a rule has at most.
+-- The maximum number of values of a part.
 use Rattle.std.specs.Prelude.{ℕ}
 
 abbrev pub most_values : ℕ

@@ -1,4 +1,4 @@
--- What single words of the text of a rule spell. Letters count in either case.
+-- The words of the text of a rule. Letters match in any case.
 use denote.Ref.{Bor}
 use Rattle.std.specs.Prelude.{ℕ, ◌+◌, ◌-◌, ◌/◌, ◌%◌, nat_lt, nat_le, ◌==◌, ◌&&◌, Bool, ℤ, pos, neg_ℤ, List, [], length, take, drop, slice_get, slice_index, filter, Option, Some, None, option_map, option_and_then, codes, if◌then◌else◌}
 use Rattle.std.specs.List.{slice_split, before_first, after_first}
@@ -19,7 +19,7 @@ use Rattle.cal_schedule.specs.declared.rule.kinds.ByDay.TheVariants.{Every, Nth}
 use Rattle.cal_recurrence.specs.declared.fault.RulePart.{RulePart}
 use Rattle.cal_recurrence.specs.declared.fault.RulePart.TheVariants as part
 
--- ---- how a text is cut: at each place where the byte stands, and at the first one
+-- ---- splitting a text: at each such byte, and at the first one
 abbrev pub parts_at : ℕ → List ℕ → List (List ℕ)
 parts_at byte text = slice_split (λ b. b == byte) text
 
@@ -29,7 +29,7 @@ front_at byte text = before_first (λ b. b == byte) text
 abbrev pub rest_at : ℕ → List ℕ → List ℕ
 rest_at byte text = after_first (λ b. b == byte) text
 
--- what comes after the first one, if it is there
+-- The parts and the bytes after the first such byte, if there is one.
 abbrev pub parts_left : ℕ → Option (Bor (List ℕ)) → List (List ℕ)
 parts_left byte None = []
 parts_left byte (Some rest) = parts_at byte rest.now
@@ -80,18 +80,18 @@ is_number word = nat_lt 0 (length word) && (all_ascii_digits word && nat_lt (dig
 abbrev pub number_of : List ℕ → Option ℕ
 number_of word = if is_number word then Some (digits_value 10 word) else None
 
--- from 1 to the most
+-- A number from 1 to `most`.
 abbrev pub from_one_to : ℕ → ℕ → Option ℕ
 from_one_to most n = if nat_le 1 n && nat_le n most then Some n else None
 
 abbrev pub count_of : ℕ → List ℕ → Option ℕ
 count_of most word = option_and_then (from_one_to most) (number_of word)
 
--- the same in one digit or two
+-- A number from 1 to `most` has one or two digits.
 abbrev pub short_count_of : ℕ → List ℕ → Option ℕ
 short_count_of most word = if nat_le (length word) 2 then count_of most word else None
 
--- the same, perhaps after a sign: 45 is the minus sign and 43 the plus sign
+-- An index is such a number after an optional sign: 45 is the minus sign, 43 the plus sign.
 abbrev pub index_of : ℕ → List ℕ → Option ℤ
 index_of most word =
     if slice_index word 0 == 45 then option_map (λ n. neg_ℤ (pos n)) (short_count_of most (drop 1 word)) else
@@ -105,18 +105,18 @@ month_of word = option_map (λ n. month_with_index (n - 1)) (short_count_of 12 w
 abbrev pub month_day_of : List ℕ → Option ℤ
 month_day_of word = index_of 31 word
 
--- a weekday of two letters, perhaps after a number among those of the month or the year
+-- A weekday has two letters, after an optional index within the month or the year.
 abbrev pub by_day_of : List ℕ → Option ByDay
 by_day_of word =
     let front = length word - 2 in
     if front == 0 then option_map Every (weekday_of word)
     else option_map (λ both. Nth both.0 both.1) (option_zip (index_of 53 (take front word)) (weekday_of (drop front word)))
 
--- day k has the year, the month and the day of the month that the eight digits of n spell
+-- Day k has the year, the month and the day of the month that the eight digits of n spell.
 abbrev pub has_digits : ℕ → ℕ → Bool
 has_digits n k = int_eq (year_at k) (pos (n / 10000)) && ((month_at k == n / 100 % 100) && (day_of_month_at k == n % 100))
 
--- the day of the range that has them
+-- The day of the range with these digits.
 unfoldable pub day_with : ℕ → Option ℕ
 day_with n = slice_get (filter (has_digits n) (days_from 0 (last_day + 1))) 0
 

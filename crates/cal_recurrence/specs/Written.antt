@@ -1,4 +1,4 @@
--- How a recurrence is written: its parts in one order, but for those that a text says by leaving them out.
+-- The text of a recurrence: its parts in a fixed order, without those that have their default.
 use Rattle.std.specs.Prelude.{ℕ, ◌==◌, ◌++◌, List, [], ◌∷◌, ℤ, codes, decimal, if◌then◌else◌}
 use Rattle.std.specs.Fmt.{signed_decimal}
 use Rattle.cal_time.specs.Date.{year_at, month_at, day_of_month_at}
@@ -41,7 +41,7 @@ abbrev pub by_day_text : ByDay → List ℕ
 by_day_text (Every weekday) = weekday_text weekday
 by_day_text (Nth index weekday) = signed_decimal index ++ weekday_text weekday
 
--- the year, the month and the day of the month
+-- A day in digits: the year, the month and the day of the month.
 abbrev pub day_text : ℕ → List ℕ
 day_text n = year_text (year_at n) ++ digits_at_least 2 (month_at n) ++ digits_at_least 2 (day_of_month_at n)
 
@@ -54,7 +54,7 @@ end_text Never = []
 end_text (Until day) = codes ";UNTIL=" ++ day_text day
 end_text (Count n) = codes ";COUNT=" ++ decimal n
 
--- each word after a mark, of which that of the first is the name of the part
+-- Each word follows a mark. The first mark is the name of the part, and the others are commas.
 abbrev pub list_text : {X : Type 0} → List ℕ → (X → List ℕ) → List X → List ℕ
 list_text mark text [] = []
 list_text mark text (x ∷ xs) = mark ++ text x ++ list_text (codes ",") text xs

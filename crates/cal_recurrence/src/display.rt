@@ -11,10 +11,10 @@ use crate::writing::{frequency_text, push_end, push_interval, push_list, push_we
 use std::fmt;
 
 impl Recurrence {
-    /// The text, as the recurrence prints it: `FREQ=MONTHLY;COUNT=12;BYDAY=-1FR`.
+    /// Returns the text that the recurrence prints, such as `FREQ=MONTHLY;COUNT=12;BYDAY=-1FR`.
     ///
-    /// Its parts are in one order: `FREQ`, `INTERVAL`, `UNTIL` or `COUNT`, `BYMONTH`, `BYMONTHDAY`, `BYDAY`, `WKST`. An interval of 1,
-    /// a week that begins with Monday, a list of no values and an end that is not given are left out.
+    /// The order is `FREQ`, `INTERVAL`, `UNTIL` or `COUNT`, `BYMONTH`, `BYMONTHDAY`, `BYDAY`,
+    /// `WKST`. An interval of 1, weeks from Monday, empty lists and a missing end are left out.
     pub fn text(&self) -> RecurrenceText
         ensures text { result ≡ text_of self.now }
         ensures reads_back { IsSpelled self.now → recurrence_of result ≡ Ok self.now }
@@ -32,7 +32,7 @@ impl Recurrence {
     }
 }
 
-/// Under a width the whole text is padded.
+/// Formats the text. A width pads the whole text.
 impl fmt::Display for Recurrence {
     ghost output = { λ r. Some (text_of r) };
 

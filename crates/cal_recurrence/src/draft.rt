@@ -1,4 +1,4 @@
-//! The parts of a recurrence that were read so far.
+//! The parts of a recurrence while it is parsed.
 ghost use Rattle.std.specs.Prelude.{◌≡◌, ◌≤◌, length};
 ghost use Rattle.cal_recurrence.specs.Text.{finished, fresh, nothing, put, put_part, put_value};
 ghost use Rattle.cal_recurrence.specs.Values.{most_values};
@@ -12,7 +12,7 @@ use crate::words::{count_of, cut, date_of, frequency_of, part_of, weekday_of};
 use cal_schedule::{ByDay, Frequency};
 use cal_time::{Month, Weekday};
 
-/// The parts, as far as they are given.
+/// A draft of a recurrence, with the parts that were parsed so far.
 #[derive(Drop)]
 pub struct Draft {
     pub frequency: Option<Frequency>,
@@ -24,7 +24,7 @@ pub struct Draft {
     pub end: Option<RuleEnd>,
 }
 
-/// The value of a part that was not given before.
+/// Returns the value, or the error `Twice` or `Value`.
 fn fresh<T: Drop>(part: RulePart, is_given: bool, value: Option<T>) -> Result<T, RuleReason>
     ensures { result ≡ fresh part is_given value }
 {
@@ -38,7 +38,7 @@ fn fresh<T: Drop>(part: RulePart, is_given: bool, value: Option<T>) -> Result<T,
 }
 
 impl Draft {
-    /// No part.
+    /// Creates a draft without parts.
     pub fn new() -> Self
         ensures { result ≡ nothing }
     {
@@ -53,7 +53,7 @@ impl Draft {
         }
     }
 
-    /// With one more part.
+    /// Parses one more part.
     pub fn with_part(self, text: &[u8]) -> Result<Self, RuleReason>
         ensures { result ≡ put_part self text.now }
     {
@@ -131,7 +131,7 @@ impl Draft {
         }
     }
 
-    /// The recurrence of these parts, which end at this byte.
+    /// Returns the recurrence, or the error `Missing` at byte `end`.
     pub fn finished(self, end: usize) -> Result<Recurrence, RuleFault>
         ensures { result ≡ finished end self }
     {

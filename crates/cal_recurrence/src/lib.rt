@@ -1,6 +1,6 @@
-//! Recurrences and their texts, after RFC 5545: what a `RRULE` says, read from its text and written.
+//! Recurrence rules of RFC 5545: parses and formats the text of a `RRULE` and lists its days.
 //!
-//! A text is read as the one recurrence that it is the text of, or refused with the position and the reason.
+//! `parse` returns the recurrence, or the position and the reason of the first error.
 #![tactic(auto)]
 
 mod display;

@@ -1,4 +1,4 @@
-//! The values of the parts that are lists.
+//! Lists of values.
 ghost use Rattle.std.specs.Prelude.{◌≡◌, ◌≤◌, ◌==◌, count_by, length};
 ghost use Rattle.cal_recurrence.specs.Text.{has_few_words, list_of};
 ghost use Rattle.cal_recurrence.specs.Values.{most_values};
@@ -8,7 +8,7 @@ use crate::values::{MOST, Values};
 use crate::words::cut;
 use crate::writing::Word;
 
-/// How many commas the value has.
+/// Counts the commas.
 fn commas(value: &[u8]) -> usize
     ensures { result ≡ count_by (λ b. b == 44) value.now }
 {
@@ -21,14 +21,14 @@ fn commas(value: &[u8]) -> usize
     commas
 }
 
-/// Whether a list has room for the words of the value.
+/// Returns whether the value has at most 62 words.
 pub fn has_few_words(value: &[u8]) -> bool
     ensures { result ≡ has_few_words value.now }
 {
     commas(value) < MOST
 }
 
-/// The values, with commas between them. What is passed stands where the list has none.
+/// Parses values with commas between them. `filler` fills the unused places of the list.
 pub fn values_of<T: Word>(value: &[u8], filler: T) -> Option<Values<T>>
     requires { length (parts_at 44 value.now) ≤ most_values }
     ensures { result ≡ list_of T.meaning_of value.now }

@@ -1,4 +1,4 @@
-//! The text of a recurrence, read.
+//! Parses the text of a recurrence.
 ghost use Rattle.std.specs.Prelude.{◌≡◌, ◌+◌, ◌<◌, ◌^◌, length, IfOk};
 ghost use Rattle.cal_recurrence.specs.Spelled.{IsSpelled};
 ghost use Rattle.cal_recurrence.specs.Text.{read_on, recurrence_of};
@@ -9,12 +9,12 @@ use crate::fault::RuleFault;
 use crate::recurrence::Recurrence;
 use crate::words::cut;
 
-/// The recurrence that a text says, as `FREQ=MONTHLY;BYDAY=-1FR;COUNT=12`, or the first part that is at fault.
+/// Parses a recurrence of RFC 5545, such as `FREQ=MONTHLY;BYDAY=-1FR;COUNT=12`.
 ///
-/// The parts are those of RFC 5545 for days: `FREQ`, `INTERVAL`, `WKST`, `BYMONTH`, `BYMONTHDAY`, `BYDAY`, and `UNTIL` with a day or
-/// `COUNT`, in any order and in any case of their letters. Refused are a name that is none of these as `Unknown`, a part that comes
-/// again, or a second end, as `Twice`, a value of more than 62 words as `TooMany`, one that the part does not have as `Value`, and a text
-/// without `FREQ` as `Missing`.
+/// The parts are `FREQ`, `INTERVAL`, `WKST`, `BYMONTH`, `BYMONTHDAY`, `BYDAY`, and `UNTIL` with a
+/// date or `COUNT`, in any order and any case. The first bad part gives the error: `Unknown` for
+/// any other name, `Twice` for a repeated part or a second end, `TooMany` for more than 62 words,
+/// `Value` for an invalid value, and `Missing` if there is no `FREQ`.
 #[tactic(auto, using(crate::proofs::GivenParts::read_is_spelled))]
 pub fn parse(text: &[u8]) -> Result<Recurrence, RuleFault>
     ensures value { result ≡ recurrence_of text.now }
@@ -23,7 +23,7 @@ pub fn parse(text: &[u8]) -> Result<Recurrence, RuleFault>
     read_on(0, Draft::new(), text)
 }
 
-/// The parts from this byte on, after those of the draft.
+/// Parses the parts from byte `position` on, after the parts of the draft.
 fn read_on(position: usize, draft: Draft, text: &[u8]) -> Result<Recurrence, RuleFault>
     requires { position + length text.now < 2 ^ 64 }
     ensures { result ≡ read_on position draft (parts_at 59 text.now) }

@@ -1,4 +1,4 @@
-//! What the text of a recurrence says.
+//! Recurrences and their days.
 ghost use Rattle.std.specs.Prelude.{◌≡◌};
 ghost use Rattle.cal_recurrence.specs.Days.{last_of, AreDays, IsRuleOf};
 
@@ -6,40 +6,39 @@ use crate::values::Values;
 use cal_schedule::{ByDay, Frequency, Rule, RuleDays};
 use cal_time::{Date, Month, Weekday};
 
-/// Where a recurrence ends.
+/// An end of a recurrence.
 #[derive(Clone, Copy, Debug, PartialEq, Eq)]
 pub enum RuleEnd {
-    /// Nowhere before the end of the range.
+    /// No end before the end of the range.
     Never,
-    /// With this day, which is one of its days where the rule has it.
+    /// The last possible day, which counts if the rule has it.
     Until(Date),
-    /// After so many days.
+    /// The number of days.
     Count(u32),
 }
 
-/// A recurrence as RFC 5545 writes it in a `RRULE`: a rule but for its start, and where it ends.
+/// A recurrence as in a `RRULE` of RFC 5545: a rule without its start, and its end.
 ///
-/// A part without values leaves out no day.
+/// An empty list excludes no day.
 #[derive(Clone, Debug, PartialEq, Eq, Drop)]
 pub struct Recurrence {
-    /// What the interval counts.
+    /// The unit of the interval.
     pub frequency: Frequency,
-    /// Each so-many-th day, week, month or year from that of the start on.
+    /// The interval: every n-th day, week, month or year, counted from the start.
     pub interval: u32,
-    /// The weekday that a week begins with.
+    /// The first day of a week.
     pub week_start: Weekday,
     /// The months.
     pub months: Values<Month>,
-    /// The days of the month, from 1 on, or from the end by -1 for the last one.
+    /// The days of the month, counted from 1, or from the end with -1 for the last one.
     pub month_days: Values<i8>,
     /// The weekdays.
     pub weekdays: Values<ByDay>,
-    /// Where it ends.
+    /// The end.
     pub end: RuleEnd,
 }
 
 impl Recurrence {
-    /// The last day, where one is given.
     fn last(&self) -> Option<Date>
         ensures { result ≡ last_of self.now.end }
     {
@@ -49,7 +48,7 @@ impl Recurrence {
         }
     }
 
-    /// The rule from a start on, without a number of times, which is no part of a rule.
+    /// Returns the rule from a start, without a `COUNT`, which a rule does not have.
     pub fn rule(&self, start: Date) -> Rule<'_>
         ensures { IsRuleOf self.now start result }
     {
@@ -65,7 +64,8 @@ impl Recurrence {
         }
     }
 
-    /// The walk over its days from a start on: of `FREQ=MONTHLY;BYDAY=-1FR;COUNT=12` over twelve last Fridays.
+    /// Returns an iterator over the days from a start. For example,
+    /// `FREQ=MONTHLY;BYDAY=-1FR;COUNT=12` gives twelve last Fridays.
     pub fn days(&self, start: Date) -> RuleDays<'_>
         ensures { AreDays self.now start result }
     {

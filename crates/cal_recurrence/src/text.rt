@@ -1,4 +1,4 @@
-//! The text of a recurrence, in place.
+//! The text of a recurrence, without allocation.
 ghost use Rattle.std.specs.Prelude.{◌≡◌, ◌+◌, ◌≤◌, ◌++◌, [], length, decimal};
 ghost use Rattle.std.specs.Fmt.{debug_str};
 ghost use Rattle.cal_recurrence.specs.RecurrenceText.{capacity, HasRoom};
@@ -8,10 +8,10 @@ use std::fmt;
 use std::marker::Model;
 use std::str::from_utf8_unchecked;
 
-/// The most bytes that a text has. A recurrence with 62 values in each of its lists has fewer.
+/// The capacity in bytes. A recurrence with 62 values in each of its lists needs fewer.
 const CAPACITY: usize = 1400;
 
-/// What a recurrence prints, in place and without a formatter: a text of at most 1400 bytes.
+/// A text of a recurrence, of at most 1400 bytes, without allocation or a formatter.
 #[derive(Drop)]
 pub struct RecurrenceText {
     bytes: [u8; CAPACITY],
@@ -30,7 +30,7 @@ impl Model for RecurrenceText {
 }
 
 impl RecurrenceText {
-    /// No bytes.
+    /// Creates an empty text.
     pub(crate) fn new() -> Self
         ensures { result ≡ [] }
     {
@@ -40,16 +40,16 @@ impl RecurrenceText {
         }
     }
 
-    /// The text.
+    /// Returns the text.
     pub fn as_str(&self) -> &str
         ensures text { result.now ≡ self.now }
         ensures short { length result.now ≤ capacity }
     {
-        // Only text was appended, as the invariant says.
+        // The invariant says that the bytes are UTF-8.
         unsafe { from_utf8_unchecked(&self.bytes[..self.filled]) }
     }
 
-    /// The bytes of the text, which is UTF-8.
+    /// Returns the bytes of the text, which is UTF-8.
     pub fn as_bytes(&self) -> &[u8]
         ensures bytes { result.now ≡ self.now }
         ensures short { length result.now ≤ capacity }
@@ -57,7 +57,7 @@ impl RecurrenceText {
         &self.bytes[..self.filled]
     }
 
-    /// The number of bytes, at most 1400.
+    /// Returns the number of bytes, at most 1400.
     pub fn len(&self) -> usize
         ensures bytes { result ≡ length self.now }
         ensures short { result ≤ capacity }
@@ -76,7 +76,7 @@ impl RecurrenceText {
         self.filled = end;
     }
 
-    /// Appends the digits of a number.
+    /// Appends a number in decimal.
     #[tactic(auto, using(crate::proofs::Digits::few_digits))]
     pub(crate) fn push_number(&mut self, number: u32)
         requires { HasRoom 10 self.old }
@@ -89,7 +89,7 @@ impl RecurrenceText {
     }
 }
 
-/// Prints the text in quotation marks.
+/// Formats the text in quotation marks.
 impl fmt::Debug for RecurrenceText {
     ghost debug_output = { λ text. debug_str text };
 

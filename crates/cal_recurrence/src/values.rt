@@ -1,4 +1,4 @@
-//! The values of a part of a rule, in place.
+//! Lists of the values of a part, without allocation.
 ghost use Rattle.std.specs.Prelude.{⊤, ◌≡◌, ◌<◌, ◌≤◌, ◌++◌, [], ◌∷◌, length, nat_le};
 ghost use Rattle.std.specs.Cmp.Lexicographic.{pointwise, lists_equiv, lists_per};
 ghost use Rattle.cal_recurrence.specs.Values.{most_values};
@@ -7,10 +7,10 @@ use std::alloc::AllocError;
 use std::fmt;
 use std::marker::Model;
 
-/// The most values of a part. A month has at most 31 days, counted from either end.
+/// The maximum number of values of a part. A month has at most 31 days, counted from either end.
 pub(crate) const MOST: usize = 62;
 
-/// The values of a part of a rule in order, in place: at most 62. Contracts see them as a list.
+/// A list of at most 62 values of a part, without allocation. Contracts see it as a list.
 #[derive(Drop)]
 pub struct Values<T> {
     items: [T; MOST],
@@ -29,7 +29,7 @@ impl<T> Model for Values<T> {
 }
 
 impl<T> Values<T> {
-    /// The values.
+    /// Returns the values.
     pub fn as_slice(&self) -> &[T]
         ensures values { result.now ≡ self.now }
         ensures few { length result.now ≤ most_values }
@@ -39,7 +39,7 @@ impl<T> Values<T> {
 }
 
 impl<T: Copy> Values<T> {
-    /// No values. What is passed stands at the indexes that are free, where no call sees it.
+    /// Creates an empty list. `filler` fills the unused places, which no call sees.
     pub fn none(filler: T) -> Self
         ensures { result ≡ [] }
     {
@@ -49,7 +49,7 @@ impl<T: Copy> Values<T> {
         }
     }
 
-    /// Whether there is no room for another one.
+    /// Returns whether the list is full.
     pub fn is_full(&self) -> bool
         ensures { result ≡ nat_le most_values (length self.now) }
     {
@@ -79,7 +79,7 @@ impl<T: Copy> Clone for Values<T> {
     }
 }
 
-/// Two are equal where their values are, one by one.
+/// Two lists are equal if their values are equal, in order.
 impl<T: PartialEq> PartialEq for Values<T> {
     ghost eq = { pointwise T.eq };
 
@@ -94,7 +94,7 @@ impl<T: Eq> Eq for Values<T> {
     ghost laws = { lists_equiv T.Eq.laws };
 }
 
-/// Prints as the list of the values.
+/// Formats the list of the values.
 impl<T: fmt::Debug> fmt::Debug for Values<T> {
     fn fmt<W: fmt::Write>(&self, f: &mut fmt::Formatter<W>) -> fmt::Result {
         f.debug_list().entries(self.as_slice()).finish()

@@ -1,4 +1,4 @@
-//! What single words of the text of a rule spell, and how the text is cut.
+//! Single words of the text of a rule.
 ghost use Rattle.std.specs.Prelude.{◌≡◌, ◌+◌, ◌<◌, ◌≤◌, ◌==◌, ◌∷◌, length, position, slice_index, MatchOption, IfSome};
 ghost use Rattle.cal_recurrence.specs.Words.{by_day_of, bytes_left, count_of, date_of, day_with, frequency_of, from_one_to, front_at, is_alike, month_day_of, month_of, number_of, part_of, parts_at, parts_left, index_of, rest_at, short_count_of, weekday_of};
 
@@ -7,14 +7,14 @@ use cal_schedule::{ByDay, Frequency};
 use cal_time::{Date, Month, Weekday};
 use std::str;
 
-/// Where a byte first stands.
+/// Returns the index of the first such byte.
 fn position_of(byte: u8, bytes: &[u8]) -> Option<usize>
     ensures { result ≡ position (λ b. b == byte) bytes.now }
 {
     bytes.iter().position(|b| *b == byte)
 }
 
-/// The bytes before the first position where a byte stands, and those after it, if it stands there.
+/// Splits at the first such byte. The second part is `None` without such a byte.
 #[tactic(auto, using(crate::proofs::Cuts::cut_some, crate::proofs::Cuts::cut_none, std::proofs::lemmas::List::take_rest))]
 pub fn cut(bytes: &[u8], byte: u8) -> (&[u8], Option<&[u8]>)
     ensures parts { parts_at byte bytes.now ≡ result.0.now ∷ parts_left byte result.1 }
@@ -29,14 +29,13 @@ pub fn cut(bytes: &[u8], byte: u8) -> (&[u8], Option<&[u8]>)
     }
 }
 
-/// Whether the two differ at most in the case of ASCII letters.
 fn is_alike(word: &[u8], name: &[u8]) -> bool
     ensures { result ≡ is_alike word.now name.now }
 {
     word.eq_ignore_ascii_case(name)
 }
 
-/// The part that has the name.
+/// Parses the name of a part.
 pub fn part_of(name: &[u8]) -> Option<RulePart>
     ensures { result ≡ part_of name.now }
 {
@@ -61,7 +60,7 @@ pub fn part_of(name: &[u8]) -> Option<RulePart>
     }
 }
 
-/// The frequency that has the name.
+/// Parses a frequency.
 pub fn frequency_of(word: &[u8]) -> Option<Frequency>
     ensures { result ≡ frequency_of word.now }
 {
@@ -78,7 +77,7 @@ pub fn frequency_of(word: &[u8]) -> Option<Frequency>
     }
 }
 
-/// The weekday that the two letters stand for.
+/// Parses a weekday of two letters.
 pub fn weekday_of(word: &[u8]) -> Option<Weekday>
     ensures { result ≡ weekday_of word.now }
 {
@@ -101,14 +100,14 @@ pub fn weekday_of(word: &[u8]) -> Option<Weekday>
     }
 }
 
-/// Whether a plus sign stands first, which std reads before a number.
+/// Returns whether the word begins with a plus sign, which std's `parse` accepts.
 fn begins_with_plus(word: &[u8]) -> bool
     ensures { result ≡ (slice_index word.now 0 == 43) }
 {
     matches!(word, [b'+', ..])
 }
 
-/// The number that digits spell, where it is below 4294967296.
+/// Parses a number from 0 to 4294967295.
 fn number_of(word: &[u8]) -> Option<u32>
     ensures { result ≡ number_of word.now }
 {
@@ -121,7 +120,7 @@ fn number_of(word: &[u8]) -> Option<u32>
     text.parse().ok()
 }
 
-/// The number from 1 to the most that digits spell.
+/// Parses a number from 1 to `most`.
 pub fn count_of(word: &[u8], most: u32) -> Option<u32>
     ensures value { result ≡ count_of most word.now }
     ensures least { IfSome result (λ n. 1 ≤ n) }
@@ -134,7 +133,7 @@ pub fn count_of(word: &[u8], most: u32) -> Option<u32>
     Some(number)
 }
 
-/// The same in one digit or two.
+/// Parses a number from 1 to `most` of one or two digits.
 fn short_count_of(word: &[u8], most: u8) -> Option<u8>
     ensures value { result ≡ short_count_of most word.now }
     ensures least { IfSome result (λ n. 1 ≤ n) }
@@ -146,7 +145,7 @@ fn short_count_of(word: &[u8], most: u8) -> Option<u8>
     Some(count_of(word, u32::from(most))? as u8)
 }
 
-/// The same, perhaps after a sign.
+/// Parses a number from 1 to `most` of one or two digits, after an optional sign.
 fn index_of(word: &[u8], most: u8) -> Option<i8>
     requires { most ≤ 127 }
     ensures { result ≡ index_of most word.now }
@@ -158,21 +157,21 @@ fn index_of(word: &[u8], most: u8) -> Option<i8>
     }
 }
 
-/// The month with the number.
+/// Parses the number of a month.
 pub fn month_of(word: &[u8]) -> Option<Month>
     ensures { result ≡ month_of word.now }
 {
     Month::try_from(short_count_of(word, 12)?).ok()
 }
 
-/// The day of the month, from 1 or from -1 for the last one.
+/// Parses a day of the month, from 1 to 31, or from -1 for the last day to -31.
 pub fn month_day_of(word: &[u8]) -> Option<i8>
     ensures { result ≡ month_day_of word.now }
 {
     index_of(word, 31)
 }
 
-/// The weekday, perhaps with a number among those of the month or the year.
+/// Parses a weekday, after an optional index within the month or the year.
 pub fn by_day_of(word: &[u8]) -> Option<ByDay>
     ensures { result ≡ by_day_of word.now }
 {
@@ -184,7 +183,7 @@ pub fn by_day_of(word: &[u8]) -> Option<ByDay>
     Some(ByDay::Nth(index, weekday_of(&word[front..])?))
 }
 
-/// The day whose year, month and day of the month the eight digits of the number are.
+/// Returns the date whose eight digits these are.
 fn day_with(number: u32) -> Option<Date>
     ensures { result ≡ day_with number }
 {
@@ -194,7 +193,7 @@ fn day_with(number: u32) -> Option<Date>
     Date::from_calendar_date((number / 10_000) as i32, month, (number % 100) as u8).ok()
 }
 
-/// The day that eight digits spell, as `20241231`.
+/// Parses a date of eight digits, such as `20241231`.
 pub fn date_of(word: &[u8]) -> Option<Date>
     ensures { result ≡ date_of word.now }
 {

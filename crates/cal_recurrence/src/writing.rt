@@ -1,4 +1,4 @@
-//! The parts of the text of a recurrence, written.
+//! The parts of the text of a recurrence.
 ghost use Rattle.std.specs.Prelude.{◌≡◌, ◌+◌, ◌*◌, ◌≤◌, ◌++◌, List, ℕ, Option, length};
 ghost use Rattle.std.specs.Fmt.{signed_decimal};
 ghost use Rattle.cal_recurrence.specs.RecurrenceText.{HasRoom};
@@ -18,12 +18,12 @@ pub trait Word: Copy {
 
     ghost meaning_of: { List ℕ → Option Self };
 
-    /// The text of the value, as `-1FR`.
+    /// Returns the text of the value, such as `-1FR`.
     fn word(self) -> ShortText
         ensures text { result ≡ text_of self }
         ensures short { length result ≤ 6 };
 
-    /// The value that a word spells.
+    /// Parses a value.
     fn read(word: &[u8]) -> Option<Self>
         ensures { result ≡ meaning_of word.now };
 }
@@ -84,7 +84,7 @@ impl Word for ByDay {
     }
 }
 
-/// The digits of the number, after a minus sign below 0.
+/// Formats the number in decimal.
 #[tactic(auto, using(crate::proofs::Digits::index_digits, cal_time::proofs::TextLengths::text_lengths))]
 fn index_text(index: i8) -> ShortText
     ensures text { result ≡ signed_decimal index }
@@ -95,7 +95,7 @@ fn index_text(index: i8) -> ShortText
     text
 }
 
-/// The name of the frequency.
+/// Returns the name of the frequency.
 pub fn frequency_text(frequency: Frequency) -> &'static str
     ensures text { result.now ≡ frequency_text frequency }
     ensures short { length result.now ≤ 7 }
@@ -108,7 +108,7 @@ pub fn frequency_text(frequency: Frequency) -> &'static str
     }
 }
 
-/// The two letters of the weekday.
+/// Returns the two letters of the weekday.
 fn weekday_text(weekday: Weekday) -> &'static str
     ensures text { result.now ≡ weekday_text weekday }
     ensures short { length result.now ≡ 2 }
@@ -124,7 +124,7 @@ fn weekday_text(weekday: Weekday) -> &'static str
     }
 }
 
-/// The day in digits, as `20241231`.
+/// Formats a date in digits, such as `20241231`.
 #[tactic(auto, using(cal_time::proofs::TextLengths::text_lengths))]
 fn day_text(date: Date) -> ShortText
     ensures text { result ≡ day_text date }
@@ -138,7 +138,7 @@ fn day_text(date: Date) -> ShortText
     text
 }
 
-/// Appends the interval, where it is not 1.
+/// Appends the interval, unless it is 1.
 pub fn push_interval(text: &mut RecurrenceText, interval: u32)
     requires { HasRoom 20 text.old }
     ensures appended { text.new ≡ text.old ++ interval_text interval }
@@ -170,7 +170,8 @@ pub fn push_end(text: &mut RecurrenceText, end: RuleEnd)
     }
 }
 
-/// Appends each of the values after a mark, of which that of the first is the name of the part.
+/// Appends the name of the part and the values with commas between them, or nothing for an empty
+/// list.
 pub fn push_list<T: Word>(text: &mut RecurrenceText, name: &str, values: &[T])
     requires named { 1 ≤ length name.now }
     requires few { length values.now ≤ most_values }
@@ -186,7 +187,7 @@ pub fn push_list<T: Word>(text: &mut RecurrenceText, name: &str, values: &[T])
     }
 }
 
-/// Appends the weekday that a week begins with, where it is not Monday.
+/// Appends the first day of the week, unless it is Monday.
 pub fn push_week_start(text: &mut RecurrenceText, weekday: Weekday)
     requires { HasRoom 8 text.old }
     ensures appended { text.new ≡ text.old ++ week_start_text weekday }

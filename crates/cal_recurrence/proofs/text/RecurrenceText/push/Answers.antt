@@ -4,7 +4,7 @@ use Rattle.std.proofs.lemmas.Str.{IsUtf8-append}
 use Rattle.std.proofs.lemmas.Slice.{take-put_mid}
 use Rattle.cal_recurrence.proofs.text.RecurrenceText.push.Goals as goal
 
--- what there was, and what is appended
+-- the old text, and the appended one
 pub invariant_of-self : goal.invariant_of-self
 invariant_of-self c =
     let start = c.self.inside.filled in
