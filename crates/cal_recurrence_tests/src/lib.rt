@@ -1,6 +1,6 @@
-//! The tests of `cal_recurrence`, by its public items only.
+//! Tests of the public items of `cal_recurrence`.
 //!
-//! They are a crate of their own, since the gate proves a crate with tests a second time.
+//! They are a separate crate, because the gate proves a crate with tests a second time.
 #![tactic(auto)]
 
 #[cfg(test)]

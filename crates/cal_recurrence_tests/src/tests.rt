@@ -1,4 +1,4 @@
-//! Worked values: the examples of RFC 5545 and of published calendars, and texts that are refused.
+//! Examples of RFC 5545 and of published calendars, and texts with errors.
 
 mod one_answer;
 mod read_back;

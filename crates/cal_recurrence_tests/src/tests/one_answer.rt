@@ -1,13 +1,15 @@
-//! Each contract leaves one answer: two calls with the same arguments are proved to give the same.
+//! Each contract leaves one answer: two calls with the same arguments are proved to return the
+//! same.
 //!
-//! A proof knows nothing of a call but its clauses. So where they let a second answer through, the line of that call stays open.
+//! A proof knows only the clauses of a call. If they allow a second answer, the proof of that call
+//! fails.
 ghost use Rattle.std.specs.Prelude.{◌≡◌};
 
 use cal_recurrence::{Recurrence, RecurrenceText, RuleFault};
 use cal_schedule::{Rule, RuleDays};
 use cal_time::Date;
 
-/// What two calls give.
+/// The results of two calls.
 type Twice<T> = (T, T);
 
 macro_rules! twice {
@@ -28,7 +30,7 @@ fn text(recurrence: &Recurrence) -> Twice<RecurrenceText>
     twice!(recurrence.text())
 }
 
-/// The parts of both rules, of which each list is that of the recurrence.
+/// The start and the parts of both rules are the same.
 fn rule(recurrence: &Recurrence, start: Date) -> Twice<Rule<'_>>
     ensures start { result.0.start ≡ result.1.start }
     ensures frequency { result.0.frequency ≡ result.1.frequency }

@@ -1,11 +1,12 @@
-//! What is written is read as what it was written for, by the clauses of `text` and `parse` alone.
+//! The text of a recurrence is parsed as that recurrence, by only the clauses of `text` and
+//! `parse`.
 ghost use Rattle.std.specs.Prelude.{◌≡◌, Ok};
 ghost use Rattle.cal_recurrence.specs.Spelled.{IsSpelled};
 ghost use Rattle.cal_recurrence.specs.Text.{recurrence_of};
 
 use cal_recurrence::{Recurrence, RuleFault, parse};
 
-/// A recurrence that a text says, written and read.
+/// Formats and parses a recurrence that has a text.
 fn read_back(recurrence: &Recurrence) -> Result<Recurrence, RuleFault>
     requires { IsSpelled recurrence.now }
     ensures { result ≡ Ok recurrence.now }
@@ -13,7 +14,7 @@ fn read_back(recurrence: &Recurrence) -> Result<Recurrence, RuleFault>
     parse(recurrence.text().as_bytes())
 }
 
-/// A text, read and written and read again.
+/// Parses a text, formats the recurrence and parses it again.
 fn read_again(text: &[u8]) -> Result<Recurrence, RuleFault>
     ensures { result ≡ recurrence_of text.now }
 {

@@ -1,12 +1,12 @@
-//! Recurrences by their texts, against the lists of the days that RFC 5545 gives with its own examples, and against other calendars.
+//! The days of recurrences, as in the examples of RFC 5545 and in other calendars.
 //!
-//! Times of day are not read. So where an example has a day with a time of day in `UNTIL`, as `19971224T000000Z`, a date stands here:
-//! that day, or the day before it where the rule has that day at a later time.
+//! Times of day are not parsed. So an `UNTIL` with a time, such as `19971224T000000Z`, is a date
+//! here: that day, or the day before if the rule has that day at a later time.
 use cal_recurrence::{Recurrence, parse};
 use cal_time::{Date, Month};
 use std::process::Abort;
 
-/// The day with the number of eight digits or more, as `1997_09_02`.
+/// Returns the date with these digits, such as `1997_09_02`.
 fn date(rt: &impl Abort, number: i64) -> Date {
     let parts = (
         i32::try_from(number / 10_000),
@@ -25,7 +25,7 @@ fn date(rt: &impl Abort, number: i64) -> Date {
     date
 }
 
-/// What the text says.
+/// Parses the text.
 fn read(rt: &impl Abort, text: &str) -> Recurrence {
     match parse(text.as_bytes()) {
         Ok(recurrence) => recurrence,
@@ -33,12 +33,12 @@ fn read(rt: &impl Abort, text: &str) -> Recurrence {
     }
 }
 
-/// Stops the test unless the walk gives this next.
+/// Fails unless the iterator returned `wanted`.
 fn gives(rt: &impl Abort, text: &str, found: Option<Date>, wanted: Option<Date>) {
     assert!(rt; found == wanted, "{found:?} and not {wanted:?} in {text}");
 }
 
-/// Stops the test unless the first days of what the text says are these, and where it ends with them, unless there is no other.
+/// Fails unless the recurrence begins with these days, and ends with them if `ends` is true.
 fn begins(rt: &impl Abort, text: &str, start: i64, days: &[i64], ends: bool) {
     let recurrence = read(rt, text);
     let mut walk = recurrence.days(date(rt, start));
@@ -417,7 +417,8 @@ fn yearly_rules(rt: HostRuntime) {
 #[test]
 fn other_rules(rt: HostRuntime) {
     let rt = &rt;
-    // RFC 5545, `BYDAY`: each value adds its days; the Sundays and the last Mondays of Python's `calendar`.
+    // RFC 5545, `BYDAY`: each value adds its days. Sundays and last Mondays as in Python's
+    // `calendar`.
     begins(
         rt,
         "FREQ=MONTHLY;BYDAY=SU,-1MO",
@@ -429,7 +430,8 @@ fn other_rules(rt: HostRuntime) {
         ],
         false,
     );
-    // Thanksgivings, last Fridays, and a day that 1900 does not have: `rrule` of Python's `dateutil`.
+    // Thanksgivings, last Fridays and 29 February, which 1900 lacks: `rrule` of Python's
+    // `dateutil`.
     begins(
         rt,
         "FREQ=YEARLY;BYMONTH=11;BYDAY=4TH",
@@ -469,7 +471,7 @@ fn other_rules(rt: HostRuntime) {
         &[],
         true,
     );
-    // The next year would be past the range.
+    // The next year is past the range.
     begins(
         rt,
         "FREQ=YEARLY;INTERVAL=4294967295",
@@ -479,7 +481,7 @@ fn other_rules(rt: HostRuntime) {
     );
 }
 
-/// The range goes from Monday, -999999-01-01, to Friday, 999999-12-31, which is an odd number of days later.
+/// The range goes from Monday, -999999-01-01, to Friday, 999999-12-31, an odd number of days later.
 #[test]
 fn ends_of_the_range(rt: HostRuntime) {
     let rt = &rt;

@@ -1,4 +1,4 @@
-//! Texts that are refused, by the position and the reason; texts that are read in each case and order; recurrences by their fields.
+//! Texts with errors, texts in any case and order, and the fields of recurrences.
 use cal_recurrence::{Recurrence, RuleEnd, RuleFault, RulePart, RuleReason, Values, parse};
 use cal_schedule::{ByDay, Frequency};
 use cal_time::{Date, Month, Weekday};
@@ -11,7 +11,7 @@ const TOO_MANY: &str =
     "FREQ=DAILY;BYMONTHDAY=1,1,1,1,1,1,1,1,1,1,1,1,1,1,1,1,1,1,1,1,1,1,1,1,1,1,1,1,1,1,1,\
     1,1,1,1,1,1,1,1,1,1,1,1,1,1,1,1,1,1,1,1,1,1,1,1,1,1,1,1,1,1,1,2;COUNT=1";
 
-/// Stops the test unless the text is refused so.
+/// Fails unless the text gives this error.
 fn refused(rt: &impl Abort, text: &str, position: usize, reason: RuleReason) {
     match parse(text.as_bytes()) {
         Ok(_) => panic!(rt; "{text} is read"),
@@ -22,7 +22,7 @@ fn refused(rt: &impl Abort, text: &str, position: usize, reason: RuleReason) {
     }
 }
 
-/// Stops the test unless the part is refused for its value after `FREQ=DAILY`.
+/// Fails unless each text gives an invalid value of the part after `FREQ=DAILY`.
 fn refused_value(rt: &impl Abort, part: RulePart, texts: &[&str]) {
     for text in texts {
         refused(rt, text, 11, RuleReason::Value(part));
@@ -81,7 +81,7 @@ fn faults(rt: HostRuntime) {
     refused(rt, "FREQ=DAILY=", 0, RuleReason::Value(RulePart::Frequency));
 }
 
-/// Stops the test unless the text is refused in these words.
+/// Fails unless the error of the text has these words.
 fn refused_as(rt: &impl Abort, alloc: Global, text: &str, words: &str) -> Result<(), Fail> {
     let Err(fault) = parse(text.as_bytes()) else {
         return Err(Fail::from("a text that is read"));
@@ -218,8 +218,8 @@ fn wrong_values(rt: HostRuntime) {
     );
 }
 
-/// Stops the test unless the text says so: in each second month, of March and December, the 31st and the last day, which are a Friday
-/// or the last Monday, twelve times, with weeks from Sunday on.
+/// Fails unless the text means: every second month, in March and December, on the 31st and the last
+/// day if it is a Friday or the last Monday, twelve times, with weeks from Sunday.
 fn read(rt: &impl Abort, text: &str) {
     match parse(text.as_bytes()) {
         Ok(recurrence) => {

@@ -1,10 +1,11 @@
-//! Recurrences written, and read again.
+//! Recurrences that are formatted and parsed again.
 use cal_recurrence::{Recurrence, RuleEnd, Values, parse};
 use cal_schedule::{ByDay, Frequency};
 use cal_time::{Date, Month, Weekday};
 use std::process::Abort;
 
-/// Stops the test unless the text is read as a recurrence that is written so, and that text is read as the same recurrence.
+/// Fails unless the text gives a recurrence with the text `wanted`, which gives the same
+/// recurrence.
 fn written(rt: &impl Abort, text: &str, wanted: &str) {
     let Ok(recurrence) = parse(text.as_bytes()) else {
         panic!(rt; "{text} is refused");
@@ -15,15 +16,15 @@ fn written(rt: &impl Abort, text: &str, wanted: &str) {
     assert!(rt; parse(found.as_bytes()) == Ok(recurrence), "{wanted}");
 }
 
-/// The same for a text that is written as it stands.
+/// Fails unless each text is its own formatted text.
 fn same(rt: &impl Abort, texts: &[&str]) {
     for text in texts {
         written(rt, text, text);
     }
 }
 
-/// The examples of RFC 5545 whose parts are in this order. Times of day are not read, so each `UNTIL` is a date here: what the RFC
-/// has for `19971224` is `19971224T000000Z`.
+/// The examples of RFC 5545 with their parts in this order. Times of day are not parsed, so each
+/// `UNTIL` is a date: `19971224` instead of `19971224T000000Z`.
 #[test]
 fn examples_of_the_rfc(rt: HostRuntime) {
     let rt = &rt;
@@ -55,7 +56,7 @@ fn examples_of_the_rfc(rt: HostRuntime) {
     );
 }
 
-/// Other examples of RFC 5545, in the same way, and a text of ours with zeros, signs and small letters.
+/// Other examples of RFC 5545, and a text with zeros, signs and small letters.
 #[test]
 fn other_orders(rt: HostRuntime) {
     let rt = &rt;
@@ -96,7 +97,7 @@ fn other_orders(rt: HostRuntime) {
     );
 }
 
-/// The longest list.
+/// Creates a full list.
 fn full<T: Copy>(value: T) -> Values<T> {
     let mut values = Values::none(value);
     for _ in 0..62 {
@@ -154,7 +155,7 @@ fn printed_and_compared(rt: HostRuntime) {
     };
     assert!(rt; clone == recurrence);
 
-    // What stands at the free indexes of a list is not compared.
+    // Unused places of a list are not compared.
     let mut days = Values::none(7);
     days.push(1);
     assert!(rt; days != recurrence.month_days);
