@@ -364,6 +364,10 @@ value_of options word =
     if bytes_eq word (codes "--assume") && is_none options.offset then Some wanted.Offset else
     None
 
+-- the word is an option, whatever the others are
+abbrev pub is_option : List ℕ → Bool
+is_option word = takes_strict no_options word || is_some (value_of no_options word)
+
 -- the options with the one that wants this, which has this value
 abbrev pub with_value : Options → List ℕ → Wanted → Option Options
 with_value options value wanted.FieldNumber = option_map (λ n. record options { number = Some n }) (field_number_of value)
