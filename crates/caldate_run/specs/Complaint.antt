@@ -1,5 +1,5 @@
--- The message for arguments that make no sense: what is wrong, and what was expected.
-use Rattle.std.specs.Prelude.{ℕ, ◌-◌, ◌==◌, Bool, true, false, List, [], ◌∷◌, ◌++◌, Option, Some, None, Result, Ok, Err, codes, slice_get, if◌then◌else◌}
+-- The message for arguments that make no sense: the error and the expected words.
+use Rattle.std.specs.Prelude.{ℕ, ◌-◌, ◌==◌, Bool, true, false, List, [], ◌∷◌, ◌++◌, Result, Ok, Err, codes, slice_get, if◌then◌else◌}
 use Rattle.std.specs.Option.{option_map_or}
 use Rattle.cal_recurrence.specs.FaultText.{fault_text}
 use Rattle.cal_recurrence.specs.Text.{recurrence_of}
@@ -11,7 +11,7 @@ use Rattle.caldate_run.specs.declared.senseless.Senseless.{Senseless}
 use Rattle.caldate_run.specs.declared.senseless.Wanted.{Wanted}
 use Rattle.caldate_run.specs.declared.senseless.Wanted.TheVariants as wanted
 
--- what is wrong with the word at the index
+-- the error, without the word
 abbrev pub error_phrase : Wanted → List ℕ
 error_phrase wanted.Something = codes "missing command; try 'caldate --help'"
 error_phrase wanted.Start = codes "unknown command"
@@ -38,7 +38,7 @@ error_phrase wanted.Rule = codes "invalid rule"
 error_phrase wanted.UnitOfDays = codes "invalid unit"
 error_phrase what = codes "unexpected argument"
 
--- what is missing if there is no such word
+-- the name of a missing argument
 abbrev pub missing_noun : Wanted → List ℕ
 missing_noun wanted.Start = codes "command"
 missing_noun wanted.Verb = codes "command"
@@ -62,7 +62,7 @@ missing_noun wanted.Rule = codes "rule"
 missing_noun wanted.UnitOfDays = codes "unit"
 missing_noun what = codes "argument"
 
--- what was expected, unless the message says so already
+-- the expected words, if the message needs them
 abbrev pub expected_phrase : Wanted → List ℕ
 expected_phrase wanted.Start = codes "; expected to, add, next, last, until, since, start, end, on-or-after, on-or-before, at, keep, list, --strict, --field, --separator, --skip, --read, --assume, --help or --version"
 expected_phrase wanted.Verb = codes "; expected to, add, next, last, until, since, start, end, on-or-after, on-or-before, at, keep or another option"
@@ -96,7 +96,7 @@ names_word wanted.Assume = false
 names_word wanted.Local = false
 names_word what = true
 
--- an option after other options makes no sense only if it is there twice
+-- after other options, an option is wrong only if it is a duplicate
 abbrev pub is_duplicate : Wanted → List ℕ → Bool
 is_duplicate wanted.Verb word = is_option word
 is_duplicate what word = false
@@ -119,7 +119,7 @@ on_word what word =
     if is_duplicate what word then codes "duplicate " ++ shown word else
     error_phrase what ++ codes " " ++ quoted word ++ expected_phrase what ++ rule_error_in what word
 
--- the word before an index, if there is one
+-- the word before an index: the index 0 has none
 abbrev pub after_word : List (List ℕ) → ℕ → List ℕ
 after_word words at = if at == 0 then [] else option_map_or (λ word. codes " after " ++ quoted word) (slice_get words (at - 1)) []
 

@@ -49,7 +49,7 @@ const MOMENTS: &[u8] = b"; expected one such as 2024-02-29 or 2024-02-29T23:59:5
 /// Examples of a date.
 const DATES: &[u8] = b"; expected one such as 2024-02-29, 2024-060, 2024-W09-4 or J2460370";
 
-/// What comes after `by`.
+/// The argument of `by`.
 const NUMBERS_AND_RULES: &[u8] =
     b"; expected an integer from 1 to 4294967295 or a rule such as FREQ=MONTHLY;BYDAY=-1FR";
 
@@ -83,7 +83,7 @@ fn push_complaint(line: &mut Buffer, arguments: &[u8], senseless: Senseless)
     line.push(b"\n");
 }
 
-/// Appends what is wrong, and what was expected.
+/// Appends the error and the expected words.
 fn push_problem(line: &mut Buffer, arguments: &[u8], senseless: Senseless)
     requires { length line.old ≤ 9 }
     ensures text { line.new ≡ line.old ++ problem (arguments_of arguments.now) senseless }
@@ -129,7 +129,7 @@ fn push_on_missing(line: &mut Buffer, arguments: &[u8], senseless: Senseless)
     line.push(expected_phrase(senseless.wanted));
 }
 
-/// Appends the word before an index, if there is one.
+/// Appends the word before an index: ` after 'add'`. Appends nothing for the index 0.
 fn push_after_word(line: &mut Buffer, arguments: &[u8], index: usize)
     requires { length line.old ≤ 100 }
     ensures text { line.new ≡ line.old ++ after_word (arguments_of arguments.now) index }
@@ -145,7 +145,7 @@ fn push_after_word(line: &mut Buffer, arguments: &[u8], index: usize)
     push_quoted(line, word);
 }
 
-/// Appends the word in quotes. Only the part of it that is shown.
+/// Appends the word in quotes: its first 80 bytes, with `?` for each that doesn't print.
 fn push_quoted(line: &mut Buffer, word: &[u8])
     requires { length line.old ≤ 200 }
     ensures text { line.new ≡ line.old ++ quoted word.now }
@@ -183,14 +183,14 @@ fn names_word(wanted: Wanted) -> bool
     }
 }
 
-/// Returns whether the word is an option that is there twice.
+/// Returns whether the word is a duplicate option.
 fn is_duplicate(wanted: Wanted, word: &[u8]) -> bool
     ensures { result ≡ is_duplicate wanted word.now }
 {
     wanted == Wanted::Verb && is_option(word)
 }
 
-/// Returns what is wrong with the word at the index.
+/// Returns the error, without the word: `unknown unit`.
 fn error_phrase(wanted: Wanted) -> &'static [u8]
     ensures words { result.now ≡ error_phrase wanted }
     ensures short { length result.now ≤ 40 }
@@ -223,7 +223,7 @@ fn error_phrase(wanted: Wanted) -> &'static [u8]
     }
 }
 
-/// Returns what is missing if there is no word at the index.
+/// Returns the name of a missing argument: `unit`.
 fn missing_noun(wanted: Wanted) -> &'static [u8]
     ensures words { result.now ≡ missing_noun wanted }
     ensures short { length result.now ≤ 20 }
@@ -251,7 +251,7 @@ fn missing_noun(wanted: Wanted) -> &'static [u8]
     }
 }
 
-/// Returns what was expected, or nothing if the message says so already.
+/// Returns the expected words, or nothing if the message needs none.
 fn expected_phrase(wanted: Wanted) -> &'static [u8]
     ensures words { result.now ≡ expected_phrase wanted }
     ensures short { length result.now ≤ 200 }
