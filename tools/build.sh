@@ -76,7 +76,7 @@ progress() {
     told=' '
     while IFS= read -r line; do
         case $line in
-        'rt: waiting for another rt'*) say 'another build is under way, and this one waits for it' ;;
+        'rt: waiting for another rt'*) say 'waiting for another build' ;;
         'rt: chose --jobs '* | 'tools: proving '*)
             place=0
             for one in $crates; do
@@ -124,8 +124,8 @@ done
 unset CDPATH
 log=$crate/out/build.log
 begun=$crate/out/begun.$$
-command -v rt >/dev/null || fail "the kit's rt is not on the path, so nothing is built"
-mkdir -p -- "$crate/out" 2>/dev/null && begin_marker "$begun" 2>/dev/null || fail 'this checkout cannot be written to, so nothing is built'
+command -v rt >/dev/null || fail "rt not found; expected the kit's rt on PATH"
+mkdir -p -- "$crate/out" 2>/dev/null && begin_marker "$begun" 2>/dev/null || fail "cannot write to $crate/out"
 trap 'rm -f -- "$begun" "$log.$$"' EXIT
 forecast
 prove_and_build </dev/null | tee -- "$log.$$" | progress || true
@@ -140,7 +140,7 @@ else
     grep -E '^note: src/.*it is not proved|: error(\[|:)|^fn .*: no proof: (expected|search)|^rt: the library .* did not build' "$log" | head -n 40 >&2 ||
         tail -n 5 "$log" >&2
     if grep -q '^logic=not-proved' "$log"; then
-        fail "the proof failed, so nothing was built; the lines above are of crates/$name/out/build.log"
+        fail "the proof failed, so nothing was built; see crates/$name/out/build.log"
     fi
-    fail "the build failed; the lines above are of crates/$name/out/build.log"
+    fail "the build failed; see crates/$name/out/build.log"
 fi

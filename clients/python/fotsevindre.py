@@ -57,10 +57,10 @@ def _load() -> ctypes.CDLL:
     try:
         library = ctypes.CDLL(name)
     except OSError as error:
-        raise ImportError(f"{error}: set FOTSEVINDRE_LIBRARY to the shared object of Fotsevindre") from error
+        raise ImportError(f"{error}; set FOTSEVINDRE_LIBRARY to the path of libfotsevindre.so") from error
     major, minor, patch = map(int, __version__.split("."))
     if not hasattr(library, "fots_version") or library.fots_version() != major * 10**6 + minor * 10**3 + patch:
-        raise ImportError(f"{name} is not of the version {__version__}")
+        raise ImportError(f"wrong version of {name}; expected {__version__}")
     return library
 
 
@@ -326,6 +326,28 @@ _REFUSALS = {
     30: "bounds", 64: "day", 65: "ordinal", 66: "week", 67: "weekday",
 }
 _FIRST_CONDITIONAL = 64
+# What each other status says.
+_MESSAGES = {
+    2: "invalid date; expected a Julian day from -363521074 to 366963559",
+    3: "invalid time; expected 0 to 86399999999999 nanoseconds since midnight",
+    4: "invalid offset; expected -93599 to 93599 seconds",
+    5: "invalid duration; expected -999999999 to 999999999 nanoseconds with the sign of the seconds",
+    6: "invalid weekday; expected 1 (Monday) to 7 (Sunday)",
+    _UNREADABLE: "unexpected byte in the text",
+    9: "invalid moment; expected a valid date, time and offset",
+    10: "invalid frequency; expected 1 (Daily) to 4 (Yearly)",
+    11: "too many parts in a rule; expected at most 64 months and 64 weekdays",
+    12: "invalid convention; expected a Convention or a DayCount",
+    13: "invalid weekmask; expected 0 to 127, with a bit for each weekday",
+    14: "holidays must be in ascending order, without duplicates",
+    15: "too many holidays; expected at most 1024",
+    _UNEXPECTED_END: "unexpected end of the text",
+    32: "unknown part in a recurrence",
+    33: "duplicate part in a recurrence",
+    34: "too many values in a part of a recurrence; expected at most 62",
+    35: "invalid value in a part of a recurrence",
+    36: "missing FREQ in a recurrence",
+}
 
 
 class ComponentRange(ValueError):
@@ -378,18 +400,14 @@ class Unreadable(ValueError):
 
 
 def _error(status: int) -> Exception:
-    """What to raise for a status that is not 'done'."""
+    """Return the exception for a status other than 0."""
     if status in _REFUSALS:
         return ComponentRange(_REFUSALS[status], status >= _FIRST_CONDITIONAL)
     if status == _PAST_RANGE:
-        return OverflowError("the result is past the range")
+        return OverflowError("the result is out of range")
     if status == _BAD_COUNT:
-        return OverflowError("a count of occurrences is from 0 to 255")
-    if status == _UNREADABLE:
-        return ValueError("the text has no form that is read")
-    if status == _UNEXPECTED_END:
-        return ValueError("the text ends too early")
-    return ValueError(f"the library refused a value, with status {status}")
+        return OverflowError("invalid count of occurrences; expected 0 to 255")
+    return ValueError(_MESSAGES.get(status, f"unknown status {status}"))
 
 
 def _done(result: _Result) -> _Result:
@@ -430,7 +448,7 @@ def _fit(number: SupportsIndex, least: int, greatest: int) -> int:
     """The number itself, where it is of the range."""
     number = operator.index(number)
     if not least <= number <= greatest:
-        raise OverflowError(f"{number} is outside {least} to {greatest}")
+        raise OverflowError(f"{number} is out of range; expected {least} to {greatest}")
     return number
 
 
@@ -469,7 +487,7 @@ def _long(number: SupportsIndex) -> int:
 def _weekday(weekday: Weekday) -> int:
     """The number of the weekday."""
     if type(weekday) is not Weekday:
-        raise TypeError(f"Weekday expected, not {type(weekday).__name__}")
+        raise TypeError(f"expected Weekday, not {type(weekday).__name__}")
     number: int = weekday._value_
     return number
 
@@ -480,7 +498,7 @@ _T = TypeVar("_T")
 def _is(value: Any, kind: Type[_T]) -> _T:
     """The value itself, where it is of the class."""
     if not isinstance(value, kind):
-        raise TypeError(f"{kind.__name__} expected, not {type(value).__name__}")
+        raise TypeError(f"expected {kind.__name__}, not {type(value).__name__}")
     return value
 
 
@@ -561,7 +579,7 @@ class Weekday(enum.Enum):
 
     def __eq__(self, other: object) -> bool:
         if isinstance(other, int):
-            raise TypeError("a weekday is no number: compare it with a Weekday, or take number_days_from_monday(), which datetime counts")
+            raise TypeError("cannot compare Weekday with int; compare it with a Weekday, or use number_days_from_monday()")
         return self is other
 
     __hash__ = enum.Enum.__hash__
@@ -652,7 +670,7 @@ class _Value:
     _key: Any
 
     def __init__(self, *_arguments: object, **_named: object) -> None:
-        raise TypeError(f"{type(self).__name__} is made by its class methods")
+        raise TypeError(f"cannot call {type(self).__name__}; use one of its class methods")
 
     @classmethod
     def _of(cls: Type[_V], key: object) -> _V:
@@ -668,7 +686,7 @@ class _Value:
         if isinstance(other, type(self)):
             return bool(self._order() == other._order())
         if isinstance(other, _OF_DATETIME):
-            raise TypeError(f"{type(self).__name__} and {type(other).__name__} are not compared: convert the one to the other")
+            raise TypeError(f"cannot compare {type(self).__name__} with {type(other).__name__}; convert one of them")
         return NotImplemented
 
     def __lt__(self: _V, other: _V) -> bool:
@@ -708,7 +726,7 @@ _new = object.__new__
 def _whole_microseconds(nanoseconds: int, name: str) -> None:
     """Raises where there are nanoseconds past the microseconds, which the standard library has not."""
     if nanoseconds % 1000:
-        raise ValueError(f"{name} has no nanoseconds: truncate {nanoseconds} ns to microseconds before")
+        raise ValueError(f"{name} has no nanoseconds; truncate {nanoseconds} ns to microseconds first")
 
 
 def _cut(number: int, divisor: int) -> Tuple[int, int]:
@@ -1012,7 +1030,7 @@ class SignedDuration(_Value):
         if not hasattr(divisor, "__index__"):
             return NotImplemented
         if operator.index(divisor) == 0:
-            raise ZeroDivisionError("a duration by 0")
+            raise ZeroDivisionError("division of a duration by zero")
         return _duration(_C.duration_checked_div(self._key, _i32(divisor)))
 
     def __neg__(self) -> SignedDuration:
@@ -1114,7 +1132,7 @@ class Time(_Value):
     def from_time(cls, time: datetime.time) -> Time:
         """The time of a `datetime.time` without a time zone; one that has one raises `ValueError`."""
         if _is(time, datetime.time).tzinfo is not None:
-            raise ValueError("a datetime.time without tzinfo expected")
+            raise ValueError("expected a datetime.time without tzinfo")
         return cls.from_hms_micro(time.hour, time.minute, time.second, time.microsecond)
 
     def to_time(self) -> datetime.time:
@@ -1287,7 +1305,7 @@ class UtcOffset(_Value):
         """The offset of a `datetime.timezone`; `ValueError` where that has parts of a second."""
         delta = _is(timezone, datetime.timezone).utcoffset(None)
         if delta.microseconds:
-            raise ValueError(f"an offset of whole seconds expected, not {delta}")
+            raise ValueError(f"expected an offset of whole seconds, not {delta}")
         return cls.from_whole_seconds(delta // datetime.timedelta(seconds=1))
 
     def to_timezone(self) -> datetime.timezone:
@@ -1431,14 +1449,14 @@ class Date(_Value):
     def from_date(cls, date: datetime.date) -> Date:
         """The date of a `datetime.date`, which has always one. A `datetime.datetime` is none: take its `date()`."""
         if isinstance(_is(date, datetime.date), datetime.datetime):
-            raise TypeError("datetime.date expected, not datetime")
+            raise TypeError("expected datetime.date, not datetime; use its date()")
         return cls.from_calendar_date(date.year, date.month, date.day)
 
     def to_date(self) -> datetime.date:
         """The `datetime.date`, which has the years 1 to 9999; `OverflowError` where that has not the year."""
         year, month, day = self.to_calendar_date()
         if not datetime.MINYEAR <= year <= datetime.MAXYEAR:
-            raise OverflowError(f"datetime.date has no year {year}")
+            raise OverflowError(f"year {year} is out of range of datetime.date; expected {datetime.MINYEAR} to {datetime.MAXYEAR}")
         return datetime.date(year, month, day)
 
     def isoformat(self) -> str:
@@ -1711,7 +1729,7 @@ Date.MAX = Date.from_julian_day(366_963_559)
 def _whole_days(delta: datetime.timedelta) -> SignedDuration:
     """Return the duration of whole days. Others must be converted, because `datetime` rounds them down, and durations truncate."""
     if delta.seconds or delta.microseconds:
-        raise ValueError("a timedelta of whole days expected: SignedDuration.from_timedelta takes others")
+        raise ValueError("expected a timedelta of whole days; convert others with SignedDuration.from_timedelta")
     return SignedDuration.days(delta.days)
 
 
@@ -1963,8 +1981,9 @@ class RuleReason(enum.Enum):
     Missing = "no frequency"
 
 
-# The reason of each status, and the name of each part.
+# The reason of each status, the text of each reason, and the name of each part.
 _REASONS = dict(zip(range(32, 37), RuleReason))
+_REASON_TEXTS = dict(zip(RuleReason, ("unknown part", "duplicate {}", "too many values in {}", "invalid value of {}", "missing FREQ")))
 _PARTS = (None, "FREQ", "INTERVAL", "WKST", "BYMONTH", "BYMONTHDAY", "BYDAY", "UNTIL", "COUNT")
 
 
@@ -1975,7 +1994,7 @@ class RuleFault(ValueError):
 
     >>> Recurrence.parse("FREQ=DAILY;UNTIL=20241231;COUNT=3")
     Traceback (most recent call last):
-    fotsevindre.RuleFault: part twice at 26
+    fotsevindre.RuleFault: duplicate COUNT at 26
     """
 
     position: int
@@ -1989,7 +2008,7 @@ class RuleFault(ValueError):
         self.part = part
 
     def __str__(self) -> str:
-        return f"{self.reason.value} at {self.position}"
+        return f"{_REASON_TEXTS[self.reason].format(self.part or 'part')} at {self.position}"
 
 
 @dataclasses.dataclass(frozen=True)
@@ -2086,7 +2105,7 @@ def _rule_weekday(weekday: Union[Weekday, Tuple[int, Weekday]]) -> _CRuleWeekday
         return _CRuleWeekday(0, _weekday(weekday))
     number, weekday = weekday
     if operator.index(number) == 0:
-        raise ValueError("no weekday of a month or a year is the 0th")
+        raise ValueError("invalid number 0 of a weekday; use the Weekday without a number for every one")
     return _CRuleWeekday(_fit(number, -128, 127), _weekday(weekday))
 
 
@@ -2425,7 +2444,7 @@ class PlainDateTime(_DateTime):
     def from_datetime(cls, value: datetime.datetime) -> PlainDateTime:
         """The date-time of a `datetime.datetime` without a time zone; one that has one raises `ValueError`."""
         if _is(value, datetime.datetime).tzinfo is not None:
-            raise ValueError("a datetime.datetime without tzinfo expected")
+            raise ValueError("expected a datetime.datetime without tzinfo")
         return cls.new(Date.from_date(value.date()), Time.from_time(value.time()))
 
     def to_datetime(self) -> datetime.datetime:
@@ -2513,7 +2532,7 @@ class OffsetDateTime(_DateTime):
         """
         delta = _is(value, datetime.datetime).utcoffset()
         if delta is None:
-            raise ValueError("a datetime.datetime with an offset from UTC expected")
+            raise ValueError("expected a datetime.datetime with a UTC offset")
         offset = UtcOffset.from_timezone(datetime.timezone(delta))
         return PlainDateTime.from_datetime(value.replace(tzinfo=None)).assume_offset(offset)
 
@@ -2586,7 +2605,7 @@ OffsetDateTime.UNIX_EPOCH = OffsetDateTime.from_unix_timestamp(0)
 
 
 def status_error(status: int) -> Optional[Exception]:
-    """What a call of one value would raise for the status of a row, or `None` where the row has an answer.
+    """Return the exception that a call of one value would raise for the status of a row, or `None` for 0.
 
     >>> status_error(0), status_error(64)
     (None, ComponentRange('day', True))
@@ -2603,7 +2622,7 @@ def _of_array(values: Any, kind: Any, of_dates: bool) -> Any:
     letter, name = values.dtype.kind, str(values.dtype)
     if letter == "M" and of_dates:
         if name != "datetime64[D]":
-            raise TypeError(f"a column of dates is datetime64[D], not {name}: .astype('datetime64[D]') cuts to days")
+            raise TypeError(f"expected a column of datetime64[D], not {name}; .astype('datetime64[D]') truncates to days")
         # Not a time is the least number, which is no date.
         days = values.view("int64")
         missing = days == -2**63
@@ -2611,13 +2630,13 @@ def _of_array(values: Any, kind: Any, of_dates: bool) -> Any:
         values[missing | (days < -2**40) | (days > 2**40)] = -2**31
     elif letter == "m" and kind is _I64:
         if name != "timedelta64[D]":
-            raise TypeError(f"a column of days is timedelta64[D], not {name}: .astype('timedelta64[D]') cuts to days")
+            raise TypeError(f"expected a column of timedelta64[D], not {name}; .astype('timedelta64[D]') truncates to days")
         values = values.view("int64")
     elif letter not in "iu":
-        raise TypeError(f"a column of whole numbers expected, not of {name}")
+        raise TypeError(f"expected a column of integers, not {name}")
     least, greatest = _BITS[kind]
     if values.ndim == 1 and len(values) and not least <= int(values.min()) <= int(values.max()) <= greatest:
-        raise OverflowError(f"a column has a number outside {least} to {greatest}")
+        raise OverflowError(f"a number in a column is out of range; expected {least} to {greatest}")
     return values.astype(_CODES[kind], order="C", copy=False)
 
 
@@ -2631,11 +2650,11 @@ def _column(values: Any, kind: Any, of_dates: bool) -> Any:
         values = _of_array(values, kind, of_dates)
     view = memoryview(values)
     if view.ndim != 1:
-        raise TypeError(f"a column has one dimension, not {view.ndim}")
+        raise TypeError(f"expected a column of one dimension, not {view.ndim}")
     order = "@=" + ("<" if sys.byteorder == "little" else ">")
     code = view.format[1:] if view.format[:1] in order else view.format
     if code not in "bhilqBHILQ":
-        raise TypeError(f"a column of whole numbers expected, not of the format '{view.format}'")
+        raise TypeError(f"expected a column of integers, not of format '{view.format}'")
     signs = "bhilq" if kind in (_I32, _I64) else "BHILQ"
     if code not in signs or view.itemsize != ctypes.sizeof(kind) or not view.c_contiguous:
         # array raises OverflowError where a number does not fit.
@@ -2655,7 +2674,7 @@ def _over_columns(name: str, *columns: object, workdays: Optional[Workdays] = No
     found = [_column(values, kind, index < of_dates) for index, (values, kind) in enumerate(zip(columns, kinds))]
     length = len(found[0])
     if any(len(column) != length for column in found):
-        raise ValueError("columns of one length expected")
+        raise ValueError("expected columns of the same length")
     between = () if workdays is None else (workdays._week, workdays._holidays, len(workdays._holidays))
     return _answers(name, columns, found, [length] * (len(kinds_given) + 1), between)
 
@@ -2835,7 +2854,7 @@ def _over_texts(name: str, texts: object, bounds: object) -> Tuple[Any, ...]:
     found = [_column(texts, _U8, False), _column(bounds, _I32, False)]
     rows = len(found[1]) - 1
     if rows < 0:
-        raise ValueError("there is one bound more than there are rows")
+        raise ValueError("no bounds; expected one more than there are texts")
     return _answers(name, (texts, bounds), found, [rows] * (len(_COLUMNS[name][1]) + 1))
 
 
@@ -2858,9 +2877,9 @@ def _printed(name: str, room: int, columns: Tuple[object, ...]) -> TextColumns:
     found = [_column(values, kind, index == 0) for index, (values, kind) in enumerate(zip(columns, _COLUMNS[name][0]))]
     rows = len(found[0])
     if any(len(column) != rows for column in found):
-        raise ValueError("columns of one length expected")
+        raise ValueError("expected columns of the same length")
     if rows * room > 2**31 - 1:
-        raise OverflowError(f"the bounds have 32 bits: no more than {(2**31 - 1) // room} rows at once")
+        raise OverflowError(f"too many rows; expected at most {(2**31 - 1) // room} in one call")
     texts, bounds, statuses, refused = _answers(name, columns, found, [rows * room, rows + 1, rows])
     return TextColumns(texts[:bounds[rows]].tobytes(), bounds, statuses, refused)
 

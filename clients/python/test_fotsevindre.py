@@ -842,7 +842,7 @@ class Columns(Cases):
                 try:
                     answer = read(text)
                 except fotsevindre.Unreadable as raised:
-                    words = "the text ends too early" if raised.is_end else "the text has no form that is read"
+                    words = "unexpected end of the text" if raised.is_end else "unexpected byte in the text"
                     self.assertEqual(str(error), words)
                 except fotsevindre.ComponentRange as raised:
                     self.assertEqual(repr(error), repr(raised))
@@ -1045,6 +1045,9 @@ class Header(Cases):
         self.assertEqual(fotsevindre._BAD_COUNT, self.statuses["FOTS_BAD_COUNT"])
         self.assertEqual(fotsevindre._UNREADABLE, self.statuses["FOTS_UNREADABLE"])
         self.assertEqual(fotsevindre._UNEXPECTED_END, unexpected_end)
+        words = {number: str(fotsevindre.status_error(number)) for number in range(1, 69)}
+        self.assertEqual({number for number, text in words.items() if text != f"unknown status {number}"}, {self.statuses[name] for name in self.names} - {0})
+        self.assertEqual(words[self.statuses["FOTS_BAD_HOLIDAYS"]], "holidays must be in ascending order, without duplicates")
 
 
 class Documentation(Cases):

@@ -95,8 +95,8 @@ class Numpy(unittest.TestCase):
     def test_what_is_refused(self):
         for wrong, words in [
             (numpy.array(["2024-02-29T12"], dtype="datetime64[h]"), "datetime64\\[h\\]"), (numpy.array([1.0]), "float64"),
-            (numpy.array([True]), "bool"), (numpy.array([[1]]), "one dimension"), (numpy.array(["2024"]), "whole numbers"),
-            (numpy.array([None]), "whole numbers"),
+            (numpy.array([True]), "bool"), (numpy.array([[1]]), "one dimension"), (numpy.array(["2024"]), "integers"),
+            (numpy.array([None]), "integers"),
         ]:
             with self.assertRaisesRegex(TypeError, words):
                 fotsevindre.dates_to_ordinal_dates(wrong)

@@ -221,17 +221,17 @@ class Recurrences(unittest.TestCase):
         for parts in ({"weekdays": [5]}, {"months": ["1"]}, {"until": 1}, {"week_start": 1}, {"weekdays": [(1, 5)]}):
             self.assertRaises(TypeError, Rule, start, Frequency.Yearly, **parts)
         for text, wanted in {
-            "FREQ=MONTHLY;BYSETPOS=-1;BYDAY=FR": (13, RuleReason.Unknown, None),
-            "FREQ=DAILY;UNTIL=20241231;COUNT=3": (26, RuleReason.Twice, "COUNT"),
-            "FREQ=DAILY;BYMONTHDAY=1" + ",1" * 62: (11, RuleReason.TooMany, "BYMONTHDAY"),
-            "FREQ=DAILY;UNTIL=20241231T000000Z": (11, RuleReason.Value, "UNTIL"),
-            "INTERVAL=2;FREQ=\ud800": (11, RuleReason.Value, "FREQ"),
-            "BYDAY=MO": (8, RuleReason.Missing, None),
+            "FREQ=MONTHLY;BYSETPOS=-1;BYDAY=FR": (13, RuleReason.Unknown, None, "unknown part at 13"),
+            "FREQ=DAILY;UNTIL=20241231;COUNT=3": (26, RuleReason.Twice, "COUNT", "duplicate COUNT at 26"),
+            "FREQ=DAILY;BYMONTHDAY=1" + ",1" * 62: (11, RuleReason.TooMany, "BYMONTHDAY", "too many values in BYMONTHDAY at 11"),
+            "FREQ=DAILY;UNTIL=20241231T000000Z": (11, RuleReason.Value, "UNTIL", "invalid value of UNTIL at 11"),
+            "INTERVAL=2;FREQ=\ud800": (11, RuleReason.Value, "FREQ", "invalid value of FREQ at 11"),
+            "BYDAY=MO": (8, RuleReason.Missing, None, "missing FREQ at 8"),
         }.items():
             with self.assertRaises(RuleFault) as fault:
                 Recurrence.parse(text)
-            self.assertEqual((fault.exception.position, fault.exception.reason, fault.exception.part), wanted, text)
-            self.assertEqual(str(pickle.loads(pickle.dumps(fault.exception))), f"{wanted[1].value} at {wanted[0]}")
+            self.assertEqual((fault.exception.position, fault.exception.reason, fault.exception.part, str(fault.exception)), wanted, text)
+            self.assertEqual(str(pickle.loads(pickle.dumps(fault.exception))), wanted[-1])
         daily = Recurrence.parse("FREQ=DAILY")
         self.assertEqual(pickle.loads(pickle.dumps(daily)), daily)
         for call in (lambda: Recurrence.parse(b"FREQ=DAILY"), lambda: daily.days(datetime.date(2024, 1, 1)), lambda: daily.days_from(start, 1)):

@@ -49,6 +49,11 @@ impl RulePart {
     /// The parts by their numbers, from 1.
     const ALL: [Self; 8] =
         [Self::Frequency, Self::Interval, Self::WeekStart, Self::Months, Self::MonthDays, Self::Weekdays, Self::Until, Self::Count];
+
+    /// Returns the name, such as `BYDAY`.
+    fn name(self) -> &'static str {
+        ["FREQ", "INTERVAL", "WKST", "BYMONTH", "BYMONTHDAY", "BYDAY", "UNTIL", "COUNT"][self as usize - 1]
+    }
 }
 
 /// Why a part is wrong.
@@ -66,7 +71,7 @@ pub enum RuleReason {
     Missing,
 }
 
-/// The first wrong part. It prints as `part value at 11`.
+/// The first wrong part. It prints as `invalid value of BYDAY at 11`.
 #[derive(Clone, Copy, Debug, PartialEq, Eq, Hash)]
 pub struct RuleFault {
     /// The position of the part, from 0, or the length of the text if a part is missing.
@@ -93,14 +98,14 @@ impl RuleFault {
 
 impl fmt::Display for RuleFault {
     fn fmt(&self, f: &mut fmt::Formatter<'_>) -> fmt::Result {
-        let reason = match self.reason {
-            RuleReason::Unknown => "unknown part",
-            RuleReason::Twice(_) => "part twice",
-            RuleReason::TooMany(_) => "many values",
-            RuleReason::Value(_) => "part value",
-            RuleReason::Missing => "no frequency",
+        let (reason, part) = match self.reason {
+            RuleReason::Unknown => ("unknown part", ""),
+            RuleReason::Twice(part) => ("duplicate ", part.name()),
+            RuleReason::TooMany(part) => ("too many values in ", part.name()),
+            RuleReason::Value(part) => ("invalid value of ", part.name()),
+            RuleReason::Missing => ("missing FREQ", ""),
         };
-        write!(f, "{reason} at {}", self.position)
+        write!(f, "{reason}{part} at {}", self.position)
     }
 }
 

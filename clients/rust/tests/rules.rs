@@ -170,15 +170,15 @@ fn texts_at_fault() {
     let many = format!("FREQ=DAILY;BYMONTHDAY=1{}", ",1".repeat(62));
     for (text, position, reason, printed) in [
         ("FREQ=MONTHLY;BYSETPOS=-1;BYDAY=FR", 13, RuleReason::Unknown, "unknown part at 13"),
-        ("FREQ=DAILY;UNTIL=20241231;COUNT=3", 26, RuleReason::Twice(RulePart::Count), "part twice at 26"),
-        (&many, 11, RuleReason::TooMany(RulePart::MonthDays), "many values at 11"),
-        ("FREQ=HOURLY", 0, RuleReason::Value(RulePart::Frequency), "part value at 0"),
-        ("FREQ=DAILY;INTERVAL=0", 11, RuleReason::Value(RulePart::Interval), "part value at 11"),
-        ("FREQ=DAILY;WKST=1MO", 11, RuleReason::Value(RulePart::WeekStart), "part value at 11"),
-        ("FREQ=DAILY;BYMONTH=13", 11, RuleReason::Value(RulePart::Months), "part value at 11"),
-        ("FREQ=DAILY;BYDAY=54MO", 11, RuleReason::Value(RulePart::Weekdays), "part value at 11"),
-        ("FREQ=DAILY;UNTIL=20230229", 11, RuleReason::Value(RulePart::Until), "part value at 11"),
-        ("BYDAY=MO", 8, RuleReason::Missing, "no frequency at 8"),
+        ("FREQ=DAILY;UNTIL=20241231;COUNT=3", 26, RuleReason::Twice(RulePart::Count), "duplicate COUNT at 26"),
+        (&many, 11, RuleReason::TooMany(RulePart::MonthDays), "too many values in BYMONTHDAY at 11"),
+        ("FREQ=HOURLY", 0, RuleReason::Value(RulePart::Frequency), "invalid value of FREQ at 0"),
+        ("FREQ=DAILY;INTERVAL=0", 11, RuleReason::Value(RulePart::Interval), "invalid value of INTERVAL at 11"),
+        ("FREQ=DAILY;WKST=1MO", 11, RuleReason::Value(RulePart::WeekStart), "invalid value of WKST at 11"),
+        ("FREQ=DAILY;BYMONTH=13", 11, RuleReason::Value(RulePart::Months), "invalid value of BYMONTH at 11"),
+        ("FREQ=DAILY;BYDAY=54MO", 11, RuleReason::Value(RulePart::Weekdays), "invalid value of BYDAY at 11"),
+        ("FREQ=DAILY;UNTIL=20230229", 11, RuleReason::Value(RulePart::Until), "invalid value of UNTIL at 11"),
+        ("BYDAY=MO", 8, RuleReason::Missing, "missing FREQ at 8"),
     ] {
         let fault = parse(text.as_bytes()).unwrap_err();
         assert_eq!((fault, fault.to_string().as_str()), (RuleFault { position, reason }, printed), "{text}");

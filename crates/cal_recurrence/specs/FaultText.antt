@@ -1,4 +1,4 @@
--- What is said of a text that is none of a recurrence.
+-- The text of an error in the text of a recurrence.
 use Rattle.std.specs.Prelude.{ℕ, List, ◌++◌, codes, decimal}
 use Rattle.cal_recurrence.specs.declared.fault.RuleFault.{RuleFault}
 use Rattle.cal_recurrence.specs.declared.fault.RulePart.{RulePart}
@@ -16,11 +16,11 @@ part_name part.Weekdays = codes "BYDAY"
 part_name part.Until = codes "UNTIL"
 part_name part.Count = codes "COUNT"
 
--- a COUNT after an UNTIL is one too many too
+-- a COUNT after an UNTIL is a duplicate too, and an UNTIL after a COUNT
 abbrev pub reason_text : RuleReason → List ℕ
 reason_text Unknown = codes "unknown part"
-reason_text (Twice at) = codes "one " ++ part_name at ++ codes " too many"
-reason_text (TooMany at) = codes "more than 62 values of " ++ part_name at
+reason_text (Twice at) = codes "duplicate " ++ part_name at
+reason_text (TooMany at) = codes "too many values in " ++ part_name at
 reason_text (Value at) = codes "invalid value of " ++ part_name at
 reason_text Missing = codes "missing FREQ"
 

@@ -1,4 +1,4 @@
-//! Why a text is none of a recurrence.
+//! Errors in the text of a recurrence.
 ghost use Rattle.std.specs.Prelude.{◌≡◌, ◌≤◌, Some, length};
 ghost use Rattle.cal_recurrence.specs.FaultText.{fault_text, part_name, reason_text};
 
@@ -41,9 +41,9 @@ pub enum RuleReason {
     Missing,
 }
 
-/// The first part that is at fault.
+/// The first wrong part of a text.
 ///
-/// It prints what is at fault, and the position: `invalid value of BYDAY at 13`.
+/// It prints its reason and its position: `invalid value of BYDAY at 13`.
 #[derive(Clone, Copy, Debug, PartialEq, Eq)]
 pub struct RuleFault {
     /// The position of its first byte, counted from 0. A part that is missing has the position at the end of the text.
@@ -72,7 +72,8 @@ impl RulePart {
 }
 
 impl RuleReason {
-    /// What is at fault, as it prints: that of `RuleReason::Value(RulePart::Weekdays)` is `invalid value of BYDAY`.
+    /// Returns the text of the reason, such as `duplicate COUNT`, `too many values in BYDAY` or
+    /// `missing FREQ`.
     pub fn text(self) -> ShortText
         ensures { result ≡ reason_text self }
     {
@@ -80,12 +81,11 @@ impl RuleReason {
         match self {
             RuleReason::Unknown => text.push("unknown part"),
             RuleReason::Twice(part) => {
-                text.push("one ");
+                text.push("duplicate ");
                 text.push(part.name());
-                text.push(" too many");
             }
             RuleReason::TooMany(part) => {
-                text.push("more than 62 values of ");
+                text.push("too many values in ");
                 text.push(part.name());
             }
             RuleReason::Value(part) => {

@@ -16,8 +16,8 @@ is_closed kind = false
 -- nothing after a run that answered all of its input or whose output was closed, else why it ended, with a line feed
 abbrev pub words_of_end : Result Unit Fault → List ℕ
 words_of_end (Ok done) = []
-words_of_end (Err Read) = codes "caldate: cannot read" ++ 10 ∷ []
-words_of_end (Err (Write kind)) = if is_closed kind then [] else codes "caldate: cannot write" ++ 10 ∷ []
+words_of_end (Err Read) = codes "caldate: cannot read standard input" ++ 10 ∷ []
+words_of_end (Err (Write kind)) = if is_closed kind then [] else codes "caldate: cannot write to standard output" ++ 10 ∷ []
 words_of_end (Err (Unanswered line)) =
     codes "caldate: line " ++ decimal line.number ++ codes ": " ++ words_shown line.reason ++ codes ": " ++ words_shown line.text ++ 10 ∷ []
 

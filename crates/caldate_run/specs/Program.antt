@@ -15,6 +15,6 @@ Asks (Some arguments) asked = (reading : List ℕ → Option DateOrMoment)
 
 -- The arguments are invalid, and these words say why.
 abbrev pub HasComplaint : Option (Bor (List ℕ)) → List ℕ → Type 0
-HasComplaint None words = words ≡ codes "caldate: the arguments have more than 4096 bytes" ++ 10 ∷ []
+HasComplaint None words = words ≡ codes "caldate: arguments too long; expected at most 4096 bytes" ++ 10 ∷ []
 HasComplaint (Some arguments) words = (reading : List ℕ → Option DateOrMoment) × (senseless : Senseless) × IsReading reading (arguments_of arguments.now)
     × (asked_of reading (arguments_of arguments.now) ≡ Err senseless) × (words ≡ complaint (arguments_of arguments.now) senseless)

@@ -365,6 +365,10 @@ value_of options word =
     if bytes_eq word (codes "--assume") && is_none options.offset then Some wanted.Offset else
     None
 
+-- The word is an option, whatever the others are.
+abbrev pub is_option : List ℕ → Bool
+is_option word = takes_strict no_options word || is_some (value_of no_options word)
+
 -- The options, with this value for the option that needs it.
 abbrev pub with_value : Options → List ℕ → Wanted → Option Options
 with_value options value wanted.FieldNumber = option_map (λ n. record options { number = Some n }) (field_number_of value)

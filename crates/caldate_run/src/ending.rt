@@ -63,8 +63,8 @@ fn push_words(words: &mut Buffer, outcome: Result<(), Fault>)
     match outcome {
         Ok(()) => {}
         Err(Fault::Write(kind)) if is_closed(kind) => {}
-        Err(Fault::Read) => words.push(b"caldate: cannot read\n"),
-        Err(Fault::Write(_)) => words.push(b"caldate: cannot write\n"),
+        Err(Fault::Read) => words.push(b"caldate: cannot read standard input\n"),
+        Err(Fault::Write(_)) => words.push(b"caldate: cannot write to standard output\n"),
         Err(Fault::Unanswered(line)) => {
             words.push(b"caldate: line ");
             words.push_number(line.number);

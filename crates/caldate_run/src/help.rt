@@ -1,37 +1,45 @@
-//! What the program says of itself.
+//! The texts of `--help` and `--version`.
 
-/// The version.
+/// The text of `--version`.
 pub const VERSION: &[u8] = b"caldate 0.1.0\n";
 
-/// The page of examples.
+/// The text of `--help`.
 pub const HELP: &[u8] = b"caldate answers each line of its input, a date or a moment, with one line.
 
-  caldate to FORM                 the same as calendar, ordinal, week, julian, weekday, short-weekday, month, quarter, basic,
-                                  rfc3339, unix, unix-ms, unix-us or unix-ns
-  caldate add N [UNIT]            so many days, weeks, months, years, workdays, hours, minutes or seconds later
+  caldate to FORM                 the same as calendar, ordinal, week, julian, weekday,
+                                  short-weekday, month, quarter, basic, rfc3339, unix, unix-ms,
+                                  unix-us or unix-ns
+  caldate add N [UNIT]            N days, weeks, months, years, workdays, hours, minutes or
+                                  seconds later
   caldate next WEEKDAY [N]        the N-th such day after it
   caldate last WEEKDAY [N]        the N-th such day before it
-  caldate on-or-after WEEKDAY     the first such day from it on
-  caldate on-or-before WEEKDAY    the last such day up to it
+  caldate on-or-after WEEKDAY     the first such day on or after it
+  caldate on-or-before WEEKDAY    the last such day on or before it
   caldate start PERIOD            the first day of its week, month, quarter or year
-  caldate end PERIOD              the last day of it
-  caldate until DATE [in UNIT]    the days to that date, the duration to that moment, or the whole units
-  caldate since DATE [in UNIT]    the same from there to it
-  caldate at OFFSET               the moment as a clock at that offset shows it
-  caldate keep from A to B        the line itself where it lies from A to B, and nothing where not; also keep after A, keep before B
-  caldate list from A to B        no input: all dates from A to B; with by N UNIT each so many days, weeks, months or years,
-                                  with by RULE those of a recurrence, as FREQ=MONTHLY;BYDAY=-1FR
-  caldate --strict ...            the same, but it ends at the first line without an answer, with status 1
-  caldate --field N ...           the same for the N-th field of each line, in its place; fields end at a tab
-  caldate --separator C ...       with --field: they end at the byte C
-  caldate --skip K ...            the same, but the first K lines are passed on as they are
-  caldate --read FORM ...         the same for lines in this form: basic, dmy, mdy, unix-ms, unix-us, unix-ns or local
+  caldate end PERIOD              the last day of its week, month, quarter or year
+  caldate until DATE [in UNIT]    the days until that date, the duration until that moment, or
+                                  whole units
+  caldate since DATE [in UNIT]    the same from that date or moment until the line
+  caldate at OFFSET               the moment at that offset
+  caldate keep from A to B        the line itself if it is from A to B, otherwise nothing;
+                                  also keep after A and keep before B
+  caldate list from A to B        without input: all dates from A to B; with by N UNIT every N
+                                  days, weeks, months or years; with by RULE the dates of a
+                                  recurrence, such as FREQ=MONTHLY;BYDAY=-1FR
+  caldate --strict ...            stops at the first line without an answer, with status 1
+  caldate --field N ...           reads the N-th field of each line and replaces it by its
+                                  answer; fields end at a tab
+  caldate --separator C ...       with --field: fields end at the byte C
+  caldate --skip K ...            writes the first K lines unchanged
+  caldate --read FORM ...         reads lines in this form: basic, dmy, mdy, unix-ms, unix-us,
+                                  unix-ns or local
   caldate --assume OFFSET ...     with --read local: the offset of the lines
   caldate --help, -h, help        this page
   caldate --version               the version
 
-A weekday or a unit is named in any case of its letters, also by its first three, as fri or min. A unit may be singular, as day.
-A line is a date, as 2024-02-29, 2024-060, 2024-W09-4 or J2460370, or a moment, as 2024-02-29T23:59:59.25+01:00 or @1709164800.5.
+Names of weekdays, units and periods may have any case, or only their first three letters: fri, min.
+A unit may be singular: day. A line is a date, such as 2024-02-29, 2024-060, 2024-W09-4 or J2460370,
+or a moment, such as 2024-02-29T23:59:59.25+01:00 or @1709164800.5.
 
   echo 2024-02-29 | caldate to week                        2024-W09-4
   echo 2024-W09-4 | caldate to weekday                     Thursday

@@ -1,6 +1,6 @@
 //! The options before a request.
 ghost use Rattle.std.specs.Prelude.{◌≡◌, ◌+◌, ◌≤◌, ◌^◌, IfOk, None, length};
-ghost use Rattle.caldate_run.specs.Requests.{arguments_of, byte_of, field_number_of, field_of, is_local, lacking, no_options, options_from, reading_at, reading_of, skip_of, takes_strict, value_of, with_value, words_left};
+ghost use Rattle.caldate_run.specs.Requests.{arguments_of, byte_of, field_number_of, field_of, is_local, is_option, lacking, no_options, options_from, reading_at, reading_of, skip_of, takes_strict, value_of, with_value, words_left};
 
 use crate::offset::offset_of;
 use crate::reading::Reading;
@@ -27,21 +27,23 @@ pub struct Options {
     pub offset: Option<UtcOffset>,
 }
 
+/// The options if the arguments have none.
+const NO_OPTIONS: Options = Options {
+    is_strict: false,
+    number: None,
+    separator: None,
+    skip: None,
+    reading: None,
+    offset: None,
+};
+
 /// Parses the options at the front, and returns them with the index of the word after them.
 #[tactic(auto, using(crate::proofs::Indices::few_words))]
 pub fn options_of(arguments: &[u8]) -> Result<(Options, usize), Senseless>
     ensures options { result ≡ options_from None no_options 0 (arguments_of arguments.now) }
     ensures within { IfOk result (λ front. front.1 ≤ 2 ^ 63) }
 {
-    let options = Options {
-        is_strict: false,
-        number: None,
-        separator: None,
-        skip: None,
-        reading: None,
-        offset: None,
-    };
-    options_from(None, &options, 0, Some(arguments))
+    options_from(None, &NO_OPTIONS, 0, Some(arguments))
 }
 
 /// Parses the options at the front of the words, whose first has index `at`. If `wanted` is given,
@@ -102,6 +104,14 @@ fn value_of(options: &Options, word: &[u8]) -> Option<Wanted>
     } else {
         None
     }
+}
+
+/// Returns whether the word is an option that other options may precede, such as `--field`, and
+/// not `--help`.
+pub fn is_option(word: &[u8]) -> bool
+    ensures { result ≡ is_option word.now }
+{
+    takes_strict(&NO_OPTIONS, word) || value_of(&NO_OPTIONS, word).is_some()
 }
 
 /// Sets the option that needs `wanted`, or returns `None` if the value is invalid.

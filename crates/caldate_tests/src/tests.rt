@@ -234,7 +234,11 @@ fn words_at_the_end(rt: HostRuntime) {
             1,
             b"caldate: line 18446744073709551615: none: +999999-12-31\n",
         ),
-        (Err(Fault::Read), 2, b"caldate: cannot read\n"),
+        (
+            Err(Fault::Read),
+            2,
+            b"caldate: cannot read standard input\n",
+        ),
     ];
     for (outcome, status, words) in cases {
         let mut told = Vec::new(rt.alloc());

@@ -99,7 +99,8 @@ fn arguments_without_room(rt: HostRuntime) -> Result<(), Fail> {
     Ok(())
 }
 
-/// Returns the standard error of a run that reads and writes nothing and ends with status 2.
+/// Returns the message for these arguments, if the program has read and written nothing and ended
+/// with status 2.
 fn complaint(alloc: Global, arguments: Option<&[u8]>) -> Option<Vec<u8>> {
     let mut reader = b"2024-02-29\n".as_slice();
     let mut written = Vec::new(alloc);
@@ -112,258 +113,298 @@ fn complaint(alloc: Global, arguments: Option<&[u8]>) -> Option<Vec<u8>> {
     }
 }
 
-// The words for the expected argument.
-const NO_VERB: &[u8] =
-    b"no verb (to, add, next, last, until, since, start, end, on-or-after, on-or-before, at, keep, list) and no option (--strict, --field, --separator, --skip, --read, --assume, --help, --version)";
+// What a message expects.
+const COMMANDS: &[u8] =
+    b"; expected to, add, next, last, until, since, start, end, on-or-after, on-or-before, at, keep, list, --strict, --field, --separator, --skip, --read, --assume, --help or --version";
 
-const NO_FURTHER_OPTION: &[u8] =
-    b"no verb (to, add, next, last, until, since, start, end, on-or-after, on-or-before, at, keep) and no further option";
+const LINE_COMMANDS: &[u8] =
+    b"; expected to, add, next, last, until, since, start, end, on-or-after, on-or-before, at, keep or another option";
 
-const NO_FORM: &[u8] =
-    b"no form (calendar, ordinal, week, julian, weekday, short-weekday, month, quarter, basic, rfc3339, unix, unix-ms, unix-us, unix-ns)";
+const FORMS: &[u8] =
+    b"; expected calendar, ordinal, week, julian, weekday, short-weekday, month, quarter, basic, rfc3339, unix, unix-ms, unix-us or unix-ns";
 
-const NO_NUMBER: &[u8] = b"no number (-9223372036854775808 .. 9223372036854775807)";
+const NUMBERS: &[u8] = b"; expected an integer from -9223372036854775808 to 9223372036854775807";
 
-const NO_PACE: &[u8] =
-    b"no number from 1 to 4294967295 and no recurrence (as FREQ=MONTHLY;BYDAY=-1FR)";
+const PACES: &[u8] =
+    b"; expected an integer from 1 to 4294967295 or a rule such as FREQ=MONTHLY;BYDAY=-1FR";
 
-const NO_DATE: &[u8] = b"no date (as 2024-02-29, 2024-060, 2024-W09-4, J2460370)";
+const DATES: &[u8] = b"; expected one such as 2024-02-29, 2024-060, 2024-W09-4 or J2460370";
 
-const NO_TARGET: &[u8] = b"no date and no moment (as 2024-02-29, 2024-02-29T23:59:59Z)";
+const TARGETS: &[u8] = b"; expected one such as 2024-02-29 or 2024-02-29T23:59:59Z";
 
-const NO_UNIT_OF_DATES: &[u8] = b"no unit of dates (days, weeks, months, years)";
+const UNITS_OF_DATES: &[u8] = b"; expected days, weeks, months or years";
 
-const NO_UNIT: &[u8] = b"no unit (days, weeks, months, years, workdays, hours, minutes, seconds)";
+const UNITS: &[u8] = b"; expected days, weeks, months, years, workdays, hours, minutes or seconds";
 
-const NO_READING: &[u8] = b"no form to read (basic, dmy, mdy, unix-ms, unix-us, unix-ns, local)";
+const READINGS: &[u8] = b"; expected basic, dmy, mdy, unix-ms, unix-us, unix-ns or local";
 
-const NO_SKIP: &[u8] = b"no number of lines (0 .. 9223372036854775807)";
+const SKIPS: &[u8] = b"; expected an integer from 0 to 9223372036854775807";
 
-const NO_FIELD_NUMBER: &[u8] = b"no number of a field (1 .. 65535)";
+const FIELD_NUMBERS: &[u8] = b"; expected an integer from 1 to 65535";
 
-const TOO_MUCH: &[u8] = b"too much (at most 9223372036854775807 seconds)";
+const AMOUNTS: &[u8] = b"; expected at most 9223372036854775807 seconds";
 
-const NO_WEEKDAY: &[u8] = b"no weekday (Monday .. Sunday)";
+const WEEKDAYS: &[u8] =
+    b"; expected Monday, Tuesday, Wednesday, Thursday, Friday, Saturday or Sunday";
 
-const NO_OFFSET: &[u8] = b"no offset (as +01:00, -05:30, Z)";
+const OFFSETS: &[u8] = b"; expected one such as +01:00, -05:30 or Z";
 
-const NO_BOUND: &[u8] = b"no bound (from, after, before)";
+const BOUNDS: &[u8] = b"; expected from, after or before";
 
-const NO_FIELD: &[u8] = b"no --field, which --separator needs";
+const PERIODS: &[u8] = b"; expected week, month, quarter or year";
 
-const NO_ASSUME: &[u8] = b"no --assume, which --read local needs";
+const SEPARATORS: &[u8] = b"; expected one byte";
 
-const NO_LOCAL: &[u8] = b"no --read local, which --assume needs";
+const COUNTS: &[u8] = b"; expected an integer from 1 to 255";
 
-const NO_PERIOD: &[u8] = b"no period (week, month, quarter, year)";
-
-const NO_SEPARATOR: &[u8] = b"no separator (one byte)";
-
-const NO_COUNT: &[u8] = b"no count (1 .. 255)";
-
-/// Returns whether the line names the program, and then says this of a word.
-fn is_line(told: &[u8], word: &[u8], wanted: &[u8]) -> bool {
+/// Returns whether the message has these two parts after the program's name, in one line.
+fn is_line(told: &[u8], problem: &[u8], expected: &[u8]) -> bool {
     let Some(after) = told.strip_prefix(b"caldate: ") else {
         return false;
     };
-    let Some(said) = after.strip_prefix(word) else {
+    let Some(said) = after.strip_prefix(problem) else {
         return false;
     };
-    said.strip_suffix(b"\n") == Some(wanted)
+    said.strip_suffix(b"\n") == Some(expected)
 }
 
-/// Fails unless each of the arguments gives this line: the word, or that it is missing, and the
-/// words for the expected argument.
+/// Stops the test unless each of the arguments has its message: what is wrong, and what was
+/// expected.
 fn each_complains(rt: &impl Abort, alloc: Global, cases: &[(&[u8], &[u8], &[u8])]) {
-    for (arguments, word, wanted) in cases {
+    for (arguments, problem, expected) in cases {
         let told = complaint(alloc, Some(*arguments)).unwrap_or(Vec::new(alloc));
-        assert!(rt; is_line(&told, word, wanted), "{arguments:?}");
+        assert!(rt; is_line(&told, problem, expected), "{arguments:?}");
     }
 }
 
 #[test]
 fn lists_that_make_no_sense(rt: HostRuntime) {
     let cases: [(&[u8], &[u8], &[u8]); 22] = [
-        (b"list", b"there is ", b"no 'from'"),
-        (b"list\02024-02-29", b"'2024-02-29' is ", b"no 'from'"),
-        (b"list\0from", b"there is ", NO_DATE),
+        (
+            b"list",
+            b"missing argument after 'list'",
+            b"; expected 'from'",
+        ),
+        (
+            b"list\02024-02-29",
+            b"unexpected argument '2024-02-29'",
+            b"; expected 'from'",
+        ),
+        (b"list\0from", b"missing date after 'from'", DATES),
         (
             b"list\0from\02023-02-29\0to\02024-02-29",
-            b"'2023-02-29' is ",
-            NO_DATE,
+            b"invalid date '2023-02-29'",
+            DATES,
         ),
         (
             b"list\0from\02024-02-29T00:00:00Z\0to\02024-03-01",
-            b"'2024-02-29T00:00:00Z' is ",
-            NO_DATE,
+            b"invalid date '2024-02-29T00:00:00Z'",
+            DATES,
         ),
-        (b"list\0from\02024-02-29", b"there is ", b"no 'to'"),
+        (
+            b"list\0from\02024-02-29",
+            b"missing argument after '2024-02-29'",
+            b"; expected 'to'",
+        ),
         (
             b"list\0from\02024-02-29\0To\02024-03-01",
-            b"'To' is ",
-            b"no 'to'",
+            b"unexpected argument 'To'",
+            b"; expected 'to'",
         ),
-        (b"list\0from\02024-02-29\0to", b"there is ", NO_DATE),
-        (b"list\0from\02024-02-29\0to\0@0", b"'@0' is ", NO_DATE),
+        (
+            b"list\0from\02024-02-29\0to",
+            b"missing date after 'to'",
+            DATES,
+        ),
+        (
+            b"list\0from\02024-02-29\0to\0@0",
+            b"invalid date '@0'",
+            DATES,
+        ),
         (
             b"list\0from\02024-02-29\0to\02024-03-01\0every",
-            b"'every' is ",
-            b"no 'by'",
+            b"unexpected argument 'every'",
+            b"; expected 'by'",
         ),
         (
             b"list\0from\02024-02-29\0to\02024-03-01\0by",
-            b"there is ",
-            NO_PACE,
+            b"missing number or rule after 'by'",
+            PACES,
         ),
         (
             b"list\0from\02024-02-29\0to\02024-03-01\0by\00\0days",
-            b"'0' is ",
-            NO_PACE,
+            b"invalid number or rule '0'",
+            PACES,
         ),
         (
             b"list\0from\02024-02-29\0to\02024-03-01\0by\0-1\0days",
-            b"'-1' is ",
-            NO_PACE,
+            b"invalid number or rule '-1'",
+            PACES,
         ),
         (
             b"list\0from\02024-02-29\0to\02024-03-01\0by\04294967296\0days",
-            b"'4294967296' is ",
-            NO_PACE,
+            b"invalid number or rule '4294967296'",
+            PACES,
         ),
         (
             b"list\0from\02024-02-29\0to\02024-03-01\0by\0MONTHLY",
-            b"'MONTHLY' is ",
-            NO_PACE,
+            b"invalid number or rule 'MONTHLY'",
+            PACES,
         ),
         (
             b"list\0from\02024-02-29\0to\02024-03-01\0by\0FREQ=DAILY\0days",
-            b"'days' is ",
-            b"one word too many",
+            b"unexpected argument 'days'",
+            b"",
         ),
         (
             b"list\0from\02024-02-30\0to\02024-03-01\0by\0FREQ=DAILY",
-            b"'2024-02-30' is ",
-            NO_DATE,
+            b"invalid date '2024-02-30'",
+            DATES,
         ),
         (
             b"list\0from\02024-02-29\0to\02024-03-01\0by\01",
-            b"there is ",
-            NO_UNIT_OF_DATES,
+            b"missing unit after '1'",
+            UNITS_OF_DATES,
         ),
         (
             b"list\0from\02024-02-29\0to\02024-03-01\0by\01\0hour",
-            b"'hour' is ",
-            NO_UNIT_OF_DATES,
+            b"invalid unit 'hour'",
+            UNITS_OF_DATES,
         ),
         (
             b"list\0from\02024-02-29\0to\02024-03-01\0by\01\0workday",
-            b"'workday' is ",
-            NO_UNIT_OF_DATES,
+            b"invalid unit 'workday'",
+            UNITS_OF_DATES,
         ),
         (
             b"list\0from\02024-02-29\0to\02024-03-01\0by\01\0day\0",
-            b"'' is ",
-            b"one word too many",
+            b"unexpected argument ''",
+            b"",
         ),
         (
             b"--strict\0list\0from\02024-02-29\0to\02024-03-01",
-            b"'list' is ",
-            NO_FURTHER_OPTION,
+            b"unexpected argument 'list'",
+            LINE_COMMANDS,
         ),
     ];
     each_complains(&rt, rt.alloc(), &cases);
 }
 
-// The position counts from the start of the word.
+// The message has the position of the wrong part in the whole word.
 #[test]
 fn rules_that_make_no_sense(rt: HostRuntime) {
     let cases: [(&[u8], &[u8], &[u8]); 12] = [
         (
             b"FREQ=HOURLY",
-            b"'FREQ=HOURLY' is ",
-            b"invalid value of FREQ at 0",
+            b"invalid rule 'FREQ=HOURLY'",
+            b": invalid value of FREQ at 0",
         ),
         (
             b"freq=monthly;byday=54fr",
-            b"'freq=monthly;byday=54fr' is ",
-            b"invalid value of BYDAY at 13",
+            b"invalid rule 'freq=monthly;byday=54fr'",
+            b": invalid value of BYDAY at 13",
         ),
         (
             b"FREQ=DAILY;INTERVAL=0",
-            b"'FREQ=DAILY;INTERVAL=0' is ",
-            b"invalid value of INTERVAL at 11",
+            b"invalid rule 'FREQ=DAILY;INTERVAL=0'",
+            b": invalid value of INTERVAL at 11",
         ),
         (
             b"FREQ=WEEKLY;UNTIL=2024-12-31",
-            b"'FREQ=WEEKLY;UNTIL=2024-12-31' is ",
-            b"invalid value of UNTIL at 12",
+            b"invalid rule 'FREQ=WEEKLY;UNTIL=2024-12-31'",
+            b": invalid value of UNTIL at 12",
         ),
-        (b"BYDAY=-1FR", b"'BYDAY=-1FR' is ", b"missing FREQ at 10"),
+        (
+            b"BYDAY=-1FR",
+            b"invalid rule 'BYDAY=-1FR'",
+            b": missing FREQ at 10",
+        ),
         (
             b"FREQ=MONTHLY;BYSETPOS=-1;BYDAY=FR",
-            b"'FREQ=MONTHLY;BYSETPOS=-1;BYDAY=FR' is ",
-            b"unknown part at 13",
+            b"invalid rule 'FREQ=MONTHLY;BYSETPOS=-1;BYDAY=FR'",
+            b": unknown part at 13",
         ),
-        (b"FREQ=DAILY;", b"'FREQ=DAILY;' is ", b"unknown part at 11"),
+        (
+            b"FREQ=DAILY;",
+            b"invalid rule 'FREQ=DAILY;'",
+            b": unknown part at 11",
+        ),
         (
             b"FREQ=DAILY;BYMONTH=1;BYMONTH=2",
-            b"'FREQ=DAILY;BYMONTH=1;BYMONTH=2' is ",
-            b"one BYMONTH too many at 21",
+            b"invalid rule 'FREQ=DAILY;BYMONTH=1;BYMONTH=2'",
+            b": duplicate BYMONTH at 21",
         ),
         (
             b"FREQ=DAILY;COUNT=3;UNTIL=20241231",
-            b"'FREQ=DAILY;COUNT=3;UNTIL=20241231' is ",
-            b"one UNTIL too many at 19",
+            b"invalid rule 'FREQ=DAILY;COUNT=3;UNTIL=20241231'",
+            b": duplicate UNTIL at 19",
         ),
         // 63 values. The first 80 bytes of the word are shown.
         (
             b"BYMONTHDAY=1,1,1,1,1,1,1,1,1,1,1,1,1,1,1,1,1,1,1,1,1,1,1,1,1,1,1,1,1,1,1,1,1,1,1,1,1,1,1,1,1,1,1,1,1,1,1,1,1,1,1,1,1,1,1,1,1,1,1,1,1,1,1",
-            b"'BYMONTHDAY=1,1,1,1,1,1,1,1,1,1,1,1,1,1,1,1,1,1,1,1,1,1,1,1,1,1,1,1,1,1,1,1,1,1,1' is ",
-            b"more than 62 values of BYMONTHDAY at 0",
+            b"invalid rule 'BYMONTHDAY=1,1,1,1,1,1,1,1,1,1,1,1,1,1,1,1,1,1,1,1,1,1,1,1,1,1,1,1,1,1,1,1,1,1,1'",
+            b": too many values in BYMONTHDAY at 0",
         ),
         (
             b"FREQ=HOURLY\0days",
-            b"'FREQ=HOURLY' is ",
-            b"invalid value of FREQ at 0",
+            b"invalid rule 'FREQ=HOURLY'",
+            b": invalid value of FREQ at 0",
         ),
-        (b"=1\0days", b"'=1' is ", b"unknown part at 0"),
+        (b"=1\0days", b"invalid rule '=1'", b": unknown part at 0"),
     ];
-    for (rule, word, fault) in cases {
+    for (rule, problem, fault) in cases {
         let mut arguments = Vec::new(rt.alloc());
         let _ = arguments.extend_from_slice(b"list\0from\02024-02-29\0to\02024-03-01\0by\0");
         let _ = arguments.extend_from_slice(rule);
-        let mut wanted = Vec::new(rt.alloc());
-        let _ = wanted.extend_from_slice(b"no recurrence (as FREQ=MONTHLY;BYDAY=-1FR): ");
-        let _ = wanted.extend_from_slice(fault);
-        each_complains(&rt, rt.alloc(), &[(&arguments, word, &wanted)]);
+        each_complains(&rt, rt.alloc(), &[(&arguments, problem, fault)]);
     }
 }
 
 #[test]
 fn bounds_that_make_no_sense(rt: HostRuntime) {
     let cases: [(&[u8], &[u8], &[u8]); 11] = [
-        (b"keep", b"there is ", NO_BOUND),
-        (b"keep\02024-02-29", b"'2024-02-29' is ", NO_BOUND),
-        (b"keep\0After\02024-02-29", b"'After' is ", NO_BOUND),
-        (b"keep\0after", b"there is ", NO_TARGET),
-        (b"keep\0before\02023-02-29", b"'2023-02-29' is ", NO_TARGET),
+        (b"keep", b"missing bound after 'keep'", BOUNDS),
+        (b"keep\02024-02-29", b"unknown bound '2024-02-29'", BOUNDS),
+        (b"keep\0After\02024-02-29", b"unknown bound 'After'", BOUNDS),
+        (
+            b"keep\0after",
+            b"missing date or moment after 'after'",
+            TARGETS,
+        ),
+        (
+            b"keep\0before\02023-02-29",
+            b"invalid date or moment '2023-02-29'",
+            TARGETS,
+        ),
         (
             b"keep\0after\02024-02-29\0to\02024-03-01",
-            b"'to' is ",
-            b"one word too many",
+            b"unexpected argument 'to'",
+            b"",
         ),
-        (b"--strict\0keep\0from\0x", b"'x' is ", NO_TARGET),
-        (b"keep\0from\02024-02-29", b"there is ", b"no 'to'"),
+        (
+            b"--strict\0keep\0from\0x",
+            b"invalid date or moment 'x'",
+            TARGETS,
+        ),
+        (
+            b"keep\0from\02024-02-29",
+            b"missing argument after '2024-02-29'",
+            b"; expected 'to'",
+        ),
         (
             b"keep\0from\02024-02-29\0till\02024-03-01",
-            b"'till' is ",
-            b"no 'to'",
+            b"unexpected argument 'till'",
+            b"; expected 'to'",
         ),
-        (b"keep\0from\02024-02-29\0to", b"there is ", NO_TARGET),
+        (
+            b"keep\0from\02024-02-29\0to",
+            b"missing date or moment after 'to'",
+            TARGETS,
+        ),
         (
             b"keep\0from\02024-02-29\0to\02024-03-01\0by",
-            b"'by' is ",
-            b"one word too many",
+            b"unexpected argument 'by'",
+            b"",
         ),
     ];
     each_complains(&rt, rt.alloc(), &cases);
@@ -372,191 +413,261 @@ fn bounds_that_make_no_sense(rt: HostRuntime) {
 #[test]
 fn arguments_that_make_no_sense(rt: HostRuntime) {
     let cases: [(&[u8], &[u8], &[u8]); 45] = [
+        (b"", b"missing command; try 'caldate --help'", b""),
+        (b"\0", b"unknown command ''", COMMANDS),
+        (b"\0to\0week", b"unknown command ''", COMMANDS),
+        (b"week", b"unknown command 'week'", COMMANDS),
+        (b"To\0week", b"unknown command 'To'", COMMANDS),
         (
-            b"",
-            b"",
-            b"nothing to do; caldate --help shows what can be asked",
+            b"--strict",
+            b"missing command after '--strict'",
+            LINE_COMMANDS,
         ),
-        (b"\0", b"'' is ", NO_VERB),
-        (b"\0to\0week", b"'' is ", NO_VERB),
-        (b"week", b"'week' is ", NO_VERB),
-        (b"To\0week", b"'To' is ", NO_VERB),
-        (b"--strict", b"there is ", NO_FURTHER_OPTION),
-        (b"--strict\0--help", b"'--help' is ", NO_FURTHER_OPTION),
         (
-            b"--strict\0--strict\0to\0week",
-            b"'--strict' is ",
-            NO_FURTHER_OPTION,
+            b"--strict\0--help",
+            b"unexpected argument '--help'",
+            LINE_COMMANDS,
         ),
-        (b"--skip", b"there is ", NO_SKIP),
-        (b"--skip\0-1\0to\0week", b"'-1' is ", NO_SKIP),
-        (b"--strict\0--skip\0to\0week", b"'to' is ", NO_SKIP),
-        (b"--skip\01", b"there is ", NO_FURTHER_OPTION),
+        (b"--strict\0--strict\0to\0week", b"duplicate --strict", b""),
+        (b"--skip", b"missing number of lines after '--skip'", SKIPS),
         (
-            b"--skip\01\0--skip\02\0to\0week",
-            b"'--skip' is ",
-            NO_FURTHER_OPTION,
+            b"--skip\0-1\0to\0week",
+            b"invalid number of lines '-1'",
+            SKIPS,
         ),
-        (b"--skip\01\0--strict\0to\0days", b"'days' is ", NO_FORM),
-        (b"--field", b"there is ", NO_FIELD_NUMBER),
-        (b"--field\00\0to\0week", b"'0' is ", NO_FIELD_NUMBER),
-        (b"--field\065536\0to\0week", b"'65536' is ", NO_FIELD_NUMBER),
+        (
+            b"--strict\0--skip\0to\0week",
+            b"invalid number of lines 'to'",
+            SKIPS,
+        ),
+        (b"--skip\01", b"missing command after '1'", LINE_COMMANDS),
+        (b"--skip\01\0--skip\02\0to\0week", b"duplicate --skip", b""),
+        (
+            b"--skip\01\0--strict\0to\0days",
+            b"unknown form 'days'",
+            FORMS,
+        ),
+        (
+            b"--field",
+            b"missing field number after '--field'",
+            FIELD_NUMBERS,
+        ),
+        (
+            b"--field\00\0to\0week",
+            b"invalid field number '0'",
+            FIELD_NUMBERS,
+        ),
+        (
+            b"--field\065536\0to\0week",
+            b"invalid field number '65536'",
+            FIELD_NUMBERS,
+        ),
         (
             b"--skip\01\0--field\0two\0to\0week",
-            b"'two' is ",
-            NO_FIELD_NUMBER,
+            b"invalid field number 'two'",
+            FIELD_NUMBERS,
         ),
         (
             b"--field\02\0--separator\0\0to\0week",
-            b"'' is ",
-            NO_SEPARATOR,
+            b"invalid separator ''",
+            SEPARATORS,
         ),
         (
             b"--separator\0;;\0--field\02\0to\0week",
-            b"';;' is ",
-            NO_SEPARATOR,
+            b"invalid separator ';;'",
+            SEPARATORS,
         ),
-        (b"--field\02\0--separator", b"there is ", NO_SEPARATOR),
-        (b"--separator\0,\0to\0week", b"'to' is ", NO_FIELD),
-        (b"--strict\0--separator\0,", b"there is ", NO_FIELD),
-        (b"--field\02", b"there is ", NO_FURTHER_OPTION),
+        (
+            b"--field\02\0--separator",
+            b"missing separator after '--separator'",
+            SEPARATORS,
+        ),
+        (
+            b"--separator\0,\0to\0week",
+            b"--separator requires --field",
+            b"",
+        ),
+        (
+            b"--strict\0--separator\0,",
+            b"--separator requires --field",
+            b"",
+        ),
+        (b"--field\02", b"missing command after '2'", LINE_COMMANDS),
         (
             b"--field\02\0--field\03\0to\0week",
-            b"'--field' is ",
-            NO_FURTHER_OPTION,
+            b"duplicate --field",
+            b"",
         ),
-        (b"--read", b"there is ", NO_READING),
-        (b"--strict\0--read\0iso\0to\0week", b"'iso' is ", NO_READING),
-        (b"--read\0DMY\0to\0week", b"'DMY' is ", NO_READING),
-        (b"--read\0dmy", b"there is ", NO_FURTHER_OPTION),
+        (b"--read", b"missing input form after '--read'", READINGS),
+        (
+            b"--strict\0--read\0iso\0to\0week",
+            b"unknown input form 'iso'",
+            READINGS,
+        ),
+        (
+            b"--read\0DMY\0to\0week",
+            b"unknown input form 'DMY'",
+            READINGS,
+        ),
+        (
+            b"--read\0dmy",
+            b"missing command after 'dmy'",
+            LINE_COMMANDS,
+        ),
         (
             b"--read\0dmy\0--read\0mdy\0to\0week",
-            b"'--read' is ",
-            NO_FURTHER_OPTION,
+            b"duplicate --read",
+            b"",
         ),
-        (b"--separator\0;\0--assume", b"there is ", NO_OFFSET),
-        (b"--read\0local\0to\0week", b"'to' is ", NO_ASSUME),
-        (b"--read\0local", b"there is ", NO_ASSUME),
-        (b"--assume\0Z\0to\0week", b"'to' is ", NO_LOCAL),
+        (
+            b"--separator\0;\0--assume",
+            b"missing offset after '--assume'",
+            OFFSETS,
+        ),
+        (
+            b"--read\0local\0to\0week",
+            b"--read local requires --assume",
+            b"",
+        ),
+        (b"--read\0local", b"--read local requires --assume", b""),
+        (
+            b"--assume\0Z\0to\0week",
+            b"--assume requires --read local",
+            b"",
+        ),
         (
             b"--assume\0Z\0--read\0dmy\0--strict\0to\0week",
-            b"'to' is ",
-            NO_LOCAL,
+            b"--assume requires --read local",
+            b"",
         ),
-        (b"--assume", b"there is ", NO_OFFSET),
+        (b"--assume", b"missing offset after '--assume'", OFFSETS),
         (
             b"--read\0local\0--assume\01\0to\0week",
-            b"'1' is ",
-            NO_OFFSET,
+            b"invalid offset '1'",
+            OFFSETS,
         ),
         (
             b"--strict\0--read\0local\0--assume\0Z\0until\02024-02-29\0in\0days\0x",
-            b"'x' is ",
-            b"one word too many",
+            b"unexpected argument 'x'",
+            b"",
         ),
         (
             b"--separator\0;\0--read\0local\0to\0week",
-            b"'to' is ",
-            NO_FIELD,
+            b"--separator requires --field",
+            b"",
         ),
         (
             b"--strict\0--field\02\0--separator\0,\0--skip\01\0--read\0local\0--assume\0Z\0until\02024-02-29\0in\0days\0x",
-            b"'x' is ",
-            b"one word too many",
+            b"unexpected argument 'x'",
+            b"",
         ),
-        (b"--help\0to", b"'to' is ", b"one word too many"),
-        (b"help\0\0", b"'' is ", b"one word too many"),
-        (b"--version\0-h", b"'-h' is ", b"one word too many"),
-        (b"to", b"there is ", NO_FORM),
-        (b"to\0", b"'' is ", NO_FORM),
+        (b"--help\0to", b"unexpected argument 'to'", b""),
+        (b"help\0\0", b"unexpected argument ''", b""),
+        (b"--version\0-h", b"unexpected argument '-h'", b""),
+        (b"to", b"missing form after 'to'", FORMS),
+        (b"to\0", b"unknown form ''", FORMS),
     ];
     each_complains(&rt, rt.alloc(), &cases);
     let told = complaint(rt.alloc(), None).unwrap_or(Vec::new(rt.alloc()));
-    assert!(rt; is_line(&told, b"", b"the arguments have more than 4096 bytes"));
+    assert!(rt;
+        is_line(
+            &told,
+            b"arguments too long",
+            b"; expected at most 4096 bytes"
+        )
+    );
 }
 
 #[test]
 fn further_arguments_that_make_no_sense(rt: HostRuntime) {
     let cases: [(&[u8], &[u8], &[u8]); 44] = [
-        (b"to\0Week\0x", b"'Week' is ", NO_FORM),
-        (b"to\0week\0week", b"'week' is ", b"one word too many"),
-        (b"--strict\0to\0week\0", b"'' is ", b"one word too many"),
-        (b"add", b"there is ", NO_NUMBER),
-        (b"add\0", b"'' is ", NO_NUMBER),
-        (b"add\0days\030", b"'days' is ", NO_NUMBER),
-        (b"add\0 1", b"' 1' is ", NO_NUMBER),
+        (b"to\0Week\0x", b"unknown form 'Week'", FORMS),
+        (b"to\0week\0week", b"unexpected argument 'week'", b""),
+        (b"--strict\0to\0week\0", b"unexpected argument ''", b""),
+        (b"add", b"missing number after 'add'", NUMBERS),
+        (b"add\0", b"invalid number ''", NUMBERS),
+        (b"add\0days\030", b"invalid number 'days'", NUMBERS),
+        (b"add\0 1", b"invalid number ' 1'", NUMBERS),
         (
             b"add\09223372036854775808\0seconds",
-            b"'9223372036854775808' is ",
-            NO_NUMBER,
+            b"invalid number '9223372036854775808'",
+            NUMBERS,
         ),
         (
             b"add\09223372036854775807\0minutes",
-            b"'9223372036854775807' is ",
-            TOO_MUCH,
+            b"invalid amount '9223372036854775807'",
+            AMOUNTS,
         ),
-        (b"add\0106751991167301", b"'106751991167301' is ", TOO_MUCH),
+        (
+            b"add\0106751991167301",
+            b"invalid amount '106751991167301'",
+            AMOUNTS,
+        ),
         (
             b"--strict\0add\0-153722867280912931\0min",
-            b"'-153722867280912931' is ",
-            TOO_MUCH,
+            b"invalid amount '-153722867280912931'",
+            AMOUNTS,
         ),
-        (b"add\02\0fortnights", b"'fortnights' is ", NO_UNIT),
+        (b"add\02\0fortnights", b"unknown unit 'fortnights'", UNITS),
         (
             b"add\09223372036854775807\0fortnights",
-            b"'fortnights' is ",
-            NO_UNIT,
+            b"unknown unit 'fortnights'",
+            UNITS,
         ),
-        (b"--strict\0add\01\0da", b"'da' is ", NO_UNIT),
-        (b"add\01\0mins", b"'mins' is ", NO_UNIT),
+        (b"--strict\0add\01\0da", b"unknown unit 'da'", UNITS),
+        (b"add\01\0mins", b"unknown unit 'mins'", UNITS),
         (
             b"add\09223372036854775807\0days\0days",
-            b"'days' is ",
-            b"one word too many",
+            b"unexpected argument 'days'",
+            b"",
         ),
-        (b"next", b"there is ", NO_WEEKDAY),
-        (b"next\0frday", b"'frday' is ", NO_WEEKDAY),
-        (b"last\0fr", b"'fr' is ", NO_WEEKDAY),
-        (b"last\0Frid\00", b"'Frid' is ", NO_WEEKDAY),
-        (b"next\0Fri\tday", b"'Fri?day' is ", NO_WEEKDAY),
-        (b"next\0Friday\00", b"'0' is ", NO_COUNT),
-        (b"next\0Friday\0256\0x", b"'256' is ", NO_COUNT),
-        (b"last\0Friday\0-1", b"'-1' is ", NO_COUNT),
-        (b"last\0Friday\01\01", b"'1' is ", b"one word too many"),
-        (b"until", b"there is ", NO_TARGET),
-        (b"until\02023-02-29", b"'2023-02-29' is ", NO_TARGET),
-        (b"until\02024-02-29\0", b"'' is ", b"one word too many"),
+        (b"next", b"missing weekday after 'next'", WEEKDAYS),
+        (b"next\0frday", b"unknown weekday 'frday'", WEEKDAYS),
+        (b"last\0fr", b"unknown weekday 'fr'", WEEKDAYS),
+        (b"last\0Frid\00", b"unknown weekday 'Frid'", WEEKDAYS),
+        (b"next\0Fri\tday", b"unknown weekday 'Fri?day'", WEEKDAYS),
+        (b"next\0Friday\00", b"invalid count '0'", COUNTS),
+        (b"next\0Friday\0256\0x", b"invalid count '256'", COUNTS),
+        (b"last\0Friday\0-1", b"invalid count '-1'", COUNTS),
+        (b"last\0Friday\01\01", b"unexpected argument '1'", b""),
+        (b"until", b"missing date or moment after 'until'", TARGETS),
+        (
+            b"until\02023-02-29",
+            b"invalid date or moment '2023-02-29'",
+            TARGETS,
+        ),
+        (b"until\02024-02-29\0", b"unexpected argument ''", b""),
         (
             b"since\02024-02-29\0IN\0days",
-            b"'IN' is ",
-            b"one word too many",
+            b"unexpected argument 'IN'",
+            b"",
         ),
-        (b"until\02024-02-29\0in", b"there is ", NO_UNIT),
+        (b"until\02024-02-29\0in", b"missing unit after 'in'", UNITS),
         (
             b"--strict\0since\02024-02-29\0in\0decades",
-            b"'decades' is ",
-            NO_UNIT,
+            b"unknown unit 'decades'",
+            UNITS,
         ),
         (
             b"until\02024-02-29\0in\0days\0x",
-            b"'x' is ",
-            b"one word too many",
+            b"unexpected argument 'x'",
+            b"",
         ),
-        (b"start", b"there is ", NO_PERIOD),
-        (b"end\0day", b"'day' is ", NO_PERIOD),
-        (b"start\0week\02", b"'2' is ", b"one word too many"),
-        (b"on-or-after\0Frid", b"'Frid' is ", NO_WEEKDAY),
-        (b"on-or-before\0Friday\02", b"'2' is ", b"one word too many"),
-        (b"at", b"there is ", NO_OFFSET),
-        (b"at\001:00", b"'01:00' is ", NO_OFFSET),
-        (b"at\0+1:00", b"'+1:00' is ", NO_OFFSET),
-        (b"at\0+24:00", b"'+24:00' is ", NO_OFFSET),
-        (b"at\0+01:60", b"'+01:60' is ", NO_OFFSET),
-        (b"at\0+01:00\0x", b"'x' is ", b"one word too many"),
+        (b"start", b"missing period after 'start'", PERIODS),
+        (b"end\0day", b"unknown period 'day'", PERIODS),
+        (b"start\0week\02", b"unexpected argument '2'", b""),
+        (b"on-or-after\0Frid", b"unknown weekday 'Frid'", WEEKDAYS),
+        (b"on-or-before\0Friday\02", b"unexpected argument '2'", b""),
+        (b"at", b"missing offset after 'at'", OFFSETS),
+        (b"at\001:00", b"invalid offset '01:00'", OFFSETS),
+        (b"at\0+1:00", b"invalid offset '+1:00'", OFFSETS),
+        (b"at\0+24:00", b"invalid offset '+24:00'", OFFSETS),
+        (b"at\0+01:60", b"invalid offset '+01:60'", OFFSETS),
+        (b"at\0+01:00\0x", b"unexpected argument 'x'", b""),
         (
             b"to\0xxxxxxxxxxxxxxxxxxxxxxxxxxxxxxxxxxxxxxxxxxxxxxxxxxxxxxxxxxxxxxxxxxxxxxxxxxxxxxxxy",
-            b"'xxxxxxxxxxxxxxxxxxxxxxxxxxxxxxxxxxxxxxxxxxxxxxxxxxxxxxxxxxxxxxxxxxxxxxxxxxxxxxxx' is ",
-            NO_FORM,
+            b"unknown form 'xxxxxxxxxxxxxxxxxxxxxxxxxxxxxxxxxxxxxxxxxxxxxxxxxxxxxxxxxxxxxxxxxxxxxxxxxxxxxxxx'",
+            FORMS,
         ),
     ];
     each_complains(&rt, rt.alloc(), &cases);

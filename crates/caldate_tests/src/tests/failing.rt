@@ -187,7 +187,7 @@ fn each_write_fails_in_turn(rt: HostRuntime) {
 // The status is the same if standard error fails, and the message stops at the failed write.
 #[test]
 fn standard_error_fails(rt: HostRuntime) {
-    let words = b"caldate: cannot read\n".as_slice();
+    let words = b"caldate: cannot read standard input\n".as_slice();
     for call in 1..=words.len() + 1 {
         for kind in [Some(ErrorKind::StorageFull), None] {
             let mut writer = Sipping {
@@ -283,7 +283,7 @@ fn a_write_fails_in_each_way(rt: HostRuntime) {
         } else {
             assert_eq!(rt; status, 2, "{kind:?}");
             assert!(rt;
-                told.as_slice() == b"caldate: cannot write\n".as_slice(),
+                told.as_slice() == b"caldate: cannot write to standard output\n".as_slice(),
                 "{kind:?}"
             );
         }

@@ -192,7 +192,11 @@ fn writes_that_fail(rt: HostRuntime) {
 #[test]
 fn ends_as_others(rt: HostRuntime) {
     let cases: [(ErrorKind, u8, &[u8]); 2] = [
-        (ErrorKind::Other, 2, b"caldate: cannot write\n"),
+        (
+            ErrorKind::Other,
+            2,
+            b"caldate: cannot write to standard output\n",
+        ),
         (ErrorKind::BrokenPipe, 0, b""),
     ];
     for (kind, status, words) in cases {

@@ -182,7 +182,7 @@ fn strict_runs_with_each_read_failing(rt: HostRuntime) {
                 case.input
             );
             assert_eq!(rt; status, 2);
-            assert!(rt; told.as_slice() == b"caldate: cannot read\n".as_slice());
+            assert!(rt; told.as_slice() == b"caldate: cannot read standard input\n".as_slice());
         }
     }
 }
