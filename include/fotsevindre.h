@@ -16,9 +16,9 @@
  * {3600}, 47 h for {169200, 0}.
  *
  * Most calls return a struct that starts with a status. The first invalid argument is reported as
- * FOTS_BAD_DATE, FOTS_BAD_TIME, FOTS_BAD_OFFSET, FOTS_BAD_DURATION, FOTS_BAD_WEEKDAY,
- * FOTS_BAD_MOMENT or FOTS_MONTH. Then come the errors that a call lists, in their order. After an
- * error each number is outside its type, such as FOTS_NOTHING for a date, so that the next call
+ * FOTS_INVALID_DATE, FOTS_INVALID_TIME, FOTS_INVALID_OFFSET, FOTS_INVALID_DURATION, FOTS_INVALID_WEEKDAY,
+ * FOTS_INVALID_MOMENT or FOTS_MONTH_OUT_OF_RANGE. Then come the errors that a call lists, in their order. After an
+ * error each number is outside its type, such as FOTS_NO_VALUE for a date, so that the next call
  * rejects it. The manual lists the calls that accept every number.
  *
  * No call allocates, keeps a pointer or has state, so any thread can make any call at any time.
@@ -75,7 +75,7 @@ typedef struct fots_recurrence {
     uint32_t frequency; /* a fots_frequency */
     uint32_t interval;
     uint32_t week_start;
-    fots_date until; /* the last day, or {FOTS_NOTHING} */
+    fots_date until; /* the last day, or {FOTS_NO_VALUE} */
     uint32_t count; /* the number of times, or 0 */
     uint32_t months_length;
     uint32_t month_days_length;
@@ -93,54 +93,54 @@ typedef struct fots_recurrence {
 #define FOTS_MAX_OFFSET_SECONDS 93599
 
 /* Numbers after an error: for dates, offsets and years; for unsigned parts; for times. */
-#define FOTS_NOTHING INT32_MIN
-#define FOTS_NO_PART UINT32_C(2147483648)
+#define FOTS_NO_VALUE INT32_MIN
+#define FOTS_NO_COMPONENT UINT32_C(2147483648)
 #define FOTS_NO_TIME UINT64_MAX
 
-/* The status of a call. FOTS_YEAR to FOTS_TIMESTAMP and FOTS_DAY to FOTS_WEEKDAY name a component
+/* The status of a call. FOTS_YEAR_OUT_OF_RANGE to FOTS_TIMESTAMP_OUT_OF_RANGE and FOTS_DAY_OUT_OF_RANGE to FOTS_WEEKDAY_OUT_OF_RANGE name a component
  * that is out of range; the range of the latter depends on other components. */
 enum fots_status {
-    FOTS_DONE = 0,
-    FOTS_PAST_RANGE = 1, /* the result does not exist, or is outside its type */
-    FOTS_BAD_DATE = 2,
-    FOTS_BAD_TIME = 3,
-    FOTS_BAD_OFFSET = 4,
-    FOTS_BAD_DURATION = 5,
-    FOTS_BAD_WEEKDAY = 6,
-    FOTS_BAD_COUNT = 7, /* n is above 255 */
-    FOTS_UNREADABLE = 8, /* a text has a byte that no text of the form has there */
-    FOTS_BAD_MOMENT = 9,
-    FOTS_BAD_FREQUENCY = 10, /* not a fots_frequency */
-    FOTS_MANY_PARTS = 11, /* a rule has more than 64 months or 64 weekdays */
-    FOTS_BAD_CONVENTION = 12, /* not a fots_convention or fots_day_count */
-    FOTS_BAD_WEEK = 13, /* a week is above 127 */
-    FOTS_BAD_HOLIDAYS = 14, /* holidays are not dates in strictly ascending order */
-    FOTS_MANY_HOLIDAYS = 15, /* there are more than 1024 holidays */
-    FOTS_YEAR = 16,
-    FOTS_MONTH = 17,
-    FOTS_JULIAN_DAY = 18,
-    FOTS_HOUR = 19,
-    FOTS_MINUTE = 20,
-    FOTS_SECOND = 21,
-    FOTS_MILLISECOND = 22,
-    FOTS_MICROSECOND = 23,
-    FOTS_NANOSECOND = 24,
-    FOTS_OFFSET_HOUR = 25,
-    FOTS_OFFSET_MINUTE = 26,
-    FOTS_OFFSET_SECOND = 27,
-    FOTS_SECONDS = 28,
-    FOTS_TIMESTAMP = 29, /* no date in the range has the Unix time */
-    FOTS_BOUNDS = 30, /* the bounds of a text are out of range or descend */
+    FOTS_OK = 0,
+    FOTS_RESULT_OUT_OF_RANGE = 1, /* the result does not exist, or is outside its type */
+    FOTS_INVALID_DATE = 2,
+    FOTS_INVALID_TIME = 3,
+    FOTS_INVALID_OFFSET = 4,
+    FOTS_INVALID_DURATION = 5,
+    FOTS_INVALID_WEEKDAY = 6,
+    FOTS_INVALID_COUNT = 7, /* n is above 255 */
+    FOTS_UNEXPECTED_BYTE = 8, /* a text has a byte that no text of the form has there */
+    FOTS_INVALID_MOMENT = 9,
+    FOTS_INVALID_FREQUENCY = 10, /* not a fots_frequency */
+    FOTS_TOO_MANY_PARTS = 11, /* a rule has more than 64 months or 64 weekdays */
+    FOTS_INVALID_CONVENTION = 12, /* not a fots_convention or fots_day_count */
+    FOTS_INVALID_WEEKMASK = 13, /* a week is above 127 */
+    FOTS_INVALID_HOLIDAYS = 14, /* holidays are not dates in strictly ascending order */
+    FOTS_TOO_MANY_HOLIDAYS = 15, /* there are more than 1024 holidays */
+    FOTS_YEAR_OUT_OF_RANGE = 16,
+    FOTS_MONTH_OUT_OF_RANGE = 17,
+    FOTS_JULIAN_DAY_OUT_OF_RANGE = 18,
+    FOTS_HOUR_OUT_OF_RANGE = 19,
+    FOTS_MINUTE_OUT_OF_RANGE = 20,
+    FOTS_SECOND_OUT_OF_RANGE = 21,
+    FOTS_MILLISECOND_OUT_OF_RANGE = 22,
+    FOTS_MICROSECOND_OUT_OF_RANGE = 23,
+    FOTS_NANOSECOND_OUT_OF_RANGE = 24,
+    FOTS_OFFSET_HOUR_OUT_OF_RANGE = 25,
+    FOTS_OFFSET_MINUTE_OUT_OF_RANGE = 26,
+    FOTS_OFFSET_SECOND_OUT_OF_RANGE = 27,
+    FOTS_SECONDS_OUT_OF_RANGE = 28,
+    FOTS_TIMESTAMP_OUT_OF_RANGE = 29, /* no date in the range has the Unix time */
+    FOTS_INVALID_BOUNDS = 30, /* the bounds of a text are out of range or descend */
     FOTS_UNEXPECTED_END = 31, /* a text ends too early: more bytes could complete it */
     FOTS_UNKNOWN_PART = 32, /* a part of the text of a recurrence has another name */
-    FOTS_PART_TWICE = 33, /* a part is there twice, or is a second end */
-    FOTS_MANY_VALUES = 34, /* a part has more than 62 values */
-    FOTS_PART_VALUE = 35, /* a part has an invalid value */
-    FOTS_NO_FREQUENCY = 36, /* FREQ is missing */
-    FOTS_DAY = 64,
-    FOTS_ORDINAL = 65,
-    FOTS_WEEK = 66,
-    FOTS_WEEKDAY = 67
+    FOTS_DUPLICATE_PART = 33, /* a part is there twice, or is a second end */
+    FOTS_TOO_MANY_VALUES = 34, /* a part has more than 62 values */
+    FOTS_INVALID_VALUE = 35, /* a part has an invalid value */
+    FOTS_MISSING_FREQUENCY = 36, /* FREQ is missing */
+    FOTS_DAY_OUT_OF_RANGE = 64,
+    FOTS_ORDINAL_OUT_OF_RANGE = 65,
+    FOTS_WEEK_OUT_OF_RANGE = 66,
+    FOTS_WEEKDAY_OUT_OF_RANGE = 67
 };
 
 /* Returns the name of a status: the component, such as "day", or words such as "past the range";
@@ -148,74 +148,74 @@ enum fots_status {
 static inline const char *fots_status_name(int32_t status)
 {
     switch (status) {
-    case FOTS_DONE: return "done";
-    case FOTS_PAST_RANGE: return "past the range";
-    case FOTS_BAD_DATE: return "bad date";
-    case FOTS_BAD_TIME: return "bad time";
-    case FOTS_BAD_OFFSET: return "bad offset";
-    case FOTS_BAD_DURATION: return "bad duration";
-    case FOTS_BAD_WEEKDAY: return "bad weekday";
-    case FOTS_BAD_COUNT: return "bad count";
-    case FOTS_UNREADABLE: return "unreadable";
-    case FOTS_BAD_MOMENT: return "bad moment";
-    case FOTS_BAD_FREQUENCY: return "bad frequency";
-    case FOTS_MANY_PARTS: return "many parts";
-    case FOTS_BAD_CONVENTION: return "bad convention";
-    case FOTS_BAD_WEEK: return "bad week";
-    case FOTS_BAD_HOLIDAYS: return "bad holidays";
-    case FOTS_MANY_HOLIDAYS: return "many holidays";
-    case FOTS_YEAR: return "year";
-    case FOTS_MONTH: return "month";
-    case FOTS_JULIAN_DAY: return "julian_day";
-    case FOTS_HOUR: return "hour";
-    case FOTS_MINUTE: return "minute";
-    case FOTS_SECOND: return "second";
-    case FOTS_MILLISECOND: return "millisecond";
-    case FOTS_MICROSECOND: return "microsecond";
-    case FOTS_NANOSECOND: return "nanosecond";
-    case FOTS_OFFSET_HOUR: return "offset hour";
-    case FOTS_OFFSET_MINUTE: return "offset minute";
-    case FOTS_OFFSET_SECOND: return "offset second";
-    case FOTS_SECONDS: return "seconds";
-    case FOTS_TIMESTAMP: return "timestamp";
-    case FOTS_BOUNDS: return "bounds";
+    case FOTS_OK: return "done";
+    case FOTS_RESULT_OUT_OF_RANGE: return "past the range";
+    case FOTS_INVALID_DATE: return "bad date";
+    case FOTS_INVALID_TIME: return "bad time";
+    case FOTS_INVALID_OFFSET: return "bad offset";
+    case FOTS_INVALID_DURATION: return "bad duration";
+    case FOTS_INVALID_WEEKDAY: return "bad weekday";
+    case FOTS_INVALID_COUNT: return "bad count";
+    case FOTS_UNEXPECTED_BYTE: return "unreadable";
+    case FOTS_INVALID_MOMENT: return "bad moment";
+    case FOTS_INVALID_FREQUENCY: return "bad frequency";
+    case FOTS_TOO_MANY_PARTS: return "many parts";
+    case FOTS_INVALID_CONVENTION: return "bad convention";
+    case FOTS_INVALID_WEEKMASK: return "bad week";
+    case FOTS_INVALID_HOLIDAYS: return "bad holidays";
+    case FOTS_TOO_MANY_HOLIDAYS: return "many holidays";
+    case FOTS_YEAR_OUT_OF_RANGE: return "year";
+    case FOTS_MONTH_OUT_OF_RANGE: return "month";
+    case FOTS_JULIAN_DAY_OUT_OF_RANGE: return "julian_day";
+    case FOTS_HOUR_OUT_OF_RANGE: return "hour";
+    case FOTS_MINUTE_OUT_OF_RANGE: return "minute";
+    case FOTS_SECOND_OUT_OF_RANGE: return "second";
+    case FOTS_MILLISECOND_OUT_OF_RANGE: return "millisecond";
+    case FOTS_MICROSECOND_OUT_OF_RANGE: return "microsecond";
+    case FOTS_NANOSECOND_OUT_OF_RANGE: return "nanosecond";
+    case FOTS_OFFSET_HOUR_OUT_OF_RANGE: return "offset hour";
+    case FOTS_OFFSET_MINUTE_OUT_OF_RANGE: return "offset minute";
+    case FOTS_OFFSET_SECOND_OUT_OF_RANGE: return "offset second";
+    case FOTS_SECONDS_OUT_OF_RANGE: return "seconds";
+    case FOTS_TIMESTAMP_OUT_OF_RANGE: return "timestamp";
+    case FOTS_INVALID_BOUNDS: return "bounds";
     case FOTS_UNEXPECTED_END: return "unexpected end";
     case FOTS_UNKNOWN_PART: return "unknown part";
-    case FOTS_PART_TWICE: return "part twice";
-    case FOTS_MANY_VALUES: return "many values";
-    case FOTS_PART_VALUE: return "part value";
-    case FOTS_NO_FREQUENCY: return "no frequency";
-    case FOTS_DAY: return "day";
-    case FOTS_ORDINAL: return "ordinal";
-    case FOTS_WEEK: return "week";
-    case FOTS_WEEKDAY: return "weekday";
+    case FOTS_DUPLICATE_PART: return "part twice";
+    case FOTS_TOO_MANY_VALUES: return "many values";
+    case FOTS_INVALID_VALUE: return "part value";
+    case FOTS_MISSING_FREQUENCY: return "no frequency";
+    case FOTS_DAY_OUT_OF_RANGE: return "day";
+    case FOTS_ORDINAL_OUT_OF_RANGE: return "ordinal";
+    case FOTS_WEEK_OUT_OF_RANGE: return "week";
+    case FOTS_WEEKDAY_OUT_OF_RANGE: return "weekday";
     default: return "unknown";
     }
 }
 
-/* Returns 1 if the range of the component depends on other components, as for FOTS_DAY, else 0. */
+/* Returns 1 if the range of the component depends on other components, as for FOTS_DAY_OUT_OF_RANGE, else 0. */
 static inline int fots_status_is_conditional(int32_t status)
 {
-    return status >= FOTS_DAY && status <= FOTS_WEEKDAY;
+    return status >= FOTS_DAY_OUT_OF_RANGE && status <= FOTS_WEEKDAY_OUT_OF_RANGE;
 }
 
 /* ---- results, each with the value after an error */
 
 typedef struct fots_date_result {
     int32_t status;
-    fots_date date; /* or {FOTS_NOTHING} */
+    fots_date date; /* or {FOTS_NO_VALUE} */
 } fots_date_result;
 
 /* An unsigned part of a value, such as a month. */
 typedef struct fots_part_result {
     int32_t status;
-    uint32_t number; /* or FOTS_NO_PART */
+    uint32_t number; /* or FOTS_NO_COMPONENT */
 } fots_part_result;
 
 /* A year, a part of an offset or a duration, or a sign. */
 typedef struct fots_number_result {
     int32_t status;
-    int32_t number; /* or FOTS_NOTHING */
+    int32_t number; /* or FOTS_NO_VALUE */
 } fots_number_result;
 
 typedef struct fots_long_result {
@@ -225,20 +225,20 @@ typedef struct fots_long_result {
 
 typedef struct fots_calendar_date_result {
     int32_t status;
-    int32_t year; /* or FOTS_NOTHING */
+    int32_t year; /* or FOTS_NO_VALUE */
     uint32_t month; /* or 0 */
     uint32_t day; /* or 0 */
 } fots_calendar_date_result;
 
 typedef struct fots_ordinal_date_result {
     int32_t status;
-    int32_t year; /* or FOTS_NOTHING */
+    int32_t year; /* or FOTS_NO_VALUE */
     uint32_t ordinal; /* or 0 */
 } fots_ordinal_date_result;
 
 typedef struct fots_iso_week_date_result {
     int32_t status;
-    int32_t year; /* or FOTS_NOTHING */
+    int32_t year; /* or FOTS_NO_VALUE */
     uint32_t week; /* or 0 */
     uint32_t weekday; /* or 0 */
 } fots_iso_week_date_result;
@@ -250,7 +250,7 @@ typedef struct fots_time_result {
 
 typedef struct fots_adjusted_time_result {
     int32_t status;
-    int32_t carry; /* -1, 0 or 1; or FOTS_NOTHING */
+    int32_t carry; /* -1, 0 or 1; or FOTS_NO_VALUE */
     fots_time time; /* or FOTS_NO_TIME */
 } fots_adjusted_time_result;
 
@@ -264,30 +264,30 @@ typedef struct fots_clock_result {
 
 typedef struct fots_offset_result {
     int32_t status;
-    fots_offset offset; /* or {FOTS_NOTHING} */
+    fots_offset offset; /* or {FOTS_NO_VALUE} */
 } fots_offset_result;
 
 typedef struct fots_offset_parts_result {
     int32_t status;
-    int32_t hours; /* or FOTS_NOTHING, as for the next fields */
+    int32_t hours; /* or FOTS_NO_VALUE, as for the next fields */
     int32_t minutes;
     int32_t seconds;
 } fots_offset_parts_result;
 
 typedef struct fots_duration_result {
     int32_t status;
-    fots_duration duration; /* or {INT64_MIN, FOTS_NOTHING} */
+    fots_duration duration; /* or {INT64_MIN, FOTS_NO_VALUE} */
 } fots_duration_result;
 
 typedef struct fots_pair_result {
     int32_t status;
-    fots_date date; /* or {FOTS_NOTHING} */
+    fots_date date; /* or {FOTS_NO_VALUE} */
     fots_time time; /* or FOTS_NO_TIME */
 } fots_pair_result;
 
 typedef struct fots_moment_result {
     int32_t status;
-    fots_moment moment; /* or {{FOTS_NOTHING}, {FOTS_NOTHING}, FOTS_NO_TIME} */
+    fots_moment moment; /* or {{FOTS_NO_VALUE}, {FOTS_NO_VALUE}, FOTS_NO_TIME} */
 } fots_moment_result;
 
 typedef struct fots_text_result {
@@ -296,26 +296,26 @@ typedef struct fots_text_result {
     char bytes[40]; /* ASCII, then zero bytes */
 } fots_text_result;
 
-/* The position of an error: the first wrong byte, from 0, for FOTS_UNREADABLE; the length for
+/* The position of an error: the first wrong byte, from 0, for FOTS_UNEXPECTED_BYTE; the length for
  * FOTS_UNEXPECTED_END; else SIZE_MAX. */
 typedef struct fots_read_date_result {
     int32_t status;
-    fots_date date; /* or {FOTS_NOTHING} */
+    fots_date date; /* or {FOTS_NO_VALUE} */
     size_t position;
 } fots_read_date_result;
 
 typedef struct fots_read_moment_result {
     int32_t status;
-    fots_date date; /* or {FOTS_NOTHING} */
+    fots_date date; /* or {FOTS_NO_VALUE} */
     fots_time time; /* or FOTS_NO_TIME */
-    fots_offset offset; /* or {FOTS_NOTHING} */
+    fots_offset offset; /* or {FOTS_NO_VALUE} */
     size_t position; /* as above */
 } fots_read_moment_result;
 
 /* Years, months and days, all positive or 0, or all negative or 0. */
 typedef struct fots_period_result {
     int32_t status;
-    int32_t years; /* or FOTS_NOTHING, as for the next fields */
+    int32_t years; /* or FOTS_NO_VALUE, as for the next fields */
     int32_t months; /* from -11 to 11 */
     int32_t days;
 } fots_period_result;
@@ -327,8 +327,8 @@ typedef struct fots_days_result {
 } fots_days_result;
 
 /* The number of dates that were written. After an error of the text, part is a fots_rule_part, or 0
- * for FOTS_UNKNOWN_PART and FOTS_NO_FREQUENCY, and position is its start, from 0, or the length for
- * FOTS_NO_FREQUENCY. Else they are 0 and SIZE_MAX. */
+ * for FOTS_UNKNOWN_PART and FOTS_MISSING_FREQUENCY, and position is its start, from 0, or the length for
+ * FOTS_MISSING_FREQUENCY. Else they are 0 and SIZE_MAX. */
 typedef struct fots_recurrence_result {
     int32_t status;
     uint32_t part;
@@ -340,7 +340,7 @@ typedef struct fots_read_recurrence_result {
     int32_t status;
     uint32_t part; /* this and position as above */
     size_t position;
-    fots_recurrence recurrence; /* or zeros, with {FOTS_NOTHING} for until */
+    fots_recurrence recurrence; /* or zeros, with {FOTS_NO_VALUE} for until */
 } fots_read_recurrence_result;
 
 typedef struct fots_recurrence_text_result {
@@ -364,19 +364,19 @@ uint32_t fots_version(void);
 
 /* ---- create dates */
 
-/* Returns the date with a Julian day, or FOTS_JULIAN_DAY. 2451604 is 2000-02-29. */
+/* Returns the date with a Julian day, or FOTS_JULIAN_DAY_OUT_OF_RANGE. 2451604 is 2000-02-29. */
 fots_date_result fots_date_from_julian_day(int64_t julian_day);
 
 /* Returns the date of a year (-999999 to 999999), a month and a day of the month. Errors:
- * FOTS_MONTH, FOTS_YEAR, FOTS_DAY. 2000, 2, 29 is 2000-02-29; 1900, 2, 29 is FOTS_DAY. */
+ * FOTS_MONTH_OUT_OF_RANGE, FOTS_YEAR_OUT_OF_RANGE, FOTS_DAY_OUT_OF_RANGE. 2000, 2, 29 is 2000-02-29; 1900, 2, 29 is FOTS_DAY_OUT_OF_RANGE. */
 fots_date_result fots_date_from_calendar_date(int32_t year, uint32_t month, uint32_t day);
 
 /* Returns the date of a year (-999999 to 999999) and an ordinal (1 to 365, or 366 in a leap year).
- * Errors: FOTS_YEAR, FOTS_ORDINAL. 2000, 60 is 2000-02-29. */
+ * Errors: FOTS_YEAR_OUT_OF_RANGE, FOTS_ORDINAL_OUT_OF_RANGE. 2000, 60 is 2000-02-29. */
 fots_date_result fots_date_from_ordinal_date(int32_t year, uint32_t ordinal);
 
 /* Returns the date of an ISO 8601 week date: an ISO year (-999999 to 999999), a week (1 to 52, or
- * 53 in a long year) and a weekday. Errors: FOTS_YEAR, FOTS_WEEK, and FOTS_WEEKDAY after the last
+ * 53 in a long year) and a weekday. Errors: FOTS_YEAR_OUT_OF_RANGE, FOTS_WEEK_OUT_OF_RANGE, and FOTS_WEEKDAY_OUT_OF_RANGE after the last
  * date, which is Friday of 999999-W52. 2000, 9, 2 is 2000-02-29. */
 fots_date_result fots_date_from_iso_week_date(int32_t year, uint32_t week, uint32_t weekday);
 
@@ -407,16 +407,16 @@ fots_part_result fots_date_monday_based_week(fots_date date);
 
 /* ---- move dates */
 
-/* Return the next or previous day, or FOTS_PAST_RANGE. For 2000-02-29: 2000-03-01, 2000-02-28. */
+/* Return the next or previous day, or FOTS_RESULT_OUT_OF_RANGE. For 2000-02-29: 2000-03-01, 2000-02-28. */
 fots_date_result fots_date_next_day(fots_date date);
 fots_date_result fots_date_previous_day(fots_date date);
 
-/* Returns the date `days` later, or earlier if negative; FOTS_PAST_RANGE. 366 days after 2000-02-29
+/* Returns the date `days` later, or earlier if negative; FOTS_RESULT_OUT_OF_RANGE. 366 days after 2000-02-29
  * is 2001-03-01. */
 fots_date_result fots_date_add_days(fots_date date, int64_t days);
 
 /* Return the date later or earlier by the whole days of a duration, truncated toward zero;
- * FOTS_PAST_RANGE. 2000-02-29 plus 47 h is 2000-03-01. */
+ * FOTS_RESULT_OUT_OF_RANGE. 2000-02-29 plus 47 h is 2000-03-01. */
 fots_date_result fots_date_checked_add(fots_date date, fots_duration duration);
 fots_date_result fots_date_checked_sub(fots_date date, fots_duration duration);
 
@@ -428,13 +428,13 @@ fots_date_result fots_date_saturating_sub(fots_date date, fots_duration duration
  * 2000-01-01 to 2000-02-29: {5097600, 0}, which is 59 days. */
 fots_duration_result fots_date_duration_since(fots_date date, fots_date other);
 
-/* Return the first date after this one with a weekday, or the last one before it; FOTS_PAST_RANGE.
+/* Return the first date after this one with a weekday, or the last one before it; FOTS_RESULT_OUT_OF_RANGE.
  * The first Monday after 2023-06-28 is 2023-07-03. */
 fots_date_result fots_date_next_occurrence(fots_date date, uint32_t weekday);
 fots_date_result fots_date_prev_occurrence(fots_date date, uint32_t weekday);
 
 /* Return the n-th date after or before this one with a weekday. n is 1 to 255: above is
- * FOTS_BAD_COUNT, 0 is FOTS_PAST_RANGE. The fifth Monday after 2023-06-25 is 2023-07-24. */
+ * FOTS_INVALID_COUNT, 0 is FOTS_RESULT_OUT_OF_RANGE. The fifth Monday after 2023-06-25 is 2023-07-24. */
 fots_date_result fots_date_nth_next_occurrence(fots_date date, uint32_t weekday, uint32_t n);
 fots_date_result fots_date_nth_prev_occurrence(fots_date date, uint32_t weekday, uint32_t n);
 
@@ -442,7 +442,7 @@ fots_date_result fots_date_nth_prev_occurrence(fots_date date, uint32_t weekday,
 
 /* Return the date some months or years later, or earlier if negative: the same day of the month, or
  * the last day of a shorter month. A year is 12 months. If the month is out of range, the
- * saturating call returns the nearest end of the range, and the others FOTS_PAST_RANGE. One month
+ * saturating call returns the nearest end of the range, and the others FOTS_RESULT_OUT_OF_RANGE. One month
  * after 2000-01-31 is 2000-02-29; one year after that is 2001-02-28. */
 fots_date_result fots_date_add_months(fots_date date, int32_t months);
 fots_date_result fots_date_saturating_add_months(fots_date date, int32_t months);
@@ -459,7 +459,7 @@ fots_number_result fots_date_years_until(fots_date date, fots_date other);
 fots_period_result fots_date_period_until(fots_date date, fots_date other);
 
 /* Return the first or last day of the month, quarter, year or ISO week, and the quarter (1 to 4).
- * Only the Sunday of the last ISO week is FOTS_PAST_RANGE. For 2000-02-29: 2000-02-01, 2000-02-29,
+ * Only the Sunday of the last ISO week is FOTS_RESULT_OUT_OF_RANGE. For 2000-02-29: 2000-02-01, 2000-02-29,
  * 2000-01-01, 2000-03-31, 2000-01-01, 2000-12-31, 2000-02-28, 2000-03-05, 1. */
 fots_date_result fots_date_first_of_month(fots_date date);
 fots_date_result fots_date_last_of_month(fots_date date);
@@ -471,36 +471,36 @@ fots_date_result fots_date_first_of_iso_week(fots_date date);
 fots_date_result fots_date_last_of_iso_week(fots_date date);
 fots_part_result fots_date_quarter(fots_date date);
 
-/* Return the n-th (1 to 255), or the last, date with a weekday in a month. Errors: FOTS_BAD_COUNT,
- * FOTS_YEAR, and FOTS_WEEKDAY if the month has no such date. In 2000-02, the fifth Tuesday is
+/* Return the n-th (1 to 255), or the last, date with a weekday in a month. Errors: FOTS_INVALID_COUNT,
+ * FOTS_YEAR_OUT_OF_RANGE, and FOTS_WEEKDAY_OUT_OF_RANGE if the month has no such date. In 2000-02, the fifth Tuesday is
  * 2000-02-29, and the last Friday is 2000-02-25. */
 fots_date_result fots_date_nth_weekday_of_month(int32_t year, uint32_t month, uint32_t weekday, uint32_t n);
 fots_date_result fots_date_last_weekday_of_month(int32_t year, uint32_t month, uint32_t weekday);
 
 /* Return the first date on or after this one with a weekday, or the last one on or before it;
- * FOTS_PAST_RANGE. For Friday and 2000-02-29: 2000-03-03 and 2000-02-25. */
+ * FOTS_RESULT_OUT_OF_RANGE. For Friday and 2000-02-29: 2000-03-03 and 2000-02-25. */
 fots_date_result fots_date_on_or_after(fots_date date, uint32_t weekday);
 fots_date_result fots_date_on_or_before(fots_date date, uint32_t weekday);
 
 /* ---- working days
  *
  * A week is the sum of its working days: 1 for Monday, 2 for Tuesday, 4, 8, 16, 32, and 64 for
- * Sunday. After the errors of other arguments come FOTS_BAD_WEEK for a week above 127, and
- * FOTS_MANY_HOLIDAYS and FOTS_BAD_HOLIDAYS unless the holidays are at most FOTS_MOST_HOLIDAYS dates
+ * Sunday. After the errors of other arguments come FOTS_INVALID_WEEKMASK for a week above 127, and
+ * FOTS_TOO_MANY_HOLIDAYS and FOTS_INVALID_HOLIDAYS unless the holidays are at most FOTS_MAX_HOLIDAYS dates
  * in strictly ascending order. The examples have FOTS_MONDAY_TO_FRIDAY and no holidays. */
 #define FOTS_MONDAY_TO_FRIDAY 31u
-#define FOTS_MOST_HOLIDAYS 1024
+#define FOTS_MAX_HOLIDAYS 1024
 
 /* Returns 1 if the date is a working day, else 0. Tuesday 2000-02-29 is 1. */
 fots_part_result fots_date_is_workday(fots_date date, uint32_t week, const fots_date *holidays, size_t holidays_length);
 
-/* Return the first working day after the date, or the last one before it; FOTS_PAST_RANGE. For
+/* Return the first working day after the date, or the last one before it; FOTS_RESULT_OUT_OF_RANGE. For
  * Friday 2000-03-03: 2000-03-06 and 2000-03-02. */
 fots_date_result fots_date_next_workday(fots_date date, uint32_t week, const fots_date *holidays, size_t holidays_length);
 fots_date_result fots_date_previous_workday(fots_date date, uint32_t week, const fots_date *holidays, size_t holidays_length);
 
 /* Returns the n-th working day after the date, or before it if `days` is negative; for 0 the date
- * itself, or the first working day after it; FOTS_PAST_RANGE. 2000-02-29 and 10 is 2000-03-14. */
+ * itself, or the first working day after it; FOTS_RESULT_OUT_OF_RANGE. 2000-02-29 and 10 is 2000-03-14. */
 fots_date_result fots_date_add_workdays(fots_date date, int32_t days, uint32_t week, const fots_date *holidays, size_t holidays_length);
 
 /* Returns the number of working days from the earlier date on, without the later date; negative or
@@ -517,8 +517,8 @@ enum fots_convention {
     FOTS_MODIFIED_PRECEDING = 4 /* FOTS_PRECEDING; FOTS_FOLLOWING if that is in another month */
 };
 
-/* Returns the working day that the date moves to. Errors: FOTS_BAD_CONVENTION, and at last
- * FOTS_PAST_RANGE. Saturday 2000-04-29 moves to 2000-05-01 by FOTS_FOLLOWING, and to 2000-04-28 by
+/* Returns the working day that the date moves to. Errors: FOTS_INVALID_CONVENTION, and at last
+ * FOTS_RESULT_OUT_OF_RANGE. Saturday 2000-04-29 moves to 2000-05-01 by FOTS_FOLLOWING, and to 2000-04-28 by
  * FOTS_MODIFIED_FOLLOWING. */
 fots_date_result fots_date_adjusted(fots_date date, uint32_t convention, uint32_t week, const fots_date *holidays, size_t holidays_length);
 
@@ -536,15 +536,15 @@ typedef struct fots_rule {
     uint32_t interval; /* every n-th period, counted from the start; 0 counts as 1 */
     uint32_t week_start; /* the first weekday of a week */
     const uint8_t *months;
-    size_t months_length; /* at most FOTS_MOST_MONTHS */
+    size_t months_length; /* at most FOTS_MAX_MONTHS */
     const int8_t *month_days; /* from 1, or from -1 at the end of the month; 0 matches no day */
     size_t month_days_length;
     const fots_rule_weekday *weekdays;
-    size_t weekdays_length; /* at most FOTS_MOST_WEEKDAYS */
+    size_t weekdays_length; /* at most FOTS_MAX_WEEKDAYS */
 } fots_rule;
 
-#define FOTS_MOST_MONTHS 64
-#define FOTS_MOST_WEEKDAYS 64
+#define FOTS_MAX_MONTHS 64
+#define FOTS_MAX_WEEKDAYS 64
 
 /* Returns the rule of every day, or the same day of every week (from Monday), month or year. */
 static inline fots_rule fots_rule_of(fots_date start, uint32_t frequency)
@@ -565,11 +565,11 @@ static inline fots_rule fots_rule_of(fots_date start, uint32_t frequency)
     return rule;
 }
 
-/* The calls check the rule first: FOTS_BAD_DATE for start and until, FOTS_BAD_FREQUENCY,
- * FOTS_BAD_WEEKDAY for week_start, FOTS_MANY_PARTS, FOTS_MONTH, FOTS_BAD_WEEKDAY; then
- * FOTS_BAD_DATE for `date`. The examples have the last Fridays from 2024-01-01 on. */
+/* The calls check the rule first: FOTS_INVALID_DATE for start and until, FOTS_INVALID_FREQUENCY,
+ * FOTS_INVALID_WEEKDAY for week_start, FOTS_TOO_MANY_PARTS, FOTS_MONTH_OUT_OF_RANGE, FOTS_INVALID_WEEKDAY; then
+ * FOTS_INVALID_DATE for `date`. The examples have the last Fridays from 2024-01-01 on. */
 
-/* Return the first day of the rule, or the first one after a date; FOTS_PAST_RANGE if none follows.
+/* Return the first day of the rule, or the first one after a date; FOTS_RESULT_OUT_OF_RANGE if none follows.
  * The first is 2024-01-26, and the next one 2024-02-23. */
 fots_date_result fots_rule_first(const fots_rule *rule);
 fots_date_result fots_rule_next_after(const fots_rule *rule, fots_date date);
@@ -594,8 +594,8 @@ enum fots_rule_part {
 };
 
 /* Parses the text of a recurrence, as RFC 5545 has it after RRULE:. Calls with such a text return
- * its first wrong part as FOTS_UNKNOWN_PART, FOTS_MANY_VALUES, FOTS_PART_TWICE, FOTS_PART_VALUE or
- * FOTS_NO_FREQUENCY. "FREQ=MONTHLY;BYDAY=-1FR;COUNT=3" has FOTS_MONTHLY, the interval 1, the week
+ * its first wrong part as FOTS_UNKNOWN_PART, FOTS_TOO_MANY_VALUES, FOTS_DUPLICATE_PART, FOTS_INVALID_VALUE or
+ * FOTS_MISSING_FREQUENCY. "FREQ=MONTHLY;BYDAY=-1FR;COUNT=3" has FOTS_MONTHLY, the interval 1, the week
  * start 1, the count 3 and the weekday {-1, 5}. */
 fots_read_recurrence_result fots_recurrence_parse(const char *text, size_t text_length);
 
@@ -608,7 +608,7 @@ fots_recurrence_text_result fots_recurrence_text(const char *text, size_t text_l
 static inline fots_rule fots_recurrence_rule(const fots_recurrence *recurrence, fots_date start)
 {
     fots_rule rule = fots_rule_of(start, recurrence->frequency);
-    if (recurrence->until.julian_day != FOTS_NOTHING) {
+    if (recurrence->until.julian_day != FOTS_NO_VALUE) {
         rule.until = recurrence->until;
     }
     rule.interval = recurrence->interval;
@@ -624,7 +624,7 @@ static inline fots_rule fots_recurrence_rule(const fots_recurrence *recurrence, 
 
 /* Writes the days of a recurrence with this start from a date on, in order, and returns their
  * number: `days_length`, or fewer if no more follow. COUNT counts from the start. After errors of
- * the text comes FOTS_BAD_DATE. The array must not overlap the text. The example above with the
+ * the text comes FOTS_INVALID_DATE. The array must not overlap the text. The example above with the
  * start 2024-01-01 has 2024-02-23 and 2024-03-29 from 2024-02-09 on. */
 fots_recurrence_result fots_recurrence_days(const char *text, size_t text_length, fots_date start, fots_date from, fots_date *days,
     size_t days_length);
@@ -640,29 +640,29 @@ enum fots_day_count {
     FOTS_ACTUAL_ACTUAL = 5 /* ISDA; the denominator is 365 * 366 */
 };
 
-/* Returns the fraction of a year from `date` to `other`; FOTS_BAD_CONVENTION. From 2003-11-01 to
+/* Returns the fraction of a year from `date` to `other`; FOTS_INVALID_CONVENTION. From 2003-11-01 to
  * 2004-05-01 by FOTS_ACTUAL_ACTUAL it is 66491 / 133590. */
 fots_year_fraction_result fots_date_day_count(fots_date date, fots_date other, uint32_t convention);
 
 /* ---- replace a component of a date; the others stay as they are */
 
-/* Replaces the year; FOTS_YEAR; FOTS_DAY for 29 February in a common year. */
+/* Replaces the year; FOTS_YEAR_OUT_OF_RANGE; FOTS_DAY_OUT_OF_RANGE for 29 February in a common year. */
 fots_date_result fots_date_replace_year(fots_date date, int32_t year);
 
-/* Replaces the month; FOTS_DAY. 2000-02-29 and 3 is 2000-03-29. */
+/* Replaces the month; FOTS_DAY_OUT_OF_RANGE. 2000-02-29 and 3 is 2000-03-29. */
 fots_date_result fots_date_replace_month(fots_date date, uint32_t month);
 
-/* Replaces the day of the month; FOTS_DAY. 2000-02-29 and 1 is 2000-02-01. */
+/* Replaces the day of the month; FOTS_DAY_OUT_OF_RANGE. 2000-02-29 and 1 is 2000-02-01. */
 fots_date_result fots_date_replace_day(fots_date date, uint32_t day);
 
-/* Replaces the ordinal; FOTS_ORDINAL. 2000-02-29 and 1 is 2000-01-01. */
+/* Replaces the ordinal; FOTS_ORDINAL_OUT_OF_RANGE. 2000-02-29 and 1 is 2000-01-01. */
 fots_date_result fots_date_replace_ordinal(fots_date date, uint32_t ordinal);
 
 /* ---- create times of day */
 
 /* Return the time of an hour (0 to 23), a minute and a second (0 to 59), and milliseconds (0 to
- * 999), microseconds (0 to 999999) or nanoseconds (0 to 999999999). Errors: FOTS_HOUR, FOTS_MINUTE,
- * FOTS_SECOND; FOTS_MILLISECOND, FOTS_MICROSECOND, FOTS_NANOSECOND. 1, 2, 3, 4 ms: 1:02:03.004. */
+ * 999), microseconds (0 to 999999) or nanoseconds (0 to 999999999). Errors: FOTS_HOUR_OUT_OF_RANGE, FOTS_MINUTE_OUT_OF_RANGE,
+ * FOTS_SECOND_OUT_OF_RANGE; FOTS_MILLISECOND_OUT_OF_RANGE, FOTS_MICROSECOND_OUT_OF_RANGE, FOTS_NANOSECOND_OUT_OF_RANGE. 1, 2, 3, 4 ms: 1:02:03.004. */
 fots_time_result fots_time_from_hms(uint32_t hour, uint32_t minute, uint32_t second);
 fots_time_result fots_time_from_hms_milli(uint32_t hour, uint32_t minute, uint32_t second, uint32_t millisecond);
 fots_time_result fots_time_from_hms_micro(uint32_t hour, uint32_t minute, uint32_t second, uint32_t microsecond);
@@ -719,11 +719,11 @@ fots_duration_result fots_time_difference(fots_time time, fots_time other);
 /* ---- offsets */
 
 /* Returns the offset of hours (-25 to 25), minutes and seconds (-59 to 59). The first one that is
- * not zero gives the sign of all. Errors: FOTS_OFFSET_HOUR, FOTS_OFFSET_MINUTE, FOTS_OFFSET_SECOND.
+ * not zero gives the sign of all. Errors: FOTS_OFFSET_HOUR_OUT_OF_RANGE, FOTS_OFFSET_MINUTE_OUT_OF_RANGE, FOTS_OFFSET_SECOND_OUT_OF_RANGE.
  * -1, 30, 0 is -01:30. */
 fots_offset_result fots_offset_from_hms(int32_t hours, int32_t minutes, int32_t seconds);
 
-/* Returns the offset of seconds, or FOTS_SECONDS outside -93599 to 93599. -5400 is -01:30. */
+/* Returns the offset of seconds, or FOTS_SECONDS_OUT_OF_RANGE outside -93599 to 93599. -5400 is -01:30. */
 fots_offset_result fots_offset_from_whole_seconds(int64_t seconds);
 
 /* Returns the hours, minutes and seconds, with one sign. For -01:30: -1, -30, 0. */
@@ -741,10 +741,10 @@ fots_offset_result fots_offset_negated(fots_offset offset);
 
 /* ---- create durations */
 
-/* Returns the sum of seconds and nanoseconds; FOTS_PAST_RANGE. -1 and 1 is {0, -999999999}. */
+/* Returns the sum of seconds and nanoseconds; FOTS_RESULT_OUT_OF_RANGE. -1 and 1 is {0, -999999999}. */
 fots_duration_result fots_duration_new(int64_t seconds, int32_t nanoseconds);
 
-/* Return the duration of weeks of 7 days, days of 24 hours, hours or minutes; FOTS_PAST_RANGE.
+/* Return the duration of weeks of 7 days, days of 24 hours, hours or minutes; FOTS_RESULT_OUT_OF_RANGE.
  * -3 days is {-259200, 0}. */
 fots_duration_result fots_duration_weeks(int64_t weeks);
 fots_duration_result fots_duration_days(int64_t days);
@@ -766,7 +766,7 @@ fots_long_result fots_duration_whole_hours(fots_duration duration);
 fots_long_result fots_duration_whole_minutes(fots_duration duration);
 fots_long_result fots_duration_whole_seconds(fots_duration duration);
 
-/* Return the whole milliseconds, microseconds and nanoseconds; FOTS_PAST_RANGE outside int64_t. For
+/* Return the whole milliseconds, microseconds and nanoseconds; FOTS_RESULT_OUT_OF_RANGE outside int64_t. For
  * -1.5 s: -1500, -1500000, -1500000000. */
 fots_long_result fots_duration_whole_milliseconds(fots_duration duration);
 fots_long_result fots_duration_whole_microseconds(fots_duration duration);
@@ -785,7 +785,7 @@ fots_number_result fots_duration_compare(fots_duration duration, fots_duration o
 /* ---- arithmetic of durations */
 
 /* Return the sum, the difference, the product, the quotient truncated toward zero, and the
- * negation; FOTS_PAST_RANGE, also for a divisor of 0. Half of -3 s is -1.5 s. */
+ * negation; FOTS_RESULT_OUT_OF_RANGE, also for a divisor of 0. Half of -3 s is -1.5 s. */
 fots_duration_result fots_duration_checked_add(fots_duration duration, fots_duration other);
 fots_duration_result fots_duration_checked_sub(fots_duration duration, fots_duration other);
 fots_duration_result fots_duration_checked_mul(fots_duration duration, int32_t factor);
@@ -819,7 +819,7 @@ uint32_t fots_weeks_in_year(int32_t year);
 
 /* ---- date and time of day together */
 
-/* Return the date and time a duration later or earlier; FOTS_PAST_RANGE. 2 h after 2000-02-29 23:00
+/* Return the date and time a duration later or earlier; FOTS_RESULT_OUT_OF_RANGE. 2 h after 2000-02-29 23:00
  * is 2000-03-01 1:00. */
 fots_pair_result fots_add_to_pair(fots_date date, fots_time time, fots_duration duration);
 fots_pair_result fots_sub_from_pair(fots_date date, fots_time time, fots_duration duration);
@@ -830,7 +830,7 @@ fots_pair_result fots_sub_from_pair(fots_date date, fots_time time, fots_duratio
  * {1709164800, 500000000}. */
 fots_duration_result fots_unix_time(fots_date date, fots_time time, fots_offset offset);
 
-/* Returns the date and time of a Unix time at an offset; FOTS_PAST_RANGE. {1709164800, 0} at +01:00
+/* Returns the date and time of a Unix time at an offset; FOTS_RESULT_OUT_OF_RANGE. {1709164800, 0} at +01:00
  * is 2024-02-29 1:00. */
 fots_pair_result fots_unix_pair(fots_duration duration, fots_offset offset);
 
@@ -842,13 +842,13 @@ fots_pair_result fots_unix_pair(fots_duration duration, fots_offset offset);
 /* Returns the moment of its parts. */
 fots_moment_result fots_moment_new(fots_date date, fots_time time, fots_offset offset);
 
-/* Returns the same instant at another offset; FOTS_PAST_RANGE. At UTC: 2024-02-29 22:59:59.25. */
+/* Returns the same instant at another offset; FOTS_RESULT_OUT_OF_RANGE. At UTC: 2024-02-29 22:59:59.25. */
 fots_moment_result fots_moment_to_offset(fots_moment moment, fots_offset offset);
 
 /* Returns the same date and time of day at another offset, which is another instant. */
 fots_moment_result fots_moment_replace_offset(fots_moment moment, fots_offset offset);
 
-/* Return the moment a duration later or earlier, at the same offset; FOTS_PAST_RANGE. 2 h later:
+/* Return the moment a duration later or earlier, at the same offset; FOTS_RESULT_OUT_OF_RANGE. 2 h later:
  * 2024-03-01 1:59:59.25 +01:00. */
 fots_moment_result fots_moment_checked_add(fots_moment moment, fots_duration duration);
 fots_moment_result fots_moment_checked_sub(fots_moment moment, fots_duration duration);
@@ -864,7 +864,7 @@ fots_duration_result fots_moment_duration_since(fots_moment moment, fots_moment 
 /* Returns -1, 0 or 1 if the instant is before, the same as or after the other one. */
 fots_number_result fots_moment_compare(fots_moment moment, fots_moment other);
 
-/* Return the moment at UTC of a Unix time; FOTS_TIMESTAMP outside the range. 1709247599 is
+/* Return the moment at UTC of a Unix time; FOTS_TIMESTAMP_OUT_OF_RANGE outside the range. 1709247599 is
  * 2024-02-29 22:59:59. fots_duration_new makes a Unix time of a struct timespec. */
 fots_moment_result fots_moment_from_unix_timestamp(int64_t seconds);
 fots_moment_result fots_moment_from_unix_time(fots_duration duration);
@@ -884,7 +884,7 @@ fots_text_result fots_date_week_text(fots_date date);
 fots_text_result fots_date_julian_text(fots_date date);
 
 /* Returns the moment as in RFC 3339: "2024-02-29T23:59:59.25+01:00". The fraction has no trailing
- * zeros, and UTC is "Z". FOTS_PAST_RANGE for a year outside 0 to 9999, and for an offset with
+ * zeros, and UTC is "Z". FOTS_RESULT_OUT_OF_RANGE for a year outside 0 to 9999, and for an offset with
  * seconds or of 24 hours or more. */
 fots_text_result fots_moment_text(fots_date date, fots_time time, fots_offset offset);
 
@@ -898,35 +898,35 @@ fots_text_result fots_weekday_name(uint32_t weekday);
 /* ---- parse texts
  *
  * A text is a pointer and a length, and needs no zero byte. The form must match exactly. First come
- * FOTS_UNREADABLE and FOTS_UNEXPECTED_END, then the first component out of range. */
+ * FOTS_UNEXPECTED_BYTE and FOTS_UNEXPECTED_END, then the first component out of range. */
 
 /* Parses a calendar date, an ordinal date or a week date of ISO 8601, as they are printed. Errors:
- * FOTS_MONTH, FOTS_YEAR, FOTS_DAY, FOTS_ORDINAL, FOTS_WEEK; FOTS_WEEKDAY after the last date.
- * "2024x" is FOTS_UNREADABLE at 4, "2024-02-3" FOTS_UNEXPECTED_END, and "2023-02-29" FOTS_DAY. */
+ * FOTS_MONTH_OUT_OF_RANGE, FOTS_YEAR_OUT_OF_RANGE, FOTS_DAY_OUT_OF_RANGE, FOTS_ORDINAL_OUT_OF_RANGE, FOTS_WEEK_OUT_OF_RANGE; FOTS_WEEKDAY_OUT_OF_RANGE after the last date.
+ * "2024x" is FOTS_UNEXPECTED_BYTE at 4, "2024-02-3" FOTS_UNEXPECTED_END, and "2023-02-29" FOTS_DAY_OUT_OF_RANGE. */
 fots_read_date_result fots_date_read(const char *text, size_t length);
 
-/* Parses a Julian day, such as "J2460370" or "J-1". Error: FOTS_JULIAN_DAY. */
+/* Parses a Julian day, such as "J2460370" or "J-1". Error: FOTS_JULIAN_DAY_OUT_OF_RANGE. */
 fots_read_date_result fots_julian_day_read(const char *text, size_t length);
 
 /* Parses a moment of RFC 3339, such as "2024-02-29T23:59:59.25+01:00". T may be t or a space, and Z
- * may be z. Digits after the ninth of a fraction are ignored. Errors: FOTS_MONTH, FOTS_DAY,
- * FOTS_HOUR, FOTS_MINUTE, FOTS_SECOND (also 60), FOTS_OFFSET_HOUR above 23, FOTS_OFFSET_MINUTE. */
+ * may be z. Digits after the ninth of a fraction are ignored. Errors: FOTS_MONTH_OUT_OF_RANGE, FOTS_DAY_OUT_OF_RANGE,
+ * FOTS_HOUR_OUT_OF_RANGE, FOTS_MINUTE_OUT_OF_RANGE, FOTS_SECOND_OUT_OF_RANGE (also 60), FOTS_OFFSET_HOUR_OUT_OF_RANGE above 23, FOTS_OFFSET_MINUTE_OUT_OF_RANGE. */
 fots_read_moment_result fots_moment_read(const char *text, size_t length);
 
 /* Parses a Unix time, such as "@1709164800.5", to a moment at UTC: @, a minus sign if negative, at
- * most 18 digits, and optionally a fraction of at most 9. Error: FOTS_TIMESTAMP. */
+ * most 18 digits, and optionally a fraction of at most 9. Error: FOTS_TIMESTAMP_OUT_OF_RANGE. */
 fots_read_moment_result fots_unix_read(const char *text, size_t length);
 
 /* ---- whole columns
  *
  * A column is one array for each part of a value: Julian days and years as int32_t, ordinals as
  * uint16_t, months, days, weeks and weekdays as uint8_t. Each row has the result and the status of
- * the single call. After an error it has FOTS_NOTHING for a date, a year, an offset or a count,
+ * the single call. After an error it has FOTS_NO_VALUE for a date, a year, an offset or a count,
  * FOTS_NO_TIME for a time, and 0 for a part with 8 or 16 bits, which the next call rejects.
  *
  * A call returns the number of rows without a result. Each array is followed by its length. If the
- * lengths differ, it writes nothing and returns FOTS_UNLIKE. Written arrays overlap no others. */
-#define FOTS_UNLIKE SIZE_MAX
+ * lengths differ, it writes nothing and returns FOTS_LENGTH_MISMATCH. Written arrays overlap no others. */
+#define FOTS_LENGTH_MISMATCH SIZE_MAX
 
 size_t fots_dates_from_julian_days(const int64_t *julian_days, size_t julian_days_length, int32_t *dates, size_t dates_length,
     uint8_t *statuses, size_t length);
@@ -975,7 +975,7 @@ size_t fots_dates_workdays_between(const int32_t *dates, size_t dates_length, co
  * One array has the bytes of all texts, and another their bounds, one more than rows, as in Arrow:
  * text k is the bytes from bounds[k] to bounds[k + 1]. Times are uint64_t, and offsets int32_t. */
 
-/* Parses like fots_date_read, without positions. FOTS_BOUNDS if the bounds of a row are out of
+/* Parses like fots_date_read, without positions. FOTS_INVALID_BOUNDS if the bounds of a row are out of
  * range or descend. */
 size_t fots_dates_read(const char *bytes, size_t bytes_length, const int32_t *bounds, size_t bounds_length, int32_t *dates,
     size_t dates_length, uint8_t *statuses, size_t length);
@@ -985,16 +985,16 @@ size_t fots_moments_read(const char *bytes, size_t bytes_length, const int32_t *
     size_t dates_length, uint64_t *times, size_t times_length, int32_t *offsets, size_t offsets_length, uint8_t *statuses, size_t length);
 
 /* The bytes of room for each text of the next calls. */
-#define FOTS_DATE_ROOM 13
-#define FOTS_MOMENT_ROOM 38
+#define FOTS_MAX_DATE_LENGTH 13
+#define FOTS_MAX_MOMENT_LENGTH 38
 
 /* Prints like fots_date_calendar_text, one text after another. A row without a result has no bytes.
- * Bytes after the last bound stay as they are. FOTS_UNLIKE also if there are fewer than
- * FOTS_DATE_ROOM bytes for each row, or that is more than INT32_MAX in all. */
+ * Bytes after the last bound stay as they are. FOTS_LENGTH_MISMATCH also if there are fewer than
+ * FOTS_MAX_DATE_LENGTH bytes for each row, or that is more than INT32_MAX in all. */
 size_t fots_dates_calendar_texts(const int32_t *dates, size_t dates_length, char *bytes, size_t bytes_length, int32_t *bounds,
     size_t bounds_length, uint8_t *statuses, size_t length);
 
-/* Prints like fots_moment_text, in the same way, with FOTS_MOMENT_ROOM bytes for each row. */
+/* Prints like fots_moment_text, in the same way, with FOTS_MAX_MOMENT_LENGTH bytes for each row. */
 size_t fots_moments_texts(const int32_t *dates, size_t dates_length, const uint64_t *times, size_t times_length, const int32_t *offsets,
     size_t offsets_length, char *bytes, size_t bytes_length, int32_t *bounds, size_t bounds_length, uint8_t *statuses, size_t length);
 

@@ -34,7 +34,7 @@ public:
     {
     }
 
-    // Returns the status of the call, such as FOTS_DAY.
+    // Returns the status of the call, such as FOTS_DAY_OUT_OF_RANGE.
     std::int32_t status() const noexcept { return status_; }
 
     // Returns the name of the status: the component, such as "day", or a few words.
@@ -43,23 +43,23 @@ public:
     // Returns whether the range of the component depends on other components.
     bool is_conditional() const noexcept { return fots_status_is_conditional(status_) != 0; }
 
-    // Returns the position of the first wrong byte for FOTS_UNREADABLE, the length of the text for
+    // Returns the position of the first wrong byte for FOTS_UNEXPECTED_BYTE, the length of the text for
     // FOTS_UNEXPECTED_END, and the position of the part for a rule_fault.
     std::size_t position() const noexcept { return position_; }
 
 private:
     static std::string words(std::int32_t status, std::size_t position)
     {
-        if (status == FOTS_UNREADABLE) {
+        if (status == FOTS_UNEXPECTED_BYTE) {
             return "unexpected byte at " + std::to_string(position);
         }
         if (status == FOTS_UNEXPECTED_END) {
             return "unexpected end at " + std::to_string(position);
         }
-        if (status >= FOTS_UNKNOWN_PART && status <= FOTS_NO_FREQUENCY) {
+        if (status >= FOTS_UNKNOWN_PART && status <= FOTS_MISSING_FREQUENCY) {
             return fots_status_name(status) + (" at " + std::to_string(position));
         }
-        return status >= FOTS_YEAR ? std::string(fots_status_name(status)) + " was not in range" : fots_status_name(status);
+        return status >= FOTS_YEAR_OUT_OF_RANGE ? std::string(fots_status_name(status)) + " was not in range" : fots_status_name(status);
     }
 
     std::int32_t status_;
@@ -71,7 +71,7 @@ class rule_fault : public error {
 public:
     rule_fault(std::int32_t status, std::size_t position, std::uint32_t part) : error(status, position), part_(part) {}
 
-    // Returns the part, such as FOTS_RULE_BYDAY, or 0 for FOTS_UNKNOWN_PART and FOTS_NO_FREQUENCY.
+    // Returns the part, such as FOTS_RULE_BYDAY, or 0 for FOTS_UNKNOWN_PART and FOTS_MISSING_FREQUENCY.
     std::uint32_t part() const noexcept { return part_; }
 
 private:
@@ -86,7 +86,7 @@ struct Answered {};
 // Returns the result, or throws an error.
 template <class Result> Result done(Result result)
 {
-    if (result.status != FOTS_DONE) {
+    if (result.status != FOTS_OK) {
         throw error(result.status);
     }
     return result;
@@ -94,7 +94,7 @@ template <class Result> Result done(Result result)
 
 template <class Result> Result read(Result result)
 {
-    if (result.status != FOTS_DONE) {
+    if (result.status != FOTS_OK) {
         throw error(result.status, result.position);
     }
     return result;
@@ -103,16 +103,16 @@ template <class Result> Result read(Result result)
 // Returns the result of a call that parses a recurrence, or throws a rule_fault.
 template <class Result> Result parsed(Result result)
 {
-    if (result.status != FOTS_DONE) {
+    if (result.status != FOTS_OK) {
         throw rule_fault(result.status, result.position, result.part);
     }
     return result;
 }
 
-// Returns whether there is a result, false for FOTS_PAST_RANGE, or throws an error.
+// Returns whether there is a result, false for FOTS_RESULT_OUT_OF_RANGE, or throws an error.
 template <class Result> bool is_in_range(Result result)
 {
-    return result.status != FOTS_PAST_RANGE && (done(result), true);
+    return result.status != FOTS_RESULT_OUT_OF_RANGE && (done(result), true);
 }
 
 inline std::string text(fots_text_result result)
@@ -146,7 +146,7 @@ inline std::ostream &operator<<(std::ostream &out, Weekday weekday) { return out
 // A signed length of time in nanoseconds.
 class Duration : public detail::Ordered<Duration> {
 public:
-    // Converts a duration of C, or throws FOTS_BAD_DURATION.
+    // Converts a duration of C, or throws FOTS_INVALID_DURATION.
     explicit Duration(fots_duration value) : value_(value) { detail::done(fots_duration_whole_seconds(value)); }
     Duration(fots_duration value, detail::Answered) noexcept : value_(value) {}
 
@@ -187,7 +187,7 @@ private:
 // A time of day in nanoseconds.
 class Time : public detail::Ordered<Time> {
 public:
-    // Converts nanoseconds since midnight, or throws FOTS_BAD_TIME.
+    // Converts nanoseconds since midnight, or throws FOTS_INVALID_TIME.
     explicit Time(fots_time value) : value_(value) { detail::done(fots_time_hour(value)); }
     Time(fots_time value, detail::Answered) noexcept : value_(value) {}
 
@@ -405,7 +405,7 @@ public:
     std::string week_text() const { return detail::text(fots_date_week_text(value_)); }
 
 #if __cplusplus >= 202002L
-    // Converts a day of <chrono>, or throws FOTS_JULIAN_DAY.
+    // Converts a day of <chrono>, or throws FOTS_JULIAN_DAY_OUT_OF_RANGE.
     static Date from_sys_days(std::chrono::sys_days day)
     {
         return from_julian_day(std::int64_t{day.time_since_epoch().count()} + unix_epoch);
@@ -417,7 +417,7 @@ public:
     }
 #endif
 
-    // Converts a result of C, which is empty for FOTS_PAST_RANGE.
+    // Converts a result of C, which is empty for FOTS_RESULT_OUT_OF_RANGE.
     static std::optional<Date> if_any(fots_date_result result)
     {
         return detail::is_in_range(result) ? std::optional<Date>(Date(result.date, {})) : std::nullopt;
@@ -447,7 +447,7 @@ enum class Convention : std::uint32_t {
     ModifiedPreceding = FOTS_MODIFIED_PRECEDING
 };
 
-// The days of a week without holidays: at most FOTS_MOST_HOLIDAYS, in strictly ascending order.
+// The days of a week without holidays: at most FOTS_MAX_HOLIDAYS, in strictly ascending order.
 class Workdays {
 public:
     // Takes Monday to Friday.
@@ -523,8 +523,8 @@ struct ByDay {
     Weekday weekday;
 };
 
-// A recurrence rule of RFC 5545, with at most FOTS_MOST_MONTHS months and FOTS_MOST_WEEKDAYS
-// weekdays; else the calls throw FOTS_MANY_PARTS. An empty list excludes no day.
+// A recurrence rule of RFC 5545, with at most FOTS_MAX_MONTHS months and FOTS_MAX_WEEKDAYS
+// weekdays; else the calls throw FOTS_TOO_MANY_PARTS. An empty list excludes no day.
 class Rule {
 public:
     Rule(Date its_start, Frequency its_frequency) : start(its_start), frequency(its_frequency) {}
@@ -634,7 +634,7 @@ public:
     // Return the last day or the number of times, if given.
     std::optional<Date> until() const
     {
-        return parts_.until.julian_day == FOTS_NOTHING ? std::nullopt : std::optional(Date(parts_.until, {}));
+        return parts_.until.julian_day == FOTS_NO_VALUE ? std::nullopt : std::optional(Date(parts_.until, {}));
     }
     std::optional<std::uint32_t> count() const { return parts_.count == 0 ? std::nullopt : std::optional(parts_.count); }
 

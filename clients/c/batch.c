@@ -18,7 +18,7 @@ static uint8_t firsts[ROWS], seconds[ROWS], statuses[ROWS];
 static uint16_t found_ordinals[ROWS];
 
 /* Bytes of texts, their bounds, and the rest of moments. */
-static char bytes[ROWS * FOTS_MOMENT_ROOM + 1];
+static char bytes[ROWS * FOTS_MAX_MOMENT_LENGTH + 1];
 static int32_t bounds[ROWS + 1], offsets[ROWS], found_offsets[ROWS];
 static uint64_t times[ROWS], found_times[ROWS];
 
@@ -88,7 +88,7 @@ static void draw(void)
     do { \
         check(statuses[k] == (status_of_one), call, (long long)k, statuses[k]); \
         check(parts, call, (long long)k, statuses[k]); \
-        refused += statuses[k] == FOTS_DONE ? 0 : 1; \
+        refused += statuses[k] == FOTS_OK ? 0 : 1; \
     } while (0)
 
 /* Checks each row against the single call, and the number of rows without a result. */
@@ -124,7 +124,7 @@ static void columns(size_t n)
         fots_iso_week_date_result single = fots_date_to_iso_week_date(date_at(dates[k])),
         found[k] == single.year && firsts[k] == single.week && seconds[k] == single.weekday);
     COLUMN(fots_dates_weekdays(dates, n, firsts, n, statuses, n), fots_part_result single = fots_date_weekday(date_at(dates[k])),
-        firsts[k] == (single.status == FOTS_DONE ? single.number : 0));
+        firsts[k] == (single.status == FOTS_OK ? single.number : 0));
     COLUMN(fots_dates_add_days(dates, n, days, n, found, n, statuses, n),
         fots_date_result single = fots_date_add_days(date_at(dates[k]), days[k]), DATES_FOUND);
     COLUMN(fots_dates_add_months(dates, n, numbers, n, found, n, statuses, n),
@@ -144,22 +144,22 @@ static void of_workdays(size_t n, uint32_t week, const fots_date *holidays, size
 /* Takes weeks, holidays near both ends and on every hundredth day, and invalid ones. */
 static void workdays(void)
 {
-    static fots_date holidays[FOTS_MOST_HOLIDAYS + 1];
-    for (int k = 0; k <= FOTS_MOST_HOLIDAYS; k++) {
-        holidays[k] = date_at(k < 9 ? FOTS_MIN_JULIAN_DAY + 3 * k : k < FOTS_MOST_HOLIDAYS - 9 ? 2400000 + 100 * k
-            : FOTS_MAX_JULIAN_DAY - 2 * (FOTS_MOST_HOLIDAYS - k));
+    static fots_date holidays[FOTS_MAX_HOLIDAYS + 1];
+    for (int k = 0; k <= FOTS_MAX_HOLIDAYS; k++) {
+        holidays[k] = date_at(k < 9 ? FOTS_MIN_JULIAN_DAY + 3 * k : k < FOTS_MAX_HOLIDAYS - 9 ? 2400000 + 100 * k
+            : FOTS_MAX_JULIAN_DAY - 2 * (FOTS_MAX_HOLIDAYS - k));
     }
     for (uint32_t week = 0; week < 129; week += week == 96 ? 31 : 32) {
-        of_workdays(200, week, holidays, FOTS_MOST_HOLIDAYS);
+        of_workdays(200, week, holidays, FOTS_MAX_HOLIDAYS);
     }
     for (size_t length = 0; length < 9; length += 4) {
         of_workdays(ROWS, FOTS_MONDAY_TO_FRIDAY, holidays, length);
     }
-    of_workdays(200, FOTS_MONDAY_TO_FRIDAY, holidays, FOTS_MOST_HOLIDAYS + 1);
-    of_workdays(200, 128, holidays, FOTS_MOST_HOLIDAYS + 1);
+    of_workdays(200, FOTS_MONDAY_TO_FRIDAY, holidays, FOTS_MAX_HOLIDAYS + 1);
+    of_workdays(200, 128, holidays, FOTS_MAX_HOLIDAYS + 1);
     holidays[2] = holidays[1];
     of_workdays(200, FOTS_MONDAY_TO_FRIDAY, holidays, 9);
-    holidays[2] = date_at(FOTS_NOTHING);
+    holidays[2] = date_at(FOTS_NO_VALUE);
     of_workdays(200, FOTS_MONDAY_TO_FRIDAY, holidays, 9);
     of_workdays(200, FOTS_MONDAY_TO_FRIDAY, holidays, 2);
     of_workdays(0, FOTS_MONDAY_TO_FRIDAY, holidays, 2);
@@ -187,16 +187,16 @@ static void unlike(void)
 {
     found[0] = 77;
     statuses[0] = 77;
-    check(fots_dates_from_julian_days(days, 2, found, 1, statuses, 1) == FOTS_UNLIKE, "two Julian days and one date", 0, 0);
-    check(fots_dates_from_julian_days(days, 1, found, 1, statuses, 2) == FOTS_UNLIKE, "a status too many", 0, 0);
-    check(fots_dates_from_calendar_dates(years, 1, months, 0, month_days, 1, found, 1, statuses, 1) == FOTS_UNLIKE, "a month too few", 0, 0);
-    check(fots_dates_from_iso_week_dates(years, 1, weeks, 1, weekdays, 2, found, 1, statuses, 1) == FOTS_UNLIKE, "a weekday too many", 0, 0);
-    check(fots_dates_to_iso_week_dates(dates, 1, found, 1, firsts, 1, seconds, 0, statuses, 1) == FOTS_UNLIKE, "no weekday", 0, 0);
-    check(fots_dates_add_days(dates, 1, days, 1, found, 0, statuses, 1) == FOTS_UNLIKE, "no date", 0, 0);
-    check(fots_dates_add_months(dates, 1, numbers, 2, found, 1, statuses, 1) == FOTS_UNLIKE, "two months", 0, 0);
+    check(fots_dates_from_julian_days(days, 2, found, 1, statuses, 1) == FOTS_LENGTH_MISMATCH, "two Julian days and one date", 0, 0);
+    check(fots_dates_from_julian_days(days, 1, found, 1, statuses, 2) == FOTS_LENGTH_MISMATCH, "a status too many", 0, 0);
+    check(fots_dates_from_calendar_dates(years, 1, months, 0, month_days, 1, found, 1, statuses, 1) == FOTS_LENGTH_MISMATCH, "a month too few", 0, 0);
+    check(fots_dates_from_iso_week_dates(years, 1, weeks, 1, weekdays, 2, found, 1, statuses, 1) == FOTS_LENGTH_MISMATCH, "a weekday too many", 0, 0);
+    check(fots_dates_to_iso_week_dates(dates, 1, found, 1, firsts, 1, seconds, 0, statuses, 1) == FOTS_LENGTH_MISMATCH, "no weekday", 0, 0);
+    check(fots_dates_add_days(dates, 1, days, 1, found, 0, statuses, 1) == FOTS_LENGTH_MISMATCH, "no date", 0, 0);
+    check(fots_dates_add_months(dates, 1, numbers, 2, found, 1, statuses, 1) == FOTS_LENGTH_MISMATCH, "two months", 0, 0);
     const fots_date holiday = date_at(2451545);
-    check(fots_dates_add_workdays(dates, 2, numbers, 2, 31, &holiday, 1, found, 2, statuses, 1) == FOTS_UNLIKE, "a status too few", 0, 0);
-    check(fots_dates_workdays_between(dates, 1, others, 0, 128, &holiday, 1, found, 1, statuses, 1) == FOTS_UNLIKE, "no other date", 0, 0);
+    check(fots_dates_add_workdays(dates, 2, numbers, 2, 31, &holiday, 1, found, 2, statuses, 1) == FOTS_LENGTH_MISMATCH, "a status too few", 0, 0);
+    check(fots_dates_workdays_between(dates, 1, others, 0, 128, &holiday, 1, found, 1, statuses, 1) == FOTS_LENGTH_MISMATCH, "no other date", 0, 0);
     check(fots_dates_from_julian_days(days, 0, found, 0, statuses, 0) == 0, "no rows", 0, 0);
     check(found[0] == 77 && statuses[0] == 77, "what stood there", found[0], statuses[0]);
 }
@@ -207,7 +207,7 @@ static size_t same_text(size_t k, fots_text_result single)
     size_t text_length = (size_t)(bounds[k + 1] - bounds[k]);
     check(statuses[k] == single.status, "the status of a text", (long long)k, statuses[k]);
     check(text_length == single.length && memcmp(bytes + bounds[k], single.bytes, text_length) == 0, "a text", (long long)k, bounds[k]);
-    return single.status == FOTS_DONE ? 0 : 1;
+    return single.status == FOTS_OK ? 0 : 1;
 }
 
 /* Parses texts one after another and at once. */
@@ -217,7 +217,7 @@ static void read_back(size_t n, size_t bytes_length)
     for (size_t k = 0; k < n; k++) {
         fots_read_date_result single = fots_date_read(bytes + bounds[k], (size_t)(bounds[k + 1] - bounds[k]));
         check(statuses[k] == single.status && found[k] == single.date.julian_day, "a date that is read", (long long)k, statuses[k]);
-        refused += single.status == FOTS_DONE ? 0 : 1;
+        refused += single.status == FOTS_OK ? 0 : 1;
     }
     check(counted == refused, "the texts of no date", (long long)counted, (long long)refused);
     refused = 0;
@@ -226,7 +226,7 @@ static void read_back(size_t n, size_t bytes_length)
         fots_read_moment_result single = fots_moment_read(bytes + bounds[k], (size_t)(bounds[k + 1] - bounds[k]));
         check(statuses[k] == single.status && found[k] == single.date.julian_day && found_times[k] == single.time
             && found_offsets[k] == single.offset.seconds, "a moment that is read", (long long)k, statuses[k]);
-        refused += single.status == FOTS_DONE ? 0 : 1;
+        refused += single.status == FOTS_OK ? 0 : 1;
     }
     check(counted == refused, "the texts of no moment", (long long)counted, (long long)refused);
 }
@@ -243,13 +243,13 @@ static void spoil(size_t bytes_length)
 /* Prints and parses dates and moments, also with changed bytes. */
 static void texts(size_t n)
 {
-    bytes[n * FOTS_DATE_ROOM] = 77;
-    size_t refused = 0, counted = fots_dates_calendar_texts(dates, n, bytes, n * FOTS_DATE_ROOM, bounds, n + 1, statuses, n);
+    bytes[n * FOTS_MAX_DATE_LENGTH] = 77;
+    size_t refused = 0, counted = fots_dates_calendar_texts(dates, n, bytes, n * FOTS_MAX_DATE_LENGTH, bounds, n + 1, statuses, n);
     for (size_t k = 0; k < n; k++) {
         refused += same_text(k, fots_date_calendar_text(date_at(dates[k])));
     }
     check(bounds[0] == 0 && counted == refused, "dates with no text", (long long)counted, (long long)refused);
-    check(bytes[n * FOTS_DATE_ROOM] == 77, "the byte after the texts", 0, 0);
+    check(bytes[n * FOTS_MAX_DATE_LENGTH] == 77, "the byte after the texts", 0, 0);
     read_back(n, (size_t)bounds[n]);
     for (size_t k = 0; k < n; k++) {
         dates[k] = drawn() % 4 == 0 ? dates[k] : 1721060 + (int32_t)(drawn() % 3652425);
@@ -258,7 +258,7 @@ static void texts(size_t n)
         offsets[k] = drawn() % 8 == 0 ? (int32_t)drawn_bits() : 60 * ((int32_t)(drawn() % 2879) - 1439);
     }
     refused = 0;
-    counted = fots_moments_texts(dates, n, times, n, offsets, n, bytes, n * FOTS_MOMENT_ROOM, bounds, n + 1, statuses, n);
+    counted = fots_moments_texts(dates, n, times, n, offsets, n, bytes, n * FOTS_MAX_MOMENT_LENGTH, bounds, n + 1, statuses, n);
     for (size_t k = 0; k < n; k++) {
         refused += same_text(k, fots_moment_text(date_at(dates[k]), times[k], offset_at(offsets[k])));
     }
@@ -273,26 +273,26 @@ static void bad_texts(void)
 {
     static const char text[] = "2024-02-292024-02-30";
     const int32_t wrong[] = {0, 10, 20, 10, 21, -1, 10, INT32_MIN, INT32_MAX, 0, 0};
-    const uint8_t expected[] = {FOTS_DONE, FOTS_DAY, FOTS_BOUNDS, FOTS_BOUNDS, FOTS_BOUNDS, FOTS_BOUNDS, FOTS_BOUNDS,
-        FOTS_BOUNDS, FOTS_BOUNDS, FOTS_UNEXPECTED_END};
+    const uint8_t expected[] = {FOTS_OK, FOTS_DAY_OUT_OF_RANGE, FOTS_INVALID_BOUNDS, FOTS_INVALID_BOUNDS, FOTS_INVALID_BOUNDS, FOTS_INVALID_BOUNDS, FOTS_INVALID_BOUNDS,
+        FOTS_INVALID_BOUNDS, FOTS_INVALID_BOUNDS, FOTS_UNEXPECTED_END};
     check(fots_dates_read(text, 20, wrong, 11, found, 10, statuses, 10) == 9, "texts that are none", 0, 0);
     for (size_t k = 0; k < 10; k++) {
-        check(statuses[k] == expected[k] && found[k] == (k == 0 ? 2460370 : FOTS_NOTHING), "a text that is none", (long long)k, statuses[k]);
+        check(statuses[k] == expected[k] && found[k] == (k == 0 ? 2460370 : FOTS_NO_VALUE), "a text that is none", (long long)k, statuses[k]);
     }
     check(fots_moments_read(text, 20, wrong, 11, found, 10, found_times, 10, found_offsets, 10, statuses, 10) == 10, "no moments", 0, 0);
     for (size_t k = 0; k < 10; k++) {
-        check(statuses[k] == (k == 0 || k == 1 || k == 9 ? FOTS_UNEXPECTED_END : FOTS_BOUNDS) && found_times[k] == FOTS_NO_TIME,
+        check(statuses[k] == (k == 0 || k == 1 || k == 9 ? FOTS_UNEXPECTED_END : FOTS_INVALID_BOUNDS) && found_times[k] == FOTS_NO_TIME,
             "a moment that is none", (long long)k, statuses[k]);
     }
     statuses[0] = 77;
     bounds[0] = 77;
     bytes[0] = 77;
-    check(fots_dates_read(text, 20, wrong, 1, found, 1, statuses, 1) == FOTS_UNLIKE, "a bound too few", 0, 0);
-    check(fots_dates_read(text, 20, wrong, 0, found, 0, statuses, 0) == FOTS_UNLIKE, "no bound", 0, 0);
-    check(fots_moments_read(text, 20, wrong, 2, found, 1, found_times, 1, found_offsets, 2, statuses, 1) == FOTS_UNLIKE, "two offsets", 0, 0);
-    check(fots_dates_calendar_texts(dates, 1, bytes, 12, bounds, 2, statuses, 1) == FOTS_UNLIKE, "a byte too few", 0, 0);
-    check(fots_dates_calendar_texts(dates, 1, bytes, 13, bounds, 1, statuses, 1) == FOTS_UNLIKE, "no second bound", 0, 0);
-    check(fots_moments_texts(dates, 1, times, 1, offsets, 1, bytes, 37, bounds, 2, statuses, 1) == FOTS_UNLIKE, "less room", 0, 0);
+    check(fots_dates_read(text, 20, wrong, 1, found, 1, statuses, 1) == FOTS_LENGTH_MISMATCH, "a bound too few", 0, 0);
+    check(fots_dates_read(text, 20, wrong, 0, found, 0, statuses, 0) == FOTS_LENGTH_MISMATCH, "no bound", 0, 0);
+    check(fots_moments_read(text, 20, wrong, 2, found, 1, found_times, 1, found_offsets, 2, statuses, 1) == FOTS_LENGTH_MISMATCH, "two offsets", 0, 0);
+    check(fots_dates_calendar_texts(dates, 1, bytes, 12, bounds, 2, statuses, 1) == FOTS_LENGTH_MISMATCH, "a byte too few", 0, 0);
+    check(fots_dates_calendar_texts(dates, 1, bytes, 13, bounds, 1, statuses, 1) == FOTS_LENGTH_MISMATCH, "no second bound", 0, 0);
+    check(fots_moments_texts(dates, 1, times, 1, offsets, 1, bytes, 37, bounds, 2, statuses, 1) == FOTS_LENGTH_MISMATCH, "less room", 0, 0);
     check(statuses[0] == 77 && bounds[0] == 77 && bytes[0] == 77, "what stood there", statuses[0], bounds[0]);
     check(fots_dates_calendar_texts(dates, 0, bytes, 0, bounds, 1, statuses, 0) == 0 && bounds[0] == 0, "no texts", bounds[0], 0);
 }

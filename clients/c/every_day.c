@@ -64,10 +64,10 @@ static int is_made(struct day it)
     fots_date_result by_ordinal = fots_date_from_ordinal_date(it.year, it.ordinal);
     fots_date_result by_week = fots_date_from_iso_week_date(it.iso_year, it.iso_week, it.weekday);
     fots_date_result by_julian_day = fots_date_from_julian_day(it.julian_day);
-    return by_calendar.status == FOTS_DONE && by_calendar.date.julian_day == it.julian_day
-        && by_ordinal.status == FOTS_DONE && by_ordinal.date.julian_day == it.julian_day
-        && by_week.status == FOTS_DONE && by_week.date.julian_day == it.julian_day
-        && by_julian_day.status == FOTS_DONE && by_julian_day.date.julian_day == it.julian_day;
+    return by_calendar.status == FOTS_OK && by_calendar.date.julian_day == it.julian_day
+        && by_ordinal.status == FOTS_OK && by_ordinal.date.julian_day == it.julian_day
+        && by_week.status == FOTS_OK && by_week.date.julian_day == it.julian_day
+        && by_julian_day.status == FOTS_OK && by_julian_day.date.julian_day == it.julian_day;
 }
 
 /* Checks that the date of the day returns each form. */
@@ -76,19 +76,19 @@ static int has_all(struct day it)
     fots_calendar_date_result calendar = fots_date_to_calendar_date(date_at(it.julian_day));
     fots_ordinal_date_result ordinal = fots_date_to_ordinal_date(date_at(it.julian_day));
     fots_iso_week_date_result week = fots_date_to_iso_week_date(date_at(it.julian_day));
-    return calendar.status == FOTS_DONE && calendar.year == it.year && calendar.month == it.month && calendar.day == it.day
-        && ordinal.status == FOTS_DONE && ordinal.year == it.year && ordinal.ordinal == it.ordinal
-        && week.status == FOTS_DONE && week.year == it.iso_year && week.week == it.iso_week && week.weekday == it.weekday;
+    return calendar.status == FOTS_OK && calendar.year == it.year && calendar.month == it.month && calendar.day == it.day
+        && ordinal.status == FOTS_OK && ordinal.year == it.year && ordinal.ordinal == it.ordinal
+        && week.status == FOTS_OK && week.year == it.iso_year && week.week == it.iso_week && week.weekday == it.weekday;
 }
 
 static int is_number(fots_number_result result, int32_t number)
 {
-    return result.status == FOTS_DONE && result.number == number;
+    return result.status == FOTS_OK && result.number == number;
 }
 
 static int is_part(fots_part_result result, uint32_t number)
 {
-    return result.status == FOTS_DONE && result.number == number;
+    return result.status == FOTS_OK && result.number == number;
 }
 
 /* Checks the parts one by one, only for some days, because each is a conversion. */
@@ -106,9 +106,9 @@ static int has_neighbours(struct day it)
 {
     fots_date_result next = fots_date_next_day(date_at(it.julian_day)), previous = fots_date_previous_day(date_at(it.julian_day));
     int last = it.julian_day == FOTS_MAX_JULIAN_DAY, first = it.julian_day == FOTS_MIN_JULIAN_DAY;
-    return next.status == (last ? FOTS_PAST_RANGE : FOTS_DONE) && next.date.julian_day == (last ? FOTS_NOTHING : it.julian_day + 1)
-        && previous.status == (first ? FOTS_PAST_RANGE : FOTS_DONE)
-            && previous.date.julian_day == (first ? FOTS_NOTHING : it.julian_day - 1);
+    return next.status == (last ? FOTS_RESULT_OUT_OF_RANGE : FOTS_OK) && next.date.julian_day == (last ? FOTS_NO_VALUE : it.julian_day + 1)
+        && previous.status == (first ? FOTS_RESULT_OUT_OF_RANGE : FOTS_OK)
+            && previous.date.julian_day == (first ? FOTS_NO_VALUE : it.julian_day - 1);
 }
 
 /* Checks that the days past the end of a month and a year are errors. */
@@ -119,9 +119,9 @@ static int refuses_beside(struct day it)
         fots_date_result zero = fots_date_from_calendar_date(it.year, it.month, 0);
         fots_date_result ordinal = fots_date_from_ordinal_date(it.year, is_leap(it.year) ? 367 : 366);
         fots_date_result none = fots_date_from_ordinal_date(it.year, 0);
-        return day.status == FOTS_DAY && zero.status == FOTS_DAY && ordinal.status == FOTS_ORDINAL && none.status == FOTS_ORDINAL
-            && day.date.julian_day == FOTS_NOTHING && zero.date.julian_day == FOTS_NOTHING && ordinal.date.julian_day == FOTS_NOTHING
-                && none.date.julian_day == FOTS_NOTHING;
+        return day.status == FOTS_DAY_OUT_OF_RANGE && zero.status == FOTS_DAY_OUT_OF_RANGE && ordinal.status == FOTS_ORDINAL_OUT_OF_RANGE && none.status == FOTS_ORDINAL_OUT_OF_RANGE
+            && day.date.julian_day == FOTS_NO_VALUE && zero.date.julian_day == FOTS_NO_VALUE && ordinal.date.julian_day == FOTS_NO_VALUE
+                && none.date.julian_day == FOTS_NO_VALUE;
     }
     return 1;
 }

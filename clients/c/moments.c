@@ -35,7 +35,7 @@ static fots_moment shown(int32_t year, uint32_t month, uint32_t day, uint32_t ho
     fots_time_result time = fots_time_from_hms_nano(hour, minute, second, nanosecond);
     fots_offset_result offset = fots_offset_from_hms(hours, 0, 0);
     fots_moment_result moment = fots_moment_new(date.date, time.time, offset.offset);
-    check(moment.status == FOTS_DONE, "a moment of a row", year, month * 100 + day);
+    check(moment.status == FOTS_OK, "a moment of a row", year, month * 100 + day);
     return moment.moment;
 }
 
@@ -46,24 +46,24 @@ static int is_same(fots_moment one, fots_moment other)
 
 static void is_moment(fots_moment_result result, fots_moment moment, const char *what)
 {
-    check(result.status == FOTS_DONE && is_same(result.moment, moment), what, result.status, result.moment.date.julian_day);
+    check(result.status == FOTS_OK && is_same(result.moment, moment), what, result.status, result.moment.date.julian_day);
 }
 
 static void is_no_moment(fots_moment_result result, int32_t status, const char *what)
 {
-    check(result.status == status && is_same(result.moment, moment_at(FOTS_NOTHING, FOTS_NOTHING, FOTS_NO_TIME)), what, result.status,
+    check(result.status == status && is_same(result.moment, moment_at(FOTS_NO_VALUE, FOTS_NO_VALUE, FOTS_NO_TIME)), what, result.status,
         result.moment.date.julian_day);
 }
 
 static void is_duration(fots_duration_result result, fots_duration duration, const char *what)
 {
-    check(result.status == FOTS_DONE && result.duration.seconds == duration.seconds
+    check(result.status == FOTS_OK && result.duration.seconds == duration.seconds
         && result.duration.nanoseconds == duration.nanoseconds, what, result.duration.seconds, result.duration.nanoseconds);
 }
 
 static void is_no_duration(fots_duration_result result, int32_t status, const char *what)
 {
-    check(result.status == status && result.duration.seconds == INT64_MIN && result.duration.nanoseconds == FOTS_NOTHING, what,
+    check(result.status == status && result.duration.seconds == INT64_MIN && result.duration.nanoseconds == FOTS_NO_VALUE, what,
         result.status, result.duration.seconds);
 }
 
@@ -72,8 +72,8 @@ static void is_order(fots_moment one, fots_moment other, int32_t order, const ch
 {
     fots_number_result there = fots_moment_compare(one, other);
     fots_number_result back = fots_moment_compare(other, one);
-    check(there.status == FOTS_DONE && there.number == order, what, there.status, there.number);
-    check(back.status == FOTS_DONE && back.number == -order, what, back.status, back.number);
+    check(there.status == FOTS_OK && there.number == order, what, there.status, there.number);
+    check(back.status == FOTS_OK && back.number == -order, what, back.status, back.number);
 }
 
 /* ---- worked rows */
@@ -85,7 +85,7 @@ static void a_leap_night(void)
     fots_moment further_east = shown(2024, 3, 1, 0, 59, 59, 250000000, 2);
     fots_long_result seconds = fots_moment_unix_timestamp(night);
     check(is_same(night, moment_at(2460370, 3600, UINT64_C(86399250000000))), "the numbers", night.date.julian_day, night.offset.seconds);
-    check(seconds.status == FOTS_DONE && seconds.number == 1709247599, "whole seconds", seconds.status, seconds.number);
+    check(seconds.status == FOTS_OK && seconds.number == 1709247599, "whole seconds", seconds.status, seconds.number);
     is_duration(fots_moment_unix_time(night), duration_of(1709247599, 250000000), "Unix time");
     is_moment(fots_moment_from_unix_time(duration_of(1709247599, 250000000)), at_utc, "of a Unix time");
     is_moment(fots_moment_from_unix_timestamp(1709247599), shown(2024, 2, 29, 22, 59, 59, 0, 0), "of whole seconds");
@@ -107,7 +107,7 @@ static void before_the_epoch(void)
     fots_moment epoch = shown(1970, 1, 1, 0, 0, 0, 0, 0);
     fots_moment half = shown(1969, 12, 31, 23, 59, 59, 500000000, 0);
     fots_long_result seconds = fots_moment_unix_timestamp(half);
-    check(seconds.status == FOTS_DONE && seconds.number == -1, "half a second before", seconds.status, seconds.number);
+    check(seconds.status == FOTS_OK && seconds.number == -1, "half a second before", seconds.status, seconds.number);
     is_duration(fots_moment_unix_time(half), duration_of(0, -500000000), "half a second before, exactly");
     is_moment(fots_moment_from_unix_time(duration_of(0, -500000000)), half, "of half a second before");
     is_moment(fots_moment_from_unix_timestamp(0), epoch, "the epoch");
@@ -121,26 +121,26 @@ static void ends_of_the_range(void)
     fots_moment west = shown(999999, 12, 31, 23, 0, 0, 0, -2);
     fots_moment east = shown(-999999, 1, 1, 0, 0, 0, 0, 1);
     fots_duration greatest = duration_of(INT64_MAX, 999999999), least = duration_of(INT64_MIN, -999999999);
-    is_no_moment(fots_moment_to_offset(west, offset_at(0)), FOTS_PAST_RANGE, "at no date at UTC");
+    is_no_moment(fots_moment_to_offset(west, offset_at(0)), FOTS_RESULT_OUT_OF_RANGE, "at no date at UTC");
     is_order(west, shown(999999, 12, 31, 23, 59, 59, 0, 0), 1, "later than the last day at UTC");
     is_order(west, last, 1, "later than the last moment at UTC");
     is_duration(fots_moment_duration_since(west, last), duration_of(3600, 1), "since the last moment at UTC");
-    is_no_moment(fots_moment_to_offset(east, offset_at(0)), FOTS_PAST_RANGE, "before the first day at UTC");
+    is_no_moment(fots_moment_to_offset(east, offset_at(0)), FOTS_RESULT_OUT_OF_RANGE, "before the first day at UTC");
     is_order(east, first, -1, "earlier than the first moment at UTC");
-    is_no_moment(fots_moment_checked_add(last, duration_of(0, 1)), FOTS_PAST_RANGE, "after the last");
-    is_no_moment(fots_moment_checked_sub(first, duration_of(0, 1)), FOTS_PAST_RANGE, "before the first");
-    is_no_moment(fots_moment_checked_add(first, greatest), FOTS_PAST_RANGE, "the greatest move");
+    is_no_moment(fots_moment_checked_add(last, duration_of(0, 1)), FOTS_RESULT_OUT_OF_RANGE, "after the last");
+    is_no_moment(fots_moment_checked_sub(first, duration_of(0, 1)), FOTS_RESULT_OUT_OF_RANGE, "before the first");
+    is_no_moment(fots_moment_checked_add(first, greatest), FOTS_RESULT_OUT_OF_RANGE, "the greatest move");
     is_moment(fots_moment_saturating_add(first, greatest), last, "the greatest move, held");
     is_moment(fots_moment_saturating_add(first, least), first, "the least move, held");
     is_moment(fots_moment_saturating_sub(last, greatest), first, "the greatest move back, held");
     is_moment(fots_moment_saturating_sub(east, least), moment_at(last.date.julian_day, 3600, last.time), "held at its offset");
-    is_no_moment(fots_moment_from_unix_timestamp(INT64_MAX), FOTS_TIMESTAMP, "the greatest seconds");
-    is_no_moment(fots_moment_from_unix_timestamp(INT64_MIN), FOTS_TIMESTAMP, "the least seconds");
-    is_no_moment(fots_moment_from_unix_time(greatest), FOTS_TIMESTAMP, "the greatest Unix time");
+    is_no_moment(fots_moment_from_unix_timestamp(INT64_MAX), FOTS_TIMESTAMP_OUT_OF_RANGE, "the greatest seconds");
+    is_no_moment(fots_moment_from_unix_timestamp(INT64_MIN), FOTS_TIMESTAMP_OUT_OF_RANGE, "the least seconds");
+    is_no_moment(fots_moment_from_unix_time(greatest), FOTS_TIMESTAMP_OUT_OF_RANGE, "the greatest Unix time");
     is_moment(fots_moment_from_unix_timestamp(fots_moment_unix_timestamp(first).number), first, "the first seconds");
-    is_no_moment(fots_moment_from_unix_timestamp(fots_moment_unix_timestamp(first).number - 1), FOTS_TIMESTAMP, "before the first");
+    is_no_moment(fots_moment_from_unix_timestamp(fots_moment_unix_timestamp(first).number - 1), FOTS_TIMESTAMP_OUT_OF_RANGE, "before the first");
     is_moment(fots_moment_from_unix_time(fots_moment_unix_time(last).duration), last, "the last Unix time");
-    is_no_moment(fots_moment_from_unix_timestamp(fots_moment_unix_timestamp(last).number + 1), FOTS_TIMESTAMP, "after the last");
+    is_no_moment(fots_moment_from_unix_timestamp(fots_moment_unix_timestamp(last).number + 1), FOTS_TIMESTAMP_OUT_OF_RANGE, "after the last");
 }
 
 /* ---- invalid values */
@@ -149,9 +149,9 @@ static void wrong_parts(void)
 {
     const fots_date date = date_at(2460370), no_date = date_at(FOTS_MAX_JULIAN_DAY + 1);
     const fots_offset offset = offset_at(3600), no_offset = offset_at(-FOTS_MAX_OFFSET_SECONDS - 1);
-    is_no_moment(fots_moment_new(no_date, FOTS_NO_TIME, no_offset), FOTS_BAD_DATE, "no date");
-    is_no_moment(fots_moment_new(date, FOTS_MAX_TIME + 1, no_offset), FOTS_BAD_TIME, "no time");
-    is_no_moment(fots_moment_new(date, FOTS_MAX_TIME, no_offset), FOTS_BAD_OFFSET, "no offset");
+    is_no_moment(fots_moment_new(no_date, FOTS_NO_TIME, no_offset), FOTS_INVALID_DATE, "no date");
+    is_no_moment(fots_moment_new(date, FOTS_MAX_TIME + 1, no_offset), FOTS_INVALID_TIME, "no time");
+    is_no_moment(fots_moment_new(date, FOTS_MAX_TIME, no_offset), FOTS_INVALID_OFFSET, "no offset");
     is_moment(fots_moment_new(date, FOTS_MAX_TIME, offset), moment_at(2460370, 3600, FOTS_MAX_TIME), "of right parts");
 }
 
@@ -163,27 +163,27 @@ static void wrong_moment(fots_moment wrong, const char *what)
     const fots_duration no_duration = duration_of(1, -1);
     fots_number_result order = fots_moment_compare(wrong, right), back = fots_moment_compare(right, wrong);
     fots_long_result seconds = fots_moment_unix_timestamp(wrong);
-    is_no_moment(fots_moment_to_offset(wrong, no_offset), FOTS_BAD_MOMENT, what);
-    is_no_moment(fots_moment_replace_offset(wrong, no_offset), FOTS_BAD_MOMENT, what);
-    is_no_moment(fots_moment_checked_add(wrong, no_duration), FOTS_BAD_MOMENT, what);
-    is_no_moment(fots_moment_checked_sub(wrong, no_duration), FOTS_BAD_MOMENT, what);
-    is_no_moment(fots_moment_saturating_add(wrong, no_duration), FOTS_BAD_MOMENT, what);
-    is_no_moment(fots_moment_saturating_sub(wrong, no_duration), FOTS_BAD_MOMENT, what);
-    is_no_duration(fots_moment_duration_since(wrong, right), FOTS_BAD_MOMENT, what);
-    is_no_duration(fots_moment_duration_since(right, wrong), FOTS_BAD_MOMENT, what);
-    is_no_duration(fots_moment_unix_time(wrong), FOTS_BAD_MOMENT, what);
-    check(order.status == FOTS_BAD_MOMENT && order.number == FOTS_NOTHING, what, order.status, order.number);
-    check(back.status == FOTS_BAD_MOMENT && back.number == FOTS_NOTHING, what, back.status, back.number);
-    check(seconds.status == FOTS_BAD_MOMENT && seconds.number == INT64_MIN, what, seconds.status, seconds.number);
+    is_no_moment(fots_moment_to_offset(wrong, no_offset), FOTS_INVALID_MOMENT, what);
+    is_no_moment(fots_moment_replace_offset(wrong, no_offset), FOTS_INVALID_MOMENT, what);
+    is_no_moment(fots_moment_checked_add(wrong, no_duration), FOTS_INVALID_MOMENT, what);
+    is_no_moment(fots_moment_checked_sub(wrong, no_duration), FOTS_INVALID_MOMENT, what);
+    is_no_moment(fots_moment_saturating_add(wrong, no_duration), FOTS_INVALID_MOMENT, what);
+    is_no_moment(fots_moment_saturating_sub(wrong, no_duration), FOTS_INVALID_MOMENT, what);
+    is_no_duration(fots_moment_duration_since(wrong, right), FOTS_INVALID_MOMENT, what);
+    is_no_duration(fots_moment_duration_since(right, wrong), FOTS_INVALID_MOMENT, what);
+    is_no_duration(fots_moment_unix_time(wrong), FOTS_INVALID_MOMENT, what);
+    check(order.status == FOTS_INVALID_MOMENT && order.number == FOTS_NO_VALUE, what, order.status, order.number);
+    check(back.status == FOTS_INVALID_MOMENT && back.number == FOTS_NO_VALUE, what, back.status, back.number);
+    check(seconds.status == FOTS_INVALID_MOMENT && seconds.number == INT64_MIN, what, seconds.status, seconds.number);
 }
 
 static void wrong_values(void)
 {
     const fots_moment right = moment_at(0, 0, 0);
-    const int32_t no_days[] = {FOTS_NOTHING, FOTS_MIN_JULIAN_DAY - 1, FOTS_MAX_JULIAN_DAY + 1, INT32_MAX};
-    const int32_t no_offsets[] = {FOTS_NOTHING, -FOTS_MAX_OFFSET_SECONDS - 1, FOTS_MAX_OFFSET_SECONDS + 1, INT32_MAX};
+    const int32_t no_days[] = {FOTS_NO_VALUE, FOTS_MIN_JULIAN_DAY - 1, FOTS_MAX_JULIAN_DAY + 1, INT32_MAX};
+    const int32_t no_offsets[] = {FOTS_NO_VALUE, -FOTS_MAX_OFFSET_SECONDS - 1, FOTS_MAX_OFFSET_SECONDS + 1, INT32_MAX};
     const fots_time no_times[] = {FOTS_MAX_TIME + 1, UINT64_C(1) << 63, FOTS_NO_TIME};
-    const fots_duration no_durations[] = {{0, 1000000000}, {0, FOTS_NOTHING}, {1, -1}, {-1, 1}, {INT64_MIN, FOTS_NOTHING}};
+    const fots_duration no_durations[] = {{0, 1000000000}, {0, FOTS_NO_VALUE}, {1, -1}, {-1, 1}, {INT64_MIN, FOTS_NO_VALUE}};
     wrong_parts();
     for (int k = 0; k < COUNT(no_days); k++) {
         wrong_moment(moment_at(no_days[k], 0, 0), "a moment of no date");
@@ -193,15 +193,15 @@ static void wrong_values(void)
     }
     for (int k = 0; k < COUNT(no_offsets); k++) {
         wrong_moment(moment_at(0, no_offsets[k], 0), "a moment at no offset");
-        is_no_moment(fots_moment_to_offset(right, offset_at(no_offsets[k])), FOTS_BAD_OFFSET, "at no offset");
-        is_no_moment(fots_moment_replace_offset(right, offset_at(no_offsets[k])), FOTS_BAD_OFFSET, "replaced by no offset");
+        is_no_moment(fots_moment_to_offset(right, offset_at(no_offsets[k])), FOTS_INVALID_OFFSET, "at no offset");
+        is_no_moment(fots_moment_replace_offset(right, offset_at(no_offsets[k])), FOTS_INVALID_OFFSET, "replaced by no offset");
     }
     for (int k = 0; k < COUNT(no_durations); k++) {
-        is_no_moment(fots_moment_checked_add(right, no_durations[k]), FOTS_BAD_DURATION, "later by no duration");
-        is_no_moment(fots_moment_checked_sub(right, no_durations[k]), FOTS_BAD_DURATION, "earlier by no duration");
-        is_no_moment(fots_moment_saturating_add(right, no_durations[k]), FOTS_BAD_DURATION, "held, later by no duration");
-        is_no_moment(fots_moment_saturating_sub(right, no_durations[k]), FOTS_BAD_DURATION, "held, earlier by no duration");
-        is_no_moment(fots_moment_from_unix_time(no_durations[k]), FOTS_BAD_DURATION, "of no Unix time");
+        is_no_moment(fots_moment_checked_add(right, no_durations[k]), FOTS_INVALID_DURATION, "later by no duration");
+        is_no_moment(fots_moment_checked_sub(right, no_durations[k]), FOTS_INVALID_DURATION, "earlier by no duration");
+        is_no_moment(fots_moment_saturating_add(right, no_durations[k]), FOTS_INVALID_DURATION, "held, later by no duration");
+        is_no_moment(fots_moment_saturating_sub(right, no_durations[k]), FOTS_INVALID_DURATION, "held, earlier by no duration");
+        is_no_moment(fots_moment_from_unix_time(no_durations[k]), FOTS_INVALID_DURATION, "of no Unix time");
     }
 }
 
@@ -286,10 +286,10 @@ static void moved(fots_moment moment, fots_duration duration)
 {
     const wide local = local_of(moment), by = nanoseconds_of(duration);
     const int32_t offset = moment.offset.seconds;
-    is_at(fots_moment_checked_add(moment, duration), local + by, offset, FOTS_PAST_RANGE, "drawn, later");
-    is_at(fots_moment_checked_sub(moment, duration), local - by, offset, FOTS_PAST_RANGE, "drawn, earlier");
-    is_at(fots_moment_saturating_add(moment, duration), nearest(local + by), offset, FOTS_DONE, "drawn, later and held");
-    is_at(fots_moment_saturating_sub(moment, duration), nearest(local - by), offset, FOTS_DONE, "drawn, earlier and held");
+    is_at(fots_moment_checked_add(moment, duration), local + by, offset, FOTS_RESULT_OUT_OF_RANGE, "drawn, later");
+    is_at(fots_moment_checked_sub(moment, duration), local - by, offset, FOTS_RESULT_OUT_OF_RANGE, "drawn, earlier");
+    is_at(fots_moment_saturating_add(moment, duration), nearest(local + by), offset, FOTS_OK, "drawn, later and held");
+    is_at(fots_moment_saturating_sub(moment, duration), nearest(local - by), offset, FOTS_OK, "drawn, earlier and held");
 }
 
 static void compared(fots_moment moment, fots_moment other)
@@ -298,9 +298,9 @@ static void compared(fots_moment moment, fots_moment other)
     is_order(moment, other, one < two ? -1 : one > two ? 1 : 0, "drawn, compared");
     is_duration(fots_moment_duration_since(moment, other), duration_of((int64_t)(between / SECOND), (int32_t)(between % SECOND)),
         "drawn, measured");
-    is_at(fots_moment_to_offset(moment, other.offset), one + other.offset.seconds * SECOND, other.offset.seconds, FOTS_PAST_RANGE,
+    is_at(fots_moment_to_offset(moment, other.offset), one + other.offset.seconds * SECOND, other.offset.seconds, FOTS_RESULT_OUT_OF_RANGE,
         "drawn, at an offset");
-    is_at(fots_moment_replace_offset(moment, other.offset), local_of(moment), other.offset.seconds, FOTS_DONE, "drawn, another offset");
+    is_at(fots_moment_replace_offset(moment, other.offset), local_of(moment), other.offset.seconds, FOTS_OK, "drawn, another offset");
 }
 
 static void unix_times(fots_moment moment, fots_duration duration)
@@ -310,15 +310,15 @@ static void unix_times(fots_moment moment, fots_duration duration)
     const wide past = since % SECOND < 0 ? 1 : 0;
     const fots_long_result seconds = fots_moment_unix_timestamp(moment);
     const fots_pair_result pair = fots_unix_pair(fots_moment_unix_time(moment).duration, moment.offset);
-    check(seconds.status == FOTS_DONE && seconds.number == (int64_t)(since / SECOND - past), "drawn, whole seconds", seconds.status,
+    check(seconds.status == FOTS_OK && seconds.number == (int64_t)(since / SECOND - past), "drawn, whole seconds", seconds.status,
         seconds.number);
     is_duration(fots_moment_unix_time(moment), duration_of((int64_t)(since / SECOND), (int32_t)(since % SECOND)), "drawn, Unix time");
     check((fots_time)(moment.time % 1000000000) == (fots_time)(since - (since / SECOND - past) * SECOND), "drawn, past whole seconds",
         seconds.number, (long long)moment.time);
     check(pair.date.julian_day == moment.date.julian_day && pair.time == moment.time, "drawn, there and back", pair.status,
         pair.date.julian_day);
-    is_at(fots_moment_from_unix_time(duration), epoch + nanoseconds_of(duration), 0, FOTS_TIMESTAMP, "drawn, of a Unix time");
-    is_at(fots_moment_from_unix_timestamp(duration.seconds), epoch + duration.seconds * SECOND, 0, FOTS_TIMESTAMP,
+    is_at(fots_moment_from_unix_time(duration), epoch + nanoseconds_of(duration), 0, FOTS_TIMESTAMP_OUT_OF_RANGE, "drawn, of a Unix time");
+    is_at(fots_moment_from_unix_timestamp(duration.seconds), epoch + duration.seconds * SECOND, 0, FOTS_TIMESTAMP_OUT_OF_RANGE,
         "drawn, of whole seconds");
 }
 
@@ -331,7 +331,7 @@ static void drawn_values(void)
         moved(moment, duration);
         compared(moment, drawn_moment());
         unix_times(moment, duration);
-        if (same.status == FOTS_DONE) {
+        if (same.status == FOTS_OK) {
             compared(moment, same.moment);
         }
     }

@@ -36,45 +36,45 @@ static fots_duration both(int64_t seconds, int32_t nanoseconds)
 static fots_date day_of(int32_t year, uint32_t month, uint32_t day)
 {
     fots_date_result result = fots_date_from_calendar_date(year, month, day);
-    check(result.status == FOTS_DONE, "a day of a row", year, month * 100 + day);
+    check(result.status == FOTS_OK, "a day of a row", year, month * 100 + day);
     return result.date;
 }
 
 static void is_date(fots_date_result result, fots_date date, const char *what)
 {
-    check(result.status == FOTS_DONE && result.date.julian_day == date.julian_day, what, result.status, result.date.julian_day);
+    check(result.status == FOTS_OK && result.date.julian_day == date.julian_day, what, result.status, result.date.julian_day);
 }
 
 static void is_no_date(fots_date_result result, int32_t status, const char *what)
 {
-    check(result.status == status && result.date.julian_day == FOTS_NOTHING, what, result.status, result.date.julian_day);
+    check(result.status == status && result.date.julian_day == FOTS_NO_VALUE, what, result.status, result.date.julian_day);
 }
 
 static void is_duration(fots_duration_result result, fots_duration duration, const char *what)
 {
-    check(result.status == FOTS_DONE && result.duration.seconds == duration.seconds
+    check(result.status == FOTS_OK && result.duration.seconds == duration.seconds
         && result.duration.nanoseconds == duration.nanoseconds, what, result.duration.seconds, result.duration.nanoseconds);
 }
 
 static void is_no_duration(fots_duration_result result, int32_t status, const char *what)
 {
-    check(result.status == status && result.duration.seconds == INT64_MIN && result.duration.nanoseconds == FOTS_NOTHING, what,
+    check(result.status == status && result.duration.seconds == INT64_MIN && result.duration.nanoseconds == FOTS_NO_VALUE, what,
         result.status, result.duration.seconds);
 }
 
 static void is_time(fots_time_result result, fots_time time, const char *what)
 {
-    check(result.status == FOTS_DONE && result.time == time, what, result.status, (long long)result.time);
+    check(result.status == FOTS_OK && result.time == time, what, result.status, (long long)result.time);
 }
 
 static void is_number(fots_number_result result, int32_t number, const char *what)
 {
-    check(result.status == FOTS_DONE && result.number == number, what, result.status, result.number);
+    check(result.status == FOTS_OK && result.number == number, what, result.status, result.number);
 }
 
 static void is_part(fots_part_result result, uint32_t number, const char *what)
 {
-    check(result.status == FOTS_DONE && result.number == number, what, result.status, result.number);
+    check(result.status == FOTS_OK && result.number == number, what, result.status, result.number);
 }
 
 static void is_text(fots_text_result result, const char *text, const char *what)
@@ -84,7 +84,7 @@ static void is_text(fots_text_result result, const char *text, const char *what)
     for (size_t k = length; k < sizeof(result.bytes); k++) {
         rest_is_zero &= result.bytes[k] == 0;
     }
-    check(result.status == FOTS_DONE && result.length == length && memcmp(result.bytes, text, length) == 0 && rest_is_zero, what,
+    check(result.status == FOTS_OK && result.length == length && memcmp(result.bytes, text, length) == 0 && rest_is_zero, what,
         result.status, result.length);
 }
 
@@ -97,27 +97,27 @@ static void is_no_text(fots_text_result result, int32_t status, const char *what
 
 static void is_read(fots_read_date_result result, fots_date date, const char *what)
 {
-    check(result.status == FOTS_DONE && result.date.julian_day == date.julian_day && result.position == SIZE_MAX, what, result.status,
+    check(result.status == FOTS_OK && result.date.julian_day == date.julian_day && result.position == SIZE_MAX, what, result.status,
         result.date.julian_day);
 }
 
-/* Checks an error, with the position of FOTS_UNREADABLE and FOTS_UNEXPECTED_END. */
+/* Checks an error, with the position of FOTS_UNEXPECTED_BYTE and FOTS_UNEXPECTED_END. */
 static void is_not_read(fots_read_date_result result, int32_t status, size_t position, const char *what)
 {
-    check(result.status == status && result.date.julian_day == FOTS_NOTHING && result.position == position, what, result.status,
+    check(result.status == status && result.date.julian_day == FOTS_NO_VALUE && result.position == position, what, result.status,
         (long long)result.position);
 }
 
 static void is_moment(fots_read_moment_result result, fots_date date, fots_time time, fots_offset offset, const char *what)
 {
-    check(result.status == FOTS_DONE && result.date.julian_day == date.julian_day && result.time == time
+    check(result.status == FOTS_OK && result.date.julian_day == date.julian_day && result.time == time
         && result.offset.seconds == offset.seconds && result.position == SIZE_MAX, what, result.status, result.date.julian_day);
 }
 
 static void is_no_moment(fots_read_moment_result result, int32_t status, size_t position, const char *what)
 {
-    check(result.status == status && result.date.julian_day == FOTS_NOTHING && result.time == FOTS_NO_TIME
-        && result.offset.seconds == FOTS_NOTHING && result.position == position, what, result.status, (long long)result.position);
+    check(result.status == status && result.date.julian_day == FOTS_NO_VALUE && result.time == FOTS_NO_TIME
+        && result.offset.seconds == FOTS_NO_VALUE && result.position == position, what, result.status, (long long)result.position);
 }
 
 static fots_time clock_of(uint32_t hour, uint32_t minute, uint32_t second, uint32_t nanosecond)
@@ -158,11 +158,11 @@ static void days(void)
         fots_calendar_date_result calendar = fots_date_to_calendar_date(date);
         fots_ordinal_date_result ordinal = fots_date_to_ordinal_date(date);
         fots_iso_week_date_result week = fots_date_to_iso_week_date(date);
-        check(calendar.status == FOTS_DONE && calendar.year == rows[k].year && calendar.month == rows[k].month
+        check(calendar.status == FOTS_OK && calendar.year == rows[k].year && calendar.month == rows[k].month
             && calendar.day == rows[k].day, "the calendar date of a row", julian_day, calendar.year);
-        check(ordinal.status == FOTS_DONE && ordinal.year == rows[k].year && ordinal.ordinal == rows[k].ordinal,
+        check(ordinal.status == FOTS_OK && ordinal.year == rows[k].year && ordinal.ordinal == rows[k].ordinal,
             "the ordinal date of a row", julian_day, ordinal.ordinal);
-        check(week.status == FOTS_DONE && week.year == rows[k].iso_year && week.week == rows[k].week
+        check(week.status == FOTS_OK && week.year == rows[k].iso_year && week.week == rows[k].week
             && week.weekday == rows[k].weekday, "the week date of a row", julian_day, week.week);
         is_date(fots_date_from_calendar_date(rows[k].year, rows[k].month, rows[k].day), date, "a row by calendar date");
         is_date(fots_date_from_ordinal_date(rows[k].year, rows[k].ordinal), date, "a row by ordinal date");
@@ -184,32 +184,32 @@ static void days(void)
 /* Errors with their names. */
 static void refusals(void)
 {
-    is_no_date(fots_date_from_julian_day(-363521075), FOTS_JULIAN_DAY, "before the first day");
-    is_no_date(fots_date_from_julian_day(366963560), FOTS_JULIAN_DAY, "after the last day");
-    is_no_date(fots_date_from_julian_day(4294967296 + 2451545), FOTS_JULIAN_DAY, "a Julian day of 33 bits");
-    is_no_date(fots_date_from_calendar_date(1900, 2, 29), FOTS_DAY, "1900-02-29");
-    is_no_date(fots_date_from_calendar_date(2000, 2, 0), FOTS_DAY, "2000-02-00");
-    is_no_date(fots_date_from_calendar_date(2000, 1, 257), FOTS_DAY, "2000-01-257");
-    is_no_date(fots_date_from_calendar_date(1000000, 13, 1), FOTS_MONTH, "month 13 of 1000000");
-    is_no_date(fots_date_from_calendar_date(2000, 258, 1), FOTS_MONTH, "month 258");
-    is_no_date(fots_date_from_calendar_date(1000000, 1, 32), FOTS_YEAR, "1000000-01-32");
-    is_no_date(fots_date_from_ordinal_date(1900, 366), FOTS_ORDINAL, "1900-366");
-    is_no_date(fots_date_from_ordinal_date(2000, 65537), FOTS_ORDINAL, "2000-65537");
-    is_no_date(fots_date_from_ordinal_date(10000000, 1), FOTS_YEAR, "10000000-001");
-    is_no_date(fots_date_from_iso_week_date(999999, 52, 6), FOTS_WEEKDAY, "999999-W52-6");
-    is_no_date(fots_date_from_iso_week_date(999999, 52, 7), FOTS_WEEKDAY, "999999-W52-7");
-    is_no_date(fots_date_from_iso_week_date(999999, 53, 1), FOTS_WEEK, "999999-W53-1");
-    is_no_date(fots_date_from_iso_week_date(1000000, 53, 1), FOTS_YEAR, "1000000-W53-1");
-    is_no_date(fots_date_from_iso_week_date(2019, 53, 1), FOTS_WEEK, "2019-W53-1");
-    is_no_date(fots_date_from_iso_week_date(2020, 257, 1), FOTS_WEEK, "2020-W257-1");
-    is_no_date(fots_date_from_iso_week_date(1000000, 0, 0), FOTS_BAD_WEEKDAY, "1000000-W00-0");
-    is_no_date(fots_date_replace_year(day_of(2024, 2, 29), 2023), FOTS_DAY, "29 February of 2023");
-    is_no_date(fots_date_replace_year(day_of(2024, 2, 29), 1000000), FOTS_YEAR, "29 February of 1000000");
-    is_no_date(fots_date_replace_month(day_of(2022, 1, 30), 2), FOTS_DAY, "30 February");
-    is_no_date(fots_date_replace_month(day_of(2022, 1, 30), 0), FOTS_MONTH, "month 0");
-    is_no_date(fots_date_replace_day(day_of(2022, 2, 18), 30), FOTS_DAY, "30 February");
-    is_no_date(fots_date_replace_day(day_of(2022, 2, 18), 0), FOTS_DAY, "0 February");
-    is_no_date(fots_date_replace_ordinal(day_of(2022, 2, 18), 366), FOTS_ORDINAL, "ordinal 366 of 2022");
+    is_no_date(fots_date_from_julian_day(-363521075), FOTS_JULIAN_DAY_OUT_OF_RANGE, "before the first day");
+    is_no_date(fots_date_from_julian_day(366963560), FOTS_JULIAN_DAY_OUT_OF_RANGE, "after the last day");
+    is_no_date(fots_date_from_julian_day(4294967296 + 2451545), FOTS_JULIAN_DAY_OUT_OF_RANGE, "a Julian day of 33 bits");
+    is_no_date(fots_date_from_calendar_date(1900, 2, 29), FOTS_DAY_OUT_OF_RANGE, "1900-02-29");
+    is_no_date(fots_date_from_calendar_date(2000, 2, 0), FOTS_DAY_OUT_OF_RANGE, "2000-02-00");
+    is_no_date(fots_date_from_calendar_date(2000, 1, 257), FOTS_DAY_OUT_OF_RANGE, "2000-01-257");
+    is_no_date(fots_date_from_calendar_date(1000000, 13, 1), FOTS_MONTH_OUT_OF_RANGE, "month 13 of 1000000");
+    is_no_date(fots_date_from_calendar_date(2000, 258, 1), FOTS_MONTH_OUT_OF_RANGE, "month 258");
+    is_no_date(fots_date_from_calendar_date(1000000, 1, 32), FOTS_YEAR_OUT_OF_RANGE, "1000000-01-32");
+    is_no_date(fots_date_from_ordinal_date(1900, 366), FOTS_ORDINAL_OUT_OF_RANGE, "1900-366");
+    is_no_date(fots_date_from_ordinal_date(2000, 65537), FOTS_ORDINAL_OUT_OF_RANGE, "2000-65537");
+    is_no_date(fots_date_from_ordinal_date(10000000, 1), FOTS_YEAR_OUT_OF_RANGE, "10000000-001");
+    is_no_date(fots_date_from_iso_week_date(999999, 52, 6), FOTS_WEEKDAY_OUT_OF_RANGE, "999999-W52-6");
+    is_no_date(fots_date_from_iso_week_date(999999, 52, 7), FOTS_WEEKDAY_OUT_OF_RANGE, "999999-W52-7");
+    is_no_date(fots_date_from_iso_week_date(999999, 53, 1), FOTS_WEEK_OUT_OF_RANGE, "999999-W53-1");
+    is_no_date(fots_date_from_iso_week_date(1000000, 53, 1), FOTS_YEAR_OUT_OF_RANGE, "1000000-W53-1");
+    is_no_date(fots_date_from_iso_week_date(2019, 53, 1), FOTS_WEEK_OUT_OF_RANGE, "2019-W53-1");
+    is_no_date(fots_date_from_iso_week_date(2020, 257, 1), FOTS_WEEK_OUT_OF_RANGE, "2020-W257-1");
+    is_no_date(fots_date_from_iso_week_date(1000000, 0, 0), FOTS_INVALID_WEEKDAY, "1000000-W00-0");
+    is_no_date(fots_date_replace_year(day_of(2024, 2, 29), 2023), FOTS_DAY_OUT_OF_RANGE, "29 February of 2023");
+    is_no_date(fots_date_replace_year(day_of(2024, 2, 29), 1000000), FOTS_YEAR_OUT_OF_RANGE, "29 February of 1000000");
+    is_no_date(fots_date_replace_month(day_of(2022, 1, 30), 2), FOTS_DAY_OUT_OF_RANGE, "30 February");
+    is_no_date(fots_date_replace_month(day_of(2022, 1, 30), 0), FOTS_MONTH_OUT_OF_RANGE, "month 0");
+    is_no_date(fots_date_replace_day(day_of(2022, 2, 18), 30), FOTS_DAY_OUT_OF_RANGE, "30 February");
+    is_no_date(fots_date_replace_day(day_of(2022, 2, 18), 0), FOTS_DAY_OUT_OF_RANGE, "0 February");
+    is_no_date(fots_date_replace_ordinal(day_of(2022, 2, 18), 366), FOTS_ORDINAL_OUT_OF_RANGE, "ordinal 366 of 2022");
     is_date(fots_date_replace_year(day_of(2024, 2, 29), 10000), day_of(10000, 2, 29), "29 February of 10000");
     is_date(fots_date_replace_year(day_of(2024, 3, 1), 2023), day_of(2023, 3, 1), "1 March of 2023");
     is_date(fots_date_replace_year(day_of(2023, 3, 1), 2024), day_of(2024, 3, 1), "1 March of 2024");
@@ -224,10 +224,10 @@ static void moves(void)
 {
     fots_date first = date_at(FOTS_MIN_JULIAN_DAY), last = date_at(FOTS_MAX_JULIAN_DAY);
     is_date(fots_date_checked_add(first, seconds(-23 * 3600)), first, "23 hours before the first day");
-    is_no_date(fots_date_checked_add(first, seconds(-DAY)), FOTS_PAST_RANGE, "a day before the first day");
+    is_no_date(fots_date_checked_add(first, seconds(-DAY)), FOTS_RESULT_OUT_OF_RANGE, "a day before the first day");
     is_date(fots_date_checked_sub(first, seconds(23 * 3600)), first, "23 hours before the first day");
     is_date(fots_date_checked_add(last, seconds(23 * 3600)), last, "23 hours after the last day");
-    is_no_date(fots_date_checked_add(last, seconds(DAY)), FOTS_PAST_RANGE, "a day after the last day");
+    is_no_date(fots_date_checked_add(last, seconds(DAY)), FOTS_RESULT_OUT_OF_RANGE, "a day after the last day");
     is_date(fots_date_saturating_add(last, seconds(DAY)), last, "held at the last day");
     is_date(fots_date_saturating_sub(first, seconds(DAY)), first, "held at the first day");
     is_date(fots_date_saturating_sub(first, least), last, "held at the last day");
@@ -237,12 +237,12 @@ static void moves(void)
     is_date(fots_date_next_day(day_of(2019, 12, 31)), day_of(2020, 1, 1), "the day after");
     is_date(fots_date_previous_day(day_of(2020, 1, 1)), day_of(2019, 12, 31), "the day before");
     is_date(fots_date_next_day(day_of(9999, 12, 31)), day_of(10000, 1, 1), "the day after");
-    is_no_date(fots_date_next_day(last), FOTS_PAST_RANGE, "after the last day");
-    is_no_date(fots_date_previous_day(first), FOTS_PAST_RANGE, "before the first day");
+    is_no_date(fots_date_next_day(last), FOTS_RESULT_OUT_OF_RANGE, "after the last day");
+    is_no_date(fots_date_previous_day(first), FOTS_RESULT_OUT_OF_RANGE, "before the first day");
     is_date(fots_date_add_days(first, 730484633), last, "the last day from the first");
     is_date(fots_date_add_days(last, -730484633), first, "the first day from the last");
-    is_no_date(fots_date_add_days(last, INT64_MAX), FOTS_PAST_RANGE, "days past an i64");
-    is_no_date(fots_date_add_days(first, INT64_MIN), FOTS_PAST_RANGE, "days past an i64");
+    is_no_date(fots_date_add_days(last, INT64_MAX), FOTS_RESULT_OUT_OF_RANGE, "days past an i64");
+    is_no_date(fots_date_add_days(first, INT64_MIN), FOTS_RESULT_OUT_OF_RANGE, "days past an i64");
     is_duration(fots_date_duration_since(day_of(2020, 1, 1), day_of(2019, 12, 31)), seconds(DAY), "a day between");
     is_duration(fots_date_duration_since(first, last), seconds(-730484633 * DAY), "the whole range");
     is_date(fots_date_next_occurrence(day_of(2023, 6, 28), 1), day_of(2023, 7, 3), "the next Monday");
@@ -251,11 +251,11 @@ static void moves(void)
     is_date(fots_date_nth_next_occurrence(day_of(2023, 6, 26), 1, 5), day_of(2023, 7, 31), "the fifth Monday after a Monday");
     is_date(fots_date_nth_prev_occurrence(day_of(2023, 6, 27), 1, 3), day_of(2023, 6, 12), "the third Monday before");
     is_date(fots_date_nth_prev_occurrence(day_of(2023, 6, 26), 1, 3), day_of(2023, 6, 5), "the third Monday before a Monday");
-    is_no_date(fots_date_nth_next_occurrence(day_of(2023, 6, 26), 1, 0), FOTS_PAST_RANGE, "the Monday of count 0");
-    is_no_date(fots_date_nth_next_occurrence(day_of(2023, 6, 26), 1, 257), FOTS_BAD_COUNT, "count 257");
+    is_no_date(fots_date_nth_next_occurrence(day_of(2023, 6, 26), 1, 0), FOTS_RESULT_OUT_OF_RANGE, "the Monday of count 0");
+    is_no_date(fots_date_nth_next_occurrence(day_of(2023, 6, 26), 1, 257), FOTS_INVALID_COUNT, "count 257");
     for (uint32_t weekday = 1; weekday <= 7; weekday++) {
-        is_no_date(fots_date_next_occurrence(last, weekday), FOTS_PAST_RANGE, "a weekday after the last day");
-        is_no_date(fots_date_prev_occurrence(first, weekday), FOTS_PAST_RANGE, "a weekday before the first day");
+        is_no_date(fots_date_next_occurrence(last, weekday), FOTS_RESULT_OUT_OF_RANGE, "a weekday after the last day");
+        is_no_date(fots_date_prev_occurrence(first, weekday), FOTS_RESULT_OUT_OF_RANGE, "a weekday before the first day");
     }
 }
 
@@ -266,46 +266,46 @@ static void durations(void)
     fots_long_result whole;
     is_duration(fots_duration_new(1, 2000000000), seconds(3), "1 s and 2000000000 ns");
     is_duration(fots_duration_new(-1, 1), nanoseconds(-999999999), "-1 s and 1 ns");
-    is_no_duration(fots_duration_new(INT64_MAX, 1000000000), FOTS_PAST_RANGE, "past the greatest");
+    is_no_duration(fots_duration_new(INT64_MAX, 1000000000), FOTS_RESULT_OUT_OF_RANGE, "past the greatest");
     is_duration(fots_duration_new(INT64_MIN, 1), both(INT64_MIN + 1, -999999999), "the least and 1 ns");
     is_duration(fots_duration_saturating_sub(zero, least), greatest, "zero less the least");
     is_duration(fots_duration_checked_sub(nanoseconds(-1), seconds(INT64_MIN)), greatest, "-1 ns less the least seconds");
-    is_no_duration(fots_duration_checked_sub(least, nanoseconds(1)), FOTS_PAST_RANGE, "the least less 1 ns");
+    is_no_duration(fots_duration_checked_sub(least, nanoseconds(1)), FOTS_RESULT_OUT_OF_RANGE, "the least less 1 ns");
     is_duration(fots_duration_checked_add(greatest, least), seconds(-1), "the greatest and the least");
-    is_no_duration(fots_duration_checked_add(greatest, nanoseconds(1)), FOTS_PAST_RANGE, "the greatest and 1 ns");
+    is_no_duration(fots_duration_checked_add(greatest, nanoseconds(1)), FOTS_RESULT_OUT_OF_RANGE, "the greatest and 1 ns");
     is_duration(fots_duration_saturating_add(greatest, nanoseconds(1)), greatest, "held at the greatest");
     is_duration(fots_duration_saturating_mul(long_one, -3), greatest, "a product held at the greatest");
-    is_no_duration(fots_duration_checked_mul(long_one, -3), FOTS_PAST_RANGE, "a product past the greatest");
+    is_no_duration(fots_duration_checked_mul(long_one, -3), FOTS_RESULT_OUT_OF_RANGE, "a product past the greatest");
     is_duration(fots_duration_saturating_mul(least, -2), greatest, "the least times -2");
     is_duration(fots_duration_saturating_mul(greatest, -2), least, "the greatest times -2");
     is_duration(fots_duration_checked_mul(seconds(1), 200), seconds(200), "200 s");
     is_duration(fots_duration_checked_div(both(-7, -500000000), 2), both(-3, -750000000), "half of -7.5 s");
     is_duration(fots_duration_checked_div(nanoseconds(-1), 2), zero, "half of -1 ns");
-    is_no_duration(fots_duration_checked_div(seconds(1), 0), FOTS_PAST_RANGE, "a second by 0");
-    is_no_duration(fots_duration_checked_div(seconds(INT64_MIN), -1), FOTS_PAST_RANGE, "the least seconds by -1");
-    is_no_duration(fots_duration_checked_neg(least), FOTS_PAST_RANGE, "the least negated");
+    is_no_duration(fots_duration_checked_div(seconds(1), 0), FOTS_RESULT_OUT_OF_RANGE, "a second by 0");
+    is_no_duration(fots_duration_checked_div(seconds(INT64_MIN), -1), FOTS_RESULT_OUT_OF_RANGE, "the least seconds by -1");
+    is_no_duration(fots_duration_checked_neg(least), FOTS_RESULT_OUT_OF_RANGE, "the least negated");
     is_duration(fots_duration_checked_neg(seconds(1)), seconds(-1), "a second negated");
     is_duration(fots_duration_abs(least), greatest, "the magnitude of the least");
     is_duration(fots_duration_days(-3), seconds(-259200), "-3 days");
     is_duration(fots_duration_days(106751991167300), seconds(106751991167300 * DAY), "the most days");
-    is_no_duration(fots_duration_days(106751991167301), FOTS_PAST_RANGE, "one day more");
+    is_no_duration(fots_duration_days(106751991167301), FOTS_RESULT_OUT_OF_RANGE, "one day more");
     is_duration(fots_duration_weeks(-15250284452471), seconds(-15250284452471 * 7 * DAY), "the least weeks");
-    is_no_duration(fots_duration_weeks(-15250284452472), FOTS_PAST_RANGE, "one week less");
-    is_no_duration(fots_duration_hours(2562047788015216), FOTS_PAST_RANGE, "too many hours");
-    is_no_duration(fots_duration_minutes(-153722867280912931), FOTS_PAST_RANGE, "too few minutes");
+    is_no_duration(fots_duration_weeks(-15250284452472), FOTS_RESULT_OUT_OF_RANGE, "one week less");
+    is_no_duration(fots_duration_hours(2562047788015216), FOTS_RESULT_OUT_OF_RANGE, "too many hours");
+    is_no_duration(fots_duration_minutes(-153722867280912931), FOTS_RESULT_OUT_OF_RANGE, "too few minutes");
     is_duration(fots_duration_milliseconds(-1500), both(-1, -500000000), "-1500 ms");
     is_duration(fots_duration_microseconds(1500000), both(1, 500000000), "1500000 us");
     is_duration(fots_duration_nanoseconds(-1), nanoseconds(-1), "-1 ns");
     whole = fots_duration_whole_weeks(seconds(-6 * DAY));
-    check(whole.status == FOTS_DONE && whole.number == 0, "the weeks of -6 days", whole.status, whole.number);
+    check(whole.status == FOTS_OK && whole.number == 0, "the weeks of -6 days", whole.status, whole.number);
     whole = fots_duration_whole_days(seconds(-47 * 3600));
-    check(whole.status == FOTS_DONE && whole.number == -1, "the days of -47 hours", whole.status, whole.number);
+    check(whole.status == FOTS_OK && whole.number == -1, "the days of -47 hours", whole.status, whole.number);
     whole = fots_duration_whole_milliseconds(both(-1, -500000000));
-    check(whole.status == FOTS_DONE && whole.number == -1500, "the milliseconds of -1.5 s", whole.status, whole.number);
+    check(whole.status == FOTS_OK && whole.number == -1500, "the milliseconds of -1.5 s", whole.status, whole.number);
     whole = fots_duration_whole_nanoseconds(seconds(9223372036));
-    check(whole.status == FOTS_DONE && whole.number == 9223372036000000000, "the most whole seconds", whole.status, whole.number);
+    check(whole.status == FOTS_OK && whole.number == 9223372036000000000, "the most whole seconds", whole.status, whole.number);
     whole = fots_duration_whole_nanoseconds(seconds(9223372037));
-    check(whole.status == FOTS_PAST_RANGE && whole.number == INT64_MIN, "one second more", whole.status, whole.number);
+    check(whole.status == FOTS_RESULT_OUT_OF_RANGE && whole.number == INT64_MIN, "one second more", whole.status, whole.number);
     is_number(fots_duration_subsec_milliseconds(both(-1, -500000000)), -500, "-500 ms past the second");
     is_number(fots_duration_subsec_microseconds(both(1, 2500)), 2, "2 us past the second");
     is_number(fots_duration_compare(least, greatest), -1, "the least and the greatest");
@@ -319,22 +319,22 @@ static void times(void)
     fots_time noon = clock_of(12, 0, 0, 0), one = clock_of(1, 2, 3, 4005006);
     fots_adjusted_time_result adjusted;
     fots_pair_result pair;
-    check(fots_time_from_hms_micro(0, 0, 0, 4294968).status == FOTS_MICROSECOND, "4294968 us", 0, 0);
-    check(fots_time_from_hms(24, 60, 60).status == FOTS_HOUR, "24:60:60", 0, 0);
-    check(fots_time_from_hms(256, 0, 0).status == FOTS_HOUR, "256:00:00", 0, 0);
-    check(fots_time_from_hms_milli(0, 0, 0, 1000).status == FOTS_MILLISECOND, "1000 ms", 0, 0);
-    check(fots_time_from_hms_milli(0, 0, 0, 65536).status == FOTS_MILLISECOND, "65536 ms", 0, 0);
-    check(fots_time_from_hms_nano(23, 59, 59, 1000000000).status == FOTS_NANOSECOND, "1000000000 ns", 0, 0);
+    check(fots_time_from_hms_micro(0, 0, 0, 4294968).status == FOTS_MICROSECOND_OUT_OF_RANGE, "4294968 us", 0, 0);
+    check(fots_time_from_hms(24, 60, 60).status == FOTS_HOUR_OUT_OF_RANGE, "24:60:60", 0, 0);
+    check(fots_time_from_hms(256, 0, 0).status == FOTS_HOUR_OUT_OF_RANGE, "256:00:00", 0, 0);
+    check(fots_time_from_hms_milli(0, 0, 0, 1000).status == FOTS_MILLISECOND_OUT_OF_RANGE, "1000 ms", 0, 0);
+    check(fots_time_from_hms_milli(0, 0, 0, 65536).status == FOTS_MILLISECOND_OUT_OF_RANGE, "65536 ms", 0, 0);
+    check(fots_time_from_hms_nano(23, 59, 59, 1000000000).status == FOTS_NANOSECOND_OUT_OF_RANGE, "1000000000 ns", 0, 0);
     is_time(fots_time_from_hms_nano(23, 59, 59, 999999999), FOTS_MAX_TIME, "the last nanosecond");
     is_time(fots_time_from_hms_nano(1, 2, 3, 4005006), one, "1:02:03.004005006");
     is_duration(fots_time_duration_until(clock_of(23, 59, 59, 500000000), 200000000), nanoseconds(700000000), "until 0:00:00.2");
     is_duration(fots_time_duration_until(clock_of(23, 0, 0, 0), clock_of(1, 0, 0, 0)), seconds(7200), "until 1:00");
     is_duration(fots_time_duration_since(0, clock_of(23, 0, 0, 0)), seconds(3600), "since 23:00");
     adjusted = fots_time_adjusting_add(0, least);
-    check(adjusted.status == FOTS_DONE && adjusted.carry == -1 && adjusted.time == clock_of(8, 29, 51, 1),
+    check(adjusted.status == FOTS_OK && adjusted.carry == -1 && adjusted.time == clock_of(8, 29, 51, 1),
         "midnight and the least duration", adjusted.carry, (long long)adjusted.time);
     adjusted = fots_time_adjusting_sub(0, least);
-    check(adjusted.status == FOTS_DONE && adjusted.carry == 0 && adjusted.time == clock_of(15, 30, 8, 999999999),
+    check(adjusted.status == FOTS_OK && adjusted.carry == 0 && adjusted.time == clock_of(15, 30, 8, 999999999),
         "midnight less the least duration", adjusted.carry, (long long)adjusted.time);
     is_time(fots_time_sub(clock_of(0, 0, 1, 0), seconds(2)), clock_of(23, 59, 59, 0), "two seconds before 0:00:01");
     is_time(fots_time_add(clock_of(23, 0, 0, 0), seconds(26 * 3600)), clock_of(1, 0, 0, 0), "26 hours after 23:00");
@@ -352,15 +352,15 @@ static void times(void)
     is_part(fots_time_millisecond(one), 4, "the millisecond");
     is_part(fots_time_microsecond(one), 4005, "the microsecond");
     is_part(fots_time_nanosecond(one), 4005006, "the nanosecond");
-    check(fots_add_to_pair(date_at(FOTS_MAX_JULIAN_DAY), FOTS_MAX_TIME, nanoseconds(1)).status == FOTS_PAST_RANGE,
+    check(fots_add_to_pair(date_at(FOTS_MAX_JULIAN_DAY), FOTS_MAX_TIME, nanoseconds(1)).status == FOTS_RESULT_OUT_OF_RANGE,
         "past the last moment", 0, 0);
-    check(fots_sub_from_pair(date_at(FOTS_MIN_JULIAN_DAY), noon, seconds(13 * 3600)).status == FOTS_PAST_RANGE,
+    check(fots_sub_from_pair(date_at(FOTS_MIN_JULIAN_DAY), noon, seconds(13 * 3600)).status == FOTS_RESULT_OUT_OF_RANGE,
         "before the first moment", 0, 0);
     pair = fots_add_to_pair(day_of(2020, 12, 31), clock_of(23, 0, 0, 0), seconds(7200));
-    check(pair.status == FOTS_DONE && pair.date.julian_day == 2459216 && pair.time == clock_of(1, 0, 0, 0), "two hours later",
+    check(pair.status == FOTS_OK && pair.date.julian_day == 2459216 && pair.time == clock_of(1, 0, 0, 0), "two hours later",
         pair.date.julian_day, (long long)pair.time);
     pair = fots_sub_from_pair(day_of(2021, 1, 1), clock_of(1, 0, 0, 0), seconds(7200));
-    check(pair.status == FOTS_DONE && pair.date.julian_day == 2459215 && pair.time == clock_of(23, 0, 0, 0), "two hours earlier",
+    check(pair.status == FOTS_OK && pair.date.julian_day == 2459215 && pair.time == clock_of(23, 0, 0, 0), "two hours earlier",
         pair.date.julian_day, (long long)pair.time);
 }
 
@@ -379,16 +379,16 @@ static void offsets(void)
     for (int k = 0; k < COUNT(rows); k++) {
         fots_offset_result made = fots_offset_from_hms(rows[k].hours, rows[k].minutes, rows[k].seconds);
         fots_offset_parts_result parts = fots_offset_as_hms(offset_at(rows[k].offset));
-        check(made.status == FOTS_DONE && made.offset.seconds == rows[k].offset, "an offset of a row", k, made.offset.seconds);
-        check(parts.status == FOTS_DONE && parts.hours == rows[k].parts[0] && parts.minutes == rows[k].parts[1]
+        check(made.status == FOTS_OK && made.offset.seconds == rows[k].offset, "an offset of a row", k, made.offset.seconds);
+        check(parts.status == FOTS_OK && parts.hours == rows[k].parts[0] && parts.minutes == rows[k].parts[1]
             && parts.seconds == rows[k].parts[2], "the parts of an offset", k, parts.hours);
     }
-    check(fots_offset_from_hms(26, 99, 0).status == FOTS_OFFSET_HOUR, "26 hours", 0, 0);
-    check(fots_offset_from_hms(256, 0, 0).status == FOTS_OFFSET_HOUR, "256 hours", 0, 0);
-    check(fots_offset_from_hms(0, -60, 0).status == FOTS_OFFSET_MINUTE, "-60 minutes", 0, 0);
-    check(fots_offset_from_hms(0, 0, 60).status == FOTS_OFFSET_SECOND, "60 seconds", 0, 0);
-    check(fots_offset_from_whole_seconds(93600).status == FOTS_SECONDS, "93600 seconds", 0, 0);
-    check(fots_offset_from_whole_seconds(4294967296).status == FOTS_SECONDS, "seconds of 33 bits", 0, 0);
+    check(fots_offset_from_hms(26, 99, 0).status == FOTS_OFFSET_HOUR_OUT_OF_RANGE, "26 hours", 0, 0);
+    check(fots_offset_from_hms(256, 0, 0).status == FOTS_OFFSET_HOUR_OUT_OF_RANGE, "256 hours", 0, 0);
+    check(fots_offset_from_hms(0, -60, 0).status == FOTS_OFFSET_MINUTE_OUT_OF_RANGE, "-60 minutes", 0, 0);
+    check(fots_offset_from_hms(0, 0, 60).status == FOTS_OFFSET_SECOND_OUT_OF_RANGE, "60 seconds", 0, 0);
+    check(fots_offset_from_whole_seconds(93600).status == FOTS_SECONDS_OUT_OF_RANGE, "93600 seconds", 0, 0);
+    check(fots_offset_from_whole_seconds(4294967296).status == FOTS_SECONDS_OUT_OF_RANGE, "seconds of 33 bits", 0, 0);
     check(fots_offset_from_whole_seconds(-93599).offset.seconds == -93599, "-93599 seconds", 0, 0);
     check(fots_offset_negated(offset_at(-19800)).offset.seconds == 19800, "the other side", 0, 0);
     is_number(fots_offset_whole_hours(offset_at(-5400)), -1, "the hours of -1:30");
@@ -410,7 +410,7 @@ static void cycles(void)
     is_part(fots_weekday_nth_prev(7, 10), 4, "ten days before Sunday");
     is_part(fots_weekday_number_from_sunday(5), 6, "Friday from Sunday");
     is_part(fots_weekday_number_from_sunday(7), 1, "Sunday from Sunday");
-    check(fots_month_nth_next(0, 1).status == FOTS_MONTH && fots_month_nth_next(13, 1).status == FOTS_MONTH, "no month", 0, 0);
+    check(fots_month_nth_next(0, 1).status == FOTS_MONTH_OUT_OF_RANGE && fots_month_nth_next(13, 1).status == FOTS_MONTH_OUT_OF_RANGE, "no month", 0, 0);
     check(fots_is_leap_year(2000) == 1 && fots_is_leap_year(1900) == 0 && fots_is_leap_year(INT32_MIN) == 1, "leap years", 0, 0);
     check(fots_days_in_year(2020) == 366 && fots_days_in_year(2019) == 365, "days of a year", 0, 0);
     check(fots_weeks_in_year(2020) == 53 && fots_weeks_in_year(2019) == 52, "weeks of a year", 0, 0);
@@ -445,7 +445,7 @@ static void texts_of_days(void)
         is_read(fots_julian_day_read(rows[k].julian, strlen(rows[k].julian)), date, rows[k].julian);
     }
     is_read(fots_date_read("2024-060-", 8), date_at(2460370), "no byte after the length is looked at");
-    is_no_text(fots_date_calendar_text(date_at(FOTS_MAX_JULIAN_DAY + 1)), FOTS_BAD_DATE, "the text of no date");
+    is_no_text(fots_date_calendar_text(date_at(FOTS_MAX_JULIAN_DAY + 1)), FOTS_INVALID_DATE, "the text of no date");
 }
 
 /* Texts that are not days, with the position or the component. */
@@ -456,23 +456,23 @@ static void refused_texts_of_days(void)
         int32_t status;
         size_t position;
     } rows[] = {
-        {"", FOTS_UNEXPECTED_END, 0}, {"2024x", FOTS_UNREADABLE, 4}, {"2024", FOTS_UNEXPECTED_END, 4}, {"20240229", FOTS_UNREADABLE, 4},
-        {"12345-01-01", FOTS_UNREADABLE, 4}, {"+2024-01-01", FOTS_UNREADABLE, 5}, {"+02024-01-01", FOTS_UNREADABLE, 1},
-        {"-0000-01-01", FOTS_UNREADABLE, 4}, {"-12345678901-001", FOTS_UNREADABLE, 10}, {"2024-60", FOTS_UNEXPECTED_END, 7},
-        {"2024-02-2", FOTS_UNEXPECTED_END, 9}, {"2024-02-29 ", FOTS_UNREADABLE, 10}, {"2024-w09-4", FOTS_UNREADABLE, 5},
-        {"2024-W09-0", FOTS_UNREADABLE, 9}, {"2024-W09-8", FOTS_UNREADABLE, 9}, {"2024-02-29T", FOTS_UNREADABLE, 10},
-        {"2024-13-01", FOTS_MONTH, SIZE_MAX}, {"+1000000-13-01", FOTS_MONTH, SIZE_MAX}, {"+1000000-001", FOTS_YEAR, SIZE_MAX},
-        {"2023-02-29", FOTS_DAY, SIZE_MAX}, {"2023-366", FOTS_ORDINAL, SIZE_MAX}, {"2021-W53-1", FOTS_WEEK, SIZE_MAX},
-        {"+999999-W52-6", FOTS_WEEKDAY, SIZE_MAX},
+        {"", FOTS_UNEXPECTED_END, 0}, {"2024x", FOTS_UNEXPECTED_BYTE, 4}, {"2024", FOTS_UNEXPECTED_END, 4}, {"20240229", FOTS_UNEXPECTED_BYTE, 4},
+        {"12345-01-01", FOTS_UNEXPECTED_BYTE, 4}, {"+2024-01-01", FOTS_UNEXPECTED_BYTE, 5}, {"+02024-01-01", FOTS_UNEXPECTED_BYTE, 1},
+        {"-0000-01-01", FOTS_UNEXPECTED_BYTE, 4}, {"-12345678901-001", FOTS_UNEXPECTED_BYTE, 10}, {"2024-60", FOTS_UNEXPECTED_END, 7},
+        {"2024-02-2", FOTS_UNEXPECTED_END, 9}, {"2024-02-29 ", FOTS_UNEXPECTED_BYTE, 10}, {"2024-w09-4", FOTS_UNEXPECTED_BYTE, 5},
+        {"2024-W09-0", FOTS_UNEXPECTED_BYTE, 9}, {"2024-W09-8", FOTS_UNEXPECTED_BYTE, 9}, {"2024-02-29T", FOTS_UNEXPECTED_BYTE, 10},
+        {"2024-13-01", FOTS_MONTH_OUT_OF_RANGE, SIZE_MAX}, {"+1000000-13-01", FOTS_MONTH_OUT_OF_RANGE, SIZE_MAX}, {"+1000000-001", FOTS_YEAR_OUT_OF_RANGE, SIZE_MAX},
+        {"2023-02-29", FOTS_DAY_OUT_OF_RANGE, SIZE_MAX}, {"2023-366", FOTS_ORDINAL_OUT_OF_RANGE, SIZE_MAX}, {"2021-W53-1", FOTS_WEEK_OUT_OF_RANGE, SIZE_MAX},
+        {"+999999-W52-6", FOTS_WEEKDAY_OUT_OF_RANGE, SIZE_MAX},
     };
     static const struct {
         const char *text;
         int32_t status;
         size_t position;
     } julian_days[] = {
-        {"", FOTS_UNEXPECTED_END, 0}, {"2460370", FOTS_UNREADABLE, 0}, {"J", FOTS_UNEXPECTED_END, 1}, {"J-", FOTS_UNEXPECTED_END, 2},
-        {"J+1", FOTS_UNREADABLE, 1}, {"J-0", FOTS_UNREADABLE, 2}, {"J02", FOTS_UNREADABLE, 2}, {"J24603700000", FOTS_UNREADABLE, 10},
-        {"J2460370 ", FOTS_UNREADABLE, 8}, {"J366963560", FOTS_JULIAN_DAY, SIZE_MAX}, {"J-363521075", FOTS_JULIAN_DAY, SIZE_MAX},
+        {"", FOTS_UNEXPECTED_END, 0}, {"2460370", FOTS_UNEXPECTED_BYTE, 0}, {"J", FOTS_UNEXPECTED_END, 1}, {"J-", FOTS_UNEXPECTED_END, 2},
+        {"J+1", FOTS_UNEXPECTED_BYTE, 1}, {"J-0", FOTS_UNEXPECTED_BYTE, 2}, {"J02", FOTS_UNEXPECTED_BYTE, 2}, {"J24603700000", FOTS_UNEXPECTED_BYTE, 10},
+        {"J2460370 ", FOTS_UNEXPECTED_BYTE, 8}, {"J366963560", FOTS_JULIAN_DAY_OUT_OF_RANGE, SIZE_MAX}, {"J-363521075", FOTS_JULIAN_DAY_OUT_OF_RANGE, SIZE_MAX},
     };
     for (int k = 0; k < COUNT(rows); k++) {
         is_not_read(fots_date_read(rows[k].text, strlen(rows[k].text)), rows[k].status, rows[k].position, rows[k].text);
@@ -505,14 +505,14 @@ static void texts_of_moments(void)
         int32_t status;
         size_t position;
     } refused[] = {
-        {"1990-12-31T23:59:60Z", FOTS_SECOND, SIZE_MAX}, {"1990-12-31T15:59:60-08:00", FOTS_SECOND, SIZE_MAX},
-        {"2024-00-99T99:99:99Z", FOTS_MONTH, SIZE_MAX}, {"2023-02-29T24:00:00Z", FOTS_DAY, SIZE_MAX},
-        {"2024-02-29T24:60:60Z", FOTS_HOUR, SIZE_MAX}, {"2024-02-29T23:60:60+24:00", FOTS_MINUTE, SIZE_MAX},
-        {"2024-02-29T23:59:59+24:60", FOTS_OFFSET_HOUR, SIZE_MAX}, {"2024-02-29T23:59:59-23:60", FOTS_OFFSET_MINUTE, SIZE_MAX},
-        {"", FOTS_UNEXPECTED_END, 0}, {"-2024-02-29T00:00:00Z", FOTS_UNREADABLE, 0}, {"2024-02-29", FOTS_UNEXPECTED_END, 10},
-        {"2024-02-29  00:00:00Z", FOTS_UNREADABLE, 11}, {"2024-02-29T00:00Z", FOTS_UNREADABLE, 16},
-        {"2024-02-29T00:00:00.Z", FOTS_UNREADABLE, 20}, {"2024-02-29T00:00:00.5", FOTS_UNEXPECTED_END, 21},
-        {"2024-02-29T00:00:00Z ", FOTS_UNREADABLE, 20}, {"2024-02-29T00:00:00+0100", FOTS_UNREADABLE, 22},
+        {"1990-12-31T23:59:60Z", FOTS_SECOND_OUT_OF_RANGE, SIZE_MAX}, {"1990-12-31T15:59:60-08:00", FOTS_SECOND_OUT_OF_RANGE, SIZE_MAX},
+        {"2024-00-99T99:99:99Z", FOTS_MONTH_OUT_OF_RANGE, SIZE_MAX}, {"2023-02-29T24:00:00Z", FOTS_DAY_OUT_OF_RANGE, SIZE_MAX},
+        {"2024-02-29T24:60:60Z", FOTS_HOUR_OUT_OF_RANGE, SIZE_MAX}, {"2024-02-29T23:60:60+24:00", FOTS_MINUTE_OUT_OF_RANGE, SIZE_MAX},
+        {"2024-02-29T23:59:59+24:60", FOTS_OFFSET_HOUR_OUT_OF_RANGE, SIZE_MAX}, {"2024-02-29T23:59:59-23:60", FOTS_OFFSET_MINUTE_OUT_OF_RANGE, SIZE_MAX},
+        {"", FOTS_UNEXPECTED_END, 0}, {"-2024-02-29T00:00:00Z", FOTS_UNEXPECTED_BYTE, 0}, {"2024-02-29", FOTS_UNEXPECTED_END, 10},
+        {"2024-02-29  00:00:00Z", FOTS_UNEXPECTED_BYTE, 11}, {"2024-02-29T00:00Z", FOTS_UNEXPECTED_BYTE, 16},
+        {"2024-02-29T00:00:00.Z", FOTS_UNEXPECTED_BYTE, 20}, {"2024-02-29T00:00:00.5", FOTS_UNEXPECTED_END, 21},
+        {"2024-02-29T00:00:00Z ", FOTS_UNEXPECTED_BYTE, 20}, {"2024-02-29T00:00:00+0100", FOTS_UNEXPECTED_BYTE, 22},
     };
     for (int k = 0; k < COUNT(rows); k++) {
         fots_date date = day_of(rows[k].year, rows[k].month, rows[k].day);
@@ -525,13 +525,13 @@ static void texts_of_moments(void)
         const char *text = refused[k].text;
         is_no_moment(fots_moment_read(text, strlen(text)), refused[k].status, refused[k].position, text);
     }
-    is_no_text(fots_moment_text(day_of(10000, 1, 1), 0, offset_at(0)), FOTS_PAST_RANGE, "a moment of the year 10000");
-    is_no_text(fots_moment_text(day_of(-1, 12, 31), 0, offset_at(0)), FOTS_PAST_RANGE, "a moment of the year -1");
-    is_no_text(fots_moment_text(day_of(2024, 2, 29), 0, offset_at(86400)), FOTS_PAST_RANGE, "an offset of a day");
-    is_no_text(fots_moment_text(day_of(2024, 2, 29), 0, offset_at(-1)), FOTS_PAST_RANGE, "an offset with seconds");
-    is_no_text(fots_moment_text(date_at(FOTS_NOTHING), FOTS_NO_TIME, offset_at(FOTS_NOTHING)), FOTS_BAD_DATE, "no date first");
-    is_no_text(fots_moment_text(date_at(2460370), FOTS_NO_TIME, offset_at(FOTS_NOTHING)), FOTS_BAD_TIME, "no time second");
-    is_no_text(fots_moment_text(date_at(FOTS_MAX_JULIAN_DAY), 0, offset_at(FOTS_NOTHING)), FOTS_BAD_OFFSET,
+    is_no_text(fots_moment_text(day_of(10000, 1, 1), 0, offset_at(0)), FOTS_RESULT_OUT_OF_RANGE, "a moment of the year 10000");
+    is_no_text(fots_moment_text(day_of(-1, 12, 31), 0, offset_at(0)), FOTS_RESULT_OUT_OF_RANGE, "a moment of the year -1");
+    is_no_text(fots_moment_text(day_of(2024, 2, 29), 0, offset_at(86400)), FOTS_RESULT_OUT_OF_RANGE, "an offset of a day");
+    is_no_text(fots_moment_text(day_of(2024, 2, 29), 0, offset_at(-1)), FOTS_RESULT_OUT_OF_RANGE, "an offset with seconds");
+    is_no_text(fots_moment_text(date_at(FOTS_NO_VALUE), FOTS_NO_TIME, offset_at(FOTS_NO_VALUE)), FOTS_INVALID_DATE, "no date first");
+    is_no_text(fots_moment_text(date_at(2460370), FOTS_NO_TIME, offset_at(FOTS_NO_VALUE)), FOTS_INVALID_TIME, "no time second");
+    is_no_text(fots_moment_text(date_at(FOTS_MAX_JULIAN_DAY), 0, offset_at(FOTS_NO_VALUE)), FOTS_INVALID_OFFSET,
         "no offset before what has no text");
 }
 
@@ -561,10 +561,10 @@ static void unix_times(void)
         int32_t status;
         size_t position;
     } refused[] = {
-        {"@31494784780800", FOTS_TIMESTAMP, SIZE_MAX}, {"@-31619087596800.000000001", FOTS_TIMESTAMP, SIZE_MAX},
-        {"@999999999999999999", FOTS_TIMESTAMP, SIZE_MAX}, {"", FOTS_UNEXPECTED_END, 0}, {"@", FOTS_UNEXPECTED_END, 1},
-        {"@+1", FOTS_UNREADABLE, 1}, {"@01", FOTS_UNREADABLE, 2}, {"@-0", FOTS_UNEXPECTED_END, 3}, {"@-0.0", FOTS_UNEXPECTED_END, 5},
-        {"@1.", FOTS_UNEXPECTED_END, 3}, {"@1.1234567890", FOTS_UNREADABLE, 12}, {"@1000000000000000000", FOTS_UNREADABLE, 19},
+        {"@31494784780800", FOTS_TIMESTAMP_OUT_OF_RANGE, SIZE_MAX}, {"@-31619087596800.000000001", FOTS_TIMESTAMP_OUT_OF_RANGE, SIZE_MAX},
+        {"@999999999999999999", FOTS_TIMESTAMP_OUT_OF_RANGE, SIZE_MAX}, {"", FOTS_UNEXPECTED_END, 0}, {"@", FOTS_UNEXPECTED_END, 1},
+        {"@+1", FOTS_UNEXPECTED_BYTE, 1}, {"@01", FOTS_UNEXPECTED_BYTE, 2}, {"@-0", FOTS_UNEXPECTED_END, 3}, {"@-0.0", FOTS_UNEXPECTED_END, 5},
+        {"@1.", FOTS_UNEXPECTED_END, 3}, {"@1.1234567890", FOTS_UNEXPECTED_BYTE, 12}, {"@1000000000000000000", FOTS_UNEXPECTED_BYTE, 19},
     };
     fots_pair_result pair;
     for (int k = 0; k < COUNT(rows); k++) {
@@ -574,7 +574,7 @@ static void unix_times(void)
         is_duration(fots_unix_time(date, rows[k].time, offset), duration, rows[k].text);
         is_text(fots_unix_text(date, rows[k].time, offset), rows[k].text, rows[k].text);
         pair = fots_unix_pair(duration, offset);
-        check(pair.status == FOTS_DONE && pair.date.julian_day == rows[k].julian_day && pair.time == rows[k].time, rows[k].text,
+        check(pair.status == FOTS_OK && pair.date.julian_day == rows[k].julian_day && pair.time == rows[k].time, rows[k].text,
             pair.date.julian_day,
             k);
         if (rows[k].offset == 0) {
@@ -587,11 +587,11 @@ static void unix_times(void)
         is_no_moment(fots_unix_read(text, strlen(text)), refused[k].status, refused[k].position, text);
     }
     pair = fots_unix_pair(seconds(31494784780799), offset_at(3600));
-    check(pair.status == FOTS_PAST_RANGE && pair.date.julian_day == FOTS_NOTHING && pair.time == FOTS_NO_TIME, "past the last day",
+    check(pair.status == FOTS_RESULT_OUT_OF_RANGE && pair.date.julian_day == FOTS_NO_VALUE && pair.time == FOTS_NO_TIME, "past the last day",
         pair.date.julian_day, 0);
-    check(fots_unix_pair(both(1, -1), offset_at(FOTS_NOTHING)).status == FOTS_BAD_DURATION, "no duration first", 0, 0);
-    check(fots_unix_pair(greatest, offset_at(FOTS_NOTHING)).status == FOTS_BAD_OFFSET, "no offset before the range", 0, 0);
-    is_no_duration(fots_unix_time(date_at(FOTS_NOTHING), FOTS_NO_TIME, offset_at(0)), FOTS_BAD_DATE, "the Unix time of no date");
+    check(fots_unix_pair(both(1, -1), offset_at(FOTS_NO_VALUE)).status == FOTS_INVALID_DURATION, "no duration first", 0, 0);
+    check(fots_unix_pair(greatest, offset_at(FOTS_NO_VALUE)).status == FOTS_INVALID_OFFSET, "no offset before the range", 0, 0);
+    is_no_duration(fots_unix_time(date_at(FOTS_NO_VALUE), FOTS_NO_TIME, offset_at(0)), FOTS_INVALID_DATE, "the Unix time of no date");
 }
 
 /* Names of months and weekdays. */
@@ -606,24 +606,24 @@ static void names_of_cycles(void)
     for (uint32_t k = 0; k < 7; k++) {
         is_text(fots_weekday_name(k + 1), weekdays[k], weekdays[k]);
     }
-    is_no_text(fots_month_name(0), FOTS_MONTH, "month 0");
-    is_no_text(fots_month_name(258), FOTS_MONTH, "month 258");
-    is_no_text(fots_weekday_name(8), FOTS_BAD_WEEKDAY, "weekday 8");
-    is_no_text(fots_weekday_name(0), FOTS_BAD_WEEKDAY, "weekday 0");
+    is_no_text(fots_month_name(0), FOTS_MONTH_OUT_OF_RANGE, "month 0");
+    is_no_text(fots_month_name(258), FOTS_MONTH_OUT_OF_RANGE, "month 258");
+    is_no_text(fots_weekday_name(8), FOTS_INVALID_WEEKDAY, "weekday 8");
+    is_no_text(fots_weekday_name(0), FOTS_INVALID_WEEKDAY, "weekday 0");
 }
 
 /* Names of statuses. */
 static void names(void)
 {
-    check(strcmp(fots_status_name(FOTS_DAY), "day") == 0, "the name of a refusal", FOTS_DAY, 0);
-    check(strcmp(fots_status_name(FOTS_OFFSET_HOUR), "offset hour") == 0, "the name of a refusal", FOTS_OFFSET_HOUR, 0);
-    check(strcmp(fots_status_name(FOTS_PAST_RANGE), "past the range") == 0, "the name of a status", FOTS_PAST_RANGE, 0);
-    check(strcmp(fots_status_name(FOTS_UNREADABLE), "unreadable") == 0, "the name of a status", FOTS_UNREADABLE, 0);
+    check(strcmp(fots_status_name(FOTS_DAY_OUT_OF_RANGE), "day") == 0, "the name of a refusal", FOTS_DAY_OUT_OF_RANGE, 0);
+    check(strcmp(fots_status_name(FOTS_OFFSET_HOUR_OUT_OF_RANGE), "offset hour") == 0, "the name of a refusal", FOTS_OFFSET_HOUR_OUT_OF_RANGE, 0);
+    check(strcmp(fots_status_name(FOTS_RESULT_OUT_OF_RANGE), "past the range") == 0, "the name of a status", FOTS_RESULT_OUT_OF_RANGE, 0);
+    check(strcmp(fots_status_name(FOTS_UNEXPECTED_BYTE), "unreadable") == 0, "the name of a status", FOTS_UNEXPECTED_BYTE, 0);
     check(strcmp(fots_status_name(FOTS_UNEXPECTED_END), "unexpected end") == 0, "the name of a status", FOTS_UNEXPECTED_END, 0);
-    check(strcmp(fots_status_name(FOTS_TIMESTAMP), "timestamp") == 0, "the name of a refusal", FOTS_TIMESTAMP, 0);
-    check(!fots_status_is_conditional(FOTS_TIMESTAMP) && !fots_status_is_conditional(FOTS_UNREADABLE), "the marks", 0, 0);
+    check(strcmp(fots_status_name(FOTS_TIMESTAMP_OUT_OF_RANGE), "timestamp") == 0, "the name of a refusal", FOTS_TIMESTAMP_OUT_OF_RANGE, 0);
+    check(!fots_status_is_conditional(FOTS_TIMESTAMP_OUT_OF_RANGE) && !fots_status_is_conditional(FOTS_UNEXPECTED_BYTE), "the marks", 0, 0);
     check(strcmp(fots_status_name(-1), "unknown") == 0, "the name of no status", -1, 0);
-    check(fots_status_is_conditional(FOTS_WEEK) && !fots_status_is_conditional(FOTS_YEAR), "the marks", 0, 0);
+    check(fots_status_is_conditional(FOTS_WEEK_OUT_OF_RANGE) && !fots_status_is_conditional(FOTS_YEAR_OUT_OF_RANGE), "the marks", 0, 0);
 }
 
 /* Error results that are passed on. */
@@ -632,25 +632,25 @@ static void refused_next(void)
     fots_calendar_date_result calendar = fots_date_to_calendar_date(fots_date_from_calendar_date(2023, 2, 29).date);
     fots_clock_result clock = fots_time_as_hms_nano(fots_time_from_hms(24, 0, 0).time);
     fots_offset_parts_result parts = fots_offset_as_hms(fots_offset_from_hms(26, 0, 0).offset);
-    fots_part_result part = fots_date_month(date_at(FOTS_NOTHING));
-    check(calendar.status == FOTS_BAD_DATE && clock.status == FOTS_BAD_TIME && parts.status == FOTS_BAD_OFFSET, "values", 0, 0);
-    check(part.status == FOTS_BAD_DATE && part.number == FOTS_NO_PART, "no part", part.status, part.number);
-    is_no_date(fots_date_from_calendar_date(2023, calendar.month, 1), FOTS_MONTH, "no month");
-    is_no_date(fots_date_from_calendar_date(calendar.year, 1, 1), FOTS_YEAR, "no year");
-    is_no_date(fots_date_from_calendar_date(2023, 1, calendar.day), FOTS_DAY, "no day");
-    is_no_date(fots_date_from_calendar_date(2023, part.number, 1), FOTS_MONTH, "no part as a month");
-    is_no_date(fots_date_from_ordinal_date(2023, part.number), FOTS_ORDINAL, "no part as an ordinal");
-    is_no_date(fots_date_from_iso_week_date(2023, part.number, 1), FOTS_WEEK, "no part as a week");
-    is_no_date(fots_date_next_occurrence(date_at(0), part.number), FOTS_BAD_WEEKDAY, "no part as a weekday");
-    is_no_date(fots_date_nth_next_occurrence(date_at(0), 1, part.number), FOTS_BAD_COUNT, "no part as a count");
-    check(fots_time_from_hms(clock.hour, 0, 0).status == FOTS_HOUR && fots_time_from_hms(part.number, 0, 0).status == FOTS_HOUR,
+    fots_part_result part = fots_date_month(date_at(FOTS_NO_VALUE));
+    check(calendar.status == FOTS_INVALID_DATE && clock.status == FOTS_INVALID_TIME && parts.status == FOTS_INVALID_OFFSET, "values", 0, 0);
+    check(part.status == FOTS_INVALID_DATE && part.number == FOTS_NO_COMPONENT, "no part", part.status, part.number);
+    is_no_date(fots_date_from_calendar_date(2023, calendar.month, 1), FOTS_MONTH_OUT_OF_RANGE, "no month");
+    is_no_date(fots_date_from_calendar_date(calendar.year, 1, 1), FOTS_YEAR_OUT_OF_RANGE, "no year");
+    is_no_date(fots_date_from_calendar_date(2023, 1, calendar.day), FOTS_DAY_OUT_OF_RANGE, "no day");
+    is_no_date(fots_date_from_calendar_date(2023, part.number, 1), FOTS_MONTH_OUT_OF_RANGE, "no part as a month");
+    is_no_date(fots_date_from_ordinal_date(2023, part.number), FOTS_ORDINAL_OUT_OF_RANGE, "no part as an ordinal");
+    is_no_date(fots_date_from_iso_week_date(2023, part.number, 1), FOTS_WEEK_OUT_OF_RANGE, "no part as a week");
+    is_no_date(fots_date_next_occurrence(date_at(0), part.number), FOTS_INVALID_WEEKDAY, "no part as a weekday");
+    is_no_date(fots_date_nth_next_occurrence(date_at(0), 1, part.number), FOTS_INVALID_COUNT, "no part as a count");
+    check(fots_time_from_hms(clock.hour, 0, 0).status == FOTS_HOUR_OUT_OF_RANGE && fots_time_from_hms(part.number, 0, 0).status == FOTS_HOUR_OUT_OF_RANGE,
         "no hour",
         0, 0);
-    check(fots_offset_from_hms(parts.hours, 0, 0).status == FOTS_OFFSET_HOUR, "no hours of an offset", 0, 0);
+    check(fots_offset_from_hms(parts.hours, 0, 0).status == FOTS_OFFSET_HOUR_OUT_OF_RANGE, "no hours of an offset", 0, 0);
     is_part(fots_month_length(2, calendar.year), 29, "a year of no date, which each year call takes");
     check(fots_duration_compare(fots_duration_days(INT64_MAX).duration, zero).number < 0, "no duration, which is below as less is", 0,
         0);
-    is_date(fots_date_saturating_add_months(date_at(0), fots_date_months_until(date_at(FOTS_NOTHING), date_at(0)).number),
+    is_date(fots_date_saturating_add_months(date_at(0), fots_date_months_until(date_at(FOTS_NO_VALUE), date_at(0)).number),
         date_at(FOTS_MIN_JULIAN_DAY), "months of no date, which lead to the first day");
     is_date(fots_date_next_day(date_at(0)), date_at(1), "a date of zero bytes, which is one");
 }

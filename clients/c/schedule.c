@@ -25,12 +25,12 @@ static fots_date day(int32_t year, uint32_t month, uint32_t of_month)
 
 static void is_day(fots_date_result result, fots_date wanted, const char *what)
 {
-    check(result.status == FOTS_DONE && result.date.julian_day == wanted.julian_day, what, wanted.julian_day, result.date.julian_day);
+    check(result.status == FOTS_OK && result.date.julian_day == wanted.julian_day, what, wanted.julian_day, result.date.julian_day);
 }
 
 static void refuses(fots_date_result result, int32_t status, const char *what)
 {
-    check(result.status == status && result.date.julian_day == FOTS_NOTHING, what, status, result.status);
+    check(result.status == status && result.date.julian_day == FOTS_NO_VALUE, what, status, result.status);
 }
 
 /* The ends of February. */
@@ -42,9 +42,9 @@ static void months(void)
     is_day(fots_date_add_months(day(2023, 12, 15), 1), day(2024, 1, 15), "a month after 15 December 2023");
     is_day(fots_date_add_years(day(2024, 2, 29), 1), day(2025, 2, 28), "a year after 29 February 2024");
     is_day(fots_date_add_years(day(2024, 2, 29), 4), day(2028, 2, 29), "four years after it");
-    refuses(fots_date_add_months(day(999999, 12, 1), 1), FOTS_PAST_RANGE, "a month after the last one");
-    refuses(fots_date_add_months(day(-999999, 1, 31), -1), FOTS_PAST_RANGE, "a month before the first one");
-    refuses(fots_date_add_years(day(2024, 2, 29), INT32_MAX), FOTS_PAST_RANGE, "as many years as there are");
+    refuses(fots_date_add_months(day(999999, 12, 1), 1), FOTS_RESULT_OUT_OF_RANGE, "a month after the last one");
+    refuses(fots_date_add_months(day(-999999, 1, 31), -1), FOTS_RESULT_OUT_OF_RANGE, "a month before the first one");
+    refuses(fots_date_add_years(day(2024, 2, 29), INT32_MAX), FOTS_RESULT_OUT_OF_RANGE, "as many years as there are");
     is_day(fots_date_saturating_add_months(day(999999, 12, 1), 1), date_at(FOTS_MAX_JULIAN_DAY), "the last day in place of the next month");
     is_day(fots_date_saturating_add_months(day(-999999, 1, 1), INT32_MIN), date_at(FOTS_MIN_JULIAN_DAY), "the first day");
 
@@ -54,7 +54,7 @@ static void months(void)
     check(fots_date_months_until(day(2023, 1, 31), day(2023, 2, 27)).number == 0, "months to 27 February", 0, 0);
     check(fots_date_months_until(day(2023, 1, 31), day(2023, 2, 28)).number == 1, "months to 28 February", 0, 0);
     const fots_period_result period = fots_date_period_until(day(2023, 1, 31), day(2024, 3, 2));
-    check(period.status == FOTS_DONE && period.years == 1 && period.months == 1 && period.days == 2, "a year, a month and 2 days", period.months, period.days);
+    check(period.status == FOTS_OK && period.years == 1 && period.months == 1 && period.days == 2, "a year, a month and 2 days", period.months, period.days);
 }
 
 static void ends(void)
@@ -68,7 +68,7 @@ static void ends(void)
     is_day(fots_date_last_of_year(leap), day(2024, 12, 31), "the last of the year");
     is_day(fots_date_first_of_iso_week(day(2021, 1, 1)), day(2020, 12, 28), "the Monday of the week");
     is_day(fots_date_last_of_iso_week(day(2021, 1, 1)), day(2021, 1, 3), "the Sunday of the week");
-    refuses(fots_date_last_of_iso_week(date_at(FOTS_MAX_JULIAN_DAY)), FOTS_PAST_RANGE, "the Sunday past the last day");
+    refuses(fots_date_last_of_iso_week(date_at(FOTS_MAX_JULIAN_DAY)), FOTS_RESULT_OUT_OF_RANGE, "the Sunday past the last day");
     check(fots_date_quarter(day(2024, 3, 31)).number == 1 && fots_date_quarter(day(2024, 4, 1)).number == 2, "the quarter", 0, 0);
 
     /* The last Fridays of 2024 and Thanksgivings, from a calendar. */
@@ -78,16 +78,16 @@ static void ends(void)
     }
     is_day(fots_date_nth_weekday_of_month(2023, 11, 4, 4), day(2023, 11, 23), "Thanksgiving of 2023");
     is_day(fots_date_nth_weekday_of_month(2024, 11, 4, 4), day(2024, 11, 28), "Thanksgiving of 2024");
-    refuses(fots_date_nth_weekday_of_month(2024, 11, 4, 5), FOTS_WEEKDAY, "a fifth Thursday");
-    refuses(fots_date_nth_weekday_of_month(2024, 13, 8, 256), FOTS_MONTH, "a month past the last");
-    refuses(fots_date_nth_weekday_of_month(2024, 11, 8, 256), FOTS_BAD_WEEKDAY, "a weekday past the last");
-    refuses(fots_date_nth_weekday_of_month(1000000, 11, 4, 256), FOTS_BAD_COUNT, "a count past 255");
-    refuses(fots_date_nth_weekday_of_month(1000000, 11, 4, 4), FOTS_YEAR, "a year past the last");
-    refuses(fots_date_last_weekday_of_month(-1000000, 11, 4), FOTS_YEAR, "a year before the first");
+    refuses(fots_date_nth_weekday_of_month(2024, 11, 4, 5), FOTS_WEEKDAY_OUT_OF_RANGE, "a fifth Thursday");
+    refuses(fots_date_nth_weekday_of_month(2024, 13, 8, 256), FOTS_MONTH_OUT_OF_RANGE, "a month past the last");
+    refuses(fots_date_nth_weekday_of_month(2024, 11, 8, 256), FOTS_INVALID_WEEKDAY, "a weekday past the last");
+    refuses(fots_date_nth_weekday_of_month(1000000, 11, 4, 256), FOTS_INVALID_COUNT, "a count past 255");
+    refuses(fots_date_nth_weekday_of_month(1000000, 11, 4, 4), FOTS_YEAR_OUT_OF_RANGE, "a year past the last");
+    refuses(fots_date_last_weekday_of_month(-1000000, 11, 4), FOTS_YEAR_OUT_OF_RANGE, "a year before the first");
     is_day(fots_date_on_or_after(day(2024, 3, 1), 1), day(2024, 3, 4), "the Monday on or after");
     is_day(fots_date_on_or_before(day(2024, 3, 1), 1), day(2024, 2, 26), "the Monday on or before");
     is_day(fots_date_on_or_after(day(2024, 3, 1), 5), day(2024, 3, 1), "the Friday itself");
-    refuses(fots_date_on_or_after(date_at(FOTS_MAX_JULIAN_DAY), 6), FOTS_PAST_RANGE, "a Saturday past the last day, a Friday");
+    refuses(fots_date_on_or_after(date_at(FOTS_MAX_JULIAN_DAY), 6), FOTS_RESULT_OUT_OF_RANGE, "a Saturday past the last day, a Friday");
 }
 
 /* The examples of ISDA's memorandum on actual/actual, and 31sts in the 30-day conventions. */
@@ -115,11 +115,11 @@ static void day_counts(void)
         const fots_date from = day(rows[row].from[0], (uint32_t)rows[row].from[1], (uint32_t)rows[row].from[2]);
         const fots_date to = day(rows[row].to[0], (uint32_t)rows[row].to[1], (uint32_t)rows[row].to[2]);
         const fots_year_fraction_result fraction = fots_date_day_count(from, to, rows[row].convention);
-        check(fraction.status == FOTS_DONE && fraction.numerator == rows[row].numerator && fraction.denominator == rows[row].denominator, "a day count", row,
+        check(fraction.status == FOTS_OK && fraction.numerator == rows[row].numerator && fraction.denominator == rows[row].denominator, "a day count", row,
             fraction.numerator);
     }
     const fots_year_fraction_result none = fots_date_day_count(day(2024, 1, 1), day(2024, 1, 1), 6);
-    check(none.status == FOTS_BAD_CONVENTION && none.denominator == 0 && none.numerator == INT64_MIN, "no convention", none.status, 0);
+    check(none.status == FOTS_INVALID_CONVENTION && none.denominator == 0 && none.numerator == INT64_MIN, "no convention", none.status, 0);
 }
 
 /* Compares random months with the calendar date, and adds random periods again. */
@@ -137,7 +137,7 @@ static void drawn_months(void)
         const fots_date other = date_at((int32_t)(drawn() % 4000000));
         const fots_period_result period = fots_date_period_until(date, other);
         const fots_date later = fots_date_add_months(date, period.years * 12 + period.months).date;
-        check(period.status == FOTS_DONE && later.julian_day + period.days == other.julian_day, "a drawn period", date.julian_day, other.julian_day);
+        check(period.status == FOTS_OK && later.julian_day + period.days == other.julian_day, "a drawn period", date.julian_day, other.julian_day);
     }
 }
 
@@ -163,20 +163,20 @@ static void workdays(void)
     is_day(fots_date_adjusted(day(2024, 9, 1), FOTS_PRECEDING, week, holidays, 10), day(2024, 8, 30), "preceding");
     is_day(fots_date_adjusted(day(2024, 9, 1), FOTS_MODIFIED_PRECEDING, week, holidays, 10), day(2024, 9, 3), "modified preceding");
     is_day(fots_date_adjusted(day(2024, 9, 1), FOTS_UNADJUSTED, week, holidays, 10), day(2024, 9, 1), "unadjusted");
-    refuses(fots_date_next_workday(day(2024, 8, 30), 0, holidays, 10), FOTS_PAST_RANGE, "a week with no working day");
-    refuses(fots_date_next_workday(date_at(INT32_MAX), 128, holidays, 10), FOTS_BAD_DATE, "no date");
-    refuses(fots_date_next_workday(day(2024, 8, 30), 128, holidays, SIZE_MAX / 8), FOTS_BAD_WEEK, "an eighth mark");
-    refuses(fots_date_adjusted(day(2024, 8, 30), 5, 128, holidays, 10), FOTS_BAD_CONVENTION, "no convention");
-    static fots_date many[FOTS_MOST_HOLIDAYS + 1];
-    for (int row = 0; row <= FOTS_MOST_HOLIDAYS; row++) {
+    refuses(fots_date_next_workday(day(2024, 8, 30), 0, holidays, 10), FOTS_RESULT_OUT_OF_RANGE, "a week with no working day");
+    refuses(fots_date_next_workday(date_at(INT32_MAX), 128, holidays, 10), FOTS_INVALID_DATE, "no date");
+    refuses(fots_date_next_workday(day(2024, 8, 30), 128, holidays, SIZE_MAX / 8), FOTS_INVALID_WEEKMASK, "an eighth mark");
+    refuses(fots_date_adjusted(day(2024, 8, 30), 5, 128, holidays, 10), FOTS_INVALID_CONVENTION, "no convention");
+    static fots_date many[FOTS_MAX_HOLIDAYS + 1];
+    for (int row = 0; row <= FOTS_MAX_HOLIDAYS; row++) {
         many[row] = date_at(2460000 + row);
     }
-    refuses(fots_date_next_workday(day(2024, 8, 30), week, many, FOTS_MOST_HOLIDAYS + 1), FOTS_MANY_HOLIDAYS, "a holiday too many");
-    is_day(fots_date_add_workdays(date_at(2459999), 1, 127, many, FOTS_MOST_HOLIDAYS), date_at(2460000 + FOTS_MOST_HOLIDAYS), "past as many as there can be");
+    refuses(fots_date_next_workday(day(2024, 8, 30), week, many, FOTS_MAX_HOLIDAYS + 1), FOTS_TOO_MANY_HOLIDAYS, "a holiday too many");
+    is_day(fots_date_add_workdays(date_at(2459999), 1, 127, many, FOTS_MAX_HOLIDAYS), date_at(2460000 + FOTS_MAX_HOLIDAYS), "past as many as there can be");
     many[7] = many[6];
-    refuses(fots_date_next_workday(day(2024, 8, 30), week, many, 8), FOTS_BAD_HOLIDAYS, "a holiday twice");
+    refuses(fots_date_next_workday(day(2024, 8, 30), week, many, 8), FOTS_INVALID_HOLIDAYS, "a holiday twice");
     many[7] = date_at(INT32_MAX);
-    refuses(fots_date_next_workday(day(2024, 8, 30), week, many, 8), FOTS_BAD_HOLIDAYS, "a holiday that is no date");
+    refuses(fots_date_next_workday(day(2024, 8, 30), week, many, 8), FOTS_INVALID_HOLIDAYS, "a holiday that is no date");
 
     /* Compares random weeks and moves with a count of one day at a time. */
     for (int turn = 0; turn < DRAWN; turn++) {
@@ -252,14 +252,14 @@ static void by_its_text(const recurrence *its)
     const fots_date start = of_number(its->start);
     fots_date found[COUNT(its->days)], from = start;
     const fots_recurrence_result written = of_text(its->text, start, start, found, COUNT(found));
-    check(written.status == FOTS_DONE && written.part == 0 && written.position == SIZE_MAX, its->text, written.status, (long long)written.position);
+    check(written.status == FOTS_OK && written.part == 0 && written.position == SIZE_MAX, its->text, written.status, (long long)written.position);
     size_t length = 0;
     for (; length < (size_t)COUNT(found) && its->days[length] != 0; length++) {
         const fots_date wanted = of_number(its->days[length]);
         check(length < written.length && found[length].julian_day == wanted.julian_day, its->text, (long long)length, (long long)written.length);
         fots_date one;
         const fots_recurrence_result next = of_text(its->text, start, from, &one, 1);
-        check(next.status == FOTS_DONE && next.length == 1 && one.julian_day == wanted.julian_day, its->text, from.julian_day, wanted.julian_day);
+        check(next.status == FOTS_OK && next.length == 1 && one.julian_day == wanted.julian_day, its->text, from.julian_day, wanted.julian_day);
         from = date_at(wanted.julian_day + 1);
     }
     const char *count = strstr(its->text, "COUNT=");
@@ -279,9 +279,9 @@ static void by_its_parts(const recurrence *its, const fots_rule *rule)
     const fots_read_recurrence_result read = fots_recurrence_parse(its->text, strlen(its->text));
     const fots_rule said = fots_recurrence_rule(&read.recurrence, rule->start);
     const char *count = strstr(its->text, "COUNT=");
-    check(read.status == FOTS_DONE && read.part == 0 && read.position == SIZE_MAX, its->text, read.status, (long long)read.position);
+    check(read.status == FOTS_OK && read.part == 0 && read.position == SIZE_MAX, its->text, read.status, (long long)read.position);
     check(read.recurrence.count == (count == NULL ? 0 : (uint32_t)atoi(count + strlen("COUNT="))), its->text, read.recurrence.count, 0);
-    check((read.recurrence.until.julian_day == FOTS_NOTHING) == (its->until == 0), its->text, read.recurrence.until.julian_day, 0);
+    check((read.recurrence.until.julian_day == FOTS_NO_VALUE) == (its->until == 0), its->text, read.recurrence.until.julian_day, 0);
     check(said.start.julian_day == rule->start.julian_day && said.until.julian_day == rule->until.julian_day, its->text, said.until.julian_day, 0);
     check(said.frequency == rule->frequency && said.interval == rule->interval && said.week_start == rule->week_start, its->text, said.interval, 0);
     check(said.months_length == rule->months_length && memcmp(said.months, rule->months, rule->months_length) == 0, its->text, 0, 0);
@@ -319,7 +319,7 @@ static void recurrences_of_the_rfc(void)
         by_its_parts(its, &rule);
         fots_date found[COUNT(its->days)];
         const fots_days_result written = fots_rule_days_after(&rule, date_at(rule.start.julian_day - 1), found, COUNT(found));
-        check(written.status == FOTS_DONE && written.length <= (size_t)COUNT(found), its->text, row, (long long)written.length);
+        check(written.status == FOTS_OK && written.length <= (size_t)COUNT(found), its->text, row, (long long)written.length);
         fots_date_result next = fots_rule_first(&rule);
         size_t index = 0;
         for (; index < (size_t)COUNT(found) && its->days[index] != 0; index++) {
@@ -327,15 +327,15 @@ static void recurrences_of_the_rfc(void)
             check(found[index].julian_day == next.date.julian_day, its->text, row, (long long)index);
             const fots_date_result after = fots_rule_next_after(&rule, next.date);
             for (fots_date date = next.date; date.julian_day <= next.date.julian_day + 6; date.julian_day++) {
-                const int is_one = date.julian_day == next.date.julian_day || (after.status == FOTS_DONE && after.date.julian_day <= date.julian_day);
-                if (after.status != FOTS_DONE || date.julian_day <= after.date.julian_day) {
+                const int is_one = date.julian_day == next.date.julian_day || (after.status == FOTS_OK && after.date.julian_day <= date.julian_day);
+                if (after.status != FOTS_OK || date.julian_day <= after.date.julian_day) {
                     check((int)fots_rule_contains(&rule, date).number == is_one, its->text, row, date.julian_day);
                 }
             }
             next = after;
         }
         if (its->ends) {
-            refuses(next, FOTS_PAST_RANGE, its->text);
+            refuses(next, FOTS_RESULT_OUT_OF_RANGE, its->text);
             check(written.length == index, its->text, row, (long long)written.length);
         }
     }
@@ -348,7 +348,7 @@ static void recurrences_refused(void)
     check(fots_rule_days_after(&daily, daily.start, days, 0).length == 0 && days[0].julian_day == 1, "no room", 0, 0);
     check(fots_rule_days_after(&daily, daily.start, days, 2).length == 2 && days[2].julian_day == 3, "room for two", 0, 0);
     is_day(fots_rule_next_after(&daily, date_at(FOTS_MIN_JULIAN_DAY)), day(2024, 1, 1), "the start, from long before");
-    refuses(fots_rule_next_after(&daily, date_at(FOTS_MAX_JULIAN_DAY)), FOTS_PAST_RANGE, "past the last day");
+    refuses(fots_rule_next_after(&daily, date_at(FOTS_MAX_JULIAN_DAY)), FOTS_RESULT_OUT_OF_RANGE, "past the last day");
     check(fots_rule_days_after(&daily, date_at(FOTS_MAX_JULIAN_DAY - 2), days, 3).length == 2, "the last two days", 0, 0);
     const uint8_t february = 2;
     const int8_t the_30th = 30;
@@ -357,7 +357,7 @@ static void recurrences_refused(void)
     never.months_length = 1;
     never.month_days = &the_30th;
     never.month_days_length = 1;
-    refuses(fots_rule_first(&never), FOTS_PAST_RANGE, "30 February");
+    refuses(fots_rule_first(&never), FOTS_RESULT_OUT_OF_RANGE, "30 February");
     check(fots_rule_days_after(&never, never.start, days, 3).length == 0, "30 February", 0, 0);
 
     static uint8_t months[65];
@@ -375,36 +375,36 @@ static void recurrences_refused(void)
     is_day(fots_rule_first(&rule), day(2024, 1, 1), "as many parts as there can be");
     /* From the last part to the first, each is wrong before the parts that are wrong already. */
     weekdays[63].weekday = 8;
-    refuses(fots_rule_first(&rule), FOTS_BAD_WEEKDAY, "weekday 8");
+    refuses(fots_rule_first(&rule), FOTS_INVALID_WEEKDAY, "weekday 8");
     weekdays[63].weekday = 0;
-    refuses(fots_rule_first(&rule), FOTS_BAD_WEEKDAY, "weekday 0");
+    refuses(fots_rule_first(&rule), FOTS_INVALID_WEEKDAY, "weekday 0");
     months[63] = 13;
-    refuses(fots_rule_first(&rule), FOTS_MONTH, "month 13");
+    refuses(fots_rule_first(&rule), FOTS_MONTH_OUT_OF_RANGE, "month 13");
     months[63] = 0;
-    refuses(fots_rule_first(&rule), FOTS_MONTH, "month 0");
+    refuses(fots_rule_first(&rule), FOTS_MONTH_OUT_OF_RANGE, "month 0");
     rule.months_length = 65;
-    refuses(fots_rule_first(&rule), FOTS_MANY_PARTS, "65 months");
+    refuses(fots_rule_first(&rule), FOTS_TOO_MANY_PARTS, "65 months");
     rule.months_length = 64;
     rule.weekdays_length = 65;
-    refuses(fots_rule_first(&rule), FOTS_MANY_PARTS, "65 weekdays");
+    refuses(fots_rule_first(&rule), FOTS_TOO_MANY_PARTS, "65 weekdays");
     rule.week_start = 8;
-    refuses(fots_rule_first(&rule), FOTS_BAD_WEEKDAY, "a week that begins with weekday 8");
+    refuses(fots_rule_first(&rule), FOTS_INVALID_WEEKDAY, "a week that begins with weekday 8");
     rule.frequency = 5;
-    refuses(fots_rule_first(&rule), FOTS_BAD_FREQUENCY, "frequency 5");
+    refuses(fots_rule_first(&rule), FOTS_INVALID_FREQUENCY, "frequency 5");
     rule.frequency = 0;
-    refuses(fots_rule_first(&rule), FOTS_BAD_FREQUENCY, "frequency 0");
+    refuses(fots_rule_first(&rule), FOTS_INVALID_FREQUENCY, "frequency 0");
     rule.until = date_at(FOTS_MAX_JULIAN_DAY + 1);
-    refuses(fots_rule_first(&rule), FOTS_BAD_DATE, "until no date");
-    refuses(fots_rule_next_after(&rule, date_at(0)), FOTS_BAD_DATE, "until no date");
+    refuses(fots_rule_first(&rule), FOTS_INVALID_DATE, "until no date");
+    refuses(fots_rule_next_after(&rule, date_at(0)), FOTS_INVALID_DATE, "until no date");
     rule = daily;
-    rule.start = date_at(FOTS_NOTHING);
-    refuses(fots_rule_next_after(&rule, date_at(0)), FOTS_BAD_DATE, "from no date");
-    refuses(fots_rule_next_after(&daily, date_at(FOTS_NOTHING)), FOTS_BAD_DATE, "after no date");
-    check(fots_rule_contains(&daily, date_at(FOTS_NOTHING)).number == FOTS_NO_PART, "no date of a rule", 0, 0);
+    rule.start = date_at(FOTS_NO_VALUE);
+    refuses(fots_rule_next_after(&rule, date_at(0)), FOTS_INVALID_DATE, "from no date");
+    refuses(fots_rule_next_after(&daily, date_at(FOTS_NO_VALUE)), FOTS_INVALID_DATE, "after no date");
+    check(fots_rule_contains(&daily, date_at(FOTS_NO_VALUE)).number == FOTS_NO_COMPONENT, "no date of a rule", 0, 0);
     days[0].julian_day = 1;
-    const fots_days_result none = fots_rule_days_after(&daily, date_at(FOTS_NOTHING), days, 3);
-    check(none.status == FOTS_BAD_DATE && none.length == 0 && days[0].julian_day == 1, "days after no date", none.status, 0);
-    check(fots_rule_days_after(&rule, daily.start, days, 3).status == FOTS_BAD_DATE && days[0].julian_day == 1, "days from no date", 0, 0);
+    const fots_days_result none = fots_rule_days_after(&daily, date_at(FOTS_NO_VALUE), days, 3);
+    check(none.status == FOTS_INVALID_DATE && none.length == 0 && days[0].julian_day == 1, "days after no date", none.status, 0);
+    check(fots_rule_days_after(&rule, daily.start, days, 3).status == FOTS_INVALID_DATE && days[0].julian_day == 1, "days from no date", 0, 0);
 }
 
 /* Checks the written text, which parses as the same. The last one has full lists. */
@@ -434,7 +434,7 @@ static void texts_in_one_order(void)
     for (int row = 0; row < COUNT(rows); row++) {
         const size_t length = strlen(rows[row].written);
         const fots_recurrence_text_result text = fots_recurrence_text(rows[row].text, strlen(rows[row].text));
-        check(text.status == FOTS_DONE && text.part == 0 && text.position == SIZE_MAX, rows[row].text, text.status, 0);
+        check(text.status == FOTS_OK && text.part == 0 && text.position == SIZE_MAX, rows[row].text, text.status, 0);
         check(text.length == length && strcmp(text.bytes, rows[row].written) == 0, text.bytes, text.length, (long long)length);
         for (size_t index = length; index < sizeof text.bytes; index++) {
             check(text.bytes[index] == 0, "a byte after the text", row, (long long)index);
@@ -446,7 +446,7 @@ static void texts_in_one_order(void)
     const fots_read_recurrence_result longest = fots_recurrence_parse(words, strlen(words));
     const fots_rule rule = fots_recurrence_rule(&longest.recurrence, day(2024, 1, 1));
     check(rule.months_length == 62 && rule.months[61] == 12 && rule.month_days[61] == -31 && rule.weekdays[61].number == -53, "full lists", 0, 0);
-    refuses(fots_rule_first(&rule), FOTS_PAST_RANGE, "no 53rd Wednesday of a month");
+    refuses(fots_rule_first(&rule), FOTS_RESULT_OUT_OF_RANGE, "no 53rd Wednesday of a month");
 }
 
 /* Checks the first wrong part, its position and its reason, and one value too many. */
@@ -461,26 +461,26 @@ static void texts_refused(void)
         {"", FOTS_UNKNOWN_PART, 0, 0},
         {"FREQ=MONTHLY;BYSETPOS=-1;BYDAY=FR", FOTS_UNKNOWN_PART, 0, 13},
         {"FREQ=DAILY;", FOTS_UNKNOWN_PART, 0, 11},
-        {"FREQ=DAILY;UNTIL=20241231;COUNT=3", FOTS_PART_TWICE, FOTS_RULE_COUNT, 26},
-        {"FREQ=DAILY;freq=daily", FOTS_PART_TWICE, FOTS_RULE_FREQ, 11},
-        {"FREQ=HOURLY;COUNT=0", FOTS_PART_VALUE, FOTS_RULE_FREQ, 0},
-        {"FREQ=DAILY;INTERVAL=0", FOTS_PART_VALUE, FOTS_RULE_INTERVAL, 11},
-        {"FREQ=DAILY;WKST=1MO", FOTS_PART_VALUE, FOTS_RULE_WKST, 11},
-        {"FREQ=DAILY;BYMONTH=12,13", FOTS_PART_VALUE, FOTS_RULE_BYMONTH, 11},
-        {"FREQ=DAILY;BYMONTHDAY=-32", FOTS_PART_VALUE, FOTS_RULE_BYMONTHDAY, 11},
-        {"FREQ=DAILY;BYDAY=54MO", FOTS_PART_VALUE, FOTS_RULE_BYDAY, 11},
-        {"FREQ=DAILY;UNTIL=20241231T000000Z", FOTS_PART_VALUE, FOTS_RULE_UNTIL, 11},
-        {"FREQ=DAILY;COUNT=4294967296", FOTS_PART_VALUE, FOTS_RULE_COUNT, 11},
-        {"BYDAY=MO", FOTS_NO_FREQUENCY, 0, 8},
+        {"FREQ=DAILY;UNTIL=20241231;COUNT=3", FOTS_DUPLICATE_PART, FOTS_RULE_COUNT, 26},
+        {"FREQ=DAILY;freq=daily", FOTS_DUPLICATE_PART, FOTS_RULE_FREQ, 11},
+        {"FREQ=HOURLY;COUNT=0", FOTS_INVALID_VALUE, FOTS_RULE_FREQ, 0},
+        {"FREQ=DAILY;INTERVAL=0", FOTS_INVALID_VALUE, FOTS_RULE_INTERVAL, 11},
+        {"FREQ=DAILY;WKST=1MO", FOTS_INVALID_VALUE, FOTS_RULE_WKST, 11},
+        {"FREQ=DAILY;BYMONTH=12,13", FOTS_INVALID_VALUE, FOTS_RULE_BYMONTH, 11},
+        {"FREQ=DAILY;BYMONTHDAY=-32", FOTS_INVALID_VALUE, FOTS_RULE_BYMONTHDAY, 11},
+        {"FREQ=DAILY;BYDAY=54MO", FOTS_INVALID_VALUE, FOTS_RULE_BYDAY, 11},
+        {"FREQ=DAILY;UNTIL=20241231T000000Z", FOTS_INVALID_VALUE, FOTS_RULE_UNTIL, 11},
+        {"FREQ=DAILY;COUNT=4294967296", FOTS_INVALID_VALUE, FOTS_RULE_COUNT, 11},
+        {"BYDAY=MO", FOTS_MISSING_FREQUENCY, 0, 8},
     };
     fots_date days[2] = {{1}, {2}};
     for (int row = 0; row < COUNT(rows); row++) {
-        const fots_recurrence_result found = of_text(rows[row].text, date_at(FOTS_NOTHING), date_at(0), days, 2);
+        const fots_recurrence_result found = of_text(rows[row].text, date_at(FOTS_NO_VALUE), date_at(0), days, 2);
         check(found.status == rows[row].status && found.part == rows[row].part && found.position == rows[row].position && found.length == 0
             && days[0].julian_day == 1, rows[row].text, found.status, (long long)found.position);
         const fots_read_recurrence_result read = fots_recurrence_parse(rows[row].text, strlen(rows[row].text));
         check(read.status == found.status && read.part == found.part && read.position == found.position, rows[row].text, read.status, 0);
-        check(read.recurrence.frequency == 0 && read.recurrence.until.julian_day == FOTS_NOTHING && read.recurrence.weekdays_length == 0
+        check(read.recurrence.frequency == 0 && read.recurrence.until.julian_day == FOTS_NO_VALUE && read.recurrence.weekdays_length == 0
             && read.recurrence.weekdays[61].weekday == 0, rows[row].text, read.recurrence.frequency, 0);
         const fots_recurrence_text_result text = fots_recurrence_text(rows[row].text, strlen(rows[row].text));
         check(text.status == found.status && text.part == found.part && text.position == found.position && text.length == 0 && text.bytes[0] == 0,
@@ -493,14 +493,14 @@ static void texts_refused(void)
     const fots_date start = day(2024, 1, 15);
     check(of_text(many, start, start, days, 1).length == 1 && days[0].julian_day == day(2024, 2, 1).julian_day, "62 values", days[0].julian_day, 0);
     const fots_recurrence_result found = of_text(strcat(many, ",1"), start, start, days, 2);
-    check(found.status == FOTS_MANY_VALUES && found.part == FOTS_RULE_BYMONTHDAY && found.position == 13, "63 values", found.status, 0);
+    check(found.status == FOTS_TOO_MANY_VALUES && found.part == FOTS_RULE_BYMONTHDAY && found.position == 13, "63 values", found.status, 0);
 
     const char *daily = "FREQ=DAILY";
     days[0].julian_day = 1;
-    check(of_text(daily, start, date_at(FOTS_NOTHING), days, 2).status == FOTS_BAD_DATE, "from no date", 0, 0);
+    check(of_text(daily, start, date_at(FOTS_NO_VALUE), days, 2).status == FOTS_INVALID_DATE, "from no date", 0, 0);
     const fots_recurrence_result bad = of_text(daily, date_at(FOTS_MAX_JULIAN_DAY + 1), start, days, 2);
-    check(bad.status == FOTS_BAD_DATE && bad.position == SIZE_MAX && bad.length == 0 && days[0].julian_day == 1, "no start", bad.status, 0);
-    check(of_text(daily, start, start, days, 0).status == FOTS_DONE && days[0].julian_day == 1, "no room", 0, 0);
+    check(bad.status == FOTS_INVALID_DATE && bad.position == SIZE_MAX && bad.length == 0 && days[0].julian_day == 1, "no start", bad.status, 0);
+    check(of_text(daily, start, start, days, 0).status == FOTS_OK && days[0].julian_day == 1, "no room", 0, 0);
     check(of_text(daily, start, date_at(FOTS_MIN_JULIAN_DAY), days, 1).length == 1 && days[0].julian_day == start.julian_day, "before the start", 0, 0);
     check(of_text(daily, date_at(FOTS_MAX_JULIAN_DAY), date_at(FOTS_MAX_JULIAN_DAY), days, 2).length == 1, "the last day", 0, 0);
     check(of_text("FREQ=YEARLY;BYMONTH=2;BYMONTHDAY=30", start, start, days, 2).length == 0, "30 February", 0, 0);
@@ -511,14 +511,14 @@ static void bad_dates(void)
     static const int32_t bad[] = {FOTS_MIN_JULIAN_DAY - 1, FOTS_MAX_JULIAN_DAY + 1, INT32_MIN, INT32_MAX};
     for (int row = 0; row < COUNT(bad); row++) {
         const fots_date date = date_at(bad[row]);
-        refuses(fots_date_add_months(date, 0), FOTS_BAD_DATE, "no date and months");
-        refuses(fots_date_add_years(date, 0), FOTS_BAD_DATE, "no date and years");
-        refuses(fots_date_first_of_month(date), FOTS_BAD_DATE, "the first of no date");
-        refuses(fots_date_on_or_after(date, 8), FOTS_BAD_DATE, "no date and no weekday");
-        check(fots_date_months_until(date_at(0), date).status == FOTS_BAD_DATE, "months until no date", bad[row], 0);
-        check(fots_date_period_until(date, date_at(0)).years == FOTS_NOTHING, "the period from no date", bad[row], 0);
-        check(fots_date_quarter(date).number == FOTS_NO_PART, "the quarter of no date", bad[row], 0);
-        check(fots_date_day_count(date, date, 9).status == FOTS_BAD_DATE, "the day count of no date", bad[row], 0);
+        refuses(fots_date_add_months(date, 0), FOTS_INVALID_DATE, "no date and months");
+        refuses(fots_date_add_years(date, 0), FOTS_INVALID_DATE, "no date and years");
+        refuses(fots_date_first_of_month(date), FOTS_INVALID_DATE, "the first of no date");
+        refuses(fots_date_on_or_after(date, 8), FOTS_INVALID_DATE, "no date and no weekday");
+        check(fots_date_months_until(date_at(0), date).status == FOTS_INVALID_DATE, "months until no date", bad[row], 0);
+        check(fots_date_period_until(date, date_at(0)).years == FOTS_NO_VALUE, "the period from no date", bad[row], 0);
+        check(fots_date_quarter(date).number == FOTS_NO_COMPONENT, "the quarter of no date", bad[row], 0);
+        check(fots_date_day_count(date, date, 9).status == FOTS_INVALID_DATE, "the day count of no date", bad[row], 0);
     }
 }
 

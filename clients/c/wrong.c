@@ -49,40 +49,40 @@ static int is_month(uint32_t month)
     return month >= 1 && month <= 12;
 }
 
-/* Return the status of the first invalid argument, or FOTS_DONE. */
+/* Return the status of the first invalid argument, or FOTS_OK. */
 static int32_t of_date(fots_date date)
 {
-    return is_date(date) ? FOTS_DONE : FOTS_BAD_DATE;
+    return is_date(date) ? FOTS_OK : FOTS_INVALID_DATE;
 }
 
 static int32_t of_duration(fots_duration duration)
 {
-    return is_duration(duration) ? FOTS_DONE : FOTS_BAD_DURATION;
+    return is_duration(duration) ? FOTS_OK : FOTS_INVALID_DURATION;
 }
 
 static int32_t of_time(fots_time time)
 {
-    return is_time(time) ? FOTS_DONE : FOTS_BAD_TIME;
+    return is_time(time) ? FOTS_OK : FOTS_INVALID_TIME;
 }
 
 static int32_t of_offset(fots_offset offset)
 {
-    return is_offset(offset) ? FOTS_DONE : FOTS_BAD_OFFSET;
+    return is_offset(offset) ? FOTS_OK : FOTS_INVALID_OFFSET;
 }
 
 static int32_t first_of(int32_t one, int32_t other)
 {
-    return one != FOTS_DONE ? one : other;
+    return one != FOTS_OK ? one : other;
 }
 
 /* Checks the expected status, or for valid arguments one that no invalid argument gives. */
 static void status_is(int32_t wanted, int32_t status, int has_value, const char *what, long long first, long long second)
 {
-    int fits = wanted != FOTS_DONE ? status == wanted
-        : status == FOTS_DONE || status == FOTS_PAST_RANGE || status == FOTS_BAD_COUNT || (status >= FOTS_YEAR
-            && status <= FOTS_WEEKDAY);
+    int fits = wanted != FOTS_OK ? status == wanted
+        : status == FOTS_OK || status == FOTS_RESULT_OUT_OF_RANGE || status == FOTS_INVALID_COUNT || (status >= FOTS_YEAR_OUT_OF_RANGE
+            && status <= FOTS_WEEKDAY_OUT_OF_RANGE);
     check(fits, what, first, second);
-    check((status == FOTS_DONE) == has_value, what, first, second);
+    check((status == FOTS_OK) == has_value, what, first, second);
 }
 
 /* Returns the length of a text, or -1 if it is not ASCII and then zero bytes. */
@@ -104,30 +104,30 @@ static int bytes_of_text(const fots_text_result *result)
     do { \
         fots_date_result result = call; \
         status_is(wanted, result.status, is_date(result.date), #call, julian_day, result.status); \
-        check(result.status == FOTS_DONE || result.date.julian_day == FOTS_NOTHING, #call, julian_day, result.date.julian_day); \
+        check(result.status == FOTS_OK || result.date.julian_day == FOTS_NO_VALUE, #call, julian_day, result.date.julian_day); \
     } while (0)
 #define NUMBER(wanted, call, first) \
     do { \
         fots_number_result result = call; \
-        status_is(wanted, result.status, result.number != FOTS_NOTHING, #call, (long long)(first), result.status); \
+        status_is(wanted, result.status, result.number != FOTS_NO_VALUE, #call, (long long)(first), result.status); \
     } while (0)
 #define PART(wanted, call, first) \
     do { \
         fots_part_result result = call; \
-        status_is(wanted, result.status, result.number != FOTS_NO_PART, #call, (long long)(first), result.status); \
+        status_is(wanted, result.status, result.number != FOTS_NO_COMPONENT, #call, (long long)(first), result.status); \
     } while (0)
 #define LONG(wanted, call) \
     do { \
         fots_long_result result = call; \
-        int fits = wanted != FOTS_DONE ? result.status == wanted : result.status == FOTS_DONE || result.status == FOTS_PAST_RANGE; \
+        int fits = wanted != FOTS_OK ? result.status == wanted : result.status == FOTS_OK || result.status == FOTS_RESULT_OUT_OF_RANGE; \
         check(fits, #call, duration.seconds, result.status); \
-        check(result.status == FOTS_DONE || result.number == INT64_MIN, #call, duration.seconds, result.status); \
+        check(result.status == FOTS_OK || result.number == INT64_MIN, #call, duration.seconds, result.status); \
     } while (0)
 #define TIME(wanted, call) \
     do { \
         fots_time_result result = call; \
         status_is(wanted, result.status, is_time(result.time), #call, (long long)time, result.status); \
-        check(result.status == FOTS_DONE || result.time == FOTS_NO_TIME, #call, (long long)time, result.status); \
+        check(result.status == FOTS_OK || result.time == FOTS_NO_TIME, #call, (long long)time, result.status); \
     } while (0)
 #define TEXT(wanted, call, first) \
     do { \
@@ -149,12 +149,12 @@ static void every_date(int32_t from, int32_t to)
         fots_date date = date_at((int32_t)bits);
         fots_number_result result = fots_date_year(date);
         if (is_date(date)) {
-            int in_order = result.status == FOTS_DONE && result.number >= FOTS_MIN_YEAR && result.number <= FOTS_MAX_YEAR
+            int in_order = result.status == FOTS_OK && result.number >= FOTS_MIN_YEAR && result.number <= FOTS_MAX_YEAR
                 && (year == INT32_MIN || result.number == year || result.number == year + 1);
             check(in_order, "the year of a date", bits, result.number);
             year = result.number;
         } else {
-            check(result.status == FOTS_BAD_DATE && result.number == FOTS_NOTHING, "the year of no date", bits, result.number);
+            check(result.status == FOTS_INVALID_DATE && result.number == FOTS_NO_VALUE, "the year of no date", bits, result.number);
         }
     }
 }
@@ -166,9 +166,9 @@ static void every_offset(int32_t from, int32_t to)
         fots_offset offset = offset_at((int32_t)bits);
         fots_number_result result = fots_offset_whole_minutes(offset);
         if (is_offset(offset)) {
-            check(result.status == FOTS_DONE && result.number == bits / 60, "the minutes of an offset", bits, result.number);
+            check(result.status == FOTS_OK && result.number == bits / 60, "the minutes of an offset", bits, result.number);
         } else {
-            check(result.status == FOTS_BAD_OFFSET && result.number == FOTS_NOTHING, "the minutes of no offset", bits, result.number);
+            check(result.status == FOTS_INVALID_OFFSET && result.number == FOTS_NO_VALUE, "the minutes of no offset", bits, result.number);
         }
     }
 }
@@ -177,7 +177,7 @@ static void dates(int32_t julian_day, uint32_t number, fots_duration duration)
 {
     fots_date date = date_at(julian_day), other = date_at((int32_t)number);
     int32_t wrong = of_date(date), with_duration = first_of(wrong, of_duration(duration));
-    int32_t with_weekday = first_of(wrong, is_weekday(number) ? FOTS_DONE : FOTS_BAD_WEEKDAY);
+    int32_t with_weekday = first_of(wrong, is_weekday(number) ? FOTS_OK : FOTS_INVALID_WEEKDAY);
     fots_calendar_date_result calendar = fots_date_to_calendar_date(date);
     fots_ordinal_date_result ordinal = fots_date_to_ordinal_date(date);
     fots_iso_week_date_result week = fots_date_to_iso_week_date(date);
@@ -209,13 +209,13 @@ static void dates(int32_t julian_day, uint32_t number, fots_duration duration)
     DATE(with_weekday, fots_date_nth_next_occurrence(date, number, (uint32_t)duration.nanoseconds));
     DATE(with_weekday, fots_date_nth_prev_occurrence(date, number, (uint32_t)duration.nanoseconds));
     DATE(wrong, fots_date_replace_year(date, (int32_t)number));
-    DATE(first_of(wrong, is_month(number) ? FOTS_DONE : FOTS_MONTH), fots_date_replace_month(date, number));
+    DATE(first_of(wrong, is_month(number) ? FOTS_OK : FOTS_MONTH_OUT_OF_RANGE), fots_date_replace_month(date, number));
     DATE(wrong, fots_date_replace_day(date, number));
     DATE(wrong, fots_date_replace_ordinal(date, number));
-    DATE(FOTS_DONE, fots_date_from_julian_day(duration.seconds));
-    DATE(is_month(number) ? FOTS_DONE : FOTS_MONTH, fots_date_from_calendar_date(julian_day, number, (uint32_t)duration.nanoseconds));
-    DATE(FOTS_DONE, fots_date_from_ordinal_date(julian_day, number));
-    DATE(is_weekday(number) ? FOTS_DONE : FOTS_BAD_WEEKDAY, fots_date_from_iso_week_date(julian_day, (uint32_t)duration.nanoseconds,
+    DATE(FOTS_OK, fots_date_from_julian_day(duration.seconds));
+    DATE(is_month(number) ? FOTS_OK : FOTS_MONTH_OUT_OF_RANGE, fots_date_from_calendar_date(julian_day, number, (uint32_t)duration.nanoseconds));
+    DATE(FOTS_OK, fots_date_from_ordinal_date(julian_day, number));
+    DATE(is_weekday(number) ? FOTS_OK : FOTS_INVALID_WEEKDAY, fots_date_from_iso_week_date(julian_day, (uint32_t)duration.nanoseconds,
         number));
 }
 
@@ -223,11 +223,11 @@ static void months(int32_t julian_day, uint32_t number, int32_t count)
 {
     fots_date date = date_at(julian_day), other = date_at((int32_t)number);
     int32_t wrong = of_date(date), with_other = first_of(wrong, of_date(other));
-    int32_t no_weekday = is_weekday(number) ? FOTS_DONE : FOTS_BAD_WEEKDAY;
+    int32_t no_weekday = is_weekday(number) ? FOTS_OK : FOTS_INVALID_WEEKDAY;
     fots_period_result period = fots_date_period_until(date, other);
     fots_year_fraction_result fraction = fots_date_day_count(date, other, (uint32_t)count);
-    status_is(with_other, period.status, period.days != FOTS_NOTHING, "period_until", julian_day, period.days);
-    status_is(first_of(with_other, count >= 1 && count <= 5 ? FOTS_DONE : FOTS_BAD_CONVENTION), fraction.status,
+    status_is(with_other, period.status, period.days != FOTS_NO_VALUE, "period_until", julian_day, period.days);
+    status_is(first_of(with_other, count >= 1 && count <= 5 ? FOTS_OK : FOTS_INVALID_CONVENTION), fraction.status,
         fraction.denominator != 0, "day_count", julian_day, count);
     NUMBER(with_other, fots_date_months_until(date, other), julian_day);
     NUMBER(with_other, fots_date_years_until(date, other), julian_day);
@@ -245,8 +245,8 @@ static void months(int32_t julian_day, uint32_t number, int32_t count)
     PART(wrong, fots_date_quarter(date), julian_day);
     DATE(first_of(wrong, no_weekday), fots_date_on_or_after(date, number));
     DATE(first_of(wrong, no_weekday), fots_date_on_or_before(date, number));
-    DATE(is_month((uint32_t)count) ? no_weekday : FOTS_MONTH, fots_date_last_weekday_of_month(julian_day, (uint32_t)count, number));
-    DATE(is_month((uint32_t)count) ? no_weekday : FOTS_MONTH,
+    DATE(is_month((uint32_t)count) ? no_weekday : FOTS_MONTH_OUT_OF_RANGE, fots_date_last_weekday_of_month(julian_day, (uint32_t)count, number));
+    DATE(is_month((uint32_t)count) ? no_weekday : FOTS_MONTH_OUT_OF_RANGE,
         fots_date_nth_weekday_of_month(julian_day, (uint32_t)count, number, (uint32_t)julian_day));
 }
 
@@ -254,8 +254,8 @@ static void workdays(int32_t julian_day, uint32_t number, int32_t count)
 {
     static const fots_date rising[] = {{2451545}, {2451604}}, falling[] = {{2451604}, {2451545}};
     fots_date date = date_at(julian_day), other = date_at(count);
-    int32_t no_week = number < 128 ? FOTS_DONE : FOTS_BAD_WEEK, wrong = first_of(of_date(date), no_week);
-    int32_t no_convention = (uint32_t)count <= 4 ? FOTS_DONE : FOTS_BAD_CONVENTION;
+    int32_t no_week = number < 128 ? FOTS_OK : FOTS_INVALID_WEEKMASK, wrong = first_of(of_date(date), no_week);
+    int32_t no_convention = (uint32_t)count <= 4 ? FOTS_OK : FOTS_INVALID_CONVENTION;
     PART(wrong, fots_date_is_workday(date, number, rising, 2), julian_day);
     DATE(wrong, fots_date_next_workday(date, number, rising, 2));
     DATE(wrong, fots_date_previous_workday(date, number, rising, 2));
@@ -263,9 +263,9 @@ static void workdays(int32_t julian_day, uint32_t number, int32_t count)
     NUMBER(first_of(first_of(of_date(date), of_date(other)), no_week), fots_date_workdays_between(date, other, number, rising, 2),
         julian_day);
     DATE(first_of(first_of(of_date(date), no_convention), no_week), fots_date_adjusted(date, (uint32_t)count, number, rising, 2));
-    DATE(first_of(wrong, FOTS_BAD_HOLIDAYS), fots_date_next_workday(date, number, falling, 2));
+    DATE(first_of(wrong, FOTS_INVALID_HOLIDAYS), fots_date_next_workday(date, number, falling, 2));
     /* Their number is checked before they are read, so the array may be shorter. */
-    DATE(first_of(wrong, FOTS_MANY_HOLIDAYS), fots_date_next_workday(date, number, rising, FOTS_MOST_HOLIDAYS + 1));
+    DATE(first_of(wrong, FOTS_TOO_MANY_HOLIDAYS), fots_date_next_workday(date, number, rising, FOTS_MAX_HOLIDAYS + 1));
 }
 
 static void rules(int32_t julian_day, uint32_t number, int32_t count)
@@ -274,32 +274,32 @@ static void rules(int32_t julian_day, uint32_t number, int32_t count)
     uint8_t month = (uint8_t)number;
     fots_rule rule = fots_rule_of(date, number & 7);
     fots_days_result written;
-    int32_t no_frequency = (number & 7) >= 1 && (number & 7) <= 4 ? FOTS_DONE : FOTS_BAD_FREQUENCY, wrong, with_other;
+    int32_t no_frequency = (number & 7) >= 1 && (number & 7) <= 4 ? FOTS_OK : FOTS_INVALID_FREQUENCY, wrong, with_other;
     rule.interval = number;
     rule.week_start = (number >> 3) & 7;
     rule.months = &month;
     rule.months_length = (number >> 6) & 1;
-    wrong = first_of(first_of(of_date(date), no_frequency), is_weekday(rule.week_start) ? FOTS_DONE : FOTS_BAD_WEEKDAY);
-    wrong = first_of(wrong, rule.months_length == 0 || is_month(month) ? FOTS_DONE : FOTS_MONTH);
+    wrong = first_of(first_of(of_date(date), no_frequency), is_weekday(rule.week_start) ? FOTS_OK : FOTS_INVALID_WEEKDAY);
+    wrong = first_of(wrong, rule.months_length == 0 || is_month(month) ? FOTS_OK : FOTS_MONTH_OUT_OF_RANGE);
     with_other = first_of(wrong, of_date(other));
     DATE(wrong, fots_rule_first(&rule));
     DATE(with_other, fots_rule_next_after(&rule, other));
     PART(with_other, fots_rule_contains(&rule, other), julian_day);
     written = fots_rule_days_after(&rule, other, days, 3);
-    check(written.status == with_other && written.length <= (with_other == FOTS_DONE ? 3 : 0), "days_after", julian_day,
+    check(written.status == with_other && written.length <= (with_other == FOTS_OK ? 3 : 0), "days_after", julian_day,
         (long long)written.length);
-    rule.months_length = FOTS_MOST_MONTHS + 1;
-    wrong = first_of(first_of(of_date(date), no_frequency), is_weekday(rule.week_start) ? FOTS_DONE : FOTS_BAD_WEEKDAY);
-    DATE(first_of(wrong, FOTS_MANY_PARTS), fots_rule_first(&rule));
+    rule.months_length = FOTS_MAX_MONTHS + 1;
+    wrong = first_of(first_of(of_date(date), no_frequency), is_weekday(rule.week_start) ? FOTS_OK : FOTS_INVALID_WEEKDAY);
+    DATE(first_of(wrong, FOTS_TOO_MANY_PARTS), fots_rule_first(&rule));
 }
 
 /* A daily rule has the date as its first day from there on, or the start if that is later. */
 static void recurrences(int32_t julian_day, int32_t from)
 {
-    fots_date start = date_at(julian_day), day = date_at(FOTS_NOTHING);
+    fots_date start = date_at(julian_day), day = date_at(FOTS_NO_VALUE);
     const fots_recurrence_result found = fots_recurrence_days("FREQ=DAILY", 10, start, date_at(from), &day, 1);
     status_is(first_of(of_date(start), of_date(date_at(from))), found.status, found.length == 1 && is_date(day), "recurrence_days", julian_day, from);
-    check(day.julian_day == (found.status == FOTS_DONE ? (julian_day > from ? julian_day : from) : FOTS_NOTHING), "the first day", julian_day, from);
+    check(day.julian_day == (found.status == FOTS_OK ? (julian_day > from ? julian_day : from) : FOTS_NO_VALUE), "the first day", julian_day, from);
 }
 
 static void times(fots_time time, uint32_t number, fots_duration duration)
@@ -342,10 +342,10 @@ static void times(fots_time time, uint32_t number, fots_duration duration)
     TIME(wrong, fots_time_truncate_to_second(time));
     TIME(wrong, fots_time_truncate_to_millisecond(time));
     TIME(wrong, fots_time_truncate_to_microsecond(time));
-    TIME(FOTS_DONE, fots_time_from_hms(number, (uint32_t)time, (uint32_t)duration.seconds));
-    TIME(FOTS_DONE, fots_time_from_hms_milli(number, (uint32_t)time, (uint32_t)duration.seconds, (uint32_t)duration.nanoseconds));
-    TIME(FOTS_DONE, fots_time_from_hms_micro(number, (uint32_t)time, (uint32_t)duration.seconds, (uint32_t)duration.nanoseconds));
-    TIME(FOTS_DONE, fots_time_from_hms_nano(number, (uint32_t)time, (uint32_t)duration.seconds, (uint32_t)duration.nanoseconds));
+    TIME(FOTS_OK, fots_time_from_hms(number, (uint32_t)time, (uint32_t)duration.seconds));
+    TIME(FOTS_OK, fots_time_from_hms_milli(number, (uint32_t)time, (uint32_t)duration.seconds, (uint32_t)duration.nanoseconds));
+    TIME(FOTS_OK, fots_time_from_hms_micro(number, (uint32_t)time, (uint32_t)duration.seconds, (uint32_t)duration.nanoseconds));
+    TIME(FOTS_OK, fots_time_from_hms_nano(number, (uint32_t)time, (uint32_t)duration.seconds, (uint32_t)duration.nanoseconds));
 }
 
 static void offsets(int32_t seconds, int32_t number)
@@ -356,10 +356,10 @@ static void offsets(int32_t seconds, int32_t number)
     fots_offset_result negated = fots_offset_negated(offset);
     fots_offset_result made = fots_offset_from_hms(seconds, number, (int32_t)((uint32_t)seconds ^ (uint32_t)number));
     fots_offset_result whole = fots_offset_from_whole_seconds((int64_t)seconds * number);
-    status_is(wrong, parts.status, parts.hours != FOTS_NOTHING, "as_hms", seconds, parts.hours);
+    status_is(wrong, parts.status, parts.hours != FOTS_NO_VALUE, "as_hms", seconds, parts.hours);
     status_is(wrong, negated.status, is_offset(negated.offset), "negated", seconds, negated.offset.seconds);
-    status_is(FOTS_DONE, made.status, is_offset(made.offset), "from_hms", seconds, made.offset.seconds);
-    status_is(FOTS_DONE, whole.status, is_offset(whole.offset), "from_whole_seconds", seconds, whole.offset.seconds);
+    status_is(FOTS_OK, made.status, is_offset(made.offset), "from_hms", seconds, made.offset.seconds);
+    status_is(FOTS_OK, whole.status, is_offset(whole.offset), "from_whole_seconds", seconds, whole.offset.seconds);
     NUMBER(wrong, fots_offset_whole_hours(offset), seconds);
     NUMBER(wrong, fots_offset_whole_minutes(offset), seconds);
     NUMBER(wrong, fots_offset_minutes_past_hour(offset), seconds);
@@ -389,20 +389,20 @@ static void durations(fots_duration duration, fots_duration other, int32_t numbe
     DURATION(with_other, fots_duration_checked_sub(duration, other), duration.seconds);
     DURATION(with_other, fots_duration_saturating_add(duration, other), duration.seconds);
     DURATION(with_other, fots_duration_saturating_sub(duration, other), duration.seconds);
-    DURATION(FOTS_DONE, fots_duration_new(duration.seconds, duration.nanoseconds), duration.seconds);
-    DURATION(FOTS_DONE, fots_duration_weeks(duration.seconds), duration.seconds);
-    DURATION(FOTS_DONE, fots_duration_days(duration.seconds), duration.seconds);
-    DURATION(FOTS_DONE, fots_duration_hours(duration.seconds), duration.seconds);
-    DURATION(FOTS_DONE, fots_duration_minutes(duration.seconds), duration.seconds);
-    DURATION(FOTS_DONE, fots_duration_seconds(duration.seconds), duration.seconds);
-    DURATION(FOTS_DONE, fots_duration_milliseconds(duration.seconds), duration.seconds);
-    DURATION(FOTS_DONE, fots_duration_microseconds(duration.seconds), duration.seconds);
-    DURATION(FOTS_DONE, fots_duration_nanoseconds(duration.seconds), duration.seconds);
+    DURATION(FOTS_OK, fots_duration_new(duration.seconds, duration.nanoseconds), duration.seconds);
+    DURATION(FOTS_OK, fots_duration_weeks(duration.seconds), duration.seconds);
+    DURATION(FOTS_OK, fots_duration_days(duration.seconds), duration.seconds);
+    DURATION(FOTS_OK, fots_duration_hours(duration.seconds), duration.seconds);
+    DURATION(FOTS_OK, fots_duration_minutes(duration.seconds), duration.seconds);
+    DURATION(FOTS_OK, fots_duration_seconds(duration.seconds), duration.seconds);
+    DURATION(FOTS_OK, fots_duration_milliseconds(duration.seconds), duration.seconds);
+    DURATION(FOTS_OK, fots_duration_microseconds(duration.seconds), duration.seconds);
+    DURATION(FOTS_OK, fots_duration_nanoseconds(duration.seconds), duration.seconds);
 }
 
 static void cycles(uint32_t number, uint32_t count)
 {
-    int32_t no_month = is_month(number) ? FOTS_DONE : FOTS_MONTH, no_weekday = is_weekday(number) ? FOTS_DONE : FOTS_BAD_WEEKDAY;
+    int32_t no_month = is_month(number) ? FOTS_OK : FOTS_MONTH_OUT_OF_RANGE, no_weekday = is_weekday(number) ? FOTS_OK : FOTS_INVALID_WEEKDAY;
     int32_t year = (int32_t)count;
     PART(no_month, fots_month_length(number, year), number);
     PART(no_month, fots_month_nth_next(number, count), number);
@@ -432,13 +432,13 @@ static void moments(int32_t julian_day, fots_time time, int32_t seconds, fots_du
     fots_pair_result pair = fots_unix_pair(duration, offset);
     status_is(first_of(of_duration(duration), of_offset(offset)), pair.status, is_date(pair.date) && is_time(pair.time), "unix_pair",
         duration.seconds, pair.date.julian_day);
-    TEXT(wrong == FOTS_DONE && !has_moment_text(julian_day, seconds) ? FOTS_PAST_RANGE : wrong, fots_moment_text(date, time, offset),
+    TEXT(wrong == FOTS_OK && !has_moment_text(julian_day, seconds) ? FOTS_RESULT_OUT_OF_RANGE : wrong, fots_moment_text(date, time, offset),
         julian_day);
     TEXT(wrong, fots_unix_text(date, time, offset), julian_day);
     status_is(wrong, since_epoch.status, is_duration(since_epoch.duration), "unix_time", julian_day, since_epoch.duration.seconds);
-    if (since_epoch.status == FOTS_DONE) {
+    if (since_epoch.status == FOTS_OK) {
         pair = fots_unix_pair(since_epoch.duration, offset);
-        check(pair.status == FOTS_DONE && pair.date.julian_day == julian_day && pair.time == time, "the pair of a Unix time",
+        check(pair.status == FOTS_OK && pair.date.julian_day == julian_day && pair.time == time, "the pair of a Unix time",
             julian_day,
             pair.date.julian_day);
     }
@@ -447,36 +447,36 @@ static void moments(int32_t julian_day, fots_time time, int32_t seconds, fots_du
 /* Checks the status and the position of a text: a byte of it, its length, or SIZE_MAX. */
 static void reads(int32_t status, size_t position, size_t length, int is_listed, int has_value, const char *what)
 {
-    check(status == FOTS_DONE || status == FOTS_UNREADABLE || status == FOTS_UNEXPECTED_END || is_listed, what, status, (long long)length);
-    check(status == FOTS_UNREADABLE ? position < length : position == (status == FOTS_UNEXPECTED_END ? length : SIZE_MAX), what, status,
+    check(status == FOTS_OK || status == FOTS_UNEXPECTED_BYTE || status == FOTS_UNEXPECTED_END || is_listed, what, status, (long long)length);
+    check(status == FOTS_UNEXPECTED_BYTE ? position < length : position == (status == FOTS_UNEXPECTED_END ? length : SIZE_MAX), what, status,
         (long long)position);
-    check((status == FOTS_DONE) == has_value, what, status, (long long)length);
+    check((status == FOTS_OK) == has_value, what, status, (long long)length);
 }
 
 static int is_this(fots_text_result text, const char *bytes, size_t length)
 {
-    return text.status == FOTS_DONE && text.length == length && memcmp(text.bytes, bytes, length) == 0;
+    return text.status == FOTS_OK && text.length == length && memcmp(text.bytes, bytes, length) == 0;
 }
 
 static int reads_as_date(fots_text_result text, fots_date date)
 {
     fots_read_date_result read = fots_date_read(text.bytes, text.length);
-    return read.status == FOTS_DONE && read.date.julian_day == date.julian_day;
+    return read.status == FOTS_OK && read.date.julian_day == date.julian_day;
 }
 
 /* Checks that a parsed date prints the text in one form, and that its three texts parse. */
 static void read_date(const char *bytes, size_t length)
 {
     fots_read_date_result read = fots_date_read(bytes, length);
-    reads(read.status, read.position, length, read.status == FOTS_MONTH || read.status == FOTS_YEAR
-        || (read.status >= FOTS_DAY && read.status <= FOTS_WEEKDAY), is_date(read.date), "date_read");
-    if (read.status == FOTS_UNREADABLE) {
-        check(fots_date_read(bytes, read.position).status != FOTS_UNREADABLE, "what a date begins with",
+    reads(read.status, read.position, length, read.status == FOTS_MONTH_OUT_OF_RANGE || read.status == FOTS_YEAR_OUT_OF_RANGE
+        || (read.status >= FOTS_DAY_OUT_OF_RANGE && read.status <= FOTS_WEEKDAY_OUT_OF_RANGE), is_date(read.date), "date_read");
+    if (read.status == FOTS_UNEXPECTED_BYTE) {
+        check(fots_date_read(bytes, read.position).status != FOTS_UNEXPECTED_BYTE, "what a date begins with",
             (long long)read.position, (long long)length);
         check(fots_date_read(bytes, read.position + 1).position == read.position, "the position in a date",
             (long long)read.position, (long long)length);
     }
-    if (read.status == FOTS_DONE) {
+    if (read.status == FOTS_OK) {
         fots_text_result calendar = fots_date_calendar_text(read.date), ordinal = fots_date_ordinal_text(read.date);
         fots_text_result week = fots_date_week_text(read.date);
         check(is_this(calendar, bytes, length) || is_this(ordinal, bytes, length) || is_this(week, bytes, length),
@@ -490,14 +490,14 @@ static void read_date(const char *bytes, size_t length)
 static void read_julian_day(const char *bytes, size_t length)
 {
     fots_read_date_result read = fots_julian_day_read(bytes, length);
-    reads(read.status, read.position, length, read.status == FOTS_JULIAN_DAY, is_date(read.date), "julian_day_read");
-    if (read.status == FOTS_UNREADABLE) {
-        check(fots_julian_day_read(bytes, read.position).status != FOTS_UNREADABLE, "what a Julian day begins with",
+    reads(read.status, read.position, length, read.status == FOTS_JULIAN_DAY_OUT_OF_RANGE, is_date(read.date), "julian_day_read");
+    if (read.status == FOTS_UNEXPECTED_BYTE) {
+        check(fots_julian_day_read(bytes, read.position).status != FOTS_UNEXPECTED_BYTE, "what a Julian day begins with",
             (long long)read.position, (long long)length);
         check(fots_julian_day_read(bytes, read.position + 1).position == read.position, "the position in a Julian day",
             (long long)read.position, (long long)length);
     }
-    if (read.status == FOTS_DONE) {
+    if (read.status == FOTS_OK) {
         check(is_this(fots_date_julian_text(read.date), bytes, length), "the text of a Julian day", read.date.julian_day,
             (long long)length);
     }
@@ -510,23 +510,23 @@ static int is_moment(fots_read_moment_result read)
 
 static int is_same_moment(fots_read_moment_result one, fots_read_moment_result other)
 {
-    return one.status == FOTS_DONE && other.status == FOTS_DONE && one.date.julian_day == other.date.julian_day
+    return one.status == FOTS_OK && other.status == FOTS_OK && one.date.julian_day == other.date.julian_day
         && one.time == other.time && one.offset.seconds == other.offset.seconds;
 }
 
 static void read_moment(const char *bytes, size_t length)
 {
     fots_read_moment_result read = fots_moment_read(bytes, length);
-    reads(read.status, read.position, length, read.status == FOTS_MONTH || read.status == FOTS_DAY
-        || (read.status >= FOTS_HOUR && read.status <= FOTS_SECOND) || read.status == FOTS_OFFSET_HOUR
-        || read.status == FOTS_OFFSET_MINUTE, is_moment(read), "moment_read");
-    if (read.status == FOTS_UNREADABLE) {
-        check(fots_moment_read(bytes, read.position).status != FOTS_UNREADABLE, "what a moment begins with",
+    reads(read.status, read.position, length, read.status == FOTS_MONTH_OUT_OF_RANGE || read.status == FOTS_DAY_OUT_OF_RANGE
+        || (read.status >= FOTS_HOUR_OUT_OF_RANGE && read.status <= FOTS_SECOND_OUT_OF_RANGE) || read.status == FOTS_OFFSET_HOUR_OUT_OF_RANGE
+        || read.status == FOTS_OFFSET_MINUTE_OUT_OF_RANGE, is_moment(read), "moment_read");
+    if (read.status == FOTS_UNEXPECTED_BYTE) {
+        check(fots_moment_read(bytes, read.position).status != FOTS_UNEXPECTED_BYTE, "what a moment begins with",
             (long long)read.position, (long long)length);
         check(fots_moment_read(bytes, read.position + 1).position == read.position, "the position in a moment",
             (long long)read.position, (long long)length);
     }
-    if (read.status == FOTS_DONE) {
+    if (read.status == FOTS_OK) {
         fots_text_result text = fots_moment_text(read.date, read.time, read.offset);
         check(is_same_moment(fots_moment_read(text.bytes, text.length), read), "a moment read back", read.date.julian_day,
             read.offset.seconds);
@@ -536,14 +536,14 @@ static void read_moment(const char *bytes, size_t length)
 static void read_unix(const char *bytes, size_t length)
 {
     fots_read_moment_result read = fots_unix_read(bytes, length);
-    reads(read.status, read.position, length, read.status == FOTS_TIMESTAMP, is_moment(read) && read.offset.seconds == 0, "unix_read");
-    if (read.status == FOTS_UNREADABLE) {
-        check(fots_unix_read(bytes, read.position).status != FOTS_UNREADABLE, "what a Unix time begins with",
+    reads(read.status, read.position, length, read.status == FOTS_TIMESTAMP_OUT_OF_RANGE, is_moment(read) && read.offset.seconds == 0, "unix_read");
+    if (read.status == FOTS_UNEXPECTED_BYTE) {
+        check(fots_unix_read(bytes, read.position).status != FOTS_UNEXPECTED_BYTE, "what a Unix time begins with",
             (long long)read.position, (long long)length);
         check(fots_unix_read(bytes, read.position + 1).position == read.position, "the position in a Unix time",
             (long long)read.position, (long long)length);
     }
-    if (read.status == FOTS_DONE) {
+    if (read.status == FOTS_OK) {
         fots_text_result text = fots_unix_text(read.date, read.time, offset_at(0));
         check(is_same_moment(fots_unix_read(text.bytes, text.length), read), "a Unix time read back", read.date.julian_day,
             (long long)length);
@@ -613,9 +613,9 @@ static void spelled(const char *bytes, size_t length, fots_recurrence_result fou
     check(read.status == found.status && read.part == found.part && read.position == found.position, "its parts", read.status, found.status);
     check(text.status == found.status && text.part == found.part && text.position == found.position, "its text", text.status, found.status);
     const fots_rule rule = fots_recurrence_rule(&read.recurrence, start);
-    if (found.status != FOTS_DONE) {
+    if (found.status != FOTS_OK) {
         check(text.length == 0 && text.bytes[0] == 0, "no text", text.length, (long long)length);
-        check(fots_rule_first(&rule).status == FOTS_BAD_FREQUENCY, "no rule", read.status, (long long)length);
+        check(fots_rule_first(&rule).status == FOTS_INVALID_FREQUENCY, "no rule", read.status, (long long)length);
         return;
     }
     const fots_read_recurrence_result again = fots_recurrence_parse(text.bytes, text.length);
@@ -636,17 +636,17 @@ static void read_recurrence(const char *bytes, size_t length)
     const fots_recurrence_result found = fots_recurrence_days(bytes, length, start, start, days, 2);
     check(days[2].julian_day == -1, "a day past the room", found.status, (long long)length);
     spelled(bytes, length, found, start, days);
-    if (found.status == FOTS_DONE) {
+    if (found.status == FOTS_OK) {
         recurrences_read++;
         check(found.part == 0 && found.position == SIZE_MAX && found.length <= 2, "a recurrence", found.part, (long long)found.length);
         check(found.length == 0 || (is_date(days[0]) && days[0].julian_day >= start.julian_day), "its first day", days[0].julian_day, (long long)length);
         check(found.length < 2 || (is_date(days[1]) && days[1].julian_day > days[0].julian_day), "its second day", days[1].julian_day, (long long)length);
         return;
     }
-    const int names_part = found.status >= FOTS_PART_TWICE && found.status <= FOTS_PART_VALUE;
+    const int names_part = found.status >= FOTS_DUPLICATE_PART && found.status <= FOTS_INVALID_VALUE;
     check(names_part ? found.part >= FOTS_RULE_FREQ && found.part <= FOTS_RULE_COUNT : found.part == 0, "its part", found.status, found.part);
     check(found.length == 0 && days[0].julian_day == -1, "no day", found.status, (long long)found.length);
-    if (found.status == FOTS_NO_FREQUENCY) {
+    if (found.status == FOTS_MISSING_FREQUENCY) {
         check(found.position == length, "no frequency", (long long)found.position, (long long)length);
         return;
     }
@@ -656,7 +656,7 @@ static void read_recurrence(const char *bytes, size_t length)
         return;
     }
     const int32_t before = fots_recurrence_days(bytes, found.position - 1, start, start, days, 0).status;
-    check(before == FOTS_DONE || before == FOTS_NO_FREQUENCY, "the parts before", before, (long long)found.position);
+    check(before == FOTS_OK || before == FOTS_MISSING_FREQUENCY, "the parts before", before, (long long)found.position);
 }
 
 /* Takes texts of recurrences in the same way, and random parts. */

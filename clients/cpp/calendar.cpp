@@ -44,9 +44,9 @@ void chained()
     const fots_duration duration = fots_duration_days(fots_duration_whole_days(fots_duration_weeks(1).duration).number).duration;
     const fots_text_result text = fots_unix_text(date, time, offset);
     const fots_read_moment_result moment = fots_unix_read(text.bytes, text.length);
-    check(fots_add_to_pair(moment.date, moment.time, duration).status == FOTS_DONE, "a moment moved");
+    check(fots_add_to_pair(moment.date, moment.time, duration).status == FOTS_OK, "a moment moved");
     check(fots_date_add_days(date, fots_days_in_year(calendar.year)).date.julian_day == 2460736, "a year of days");
-    check(fots_duration_new(duration.seconds, duration.nanoseconds).status == FOTS_DONE, "a duration by its numbers");
+    check(fots_duration_new(duration.seconds, duration.nanoseconds).status == FOTS_OK, "a duration by its numbers");
 }
 
 } // namespace
@@ -54,16 +54,16 @@ void chained()
 int main()
 {
     const fots_date_result leap_day = fots_date_from_calendar_date(2024, 2, 29);
-    check(leap_day.status == FOTS_DONE && leap_day.date.julian_day == 2460370, "2024-02-29");
+    check(leap_day.status == FOTS_OK && leap_day.date.julian_day == 2460370, "2024-02-29");
     const fots_date_result later = fots_date_checked_add(leap_day.date, fots_duration_days(366).duration);
     const fots_calendar_date_result calendar = fots_date_to_calendar_date(later.date);
     check(calendar.year == 2025 && calendar.month == 3 && calendar.day == 1, "366 days later");
     const fots_date_result none = fots_date_replace_year(leap_day.date, 2023);
-    check(none.status == FOTS_DAY && std::strcmp(fots_status_name(none.status), "day") == 0, "29 February of 2023");
+    check(none.status == FOTS_DAY_OUT_OF_RANGE && std::strcmp(fots_status_name(none.status), "day") == 0, "29 February of 2023");
     check(fots_status_is_conditional(none.status) == 1, "the mark of a day");
-    check(fots_date_weekday(none.date).status == FOTS_BAD_DATE, "the weekday of no date");
+    check(fots_date_weekday(none.date).status == FOTS_INVALID_DATE, "the weekday of no date");
     const fots_read_date_result read = fots_date_read("2024-060", 8);
-    check(read.status == FOTS_DONE && read.date.julian_day == leap_day.date.julian_day && read.position == SIZE_MAX,
+    check(read.status == FOTS_OK && read.date.julian_day == leap_day.date.julian_day && read.position == SIZE_MAX,
         "an ordinal date read");
     const fots_text_result text = fots_date_week_text(read.date);
     check(text.length == 10 && std::strcmp(text.bytes, "2024-W09-4") == 0, "a week date printed");

@@ -72,19 +72,19 @@ void dates()
 
 void refusals()
 {
-    throws([] { Date::from_calendar_date(2023, 2, 29); }, FOTS_DAY, "day was not in range", "29 February of 2023");
+    throws([] { Date::from_calendar_date(2023, 2, 29); }, FOTS_DAY_OUT_OF_RANGE, "day was not in range", "29 February of 2023");
     throws([] { Date::read("2024-02-3"); }, FOTS_UNEXPECTED_END, "unexpected end at 9", "a text that ends too early");
-    throws([] { Date::read("2024x"); }, FOTS_UNREADABLE, "unexpected byte at 4", "a wrong byte");
+    throws([] { Date::read("2024x"); }, FOTS_UNEXPECTED_BYTE, "unexpected byte at 4", "a wrong byte");
     throws([] { Date::read(""); }, FOTS_UNEXPECTED_END, "unexpected end at 0", "no text");
     throws([] { Date::read(std::string_view()); }, FOTS_UNEXPECTED_END, "unexpected end at 0", "no text at all");
-    throws([] { Date::max() + Duration::days(1); }, FOTS_PAST_RANGE, "past the range", "a day after the last one");
-    throws([] { Date(fots_date{FOTS_NOTHING}); }, FOTS_BAD_DATE, "bad date", "no date");
-    throws([] { Time::from_hms(24, 0, 0); }, FOTS_HOUR, "hour was not in range", "hour 24");
-    throws([] { Time(FOTS_NO_TIME); }, FOTS_BAD_TIME, "bad time", "no time");
-    throws([] { UtcOffset::from_hms(26, 0, 0); }, FOTS_OFFSET_HOUR, "offset hour was not in range", "26 hours");
-    throws([] { UtcOffset(fots_offset{FOTS_NOTHING}); }, FOTS_BAD_OFFSET, "bad offset", "no offset");
-    throws([] { Duration(fots_duration{1, -1}); }, FOTS_BAD_DURATION, "bad duration", "no duration");
-    throws([] { Duration::seconds(1) / 0; }, FOTS_PAST_RANGE, "past the range", "a second by 0");
+    throws([] { Date::max() + Duration::days(1); }, FOTS_RESULT_OUT_OF_RANGE, "past the range", "a day after the last one");
+    throws([] { Date(fots_date{FOTS_NO_VALUE}); }, FOTS_INVALID_DATE, "bad date", "no date");
+    throws([] { Time::from_hms(24, 0, 0); }, FOTS_HOUR_OUT_OF_RANGE, "hour was not in range", "hour 24");
+    throws([] { Time(FOTS_NO_TIME); }, FOTS_INVALID_TIME, "bad time", "no time");
+    throws([] { UtcOffset::from_hms(26, 0, 0); }, FOTS_OFFSET_HOUR_OUT_OF_RANGE, "offset hour was not in range", "26 hours");
+    throws([] { UtcOffset(fots_offset{FOTS_NO_VALUE}); }, FOTS_INVALID_OFFSET, "bad offset", "no offset");
+    throws([] { Duration(fots_duration{1, -1}); }, FOTS_INVALID_DURATION, "bad duration", "no duration");
+    throws([] { Duration::seconds(1) / 0; }, FOTS_RESULT_OUT_OF_RANGE, "past the range", "a second by 0");
     try {
         Date::from_calendar_date(2023, 2, 29);
     } catch (const error &thrown) {
@@ -146,10 +146,10 @@ void moments()
     check(first.checked_add(Duration::seconds(INT64_MAX)) == std::nullopt, "past the range");
     check(first.saturating_add(Duration::seconds(INT64_MAX)) == last && last.saturating_sub(Duration::seconds(INT64_MAX)) == first, "held");
     check(last.checked_sub(Duration::days(1)) == last - Duration::days(1), "a day before");
-    throws([&] { later.to_utc(); }, FOTS_PAST_RANGE, "past the range", "past the range");
-    throws([&] { first - Duration::nanoseconds(1); }, FOTS_PAST_RANGE, "past the range", "before the first");
-    throws([] { OffsetDateTime::from_unix_timestamp(INT64_MAX); }, FOTS_TIMESTAMP, "timestamp was not in range", "no timestamp");
-    throws([] { OffsetDateTime(fots_moment{{0}, {0}, FOTS_NO_TIME}); }, FOTS_BAD_MOMENT, "bad moment", "no moment");
+    throws([&] { later.to_utc(); }, FOTS_RESULT_OUT_OF_RANGE, "past the range", "past the range");
+    throws([&] { first - Duration::nanoseconds(1); }, FOTS_RESULT_OUT_OF_RANGE, "past the range", "before the first");
+    throws([] { OffsetDateTime::from_unix_timestamp(INT64_MAX); }, FOTS_TIMESTAMP_OUT_OF_RANGE, "timestamp was not in range", "no timestamp");
+    throws([] { OffsetDateTime(fots_moment{{0}, {0}, FOTS_NO_TIME}); }, FOTS_INVALID_MOMENT, "bad moment", "no moment");
 }
 
 void schedule()
@@ -171,7 +171,7 @@ void schedule()
     check(leap.on_or_after(Weekday::Monday) == Date::read("2024-03-04") && leap.on_or_before(Weekday::Thursday) == leap, "a weekday");
     const YearFraction fraction = Date::read("2003-11-01").day_count(Date::read("2004-05-01"), DayCount::ActualActual);
     check(fraction.numerator == 61 * 366 + 121 * 365 && fraction.denominator == 133590, "the memorandum of the ISDA");
-    throws([] { Date::nth_weekday_of_month(2024, Month::November, Weekday::Thursday, 5); }, FOTS_WEEKDAY, "weekday was not in range", "a fifth");
+    throws([] { Date::nth_weekday_of_month(2024, Month::November, Weekday::Thursday, 5); }, FOTS_WEEKDAY_OUT_OF_RANGE, "weekday was not in range", "a fifth");
 }
 
 void workdays()
@@ -186,7 +186,7 @@ void workdays()
     check(plain.workdays_between(Date::read("2024-01-01"), Date::read("2025-01-01")) == 262, "those of 2024");
     check(Workdays({false, false, false, false, false, true, true}, {}).next_workday(friday) == Date::read("2024-08-31"), "a weekend");
     check(Workdays(std::array<bool, 7>{}, {}).next_workday(friday) == std::nullopt, "no working day");
-    throws([&] { Workdays({labor_day, labor_day}); }, FOTS_BAD_HOLIDAYS, "bad holidays", "a holiday twice");
+    throws([&] { Workdays({labor_day, labor_day}); }, FOTS_INVALID_HOLIDAYS, "bad holidays", "a holiday twice");
 }
 
 // Examples of RFC 5545.
@@ -222,7 +222,7 @@ void recurrences()
     weeks.until = Date::min();
     check(weeks.first() == std::nullopt && weeks.first_days(4).empty(), "no day");
     weeks.weekdays.assign(65, Weekday::Sunday);
-    throws([&] { weeks.first(); }, FOTS_MANY_PARTS, "many parts", "65 weekdays");
+    throws([&] { weeks.first(); }, FOTS_TOO_MANY_PARTS, "many parts", "65 weekdays");
 
     const Recurrence by_text = Recurrence::parse("FREQ=MONTHLY;COUNT=6;BYDAY=-2MO");
     const Date start = Date::read("1997-09-22");
@@ -241,13 +241,13 @@ void recurrences()
     std::ostringstream printed;
     printed << by_text;
     check(printed.str() == by_text.text() && by_text.text() == "FREQ=MONTHLY;COUNT=6;BYDAY=-2MO", "printed");
-    throws([] { Recurrence::parse("FREQ=DAILY;UNTIL=20241231;COUNT=3"); }, FOTS_PART_TWICE, "part twice at 26", "two ends");
+    throws([] { Recurrence::parse("FREQ=DAILY;UNTIL=20241231;COUNT=3"); }, FOTS_DUPLICATE_PART, "part twice at 26", "two ends");
     throws([] { Recurrence::parse(""); }, FOTS_UNKNOWN_PART, "unknown part at 0", "no text");
     try {
         Recurrence::parse("FREQ=DAILY;BYDAY=XX");
         check(false, "no weekday");
     } catch (const rule_fault &fault) {
-        check(fault.part() == FOTS_RULE_BYDAY && fault.position() == 11 && fault.status() == FOTS_PART_VALUE, "the part at fault");
+        check(fault.part() == FOTS_RULE_BYDAY && fault.position() == 11 && fault.status() == FOTS_INVALID_VALUE, "the part at fault");
     }
 }
 
@@ -275,9 +275,9 @@ void days_of_chrono()
     check(Date::from_sys_days(sys_days{}) == Date::read("1970-01-01"), "the first day of Unix time");
     check(Date::from_sys_days(Date::max().to_sys_days()) == Date::max()
         && Date::from_sys_days(Date::min().to_sys_days()) == Date::min(), "the ends");
-    throws([] { Date::from_sys_days(Date::max().to_sys_days() + days(1)); }, FOTS_JULIAN_DAY, "julian_day was not in range",
+    throws([] { Date::from_sys_days(Date::max().to_sys_days() + days(1)); }, FOTS_JULIAN_DAY_OUT_OF_RANGE, "julian_day was not in range",
         "past the last day");
-    throws([] { Date::from_sys_days(sys_days::max()); }, FOTS_JULIAN_DAY, "julian_day was not in range", "the last day of chrono");
+    throws([] { Date::from_sys_days(sys_days::max()); }, FOTS_JULIAN_DAY_OUT_OF_RANGE, "julian_day was not in range", "the last day of chrono");
     // Every 89th day of the years of chrono, compared with chrono.
     for (sys_days day = sys_days(year::min() / January / 1); day <= sys_days(year::max() / December / 31); day += days(89)) {
         const year_month_day calendar(day);

@@ -1040,14 +1040,14 @@ class Header(Cases):
         self.assertEqual({number: reason.value for number, reason in fotsevindre._REASONS.items()}, reasons)
         self.assertEqual(fotsevindre._PARTS[1:], tuple(re.findall(r"FOTS_RULE_(\w+) = \d", self.TEXT)))
         self.assertEqual(fotsevindre._REFUSALS, refusals)
-        self.assertEqual(fotsevindre._FIRST_CONDITIONAL, self.statuses["FOTS_DAY"])
-        self.assertEqual(fotsevindre._PAST_RANGE, self.statuses["FOTS_PAST_RANGE"])
-        self.assertEqual(fotsevindre._BAD_COUNT, self.statuses["FOTS_BAD_COUNT"])
-        self.assertEqual(fotsevindre._UNREADABLE, self.statuses["FOTS_UNREADABLE"])
+        self.assertEqual(fotsevindre._FIRST_CONDITIONAL, self.statuses["FOTS_DAY_OUT_OF_RANGE"])
+        self.assertEqual(fotsevindre._PAST_RANGE, self.statuses["FOTS_RESULT_OUT_OF_RANGE"])
+        self.assertEqual(fotsevindre._BAD_COUNT, self.statuses["FOTS_INVALID_COUNT"])
+        self.assertEqual(fotsevindre._UNREADABLE, self.statuses["FOTS_UNEXPECTED_BYTE"])
         self.assertEqual(fotsevindre._UNEXPECTED_END, unexpected_end)
         words = {number: str(fotsevindre.status_error(number)) for number in range(1, 69)}
         self.assertEqual({number for number, text in words.items() if text != f"unknown status {number}"}, {self.statuses[name] for name in self.names} - {0})
-        self.assertEqual(words[self.statuses["FOTS_BAD_HOLIDAYS"]], "holidays must be in ascending order, without duplicates")
+        self.assertEqual(words[self.statuses["FOTS_INVALID_HOLIDAYS"]], "holidays must be in ascending order, without duplicates")
 
 
 class Documentation(Cases):

@@ -191,8 +191,8 @@ fn as_many_parts_as_there_can_be() {
         Rule { months: &[January; Rule::MOST_MONTHS], weekdays: &[Every(Monday); Rule::MOST_WEEKDAYS], ..rule(Yearly, 2024_01_01) };
     assert_eq!(rule.days().nth(5), Some(date(2025_01_06)));
     let header = include_str!("../../../include/fotsevindre.h");
-    assert!(header.contains(&format!("#define FOTS_MOST_MONTHS {}", Rule::MOST_MONTHS)));
-    assert!(header.contains(&format!("#define FOTS_MOST_WEEKDAYS {}", Rule::MOST_WEEKDAYS)));
+    assert!(header.contains(&format!("#define FOTS_MAX_MONTHS {}", Rule::MOST_MONTHS)));
+    assert!(header.contains(&format!("#define FOTS_MAX_WEEKDAYS {}", Rule::MOST_WEEKDAYS)));
 }
 
 #[test]
