@@ -1,11 +1,26 @@
-use Rattle.std.proofs.Common.{◌≡◌, ◌∙◌, ◌++◌, ◌-ℤ◌, to_z, of_z, w32, true, ap, sym, subst}
+use Rattle.std.proofs.Common.{◌≡◌, ◌∙◌, ◌++◌, ◌<◌, ◌^◌, ◌-ℤ◌, to_z, of_z, w32, true, ap, sym, subst, length, arith}
 use Rattle.std.specs.Fmt.{signed_decimal}
+use Rattle.std.specs.Prelude.{unsigned_abs}
+use Rattle.std.proofs.lemmas.Int.{ints}
+use Rattle.cal_time.proofs.TextLengths.{length-signed}
 use Rattle.cal_time.specs.Date.{IsDate, julian_day_at}
 use Rattle.cal_datetime.specs.DateTime.{date_at}
 use Rattle.cal_datetime.specs.OffsetDateTime.{Shown}
 use Rattle.caldate_run.specs.Answers.{day_of, is_date}
 use Rattle.caldate_run.proofs.Texts.{days_between}
 use Rattle.caldate_run.proofs.answer.push_until.Goals as goal
+
+-- the days between two dates of the range have few digits
+pub push_signed-requires : goal.push_signed-requires
+push_signed-requires c =
+    let n = c.date.result in
+    let m = c.date-then-is_date-2.result in
+    let to_date : IsDate n = c.to_julian_day.ensures.in_range in
+    let from_date : IsDate m = c.to_julian_day-then-is_date-2.ensures.in_range in
+    let days = days_between n m _ _ to_date from_date c.to_julian_day.ensures.day c.to_julian_day-then-is_date-2.ensures.day in
+    let small : unsigned_abs (julian_day_at n -ℤ julian_day_at m) < 2 ^ 32 = omega (arith, ints, to_date, from_date) in
+    let few = length-signed (julian_day_at n -ℤ julian_day_at m) small in
+    rw days (omega (arith, few, ap length c.new-days.ensures))
 
 pub returns-then-is_date-2-clause-text : goal.returns-then-is_date-2-clause-text
 returns-then-is_date-2-clause-text c =
