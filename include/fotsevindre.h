@@ -181,10 +181,10 @@ static inline const char *fots_status_name(int32_t status)
     case FOTS_INVALID_BOUNDS: return "bounds";
     case FOTS_UNEXPECTED_END: return "unexpected end";
     case FOTS_UNKNOWN_PART: return "unknown part";
-    case FOTS_DUPLICATE_PART: return "part twice";
-    case FOTS_TOO_MANY_VALUES: return "many values";
-    case FOTS_INVALID_VALUE: return "part value";
-    case FOTS_MISSING_FREQUENCY: return "no frequency";
+    case FOTS_DUPLICATE_PART: return "duplicate part";
+    case FOTS_TOO_MANY_VALUES: return "too many values";
+    case FOTS_INVALID_VALUE: return "invalid value";
+    case FOTS_MISSING_FREQUENCY: return "missing FREQ";
     case FOTS_DAY_OUT_OF_RANGE: return "day";
     case FOTS_ORDINAL_OUT_OF_RANGE: return "ordinal";
     case FOTS_WEEK_OUT_OF_RANGE: return "week";

@@ -241,7 +241,7 @@ void recurrences()
     std::ostringstream printed;
     printed << by_text;
     check(printed.str() == by_text.text() && by_text.text() == "FREQ=MONTHLY;COUNT=6;BYDAY=-2MO", "printed");
-    throws([] { Recurrence::parse("FREQ=DAILY;UNTIL=20241231;COUNT=3"); }, FOTS_DUPLICATE_PART, "part twice at 26", "two ends");
+    throws([] { Recurrence::parse("FREQ=DAILY;UNTIL=20241231;COUNT=3"); }, FOTS_DUPLICATE_PART, "duplicate part at 26", "two ends");
     throws([] { Recurrence::parse(""); }, FOTS_UNKNOWN_PART, "unknown part at 0", "no text");
     try {
         Recurrence::parse("FREQ=DAILY;BYDAY=XX");

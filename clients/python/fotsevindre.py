@@ -1975,10 +1975,10 @@ class RuleReason(enum.Enum):
     """Why a part of the text of a recurrence is wrong."""
 
     Unknown = "unknown part"
-    Twice = "part twice"
-    TooMany = "many values"
-    Value = "part value"
-    Missing = "no frequency"
+    Twice = "duplicate part"
+    TooMany = "too many values"
+    Value = "invalid value"
+    Missing = "missing FREQ"
 
 
 # The reason of each status, the text of each reason, and the name of each part.
